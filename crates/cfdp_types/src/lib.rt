@@ -1,0 +1,17 @@
+//! The names and limits of the CCSDS File Delivery Protocol that every layer shares.
+#![tactic(auto)]
+
+mod checksum_type;
+mod condition;
+mod key;
+pub mod limits;
+mod messages;
+mod names;
+mod octets;
+
+pub use checksum_type::ChecksumType;
+pub use condition::Condition;
+pub use key::{Deposit, EntityId, TxnKey};
+pub use messages::Messages;
+pub use names::{Class, Delivery, FileStatus, Handler, Role, TimerKind};
+pub use octets::Octets;

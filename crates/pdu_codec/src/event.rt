@@ -1,0 +1,41 @@
+use crate::pdu::Pdu;
+
+/// What happens to a transaction: an event of its end in this entity.
+#[derive(Clone, Debug, Drop)]
+pub enum What {
+    /// A PDU of the transaction came.
+    Pdu(Pdu),
+    /// The file store answered the deposit with this stamp: whether it keeps the file.
+    Stored(u32, bool),
+}
+
+/// Why an event is not taken: the first that applies. It then changes nothing.
+#[derive(Clone, Copy, Debug, PartialEq, Eq)]
+pub enum Refusal {
+    /// No such transaction was opened here.
+    NoTransaction = 1,
+    /// The transaction has ended, or was never opened and a later one was.
+    OldTransaction = 2,
+    /// Another transaction runs.
+    LaneBusy = 3,
+    /// The PDU's mode is not the transaction's class.
+    ModeMismatch = 4,
+    /// The timer is not armed, or with another stamp.
+    StaleTimer = 5,
+    /// No deposit waits, or with another stamp.
+    StaleStored = 6,
+    /// A deposit waits for the file store's answer.
+    Storing = 7,
+    /// The event has no place in the state that the transaction is in.
+    WrongState = 8,
+    /// The sequence numbers of the lane are used up.
+    SeqExhausted = 9,
+    /// The file is larger than the entity takes.
+    TooLarge = 10,
+    /// The journal has no room for more events of this kind.
+    JournalFull = 11,
+    /// Memory ran out.
+    NoMemory = 12,
+    /// The user's queue has no room for the step's indications.
+    QueueFull = 13,
+}

@@ -1,0 +1,29 @@
+/// Why octets are no PDU that the entity takes: the first that applies.
+#[derive(Clone, Copy, Debug, PartialEq, Eq)]
+pub enum DecodeFault {
+    /// Fewer octets than the fixed header, or than the header's own length.
+    TooShort = 1,
+    /// The version is not 001.
+    BadVersion = 2,
+    /// The CRC flag is set: a CRC is neither written nor checked here.
+    CrcPresent = 3,
+    /// The large file flag is set.
+    LargeFile = 4,
+    /// The datagram is not exactly the header and the data field.
+    LengthMismatch = 5,
+    /// The directive code is not one of those that the entity takes.
+    UnknownDirective = 6,
+    /// A field goes past the end, or octets are left where no field stands.
+    FieldCut = 7,
+    /// A file name is empty.
+    NoFileName = 8,
+    /// Memory ran out.
+    NoMemory = 9,
+}
+
+impl DecodeFault {
+    /// The number that is printed for the fault.
+    pub fn number(self) -> u8 {
+        self as u8
+    }
+}
