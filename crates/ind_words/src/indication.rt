@@ -1,4 +1,6 @@
 ghost use Rattle.std.specs.Prelude.{◌≡◌, [], ◌∷◌, ◌++◌, OnOk, OnErr};
+ghost use Rattle.std.specs.List.{list_any};
+ghost use Rattle.ind_words.specs.Words.{is_end};
 
 use cfdp_types::{Condition, Delivery, EntityId, FileStatus, Messages, Octets};
 use std::alloc::{AllocError, Global};
@@ -58,6 +60,18 @@ pub enum Indication {
     },
 }
 
+impl Indication {
+    /// Whether it tells the end of the transaction.
+    pub fn is_end(&self) -> bool
+        ensures { result ≡ is_end self.now }
+    {
+        matches!(
+            self,
+            Indication::TransactionFinished { .. } | Indication::Abandoned { .. }
+        )
+    }
+}
+
 /// The indications of one step or of one transaction, in order. Contracts see their list.
 #[derive(Clone, Debug, Drop)]
 pub struct Indications {
@@ -88,6 +102,13 @@ impl Indications {
         ensures { result.now ≡ self.now }
     {
         self.items.as_slice()
+    }
+
+    /// Whether one of them tells the end of the transaction.
+    pub fn has_end(&self) -> bool
+        ensures { result ≡ list_any is_end self.now }
+    {
+        self.items.iter().any(|indication| indication.is_end())
     }
 
     /// Adds an indication at the end.

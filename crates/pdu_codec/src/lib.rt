@@ -3,6 +3,7 @@
 
 mod event;
 mod fault;
+mod memory;
 mod pdu;
 
 pub use event::{Refusal, What};

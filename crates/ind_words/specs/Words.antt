@@ -1,0 +1,74 @@
+-- The words that the indications of one reception form.
+use Rattle.std.specs.Prelude.{◌≡◌, ℕ, ◌+◌, ◌<◌, ◌≤◌, ◌↔◌, Bool, true, false, ◌&&◌, nat_lt, nat_le, IsTrue, List, [], ◌∷◌}
+use Rattle.std.specs.List.{list_any}
+use Rattle.cfdp_types.specs.declared.limits.TheConstants.{FILE_OCTETS}
+use Rattle.cfdp_types.specs.declared.names.Delivery.{Delivery}
+use Rattle.cfdp_types.specs.declared.names.Delivery.TheVariants.{Complete, Incomplete}
+use Rattle.ind_words.specs.declared.indication.Indication.{Indication}
+use Rattle.ind_words.specs.declared.indication.Indication.TheVariants as told
+
+-- the user is told that the transaction is over
+abbrev pub is_end : Indication → Bool
+is_end (told.TransactionFinished c d s) = true
+is_end (told.Abandoned c p) = true
+is_end _ = false
+
+abbrev pub is_metadata : Indication → Bool
+is_metadata (told.MetadataRecv a b c d e) = true
+is_metadata _ = false
+
+abbrev pub is_eof : Indication → Bool
+is_eof told.EofRecv = true
+is_eof _ = false
+
+-- the user is told of the octet at this offset
+abbrev pub tells_of : ℕ → Indication → Bool
+tells_of i (told.FileSegmentRecv offset length) = nat_le offset i && nat_lt i (offset + length)
+tells_of i _ = false
+
+-- of Suspended and Resumed the last was Suspended; what was told stands newest first
+abbrev pub is_paused : List Indication → Bool
+is_paused [] = false
+is_paused (told.Suspended c ∷ before) = true
+is_paused (told.Resumed p ∷ before) = false
+is_paused (_ ∷ before) = is_paused before
+
+-- no octet of these offsets was told of before
+abbrev pub IsNew : List Indication → ℕ → ℕ → Type 0
+IsNew before offset length = (i : ℕ) → offset ≤ i → i < offset + length → list_any (tells_of i) before ≡ false
+
+-- the segments told of are all offsets below some size
+abbrev pub IsFilled : List Indication → Type 0
+IsFilled before = (size : ℕ) × ((i : ℕ) → IsTrue (list_any (tells_of i) before) ↔ (i < size))
+
+-- what stands before a Transaction-Finished of a receiver
+abbrev pub MayFinish : List Indication → Delivery → Type 0
+MayFinish before Incomplete = Unit {0}
+MayFinish before Complete = IsTrue (list_any is_metadata before) × IsTrue (list_any is_eof before) × IsFilled before
+
+-- what a receiver may tell next, where it has not told an end; what was told before stands newest first
+abbrev pub IsNext : List Indication → Indication → Type 0
+IsNext before told.Transaction = ⊥
+IsNext before told.EofSent = ⊥
+IsNext before told.EofRecv = list_any is_eof before ≡ false
+IsNext before (told.TransactionFinished condition delivery status) = MayFinish before delivery
+IsNext before (told.MetadataRecv source size source_name destination_name messages) = list_any is_metadata before ≡ false
+IsNext before (told.FileSegmentRecv offset length) = (0 < length) × (offset + length ≤ FILE_OCTETS) × IsNew before offset length
+IsNext before (told.Suspended condition) = is_paused before ≡ false
+IsNext before (told.Resumed progress) = is_paused before ≡ true
+IsNext before (told.Report phase progress) = Unit {0}
+IsNext before (told.Fault condition progress) = Unit {0}
+IsNext before (told.Abandoned condition progress) = Unit {0}
+
+-- each of these may be told after those before it, which stand newest first, and nothing after an end
+abbrev pub MayFollow : List Indication → List Indication → Type 0
+MayFollow before [] = Unit {0}
+MayFollow before (next ∷ rest) = (list_any is_end before ≡ false) × IsNext before next × MayFollow (next ∷ before) rest
+
+-- a beginning of a receiver's word
+abbrev pub IsBegun : List Indication → Type 0
+IsBegun indications = MayFollow [] indications
+
+-- a receiver's word: nothing follows its end
+abbrev pub IsWord : List Indication → Type 0
+IsWord indications = IsBegun indications × IsTrue (list_any is_end indications)

@@ -1,0 +1,5 @@
+pub mod States
+pub mod Parts
+pub mod Looks
+pub mod Planned
+pub mod Committed

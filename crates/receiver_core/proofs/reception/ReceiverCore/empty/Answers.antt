@@ -1,0 +1,11 @@
+use Rattle.std.proofs.Common.{refl, sym, ap, length}
+use Rattle.std.specs.Prelude.{slice_get}
+use Rattle.receiver_core.specs.Log.{state_of, initial}
+use Rattle.receiver_core.specs.Core.{shown}
+use Rattle.receiver_core.proofs.States.{same_state}
+use Rattle.receiver_core.proofs.reception.ReceiverCore.empty.Goals as goal
+
+pub returns : goal.returns
+unfolding state_of initial
+returns c =
+    same_state _ _ refl (λ i. rw c.new.ensures.items refl) (rw c.new.ensures.items refl) refl refl refl refl

@@ -1,0 +1,14 @@
+use Rattle.std.proofs.Common.{◌≡◌, sym, ◌∙◌, inl, true, false, rules}
+use Rattle.receiver_core.specs.Table.{is_waiting}
+use Rattle.receiver_core.proofs.Planned.{planned_stored, refused_stored}
+use Rattle.receiver_core.proofs.reception.ReceiverCore.plan_stored.Goals as goal
+
+pub returns-then-not-waits_for-clause-err : goal.returns-then-not-waits_for-clause-err
+returns-then-not-waits_for-clause-err c =
+    let other : is_waiting c.args.self.now.waiting c.args.stamp ≡ false = search rules in
+    inl (refused_stored _ _ _ other)
+
+pub returns-clause-ok : goal.returns-clause-ok
+returns-clause-ok c =
+    let waits : is_waiting c.args.self.now.waiting c.args.stamp ≡ true = search rules in
+    planned_stored c.args.self.now c.make_room.new.self c.args.stamp c.args.kept c.in_ok-answer.answer c.make_room.ensures.same waits c.in_ok-answer.ensures c.in_ok-make_room.ensures.room

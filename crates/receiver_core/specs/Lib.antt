@@ -1,0 +1,10 @@
+pub mod Log
+pub mod Table
+pub mod Examine
+pub mod Core
+pub mod Laws
+pub use Rattle.cfdp_types.specs.Condition
+pub use Rattle.cfdp_types.specs.ChecksumType
+pub use Rattle.pdu_codec.specs.Pdu
+pub use Rattle.ind_words.specs.Words
+pub use Rattle.modular_sum.specs.Sum
