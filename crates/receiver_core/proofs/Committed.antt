@@ -32,7 +32,7 @@ pub was_accepted : (state : State) (event : What) (answer : Answer) → answer_a
 unfolding answer_at
 was_accepted state event answer e = accepted_parts (refusal_at state event) (accepted_at state event) answer e
 
-none_waits : (o : Option ℕ) → is_some o ≡ false → o ≡ None
+pub none_waits : (o : Option ℕ) → is_some o ≡ false → o ≡ None
 none_waits None e = refl
 none_waits (Some n) e = absurd cc
 

@@ -3,3 +3,5 @@ pub mod Parts
 pub mod Looks
 pub mod Planned
 pub mod Committed
+pub mod Telling
+pub mod Legal

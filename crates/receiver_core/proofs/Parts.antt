@@ -44,7 +44,7 @@ not_false true e = refl
 not_false false e = cc
 
 -- file data that is taken begins where the file so far ends
-in_order : (state : State) (d : FileData) → is_out_of_order state (body.FileData d) ≡ false → d.offset ≡ state.progress
+pub in_order : (state : State) (d : FileData) → is_out_of_order state (body.FileData d) ≡ false → d.offset ≡ state.progress
 in_order state d e = eqb-true d.offset state.progress (not_false (eqb d.offset state.progress) e)
 
 pub older_or-none : {A : Type 0} (o : Option A) → older_or o None ≡ o

@@ -17,16 +17,19 @@ IsLegal [] = Unit {0}
 IsLegal (entry ∷ front) =
     ((state_of front).ended ≡ false) × (answer_at (state_of front) entry.event ≡ Ok entry.answer) × IsLegal front
 
--- the file is there as its Metadata and its EOF describe it
-pub record IsGood (state : State) : Type 0 where
+-- a file is there as its Metadata and its EOF describe it
+pub record IsGoodFile (came : Option Metadata) (ended : Option Eof) (received : ℕ → Option ℕ) : Type 0 where
   pub metadata : Metadata
   pub eof : Eof
-  pub metadata_came : state.metadata ≡ Some metadata
-  pub eof_came : state.eof ≡ Some eof
+  pub metadata_came : came ≡ Some metadata
+  pub eof_came : ended ≡ Some eof
   pub modular : metadata.checksum_type ≡ checksum.modular
-  pub none_missing : (i : ℕ) → i < eof.size → IsSome (state.received i)
-  pub none_beyond : (i : ℕ) → IsSome (state.received i) → i < eof.size
-  pub agrees : sum (octets_from state.received 0 eof.size) ≡ eof.checksum
+  pub none_missing : (i : ℕ) → i < eof.size → IsSome (received i)
+  pub none_beyond : (i : ℕ) → IsSome (received i) → i < eof.size
+  pub agrees : sum (octets_from received 0 eof.size) ≡ eof.checksum
+
+abbrev pub IsGood : State → Type 0
+IsGood state = IsGoodFile state.metadata state.eof state.received
 
 -- what a reception tells its user is a beginning of a word, and a word once it has ended
 abbrev pub TellsWords : Type 0

@@ -3,6 +3,7 @@
 
 mod answer;
 mod examine;
+pub mod laws;
 mod plan;
 mod reception;
 
