@@ -3,6 +3,7 @@ pub mod Table
 pub mod Examine
 pub mod Core
 pub mod Laws
+pub mod Rows
 pub use Rattle.cfdp_types.specs.Condition
 pub use Rattle.cfdp_types.specs.ChecksumType
 pub use Rattle.pdu_codec.specs.Pdu
