@@ -1,6 +1,6 @@
 -- What is planned is what the table answers.
 use Rattle.std.proofs.Common.{◌≡◌, ◌≢◌, ℕ, Bool, true, false, cond, List, [], ◌++◌, length, Option, Some, None, Result, Ok, Err, refl, sym, ap, ◌∙◌}
-use Rattle.std.specs.Prelude.{slice_get, is_some}
+use Rattle.std.specs.Prelude.{slice_get, is_some, IsOk}
 use Rattle.std.specs.Option.{option_map}
 use Rattle.std.proofs.Math.Path.{fun_ext}
 use Rattle.pdu_codec.specs.Pdu.{PduValue}
@@ -119,3 +119,12 @@ planned_stored before core stamp kept answer same waits answers room =
 pub refused_stored : (state : State) (stamp : ℕ) (kept : Bool) → is_waiting state.waiting stamp ≡ false → answer_at state (what.Stored stamp kept) ≡ Err refusal.StaleStored
 unfolding answer_at
 refused_stored state stamp kept other = rw other refl
+
+-- a PDU that is not refused is answered
+pub answered_pdu : (state : State) (pdu : PduValue) → pdu_refusal state pdu ≡ None → IsOk (answer_at state (what.Pdu pdu))
+unfolding answer_at
+answered_pdu state pdu taken = rw taken refl
+
+pub answered_stored : (state : State) (stamp : ℕ) (kept : Bool) → is_waiting state.waiting stamp ≡ true → IsOk (answer_at state (what.Stored stamp kept))
+unfolding answer_at
+answered_stored state stamp kept waits = rw waits refl

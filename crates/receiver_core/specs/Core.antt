@@ -1,5 +1,5 @@
 -- How the code keeps a reception, and what it plans.
-use Rattle.std.specs.Prelude.{◌≡◌, ℕ, ◌+◌, ◌≤◌, ◌==◌, is_some, if◌then◌else◌, List, [], length, slice_get, ◌++◌, ◌⊎◌, Option, Some, None, Result, Ok, Err, vec_len, vec_capacity}
+use Rattle.std.specs.Prelude.{◌≡◌, ℕ, ◌+◌, ◌≤◌, ◌==◌, is_some, if◌then◌else◌, List, [], length, slice_get, ◌++◌, ◌⊎◌, Option, Some, None, Result, Ok, Err, IsOk, vec_len, vec_capacity}
 use Rattle.cfdp_types.specs.Condition as condition
 use Rattle.pdu_codec.specs.declared.event.What.{What}
 use Rattle.pdu_codec.specs.declared.event.What.TheVariants as what
@@ -57,9 +57,9 @@ IsSame old new =
 abbrev pub HasRoom : ReceiverCore → Change → Type 0
 HasRoom core change = vec_len core.octets + length (added change) ≤ vec_capacity core.octets
 
--- why an event was not planned: the table refuses it so, or memory ran out
-abbrev pub IsRefusedOr : Result Answer Refusal → Refusal → Type 0
-IsRefusedOr answer why = (answer ≡ Err why) ⊎ (why ≡ refusal.NoMemory)
+-- why an event was not planned: the table refuses it so, or it is answered and memory ran out
+abbrev pub IsWhy : Result Answer Refusal → Refusal → Type 0
+IsWhy answer why = (answer ≡ Err why) ⊎ ((why ≡ refusal.NoMemory) × IsOk answer)
 
 -- a change was carried out
 abbrev pub IsChangedBy : Change → ReceiverCore → ReceiverCore → Type 0

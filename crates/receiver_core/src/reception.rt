@@ -28,7 +28,7 @@ impl ReceiverCore {
     ghost use Rattle.pdu_codec.specs.declared.event.What.TheVariants as what;
     ghost use Rattle.receiver_core.specs.Table.{pdu_refusal, is_out_of_order, is_too_large, is_waiting, told_of, found, pdu_answer, cancel_code, stored_answer, answer_at, is_too_large};
     ghost use Rattle.receiver_core.specs.Examine.{looked, type_with, eof_with, added};
-    ghost use Rattle.receiver_core.specs.Core.{shown, StandsAfter, body_change, IsSame, IsSameButOctets, HasRoom, IsPlanOf, IsRefusedOr, IsChangedBy, plan_answer};
+    ghost use Rattle.receiver_core.specs.Core.{shown, StandsAfter, body_change, IsSame, IsSameButOctets, HasRoom, IsPlanOf, IsWhy, IsChangedBy, plan_answer};
     ghost use Rattle.receiver_core.specs.Log.{Entry, state_of};
     ghost use Rattle.pdu_codec.specs.declared.event.What.{What};
 
@@ -217,7 +217,7 @@ impl ReceiverCore {
     fn plan_pdu(&mut self, pdu: &Pdu) -> Result<Plan, Refusal>
         ensures same { IsSame self.old self.new }
         ensures ok { IfOk result (λ plan. IsPlanOf self.new plan (what.Pdu pdu.now)) }
-        ensures err { IfErr result (λ why. IsRefusedOr (answer_at (shown self.old) (what.Pdu pdu.now)) why) }
+        ensures err { IfErr result (λ why. IsWhy (answer_at (shown self.old) (what.Pdu pdu.now)) why) }
     {
         if let Some(refusal) = self.pdu_refusal(pdu) {
             return Err(refusal);
@@ -243,7 +243,7 @@ impl ReceiverCore {
     fn plan_stored(&mut self, stamp: u32, kept: bool) -> Result<Plan, Refusal>
         ensures same { IsSame self.old self.new }
         ensures ok { IfOk result (λ plan. IsPlanOf self.new plan (what.Stored stamp kept)) }
-        ensures err { IfErr result (λ why. IsRefusedOr (answer_at (shown self.old) (what.Stored stamp kept)) why) }
+        ensures err { IfErr result (λ why. IsWhy (answer_at (shown self.old) (what.Stored stamp kept)) why) }
     {
         if !self.waits_for(stamp) {
             return Err(Refusal::StaleStored);
@@ -271,7 +271,7 @@ impl ReceiverCore {
     pub fn open(alloc: Global, pdu: &Pdu) -> Result<(ReceiverCore, Plan), Refusal>
         ensures stands { IfOk result (λ opened. StandsAfter opened.0 []) }
         ensures planned { IfOk result (λ opened. IsPlanOf opened.0 opened.1 (what.Pdu pdu.now)) }
-        ensures refused { IfErr result (λ why. IsRefusedOr (answer_at (state_of []) (what.Pdu pdu.now)) why) }
+        ensures refused { IfErr result (λ why. IsWhy (answer_at (state_of []) (what.Pdu pdu.now)) why) }
     {
         let mut core = ReceiverCore::empty(alloc);
         match core.plan_pdu(pdu) {
@@ -280,12 +280,20 @@ impl ReceiverCore {
         }
     }
 
+    /// Whether the user was told that the transaction is over: no event follows.
+    pub fn has_ended(&self) -> bool
+        ensures { result ≡ (shown self.now).ended }
+    {
+        self.ended
+    }
+
     /// Plans an event in the present state: makes the room that it takes, and changes nothing else.
     pub fn plan(&mut self, event: &What) -> Result<Plan, Refusal>
+        ensures same { shown self.new ≡ shown self.old }
         ensures stands { (log : List Entry) → StandsAfter self.old log → StandsAfter self.new log }
         ensures planned { IfOk result (λ plan. IsPlanOf self.new plan event.now) }
         ensures accepted { (log : List Entry) → StandsAfter self.old log → IfOk result (λ plan. answer_at (state_of log) event.now ≡ Ok (plan_answer plan)) }
-        ensures refused { (log : List Entry) → StandsAfter self.old log → IfErr result (λ why. IsRefusedOr (answer_at (state_of log) event.now) why) }
+        ensures refused { (log : List Entry) → StandsAfter self.old log → IfErr result (λ why. IsWhy (answer_at (state_of log) event.now) why) }
     {
         match event {
             What::Pdu(pdu) => self.plan_pdu(pdu),
