@@ -2,7 +2,7 @@ use crate::indication::Indications;
 use cfdp_types::TxnKey;
 
 /// The indications of one step, as they go into a user's queue: at least one.
-#[derive(Clone, Debug, Drop)]
+#[derive(Debug, Drop)]
 pub struct Bundle {
     /// The number of the user.
     pub user: usize,

@@ -1,4 +1,4 @@
-ghost use Rattle.std.specs.Prelude.{◌≡◌, [], ◌∷◌, ◌++◌, OnOk, OnErr};
+ghost use Rattle.std.specs.Prelude.{◌≡◌, [], ◌∷◌, ◌++◌, IfOk, OnOk, OnErr};
 ghost use Rattle.std.specs.List.{list_any};
 ghost use Rattle.ind_words.specs.Words.{is_end};
 
@@ -61,6 +61,13 @@ pub enum Indication {
 }
 
 impl Indication {
+    /// The same indication once more.
+    pub fn copy(&self) -> Result<Indication, AllocError>
+        ensures { IfOk result (λ copy. copy ≡ self.now) }
+    {
+        self.clone()
+    }
+
     /// Whether it tells the end of the transaction.
     pub fn is_end(&self) -> bool
         ensures { result ≡ is_end self.now }
@@ -73,7 +80,7 @@ impl Indication {
 }
 
 /// The indications of one step or of one transaction, in order. Contracts see their list.
-#[derive(Clone, Debug, Drop)]
+#[derive(Debug, Drop)]
 pub struct Indications {
     items: Vec<Indication>,
 }
@@ -109,6 +116,17 @@ impl Indications {
         ensures { result ≡ list_any is_end self.now }
     {
         self.items.iter().any(|indication| indication.is_end())
+    }
+
+    /// The same indications once more.
+    pub fn copy(&self) -> Result<Indications, AllocError>
+        ensures { IfOk result (λ copy. copy ≡ self.now) }
+    {
+        let mut items = Vec::with_capacity(*self.items.allocator(), self.items.len())?;
+        for indication in &self.items {
+            items.push(indication.copy()?)?;
+        }
+        Ok(Indications { items })
     }
 
     /// Adds an indication at the end.

@@ -1,3 +1,6 @@
+ghost use Rattle.std.specs.Prelude.{◌≡◌};
+ghost use Rattle.pdu_codec.specs.Refusal.{refusal_number, refusal_name};
+
 use crate::pdu::Pdu;
 
 /// What happens to a transaction: an event of its end in this entity.
@@ -38,4 +41,34 @@ pub enum Refusal {
     NoMemory = 12,
     /// The user's queue has no room for the step's indications.
     QueueFull = 13,
+}
+
+impl Refusal {
+    /// The number that is printed for the refusal.
+    pub fn number(self) -> u8
+        ensures { result ≡ refusal_number self }
+    {
+        self as u8
+    }
+
+    /// The name that is printed for the refusal.
+    pub fn name(self) -> &'static str
+        ensures { result.now ≡ refusal_name self }
+    {
+        match self {
+            Refusal::NoTransaction => "NoTransaction",
+            Refusal::OldTransaction => "OldTransaction",
+            Refusal::LaneBusy => "LaneBusy",
+            Refusal::ModeMismatch => "ModeMismatch",
+            Refusal::StaleTimer => "StaleTimer",
+            Refusal::StaleStored => "StaleStored",
+            Refusal::Storing => "Storing",
+            Refusal::WrongState => "WrongState",
+            Refusal::SeqExhausted => "SeqExhausted",
+            Refusal::TooLarge => "TooLarge",
+            Refusal::JournalFull => "JournalFull",
+            Refusal::NoMemory => "NoMemory",
+            Refusal::QueueFull => "QueueFull",
+        }
+    }
 }

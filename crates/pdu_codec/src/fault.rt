@@ -1,3 +1,9 @@
+ghost use Rattle.std.specs.Prelude.{◌≡◌};
+ghost use Rattle.pdu_codec.specs.declared.fault.DecodeFault.TheVariants.{NoMemory};
+ghost use Rattle.pdu_codec.specs.Fault.{fault_number};
+
+use std::alloc::AllocError;
+
 /// Why octets are no PDU that the entity takes: the first that applies.
 #[derive(Clone, Copy, Debug, PartialEq, Eq)]
 pub enum DecodeFault {
@@ -23,7 +29,17 @@ pub enum DecodeFault {
 
 impl DecodeFault {
     /// The number that is printed for the fault.
-    pub fn number(self) -> u8 {
+    pub fn number(self) -> u8
+        ensures { result ≡ fault_number self }
+    {
         self as u8
+    }
+}
+
+impl From<AllocError> for DecodeFault {
+    ghost from_gives = { λ _ fault. fault ≡ NoMemory };
+
+    fn from(_error: AllocError) -> DecodeFault {
+        DecodeFault::NoMemory
     }
 }

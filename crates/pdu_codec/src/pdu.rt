@@ -1,6 +1,7 @@
-ghost use Rattle.std.specs.Prelude.{◌≡◌};
+ghost use Rattle.std.specs.Prelude.{◌≡◌, IfOk};
 
 use cfdp_types::{ChecksumType, Class, Condition, EntityId, Messages, Octets};
+use std::alloc::AllocError;
 use std::marker::Model;
 
 /// The end of a transaction that a PDU goes to.
@@ -64,8 +65,9 @@ pub enum Body {
     FileData(FileData),
 }
 
-/// A protocol data unit. Contracts see its header and its body.
-#[derive(Clone, Debug, Drop)]
+/// A protocol data unit, which can be written: each number fits its field, and the data field its
+/// length. Contracts see its header and its body.
+#[derive(Debug, Drop)]
 pub struct Pdu {
     header: Header,
     body: Body,
@@ -73,13 +75,27 @@ pub struct Pdu {
 
 impl Model for Pdu {
     ghost use Rattle.pdu_codec.specs.Pdu.{PduValue};
+    ghost use Rattle.pdu_codec.specs.Spelling.{Fits};
 
     ghost Value = { PduValue };
 
     ghost view = { λ p. record { header = p.header; body = p.body } };
+
+    ghost invariant = { λ p. Fits (record { header = p.header; body = p.body }) };
 }
 
 impl Pdu {
+    ghost use Rattle.std.specs.Prelude.{◌≡◌};
+    ghost use Rattle.pdu_codec.specs.Spelling.{Fits};
+
+    /// A PDU of a header and a body.
+    pub fn new(header: Header, body: Body) -> Pdu
+        requires { Fits (record { header = header; body = body }) }
+        ensures { result ≡ record { header = header; body = body } }
+    {
+        Pdu { header, body }
+    }
+
     /// The header.
     pub fn header(&self) -> &Header
         ensures { result.now ≡ self.now.header }
@@ -100,4 +116,22 @@ impl Pdu {
     {
         (self.header, self.body)
     }
+}
+
+impl Clone for Pdu {
+    ghost is_clone = { λ pdu copy. copy ≡ pdu };
+
+    fn clone(&self) -> Result<Pdu, AllocError> {
+        let body = copy_of(&self.body)?;
+        Ok(Pdu {
+            header: self.header,
+            body,
+        })
+    }
+}
+
+fn copy_of(body: &Body) -> Result<Body, AllocError>
+    ensures { IfOk result (λ copy. copy ≡ body.now) }
+{
+    body.clone()
 }

@@ -34,7 +34,8 @@ impl ReceiverCore {
 
     // Nothing came yet.
     fn empty(alloc: Global) -> ReceiverCore
-        ensures { StandsAfter result [] }
+        ensures stands { StandsAfter result [] }
+        ensures runs { result.ended ≡ false }
     {
         ReceiverCore {
             octets: Vec::new(alloc),
@@ -270,6 +271,7 @@ impl ReceiverCore {
     /// A reception that a PDU opens, with the plan of that PDU as its first event.
     pub fn open(alloc: Global, pdu: &Pdu) -> Result<(ReceiverCore, Plan), Refusal>
         ensures stands { IfOk result (λ opened. StandsAfter opened.0 []) }
+        ensures runs { IfOk result (λ opened. (shown opened.0).ended ≡ false) }
         ensures planned { IfOk result (λ opened. IsPlanOf opened.0 opened.1 (what.Pdu pdu.now)) }
         ensures refused { IfErr result (λ why. IsWhy (answer_at (state_of []) (what.Pdu pdu.now)) why) }
     {

@@ -5,7 +5,7 @@ use Rattle.receiver_core.specs.Core.{shown}
 use Rattle.receiver_core.proofs.States.{same_state}
 use Rattle.receiver_core.proofs.reception.ReceiverCore.empty.Goals as goal
 
-pub returns : goal.returns
+pub returns-clause-stands : goal.returns-clause-stands
 unfolding state_of initial
-returns c =
+returns-clause-stands c =
     same_state _ _ refl (λ i. rw c.new.ensures.items refl) (rw c.new.ensures.items refl) refl refl refl refl

@@ -1,0 +1,102 @@
+"""Measures runs of the script program: seconds, lines and megabytes a second, and peak memory.
+
+usage: bench.py PROGRAM
+
+The scripts are made here: one reception of a large file in segments of 256 and of 1,400 octets, and
+many small receptions one after another, each at one size and at eight times that size.
+"""
+
+import os
+import platform
+import subprocess
+import sys
+import tempfile
+import time
+
+LARGE = 512 * 1024
+SMALL = 10_000
+
+
+def checksum(octets):
+    """The modular checksum of a file."""
+    padded = octets + bytes(-len(octets) % 4)
+    words = (int.from_bytes(padded[i : i + 4], "big") for i in range(0, len(padded), 4))
+    return sum(words) % 2**32
+
+
+def pdu(first, sequence, field):
+    """A PDU of class 1 from entity 1 to entity 2, all lengths one octet."""
+    header = bytes([first]) + len(field).to_bytes(2, "big") + bytes([0, 1, sequence, 2])
+    return "pdu " + (header + field).hex()
+
+
+def reception(sequence, octets, segment):
+    """The lines of one reception."""
+    size = len(octets).to_bytes(4, "big")
+    yield pdu(0x24, sequence, b"\x07\x00" + size + b"\x01a\x01b")
+    for offset in range(0, len(octets), segment):
+        yield pdu(0x34, sequence, offset.to_bytes(4, "big") + octets[offset : offset + segment])
+    yield pdu(0x24, sequence, b"\x04\x00" + checksum(octets).to_bytes(4, "big") + size)
+
+
+def large(size, segment):
+    """One reception, whose bundles are taken as they come."""
+    octets = bytes((i * 7 + i // 251) % 256 for i in range(size))
+    lines = []
+    for line in reception(5, octets, segment):
+        lines += [line, "take alice"]
+    stamp = (size + segment - 1) // segment + 1
+    return lines + [f"stored 1 5 {stamp} yes", "take alice"]
+
+
+def small(count):
+    """Receptions of three octets, one after another."""
+    lines = []
+    for number in range(count):
+        lines += reception(number % 256, b"abc", 256)
+        lines += [f"stored 1 {number % 256} 2 yes", "take alice"]
+    return lines
+
+
+def run(program, lines):
+    """Runs a script, and answers its seconds, its octets and the peak memory in octets."""
+    with tempfile.NamedTemporaryFile("w+") as script, tempfile.TemporaryFile() as output:
+        script.write("\n".join(lines) + "\n")
+        script.flush()
+        script.seek(0)
+        start = time.perf_counter()
+        child = subprocess.Popen([program], stdin=script, stdout=output)
+        _, status, usage = os.wait4(child.pid, 0)
+        seconds = time.perf_counter() - start
+        child.returncode = os.waitstatus_to_exitcode(status)
+        if child.returncode != 0:
+            sys.exit(f"{program} ended with status {child.returncode}")
+        return seconds, os.path.getsize(script.name), usage.ru_maxrss * 1024
+
+
+def measure(program, name, lines):
+    """Prints one row: the best of three runs."""
+    runs = [run(program, lines) for _ in range(3)]
+    seconds, octets, memory = min(runs)
+    print(
+        f"{name:<34} {len(lines):>9,} lines {octets / 1e6:>7.2f} MB {seconds:>7.3f} s"
+        f" {len(lines) / seconds:>11,.0f} lines/s {octets / 1e6 / seconds:>7.1f} MB/s"
+        f" {memory / 1e6:>6.1f} MB peak"
+    )
+    return seconds
+
+
+def main():
+    program = sys.argv[1]
+    print(f"machine: {platform.machine()}, {os.cpu_count()} processors, {platform.system()}")
+    for segment in (256, 1400):
+        one = measure(program, f"{LARGE:,} octets by {segment}", large(LARGE, segment))
+        eight = measure(program, f"{8 * LARGE:,} octets by {segment}", large(8 * LARGE, segment))
+        print(f"  eight times the size takes {eight / one:.1f} times as long")
+    one = measure(program, f"{SMALL // 8:,} receptions", small(SMALL // 8))
+    eight = measure(program, f"{SMALL:,} receptions", small(SMALL))
+    print(f"  eight times the number takes {eight / one:.1f} times as long")
+
+
+if __name__ == "__main__":
+    main()

@@ -1,0 +1,6 @@
+pub mod LineFacts
+pub mod Numbers
+pub mod WordFacts
+pub mod QueueFacts
+pub mod SessionFacts
+pub mod RunFacts

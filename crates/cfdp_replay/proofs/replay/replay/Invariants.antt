@@ -1,0 +1,11 @@
+use Rattle.std.proofs.Common.{◌≡◌}
+use Rattle.std.specs.Prelude.{IfSome}
+use Rattle.cfdp_replay.specs.Lines.{lines_of}
+use Rattle.cfdp_replay.specs.Running.{Ran}
+use Rattle.cfdp_replay.proofs.replay.replay.Given as goal
+
+abbrev pub invariant-loop-count : goal.invariant-loop-count
+invariant-loop-count g l =
+    let remaining = g.R.Read.remaining in
+    let contents = g.W.Write.contents in
+    IfSome (remaining l.fn.reader) (λ script. Ran (lines_of script) (remaining l.reader) l.count l.world (contents l.fn.writer) (contents l.writer))

@@ -1,0 +1,10 @@
+pub mod Lines
+pub mod Output
+pub mod Commands
+pub mod Words
+pub mod Texts
+pub mod Queue
+pub mod Session
+pub mod World
+pub mod Run
+pub mod Running

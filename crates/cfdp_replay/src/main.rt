@@ -1,0 +1,51 @@
+//! Runs a script of PDUs, store answers and takes through one protocol entity, and prints what it
+//! answers.
+#![tactic(auto)]
+
+mod command;
+mod fault;
+mod input;
+mod output;
+mod queue;
+mod replay;
+mod reply;
+#[cfg(test)]
+mod script_tests;
+#[cfg(test)]
+mod tests;
+mod text;
+mod words;
+mod world;
+
+use fault::ReplayFault;
+use replay::replay;
+use std::io;
+use std::io::{BufReader, BufWriter, Write};
+use std::process::ExitCode;
+
+fn main(rt: HostRuntime) -> ExitCode {
+    match run(&rt) {
+        Ok(()) => ExitCode::SUCCESS,
+        Err(fault) => {
+            report(&rt, fault);
+            ExitCode::FAILURE
+        }
+    }
+}
+
+// Replays the standard input to the standard output.
+fn run(rt: &HostRuntime) -> Result<(), ReplayFault> {
+    let mut reader = BufReader::new(rt.alloc(), rt.reader()).map_err(|_| ReplayFault::NoMemory)?;
+    let mut writer = BufWriter::new(rt.alloc(), io::writer(rt)).map_err(|_| ReplayFault::NoMemory)?;
+    let result = replay(rt.alloc(), &mut reader, &mut writer);
+    let flushed = writer.flush().map_err(|_| ReplayFault::Write);
+    result.and(flushed)
+}
+
+// A bad line is an answer too; the other faults are of the program's surroundings.
+fn report(rt: &HostRuntime, fault: ReplayFault) {
+    let _ = match fault {
+        ReplayFault::BadLine(_) => rt.println(fault),
+        ReplayFault::Read | ReplayFault::Write | ReplayFault::NoMemory => rt.eprintln(fault),
+    };
+}
