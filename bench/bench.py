@@ -58,44 +58,58 @@ def small(count):
     return lines
 
 
-def run(program, lines):
-    """Runs a script, and answers its seconds, its octets and the peak memory in octets."""
-    with tempfile.NamedTemporaryFile("w+") as script, tempfile.TemporaryFile() as output:
-        script.write("\n".join(lines) + "\n")
-        script.flush()
-        script.seek(0)
+def make(kind, size, segment):
+    """Prints a script: it runs in a process of its own, so that the measuring one stays small."""
+    lines = large(size, segment) if kind == "large" else small(size)
+    sys.stdout.write("\n".join(lines) + "\n")
+
+
+def run(program, script):
+    """Runs a script, and answers its seconds and the peak memory in octets."""
+    with open(script, "rb") as lines, tempfile.TemporaryFile() as output:
         start = time.perf_counter()
-        child = subprocess.Popen([program], stdin=script, stdout=output)
+        child = subprocess.Popen([program], stdin=lines, stdout=output)
         _, status, usage = os.wait4(child.pid, 0)
         seconds = time.perf_counter() - start
         child.returncode = os.waitstatus_to_exitcode(status)
         if child.returncode != 0:
             sys.exit(f"{program} ended with status {child.returncode}")
-        return seconds, os.path.getsize(script.name), usage.ru_maxrss * 1024
+        return seconds, usage.ru_maxrss * 1024
 
 
-def measure(program, name, lines):
-    """Prints one row: the best of three runs."""
-    runs = [run(program, lines) for _ in range(3)]
-    seconds, octets, memory = min(runs)
+def measure(program, name, kind, size, segment):
+    """Prints one row: the best of five runs."""
+    with tempfile.NamedTemporaryFile() as script:
+        words = [sys.executable, __file__, "make", kind, str(size), str(segment)]
+        subprocess.run(words, stdout=script, check=True)
+        octets = os.path.getsize(script.name)
+        with open(script.name, "rb") as lines:
+            count = sum(1 for _ in lines)
+        seconds, memory = min(run(program, script.name) for _ in range(5))
     print(
-        f"{name:<34} {len(lines):>9,} lines {octets / 1e6:>7.2f} MB {seconds:>7.3f} s"
-        f" {len(lines) / seconds:>11,.0f} lines/s {octets / 1e6 / seconds:>7.1f} MB/s"
-        f" {memory / 1e6:>6.1f} MB peak"
+        f"{name:<26} {count:>7,} lines {octets / 1e6:>6.2f} MB {seconds:>6.3f} s"
+        f" {count / seconds:>10,.0f} lines/s {octets / 1e6 / seconds:>6.1f} MB/s"
+        f" {memory / 1e6:>5.1f} MB peak"
     )
     return seconds
 
 
+def compare(program, kind, size, segment, name):
+    """Measures one size and eight times that size."""
+    one = measure(program, name(size), kind, size, segment)
+    eight = measure(program, name(8 * size), kind, 8 * size, segment)
+    print(f"  eight times the size takes {eight / one:.1f} times as long")
+
+
 def main():
+    if sys.argv[1] == "make":
+        make(sys.argv[2], int(sys.argv[3]), int(sys.argv[4]))
+        return
     program = sys.argv[1]
     print(f"machine: {platform.machine()}, {os.cpu_count()} processors, {platform.system()}")
     for segment in (256, 1400):
-        one = measure(program, f"{LARGE:,} octets by {segment}", large(LARGE, segment))
-        eight = measure(program, f"{8 * LARGE:,} octets by {segment}", large(8 * LARGE, segment))
-        print(f"  eight times the size takes {eight / one:.1f} times as long")
-    one = measure(program, f"{SMALL // 8:,} receptions", small(SMALL // 8))
-    eight = measure(program, f"{SMALL:,} receptions", small(SMALL))
-    print(f"  eight times the number takes {eight / one:.1f} times as long")
+        compare(program, "large", LARGE, segment, lambda size: f"{size:,} octets by {segment}")
+    compare(program, "small", SMALL // 8, 256, lambda count: f"{count:,} receptions")
 
 
 if __name__ == "__main__":

@@ -2,6 +2,7 @@
 
 use crate::fault::ReplayFault;
 use crate::replay::replay;
+use std::process::Abort;
 use std::test::*;
 
 // "abc" as file "a", to be kept as "b", in class 1: its Metadata, its octets and its EOF.
@@ -12,8 +13,8 @@ const DATA: &str = "pdu 3400070001050200000000616263\n";
 const EOF: &str = "pdu 24000a0001050204006162630000000003\n";
 
 // Plays the scripts one after another, as one, and compares what is written and how it ends.
-fn check(
-    rt: &HostRuntime,
+fn check<R: AllocGlobal + Abort>(
+    rt: &R,
     parts: &[&str],
     printed: &str,
     ended: Result<(), ReplayFault>,
