@@ -15,3 +15,6 @@ pub use key::{Deposit, EntityId, TxnKey};
 pub use messages::Messages;
 pub use names::{Class, Delivery, FileStatus, Handler, Role, TimerKind};
 pub use octets::Octets;
+
+#[cfg(test)]
+mod tests;

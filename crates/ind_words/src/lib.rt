@@ -6,3 +6,6 @@ mod indication;
 
 pub use bundle::Bundle;
 pub use indication::{Indication, Indications, Phase};
+
+#[cfg(test)]
+mod tests;

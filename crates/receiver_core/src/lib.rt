@@ -11,3 +11,6 @@ pub use answer::Answer;
 pub use examine::Finding;
 pub use plan::Plan;
 pub use reception::ReceiverCore;
+
+#[cfg(test)]
+mod tests;

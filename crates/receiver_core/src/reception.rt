@@ -166,8 +166,8 @@ impl ReceiverCore {
     {
         let mut inds = Indications::new(self.alloc());
         match body {
-            Body::Metadata(metadata) if self.metadata.is_none() => {
-                inds.push(metadata_recv(header, metadata)?)?;
+            Body::Metadata(first) if self.metadata.is_none() => {
+                inds.push(metadata_recv(header, first)?)?;
             }
             Body::FileData(data) if !data.octets.as_slice().is_empty() => {
                 inds.push(Indication::FileSegmentRecv {
