@@ -3,6 +3,7 @@
 #![tactic(auto)]
 
 mod command;
+mod ending;
 mod fault;
 mod input;
 mod output;
@@ -17,6 +18,7 @@ mod text;
 mod words;
 mod world;
 
+use ending::conclude;
 use fault::ReplayFault;
 use replay::replay;
 use std::io;
@@ -24,13 +26,8 @@ use std::io::{BufReader, BufWriter, Write};
 use std::process::ExitCode;
 
 fn main(rt: HostRuntime) -> ExitCode {
-    match run(&rt) {
-        Ok(()) => ExitCode::SUCCESS,
-        Err(fault) => {
-            report(&rt, fault);
-            ExitCode::FAILURE
-        }
-    }
+    let ended = run(&rt);
+    ExitCode::from(conclude(ended, &mut io::writer(&rt), &mut rt.stderr()))
 }
 
 // Replays the standard input to the standard output.
@@ -40,12 +37,4 @@ fn run(rt: &HostRuntime) -> Result<(), ReplayFault> {
     let result = replay(rt.alloc(), &mut reader, &mut writer);
     let flushed = writer.flush().map_err(|_| ReplayFault::Write);
     result.and(flushed)
-}
-
-// A bad line is an answer too; the other faults are of the program's surroundings.
-fn report(rt: &HostRuntime, fault: ReplayFault) {
-    let _ = match fault {
-        ReplayFault::BadLine(_) => rt.println(fault),
-        ReplayFault::Read | ReplayFault::Write | ReplayFault::NoMemory => rt.eprintln(fault),
-    };
 }

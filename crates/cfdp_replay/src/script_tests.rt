@@ -1,5 +1,6 @@
 //! Whole scripts, with what they print. The expected texts are worked out by hand.
 
+use crate::ending::conclude;
 use crate::fault::ReplayFault;
 use crate::replay::replay;
 use std::process::Abort;
@@ -203,4 +204,23 @@ fn bad_lines(rt: HostRuntime) -> Result<(), Fail> {
     )?;
     check(&rt, &[""], "", Ok(()))?;
     check(&rt, &["take bob"], "none\n", Ok(()))
+}
+
+#[test]
+fn how_a_run_ends(rt: HostRuntime) -> Result<(), Fail> {
+    let cases = [
+        (Ok(()), "", "", 0),
+        (Err(ReplayFault::BadLine(2)), "line 2: bad line\n", "", 1),
+        (Err(ReplayFault::Read), "", "read fault\n", 1),
+        (Err(ReplayFault::Write), "", "write fault\n", 1),
+        (Err(ReplayFault::NoMemory), "", "no memory\n", 1),
+    ];
+    for (ended, printed, told, status) in cases {
+        let mut writer = Vec::new(rt.alloc());
+        let mut errors = Vec::new(rt.alloc());
+        assert_eq!(rt; conclude(ended, &mut writer, &mut errors), status);
+        assert_eq!(rt; writer.as_slice(), printed.as_bytes());
+        assert_eq!(rt; errors.as_slice(), told.as_bytes());
+    }
+    Ok(())
 }
