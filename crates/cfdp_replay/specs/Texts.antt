@@ -7,10 +7,8 @@ use Rattle.cfdp_types.specs.declared.names.Delivery.{Delivery}
 use Rattle.cfdp_types.specs.declared.names.Delivery.TheVariants.{Complete, Incomplete}
 use Rattle.cfdp_types.specs.declared.names.FileStatus.{FileStatus}
 use Rattle.cfdp_types.specs.declared.names.FileStatus.TheVariants.{Discarded, Rejected, Retained, Unreported}
-use Rattle.pdu_codec.specs.declared.event.Refusal.{Refusal}
-use Rattle.pdu_codec.specs.declared.event.Refusal.TheVariants.{NoTransaction, OldTransaction, LaneBusy, ModeMismatch, StaleTimer, StaleStored, Storing as StoringRefusal, WrongState, SeqExhausted, TooLarge, JournalFull, NoMemory as NoMemoryRefusal, QueueFull}
-use Rattle.pdu_codec.specs.declared.fault.DecodeFault.{DecodeFault}
-use Rattle.pdu_codec.specs.declared.fault.DecodeFault.TheVariants.{TooShort, BadVersion, CrcPresent, LargeFile, LengthMismatch, UnknownDirective, FieldCut, NoFileName, NoMemory as NoMemoryFault}
+use Rattle.pdu_codec.specs.Refusal.{refusal_number, refusal_name}
+use Rattle.pdu_codec.specs.Fault.{fault_number}
 use Rattle.ind_words.specs.declared.indication.Phase.{Phase}
 use Rattle.ind_words.specs.declared.indication.Phase.TheVariants.{Active, Suspended as SuspendedPhase, Storing as StoringPhase, Closing}
 use Rattle.ind_words.specs.declared.indication.Indication.{Indication}
@@ -44,50 +42,6 @@ phase_name SuspendedPhase = codes "suspended"
 phase_name StoringPhase = codes "storing"
 phase_name Closing = codes "closing"
 
--- the number of a lane's refusal
-abbrev pub refusal_number : Refusal → ℕ
-refusal_number NoTransaction = 1
-refusal_number OldTransaction = 2
-refusal_number LaneBusy = 3
-refusal_number ModeMismatch = 4
-refusal_number StaleTimer = 5
-refusal_number StaleStored = 6
-refusal_number StoringRefusal = 7
-refusal_number WrongState = 8
-refusal_number SeqExhausted = 9
-refusal_number TooLarge = 10
-refusal_number JournalFull = 11
-refusal_number NoMemoryRefusal = 12
-refusal_number QueueFull = 13
-
--- its name
-abbrev pub refusal_name : Refusal → List ℕ
-refusal_name NoTransaction = codes "NoTransaction"
-refusal_name OldTransaction = codes "OldTransaction"
-refusal_name LaneBusy = codes "LaneBusy"
-refusal_name ModeMismatch = codes "ModeMismatch"
-refusal_name StaleTimer = codes "StaleTimer"
-refusal_name StaleStored = codes "StaleStored"
-refusal_name StoringRefusal = codes "Storing"
-refusal_name WrongState = codes "WrongState"
-refusal_name SeqExhausted = codes "SeqExhausted"
-refusal_name TooLarge = codes "TooLarge"
-refusal_name JournalFull = codes "JournalFull"
-refusal_name NoMemoryRefusal = codes "NoMemory"
-refusal_name QueueFull = codes "QueueFull"
-
--- the number of a decode fault
-abbrev pub decode_fault_number : DecodeFault → ℕ
-decode_fault_number TooShort = 1
-decode_fault_number BadVersion = 2
-decode_fault_number CrcPresent = 3
-decode_fault_number LargeFile = 4
-decode_fault_number LengthMismatch = 5
-decode_fault_number UnknownDirective = 6
-decode_fault_number FieldCut = 7
-decode_fault_number NoFileName = 8
-decode_fault_number NoMemoryFault = 9
-
 -- the line for a refusal with a number and a name
 abbrev pub refused_text : ℕ → List ℕ → List ℕ
 refused_text number name =
@@ -99,7 +53,7 @@ decode_fault_text number = codes "refused 20 DecodeFault " ++ (decimal number ++
 
 -- the line for a refusal
 abbrev pub refusal_text : StepRefusal → List ℕ
-refusal_text (Decode fault) = decode_fault_text (decode_fault_number fault)
+refusal_text (Decode fault) = decode_fault_text (fault_number fault)
 refusal_text NotForUs = refused_text 21 (codes "NotForUs")
 refusal_text WrongDirection = refused_text 22 (codes "WrongDirection")
 refusal_text NoRoute = refused_text 23 (codes "NoRoute")

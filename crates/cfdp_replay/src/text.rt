@@ -1,11 +1,10 @@
 //! The texts of answers. Each function adds to a text; after an `Err` the text is no answer.
 ghost use Rattle.std.specs.Prelude.{◌≡◌, ◌++◌, IfOk, OnOk, string_bytes, codes};
-ghost use Rattle.cfdp_replay.specs.Texts.{text_of, deposit_text, refusal_text, refused_text, decode_fault_text, refusal_name, refusal_number, bundle_text, key_text, indication_text, finished_text, metadata_text, segment_text, report_text, fault_text, number_text, messages_text, hex_word, user_name, delivery_name, status_name, phase_name, decode_fault_number};
+ghost use Rattle.cfdp_replay.specs.Texts.{text_of, deposit_text, refusal_text, refused_text, decode_fault_text, bundle_text, key_text, indication_text, finished_text, metadata_text, segment_text, report_text, fault_text, number_text, messages_text, hex_word, user_name, delivery_name, status_name, phase_name};
 
 use crate::reply::{Reply, StepRefusal};
 use cfdp_types::{Condition, Delivery, EntityId, FileStatus, Messages, Octets};
 use ind_words::{Bundle, Indication, Phase};
-use pdu_codec::{DecodeFault, Refusal};
 use std::alloc::{AllocError, Global};
 
 /// Adds what is printed for a reply.
@@ -35,13 +34,11 @@ fn push_refusal(text: &mut String, refusal: StepRefusal) -> Result<(), AllocErro
     ensures { OnOk result (string_bytes text.new ≡ string_bytes text.old ++ refusal_text refusal) }
 {
     match refusal {
-        StepRefusal::Decode(fault) => push_decode_fault(text, decode_fault_number(fault)),
+        StepRefusal::Decode(fault) => push_decode_fault(text, fault.number()),
         StepRefusal::NotForUs => push_refused(text, 21, "NotForUs"),
         StepRefusal::WrongDirection => push_refused(text, 22, "WrongDirection"),
         StepRefusal::NoRoute => push_refused(text, 23, "NoRoute"),
-        StepRefusal::Lane(refusal) => {
-            push_refused(text, refusal_number(refusal), refusal_name(refusal))
-        }
+        StepRefusal::Lane(refusal) => { push_refused(text, refusal.number(), refusal.name()) }
     }
 }
 
@@ -250,36 +247,4 @@ fn phase_name(phase: Phase) -> &'static str
         Phase::Storing => "storing",
         Phase::Closing => "closing",
     }
-}
-
-fn refusal_number(refusal: Refusal) -> u8
-    ensures { result ≡ refusal_number refusal }
-{
-    refusal as u8
-}
-
-fn refusal_name(refusal: Refusal) -> &'static str
-    ensures { result.now ≡ refusal_name refusal }
-{
-    match refusal {
-        Refusal::NoTransaction => "NoTransaction",
-        Refusal::OldTransaction => "OldTransaction",
-        Refusal::LaneBusy => "LaneBusy",
-        Refusal::ModeMismatch => "ModeMismatch",
-        Refusal::StaleTimer => "StaleTimer",
-        Refusal::StaleStored => "StaleStored",
-        Refusal::Storing => "Storing",
-        Refusal::WrongState => "WrongState",
-        Refusal::SeqExhausted => "SeqExhausted",
-        Refusal::TooLarge => "TooLarge",
-        Refusal::JournalFull => "JournalFull",
-        Refusal::NoMemory => "NoMemory",
-        Refusal::QueueFull => "QueueFull",
-    }
-}
-
-fn decode_fault_number(fault: DecodeFault) -> u8
-    ensures { result ≡ decode_fault_number fault }
-{
-    fault as u8
 }
