@@ -1,0 +1,3 @@
+pub mod RunLemmas
+pub mod GapLemmas
+pub mod SetLemmas

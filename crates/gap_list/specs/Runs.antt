@@ -1,0 +1,83 @@
+-- Sets of offsets, as tests of an offset, and the runs that they are made of.
+use Rattle.std.specs.Prelude.{◌≡◌, ℕ, zero, suc, ◌+◌, ◌-◌, ◌<◌, ◌≤◌, Bool, true, false, ◌&&◌, ◌||◌, ◌==◌, not, nat_le, nat_lt, cond, List, [], ◌∷◌, IsTrue, refl}
+use Rattle.std.specs.List.{list_any}
+use Rattle.gap_list.specs.declared.run.Run.{Run}
+
+-- whether an offset is one of those from start to end - 1
+abbrev pub is_within : ℕ → ℕ → ℕ → Bool
+is_within start end offset = nat_le start offset && nat_lt offset end
+
+-- two sets with the same offsets
+abbrev pub SameSet : (ℕ → Bool) → (ℕ → Bool) → Type 0
+SameSet set other = (offset : ℕ) → set offset ≡ other offset
+
+-- a set and the offsets from start to end - 1
+abbrev pub with_range : (ℕ → Bool) → ℕ → ℕ → ℕ → Bool
+with_range set start end offset = set offset || is_within start end offset
+
+-- whether an offset is in one of the runs
+abbrev pub in_runs : List Run → ℕ → Bool
+in_runs runs offset = list_any (λ run. is_within run.start run.end offset) runs
+
+-- an offset and the runs above it: one longer run where the first of them begins right after it
+abbrev pub joined : ℕ → List Run → List Run
+joined offset [] = record { start = offset; end = offset + 1 } ∷ []
+joined offset (run ∷ runs) = cond (run.start == offset + 1)
+    (record { start = offset; end = run.end } ∷ runs)
+    (record { start = offset; end = offset + 1 } ∷ run ∷ runs)
+
+-- the runs above an offset, with it where it is in the set
+abbrev pub joined_if : Bool → ℕ → List Run → List Run
+joined_if true offset runs = joined offset runs
+joined_if false offset runs = runs
+
+-- the maximal runs of a set among so many offsets from one on, rising
+unfoldable pub runs_from : (ℕ → Bool) → ℕ → ℕ → List Run
+runs_from set offset zero = []
+runs_from set offset (suc count) = joined_if (set offset) offset (runs_from set (offset + 1) count)
+
+-- the maximal runs of a set below a limit, rising
+unfoldable pub runs_of : (ℕ → Bool) → ℕ → List Run
+runs_of set limit = runs_from set 0 limit
+
+-- the maximal runs of the offsets from start to end - 1 that aren't in the set
+abbrev pub new_runs : (ℕ → Bool) → ℕ → ℕ → List Run
+new_runs set start end = runs_of (λ offset. is_within start end offset && not (set offset)) end
+
+-- the maximal runs below a limit of what isn't in the set
+abbrev pub missing_runs : (ℕ → Bool) → ℕ → List Run
+missing_runs set limit = runs_of (λ offset. not (set offset)) limit
+
+-- one more than the greatest offset of the set, or 0 where it has none
+pub record IsExtent (set : ℕ → Bool) (extent : ℕ) : Type 0 where
+  pub above : (offset : ℕ) → extent ≤ offset → set offset ≡ false
+  pub last : 0 < extent → IsTrue (set (extent - 1))
+
+-- runs that aren't empty, rise and don't touch, the first of them at or above an offset
+abbrev pub IsRisingFrom : ℕ → List Run → Type 0
+IsRisingFrom offset [] = Unit {0}
+IsRisingFrom offset (run ∷ runs) = (offset ≤ run.start) × (run.start < run.end) × IsRisingFrom (run.end + 1) runs
+
+-- two runs with a gap between them
+abbrev two_runs : ℕ → Bool
+two_runs = in_runs (record { start = 8; end = 12 } ∷ record { start = 0; end = 4 } ∷ [])
+
+-- a run over the ends of both adds the gap
+new_runs_over_two : new_runs two_runs 2 10 ≡ record { start = 4; end = 8 } ∷ []
+unfolding runs_of runs_from
+new_runs_over_two = refl
+
+-- with it nothing is missing up to the end
+missing_runs_after : missing_runs (with_range two_runs 2 10) 13 ≡ record { start = 12; end = 13 } ∷ []
+unfolding runs_of runs_from
+missing_runs_after = refl
+
+-- a run over everything adds each gap and what is above
+new_runs_over_all : new_runs two_runs 0 14 ≡ record { start = 4; end = 8 } ∷ record { start = 12; end = 14 } ∷ []
+unfolding runs_of runs_from
+new_runs_over_all = refl
+
+-- a limit cuts a gap
+missing_runs_cut : missing_runs two_runs 6 ≡ record { start = 4; end = 6 } ∷ []
+unfolding runs_of runs_from
+missing_runs_cut = refl
