@@ -1,8 +1,8 @@
 -- Words, told one after the other.
-use Rattle.std.proofs.Common.{◌≡◌, ℕ, Bool, true, false, ◌||◌, List, [], ◌∷◌, ◌++◌, refl, sym, ap, ◌∙◌}
+use Rattle.std.proofs.Common.{◌≡◌, Bool, true, false, ◌||◌, List, [], ◌∷◌, ◌++◌, refl, sym, ◌∙◌}
 use Rattle.std.specs.List.{list_any}
 use Rattle.ind_words.specs.declared.indication.Indication.{Indication}
-use Rattle.ind_words.specs.Words.{is_end, IsNext, MayFollow, IsBegun, IsWord}
+use Rattle.ind_words.specs.Words.{MayFollow}
 
 -- what was told, newest first, once more is told
 abbrev pub told_onto : List Indication → List Indication → List Indication

@@ -1,12 +1,12 @@
 -- Reading itself never runs out of memory.
 use Rattle.std.proofs.Common.{◌≡◌, ◌≢◌, ℕ, Bool, true, false, cond, List, length, Option, Some, None, Result, Ok, Err, refl, sym, ◌∙◌, eqb}
-use Rattle.std.specs.Prelude.{not, IsOk, ◌⊎◌}
+use Rattle.std.specs.Prelude.{not, IsOk}
 use Rattle.std.proofs.Common.{inl, inr}
 use Rattle.pdu_codec.specs.Pdu.{PduValue}
 use Rattle.pdu_codec.specs.declared.pdu.Body.{Body}
 use Rattle.pdu_codec.specs.declared.opening.Opening.{Opening}
 use Rattle.pdu_codec.specs.declared.fault.DecodeFault.{DecodeFault}
-use Rattle.pdu_codec.specs.declared.fault.DecodeFault.TheVariants.{TooShort, BadVersion, CrcPresent, LargeFile, LengthMismatch, UnknownDirective, FieldCut, NoFileName, NoMemory}
+use Rattle.pdu_codec.specs.declared.fault.DecodeFault.TheVariants.{BadVersion, CrcPresent, LargeFile, LengthMismatch, NoFileName, NoMemory}
 use Rattle.pdu_codec.specs.Opening.{version, is_file_data, has_crc, is_large}
 use Rattle.pdu_codec.specs.Narrowing.{is_taken}
 use Rattle.pdu_codec.specs.Reading.{reading, pdu_from_opening, opening_at, opening_fault, pdu_from_field, pdu_with_body, body_of, whole_body, directive_of, eof_at, metadata_at, file_data_at, number_at, lacks_name, IsUnlessMemory}

@@ -1,8 +1,8 @@
 -- What a commit leaves is one entry more.
-use Rattle.std.proofs.Common.{◌≡◌, ℕ, ◌+◌, ◌-◌, ◌<◌, ◌≤◌, Bool, true, false, cond, leb, ◌||◌, List, [], ◌∷◌, ◌++◌, length, Option, Some, None, Result, Ok, Err, refl, sym, ap, ◌∙◌, append-nil, arith}
+use Rattle.std.proofs.Common.{◌≡◌, ℕ, ◌+◌, ◌<◌, ◌≤◌, Bool, true, false, List, ◌∷◌, ◌++◌, length, Option, Some, None, Ok, refl, sym, ap, ◌∙◌, append-nil, arith}
 use Rattle.std.specs.Prelude.{slice_get, is_some}
 use Rattle.std.specs.List.{list_any}
-use Rattle.std.proofs.lemmas.Bool.{cases_Bool, le-leb, leb-false}
+use Rattle.std.proofs.lemmas.Bool.{leb-false}
 use Rattle.pdu_codec.specs.Pdu.{PduValue}
 use Rattle.pdu_codec.specs.declared.event.What.{What}
 use Rattle.pdu_codec.specs.declared.event.What.TheVariants as what
@@ -11,14 +11,13 @@ use Rattle.pdu_codec.specs.declared.pdu.Metadata.{Metadata}
 use Rattle.pdu_codec.specs.declared.pdu.Eof.{Eof}
 use Rattle.ind_words.specs.Words.{is_end}
 use Rattle.receiver_core.specs.declared.answer.Answer.{Answer}
-use Rattle.receiver_core.specs.declared.plan.Change.{Change}
 use Rattle.receiver_core.specs.declared.plan.Change.TheVariants as change
 use Rattle.receiver_core.specs.declared.plan.Plan.{Plan}
 use Rattle.receiver_core.specs.declared.reception.ReceiverCore.{ReceiverCore}
 use Rattle.receiver_core.specs.Log.{Entry, State, step, state_of, older_or}
-use Rattle.receiver_core.specs.Table.{pdu_refusal, refusal_at, accepted_at, answer_at, unless_refused, stored_answer, is_waiting, is_full}
+use Rattle.receiver_core.specs.Table.{refusal_at, accepted_at, answer_at, unless_refused, stored_answer}
 use Rattle.receiver_core.specs.Examine.{added, metadata_with, eof_with}
-use Rattle.receiver_core.specs.Core.{shown, StandsAfter, IsPlanOf, IsChangedBy, body_change, plan_answer}
+use Rattle.receiver_core.specs.Core.{shown, StandsAfter, IsPlanOf, body_change}
 use Rattle.receiver_core.proofs.States.{same_state}
 use Rattle.receiver_core.proofs.Parts.{received_parts, progress_parts, metadata_parts, eof_parts, older_or-none}
 use Rattle.receiver_core.proofs.Planned.{not_refused}

@@ -1,12 +1,11 @@
 -- What holds of every log of accepted events.
-use Rattle.std.proofs.Common.{◌≡◌, ℕ, zero, suc, ◌+◌, ◌-◌, ◌<◌, ◌≤◌, Bool, true, false, cond, not, ◌||◌, ◌&&◌, leb, ltb, eqb, max, List, [], ◌∷◌, ◌++◌, length, Option, Some, None, Result, Ok, refl, sym, ap, subst, ◌∙◌, arith, ◌⊎◌, inl, inr}
-use Rattle.std.specs.Prelude.{is_some, slice_get}
-use Rattle.std.specs.List.{list_any, Contains}
-use Rattle.std.proofs.lemmas.Bool.{cases_lt, cases_Bool, eqb-true, ltb-false, ltb-true, lt-ltb, le-ltb}
+use Rattle.std.proofs.Common.{◌≡◌, ℕ, zero, suc, ◌+◌, ◌<◌, ◌≤◌, Bool, true, false, cond, not, ◌||◌, ◌&&◌, ltb, eqb, List, [], ◌∷◌, length, Option, Some, None, Ok, refl, sym, ap, ◌∙◌, arith, ◌⊎◌, inl, inr}
+use Rattle.std.specs.Prelude.{is_some}
+use Rattle.std.specs.List.{list_any}
+use Rattle.std.proofs.lemmas.Bool.{cases_lt, eqb-true, ltb-false, ltb-true, le-ltb}
 use Rattle.std.proofs.lemmas.List.Folds.{list_any-append, list_any-from_Any}
 use Rattle.cfdp_types.specs.declared.names.Delivery.TheVariants.{Complete, Incomplete}
-use Rattle.cfdp_types.specs.declared.names.FileStatus.{FileStatus}
-use Rattle.cfdp_types.specs.declared.names.FileStatus.TheVariants.{Discarded, Rejected, Retained}
+use Rattle.cfdp_types.specs.declared.names.FileStatus.TheVariants.{Discarded}
 use Rattle.pdu_codec.specs.Pdu.{PduValue}
 use Rattle.pdu_codec.specs.declared.event.What.{What}
 use Rattle.pdu_codec.specs.declared.event.What.TheVariants as what
@@ -18,16 +17,15 @@ use Rattle.pdu_codec.specs.declared.pdu.Metadata.{Metadata}
 use Rattle.pdu_codec.specs.declared.pdu.Eof.{Eof}
 use Rattle.ind_words.specs.declared.indication.Indication.{Indication}
 use Rattle.ind_words.specs.declared.indication.Indication.TheVariants as told
-use Rattle.ind_words.specs.Words.{is_end, is_metadata, is_eof, tells_of, IsNext, MayFollow, IsBegun, IsWord, IsFilled, MayFinish}
+use Rattle.ind_words.specs.Words.{is_end, MayFollow, IsBegun, IsFilled, MayFinish}
 use Rattle.ind_words.proofs.WordLemmas.{told_onto, told_onto-append, MayFollow-append, list_any-told_onto}
 use Rattle.modular_sum.specs.Sum.{sum}
 use Rattle.receiver_core.specs.declared.answer.Answer.{Answer}
 use Rattle.receiver_core.specs.declared.examine.Finding.{Finding}
 use Rattle.receiver_core.specs.declared.examine.Finding.TheVariants.{Nothing, Faulty, Whole}
-use Rattle.receiver_core.specs.Log.{Entry, State, initial, step, state_of, issued, older_or, body_octet, body_extent, body_metadata, body_eof}
-use Rattle.receiver_core.specs.Table.{pdu_refusal, refusal_at, accepted_at, answer_at, seen, examine, is_unsupported, is_beyond, compared, none_missing, octets_from, pdu_answer, cancel_code, stored_answer, found, faulty, told_of, is_waiting}
+use Rattle.receiver_core.specs.Log.{Entry, State, initial, step, state_of, issued}
+use Rattle.receiver_core.specs.Table.{pdu_refusal, answer_at, seen, examine, is_unsupported, is_beyond, compared, none_missing, octets_from, pdu_answer, cancel_code, stored_answer, found, faulty, told_of, is_waiting}
 use Rattle.receiver_core.specs.Laws.{IsLegal, IsGoodFile, IsGood, TellsWords, CompletesGood}
-use Rattle.receiver_core.proofs.Parts.{older_or-none}
 use Rattle.receiver_core.proofs.Planned.{not_refused}
 use Rattle.receiver_core.proofs.Committed.{was_accepted, none_waits}
 use Rattle.receiver_core.proofs.Telling.{Tells, TellsBody, body_tells, cancel_tells}

@@ -1,14 +1,13 @@
 -- The look at the file, over octets in a list and over the octet at each offset, is one.
-use Rattle.std.proofs.Common.{◌≡◌, ℕ, zero, suc, ◌+◌, ◌-◌, ◌<◌, ◌≤◌, Bool, true, false, cond, not, ◌&&◌, leb, ltb, eqb, List, [], ◌∷◌, ◌++◌, length, drop, get_or, Option, Some, None, refl, sym, ap, subst, ◌∙◌, arith, inl, inr, add-one, drop-cons}
-use Rattle.std.specs.Prelude.{slice_get, is_some, unwrap_or}
+use Rattle.std.proofs.Common.{◌≡◌, ℕ, zero, suc, ◌+◌, ◌<◌, ◌≤◌, true, false, cond, not, ltb, eqb, List, length, drop, Option, Some, None, refl, sym, ap, arith, inl, inr, add-one, drop-cons}
+use Rattle.std.specs.Prelude.{slice_get, is_some}
 use Rattle.std.specs.Option.{option_map}
-use Rattle.std.proofs.lemmas.Bool.{cases_lt, cases_Bool, ltb-false, le-ltb, lt-ltb}
-use Rattle.std.proofs.lemmas.List.{length-append, drop_all}
+use Rattle.std.proofs.lemmas.Bool.{cases_lt, le-ltb, lt-ltb}
+use Rattle.std.proofs.lemmas.List.{drop_all}
 use Rattle.std.proofs.lemmas.Option.{slice_get-get_or, slice_get_past, unwrap_or-slice_get}
 use Rattle.pdu_codec.specs.declared.pdu.Metadata.{Metadata}
 use Rattle.pdu_codec.specs.declared.pdu.Eof.{Eof}
 use Rattle.modular_sum.specs.Sum.{sum}
-use Rattle.receiver_core.specs.declared.examine.Finding.{Finding}
 use Rattle.receiver_core.specs.declared.examine.Finding.TheVariants.{Nothing, Faulty, Whole}
 use Rattle.receiver_core.specs.Table.{none_missing, octets_from, is_unsupported, is_beyond, compared}
 use Rattle.receiver_core.specs.Examine.{looked}

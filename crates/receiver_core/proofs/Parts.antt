@@ -1,11 +1,9 @@
 -- What an event changes, in the code's own form: octets in a list, received in order.
-use Rattle.std.proofs.Common.{◌≡◌, ℕ, zero, suc, ◌+◌, ◌-◌, ◌<◌, ◌≤◌, Bool, true, false, cond, not, max, leb, ltb, eqb, List, [], ◌∷◌, ◌++◌, length, Option, Some, None, refl, sym, ap, subst, ◌∙◌, arith, inl, inr}
-use Rattle.std.specs.Prelude.{slice_get, is_some, unwrap_or}
+use Rattle.std.proofs.Common.{◌≡◌, ℕ, zero, suc, ◌-◌, Bool, true, false, cond, not, max, leb, eqb, List, [], ◌∷◌, ◌++◌, length, Option, Some, None, refl, sym, ◌∙◌, arith, inl, inr}
+use Rattle.std.specs.Prelude.{slice_get, is_some}
 use Rattle.std.specs.Option.{option_map}
-use Rattle.std.proofs.lemmas.Bool.{cases_lt, cases_Bool, eqb-true, le-leb, lt-leb, leb-true, ltb-false, le-ltb}
+use Rattle.std.proofs.lemmas.Bool.{cases_lt, cases_Bool, eqb-true, le-leb, lt-leb}
 use Rattle.std.proofs.lemmas.List.{length-append}
-use Rattle.std.proofs.Math.Path.{fun_ext}
-use Rattle.pdu_codec.specs.Pdu.{PduValue}
 use Rattle.pdu_codec.specs.declared.pdu.Body.{Body}
 use Rattle.pdu_codec.specs.declared.pdu.Body.TheVariants as body
 use Rattle.pdu_codec.specs.declared.pdu.FileData.{FileData}
@@ -13,7 +11,7 @@ use Rattle.pdu_codec.specs.declared.pdu.Metadata.{Metadata}
 use Rattle.pdu_codec.specs.declared.pdu.Eof.{Eof}
 use Rattle.receiver_core.specs.declared.plan.Change.{Change}
 use Rattle.receiver_core.specs.declared.plan.Change.TheVariants as change
-use Rattle.receiver_core.specs.Log.{State, older_or, octet_at, body_octet, body_extent, body_metadata, body_eof}
+use Rattle.receiver_core.specs.Log.{State, older_or, body_octet, body_extent, body_metadata, body_eof}
 use Rattle.receiver_core.specs.Table.{is_out_of_order}
 use Rattle.receiver_core.specs.Examine.{added, metadata_with, eof_with, type_with}
 use Rattle.receiver_core.specs.Core.{body_change}

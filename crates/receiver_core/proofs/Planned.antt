@@ -1,27 +1,23 @@
 -- What is planned is what the table answers.
-use Rattle.std.proofs.Common.{◌≡◌, ◌≢◌, ℕ, Bool, true, false, cond, List, [], ◌++◌, length, Option, Some, None, Result, Ok, Err, refl, sym, ap, ◌∙◌}
+use Rattle.std.proofs.Common.{◌≡◌, ℕ, Bool, true, false, cond, ◌++◌, length, Option, Some, None, Ok, Err, refl, sym, ap, ◌∙◌}
 use Rattle.std.specs.Prelude.{slice_get, is_some, IsOk}
-use Rattle.std.specs.Option.{option_map}
 use Rattle.std.proofs.Math.Path.{fun_ext}
 use Rattle.pdu_codec.specs.Pdu.{PduValue}
-use Rattle.pdu_codec.specs.declared.event.What.{What}
 use Rattle.pdu_codec.specs.declared.event.What.TheVariants as what
 use Rattle.pdu_codec.specs.declared.event.Refusal.{Refusal}
 use Rattle.pdu_codec.specs.declared.event.Refusal.TheVariants as refusal
-use Rattle.pdu_codec.specs.declared.pdu.Body.{Body}
 use Rattle.pdu_codec.specs.declared.pdu.Metadata.{Metadata}
 use Rattle.pdu_codec.specs.declared.pdu.Eof.{Eof}
 use Rattle.receiver_core.specs.declared.answer.Answer.{Answer}
 use Rattle.receiver_core.specs.declared.examine.Finding.{Finding}
-use Rattle.receiver_core.specs.declared.examine.Finding.TheVariants.{Nothing, Faulty, Whole}
+use Rattle.receiver_core.specs.declared.examine.Finding.TheVariants.{Faulty}
 use Rattle.receiver_core.specs.declared.reception.ReceiverCore.{ReceiverCore}
-use Rattle.receiver_core.specs.Log.{State, step, received_after, progress_after, metadata_after, eof_after, older_or, body_octet, body_extent, body_metadata, body_eof}
-use Rattle.receiver_core.specs.Table.{is_acknowledged, is_out_of_order, is_too_large, is_full, pdu_refusal, refusal_at, accepted_at, answer_at, seen, examine, is_unsupported, is_beyond, compared, pdu_answer, cancel_code, stored_answer, is_waiting}
+use Rattle.receiver_core.specs.Log.{State, step}
+use Rattle.receiver_core.specs.Table.{is_acknowledged, is_out_of_order, is_too_large, is_full, pdu_refusal, answer_at, seen, examine, is_unsupported, is_beyond, compared, pdu_answer, cancel_code, stored_answer, is_waiting}
 use Rattle.receiver_core.specs.Examine.{looked, type_with, eof_with, metadata_with, added}
 use Rattle.receiver_core.specs.Core.{shown, IsSame, body_change, HasRoom, IsPlanOf}
 use Rattle.receiver_core.specs.declared.plan.Change.{Change}
 use Rattle.receiver_core.specs.declared.plan.Change.TheVariants as change
-use Rattle.std.proofs.lemmas.Bool.{eq-eqb, ne_eqb}
 use Rattle.receiver_core.proofs.States.{same_state}
 use Rattle.receiver_core.proofs.Parts.{received_parts, progress_parts, metadata_parts, eof_parts, type_parts}
 use Rattle.receiver_core.proofs.Looks.{looked-list}

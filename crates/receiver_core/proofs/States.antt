@@ -1,10 +1,9 @@
 -- When two states are one.
-use Rattle.std.proofs.Common.{◌≡◌, ℕ, Bool, Option, None, List, [], refl}
-use Rattle.std.specs.Prelude.{slice_get}
+use Rattle.std.proofs.Common.{◌≡◌, ℕ, Bool, Option}
 use Rattle.std.proofs.Math.Path.{fun_ext}
 use Rattle.pdu_codec.specs.declared.pdu.Metadata.{Metadata}
 use Rattle.pdu_codec.specs.declared.pdu.Eof.{Eof}
-use Rattle.receiver_core.specs.Log.{State, initial, state_of}
+use Rattle.receiver_core.specs.Log.{State}
 
 made : ℕ → (ℕ → Option ℕ) → ℕ → Option Metadata → Option Eof → Option ℕ → Bool → State
 made place received progress metadata eof waiting ended =

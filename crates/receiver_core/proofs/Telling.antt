@@ -1,11 +1,10 @@
 -- What the user is told fits what was received, and is a beginning of a word.
-use Rattle.std.proofs.Common.{◌≡◌, ◌≢◌, ℕ, zero, suc, ◌+◌, ◌-◌, ◌<◌, ◌≤◌, Bool, true, false, cond, ◌||◌, ◌&&◌, leb, ltb, eqb, max, List, [], ◌∷◌, ◌++◌, length, Option, Some, None, refl, sym, ap, subst, ◌∙◌, arith, inl, inr}
+use Rattle.std.proofs.Common.{◌≡◌, ◌≢◌, ℕ, ◌+◌, ◌-◌, ◌≤◌, Bool, true, false, cond, ◌||◌, ◌&&◌, leb, ltb, eqb, max, List, [], ◌∷◌, length, Option, Some, None, refl, sym, ap, subst, ◌∙◌, arith, inl, inr}
 use Rattle.std.specs.Prelude.{is_some, slice_get}
 use Rattle.std.specs.List.{list_any}
-use Rattle.std.proofs.lemmas.Bool.{cases_lt, cases_Bool, eqb-true, eqb-false, le-leb, lt-leb, ltb-false, lt-ltb, le-ltb}
+use Rattle.std.proofs.lemmas.Bool.{cases_lt, cases_Bool, eqb-true, eqb-false, le-leb, ltb-false, lt-ltb, le-ltb}
 use Rattle.std.proofs.lemmas.Option.{slice_get-get_or, slice_get_past}
 use Rattle.cfdp_types.specs.declared.limits.TheConstants.{FILE_OCTETS}
-use Rattle.pdu_codec.specs.Pdu.{PduValue}
 use Rattle.pdu_codec.specs.declared.pdu.Header.{Header}
 use Rattle.pdu_codec.specs.declared.pdu.Body.{Body}
 use Rattle.pdu_codec.specs.declared.pdu.Body.TheVariants as body
@@ -16,7 +15,7 @@ use Rattle.ind_words.specs.declared.indication.Indication.{Indication}
 use Rattle.ind_words.specs.declared.indication.Indication.TheVariants as told
 use Rattle.ind_words.specs.Words.{is_end, is_metadata, is_eof, tells_of, IsNext, IsNew, MayFollow}
 use Rattle.ind_words.proofs.WordLemmas.{told_onto}
-use Rattle.receiver_core.specs.Log.{State, older_or, octet_at, body_octet, body_extent, body_metadata, body_eof}
+use Rattle.receiver_core.specs.Log.{State, older_or, body_octet, body_extent, body_metadata, body_eof}
 use Rattle.receiver_core.specs.Table.{is_out_of_order, is_too_large, told_of, cancel_code}
 use Rattle.receiver_core.proofs.Parts.{in_order, older_or-none}
 

@@ -1,5 +1,5 @@
 -- How the code keeps a reception, and what it plans.
-use Rattle.std.specs.Prelude.{◌≡◌, ℕ, ◌+◌, ◌≤◌, ◌==◌, is_some, if◌then◌else◌, List, [], length, slice_get, ◌++◌, ◌⊎◌, Option, Some, None, Result, Ok, Err, IsOk, vec_len, vec_capacity}
+use Rattle.std.specs.Prelude.{◌≡◌, ◌+◌, ◌≤◌, ◌==◌, is_some, if◌then◌else◌, List, length, slice_get, ◌++◌, ◌⊎◌, Result, Ok, Err, IsOk, vec_len, vec_capacity}
 use Rattle.cfdp_types.specs.Condition as condition
 use Rattle.pdu_codec.specs.declared.event.What.{What}
 use Rattle.pdu_codec.specs.declared.event.What.TheVariants as what

@@ -1,5 +1,5 @@
 -- The look at the file so far, over the octets in a list: they were received in order.
-use Rattle.std.specs.Prelude.{ℕ, Bool, false, not, ◌==◌, ◌++◌, nat_lt, if◌then◌else◌, List, [], length, Option, Some, None}
+use Rattle.std.specs.Prelude.{ℕ, Bool, false, not, ◌==◌, nat_lt, if◌then◌else◌, List, [], length, Option, Some, None}
 use Rattle.std.specs.Option.{option_map}
 use Rattle.cfdp_types.specs.Condition as condition
 use Rattle.cfdp_types.specs.ChecksumType as checksum
@@ -10,7 +10,6 @@ use Rattle.receiver_core.specs.declared.examine.Finding.TheVariants.{Nothing, Fa
 use Rattle.receiver_core.specs.declared.plan.Change.{Change}
 use Rattle.receiver_core.specs.declared.plan.Change.TheVariants as change
 use Rattle.modular_sum.specs.Sum.{sum}
-use Rattle.receiver_core.specs.Log.{State}
 use Rattle.receiver_core.specs.Table.{is_beyond}
 
 -- the type of checksum of a file whose Metadata came is not one that is computed here

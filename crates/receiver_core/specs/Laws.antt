@@ -1,5 +1,5 @@
 -- What holds of every reception.
-use Rattle.std.specs.Prelude.{◌≡◌, ℕ, ◌<◌, ◌≤◌, Bool, true, false, IsTrue, IsSome, List, [], ◌∷◌, Option, Some, None, Result, Ok, Contains}
+use Rattle.std.specs.Prelude.{◌≡◌, ℕ, ◌<◌, true, false, IsSome, List, [], ◌∷◌, Option, Some, Ok, Contains}
 use Rattle.cfdp_types.specs.ChecksumType as checksum
 use Rattle.cfdp_types.specs.declared.names.Delivery.TheVariants.{Complete}
 use Rattle.cfdp_types.specs.declared.names.FileStatus.{FileStatus}

@@ -1,9 +1,8 @@
 -- Worked receptions, computed: what the table answers to PDUs in turn.
-use Rattle.std.specs.Prelude.{◌≡◌, ℕ, Bool, true, false, List, [], ◌∷◌, Option, Some, None, Result, Ok, Err, refl}
-use Rattle.cfdp_types.specs.declared.names.Class.TheVariants.{One, Two}
+use Rattle.std.specs.Prelude.{◌≡◌, ℕ, true, false, List, [], ◌∷◌, Some, None, Result, Ok, Err, refl}
+use Rattle.cfdp_types.specs.declared.names.Class.TheVariants.{One}
 use Rattle.cfdp_types.specs.declared.names.Delivery.TheVariants.{Complete, Incomplete}
 use Rattle.cfdp_types.specs.declared.names.FileStatus.TheVariants.{Discarded, Rejected, Retained}
-use Rattle.pdu_codec.specs.Pdu.{PduValue}
 use Rattle.pdu_codec.specs.declared.event.What.{What}
 use Rattle.pdu_codec.specs.declared.event.What.TheVariants as what
 use Rattle.pdu_codec.specs.declared.event.Refusal.{Refusal}
@@ -15,9 +14,8 @@ use Rattle.pdu_codec.specs.declared.pdu.Body.TheVariants as body
 use Rattle.ind_words.specs.declared.indication.Indication.{Indication}
 use Rattle.ind_words.specs.declared.indication.Indication.TheVariants as told
 use Rattle.receiver_core.specs.declared.answer.Answer.{Answer}
-use Rattle.receiver_core.specs.Log.{Entry, State, initial, step, state_of, issued}
+use Rattle.receiver_core.specs.Log.{Entry, initial, step, state_of, issued}
 use Rattle.receiver_core.specs.Table.{seen, accepted_at, answer_at}
-use Rattle.receiver_core.specs.Laws.{IsLegal}
 
 -- from entity 1 to entity 2, sequence number 5, class 1
 abbrev pub header : Header

@@ -1,6 +1,5 @@
 -- What the receiving end answers: class 1, every fault cancels, file data in order, no timers.
-use Rattle.std.specs.Prelude.{◌≡◌, ℕ, zero, suc, ◌+◌, ◌-◌, ◌<◌, Bool, true, false, not, ◌||◌, ◌&&◌, nat_le, nat_lt, ◌==◌, is_some, is_none, unwrap_or, if◌then◌else◌, List, [], ◌∷◌, ◌++◌, length, Option, Some, None, Result, Ok, Err}
-use Rattle.std.specs.List.{list_any}
+use Rattle.std.specs.Prelude.{ℕ, zero, suc, ◌+◌, ◌-◌, Bool, true, false, not, ◌&&◌, nat_le, nat_lt, ◌==◌, is_some, unwrap_or, if◌then◌else◌, List, [], ◌∷◌, ◌++◌, length, Option, Some, None, Result, Ok, Err}
 use Rattle.cfdp_types.specs.Condition as condition
 use Rattle.cfdp_types.specs.ChecksumType as checksum
 use Rattle.cfdp_types.specs.declared.limits.TheConstants.{FILE_OCTETS, JOURNAL_ENTRIES, JOURNAL_ENTRIES_KEPT}
@@ -19,14 +18,13 @@ use Rattle.pdu_codec.specs.declared.pdu.Body.{Body}
 use Rattle.pdu_codec.specs.declared.pdu.Body.TheVariants as body
 use Rattle.pdu_codec.specs.declared.pdu.Metadata.{Metadata}
 use Rattle.pdu_codec.specs.declared.pdu.Eof.{Eof}
-use Rattle.pdu_codec.specs.declared.pdu.FileData.{FileData}
 use Rattle.ind_words.specs.declared.indication.Indication.{Indication}
 use Rattle.ind_words.specs.declared.indication.Indication.TheVariants as told
 use Rattle.receiver_core.specs.declared.answer.Answer.{Answer}
 use Rattle.receiver_core.specs.declared.examine.Finding.{Finding}
 use Rattle.receiver_core.specs.declared.examine.Finding.TheVariants.{Nothing, Faulty, Whole}
 use Rattle.modular_sum.specs.Sum.{sum}
-use Rattle.receiver_core.specs.Log.{Entry, State, step}
+use Rattle.receiver_core.specs.Log.{State, step}
 
 -- ---- what is refused, and why: the first that applies
 

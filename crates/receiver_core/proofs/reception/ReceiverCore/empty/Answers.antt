@@ -1,7 +1,5 @@
-use Rattle.std.proofs.Common.{refl, sym, ap, length}
-use Rattle.std.specs.Prelude.{slice_get}
+use Rattle.std.proofs.Common.{refl}
 use Rattle.receiver_core.specs.Log.{state_of, initial}
-use Rattle.receiver_core.specs.Core.{shown}
 use Rattle.receiver_core.proofs.States.{same_state}
 use Rattle.receiver_core.proofs.reception.ReceiverCore.empty.Goals as goal
 

@@ -1,4 +1,4 @@
-use Rattle.std.proofs.Common.{◌≡◌, sym, ap, ◌∙◌, inl, rules, inr, None}
+use Rattle.std.proofs.Common.{◌≡◌, sym, ◌∙◌, inl, rules, inr, None}
 use Rattle.std.proofs.lemmas.Result.{err_from_is_err_and}
 use Rattle.receiver_core.specs.Table.{pdu_refusal, pdu_answer, cancel_code}
 use Rattle.receiver_core.specs.Core.{shown, body_change}

@@ -1,4 +1,4 @@
-use Rattle.std.proofs.Common.{◌≡◌, sym, ◌∙◌, inl, true, false, rules, inr, None}
+use Rattle.std.proofs.Common.{◌≡◌, inl, true, false, rules, inr}
 use Rattle.std.proofs.lemmas.Result.{err_from_is_err_and}
 use Rattle.receiver_core.specs.Table.{is_waiting}
 use Rattle.receiver_core.specs.Core.{shown}
