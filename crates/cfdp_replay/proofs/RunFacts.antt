@@ -1,24 +1,21 @@
 -- A run goes on line by line.
-use Rattle.std.proofs.Common.{◌≡◌, ◌≢◌, ℕ, zero, suc, ◌+◌, ◌≤◌, ◌<◌, Bool, true, false, List, [], ◌∷◌, ◌++◌, length, take, Option, Some, None, Result, Ok, Err, refl, sym, ap, subst, ◌∙◌, arith, ◌⊎◌, inl, inr, append_assoc, append-nil}
-use Rattle.std.specs.Prelude.{slice_get, MatchOption, IfSome}
+use Rattle.std.proofs.Common.{◌≡◌, ℕ, zero, suc, ◌+◌, ◌≤◌, true, List, [], ◌∷◌, ◌++◌, length, take, Option, Some, None, refl, sym, ap, subst, ◌∙◌, arith, ◌⊎◌, inl, inr, append_assoc, append-nil}
+use Rattle.std.specs.Prelude.{slice_get, IfSome}
 use Rattle.std.specs.Io.KnownBytes.{Appends}
 use Rattle.std.proofs.KnownBytes.{Appends-trans}
 use Rattle.std.proofs.lemmas.List.{length-append, take_at}
 use Rattle.std.proofs.Math.Seq.{take-append-add}
-use Rattle.cfdp_replay.specs.declared.command.Command.{Command}
 use Rattle.cfdp_replay.specs.declared.fault.ReplayFault.{ReplayFault}
 use Rattle.cfdp_replay.specs.declared.fault.ReplayFault.TheVariants as fault
-use Rattle.cfdp_replay.specs.declared.input.NextLine.{NextLine}
-use Rattle.cfdp_replay.specs.declared.input.NextLine.TheVariants.{Line, TooLong, End}
 use Rattle.cfdp_replay.specs.declared.replay.TheConstants.{LINES}
 use Rattle.cfdp_replay.specs.declared.world.World.{World}
 use Rattle.cfdp_replay.specs.Commands.{command_of}
-use Rattle.cfdp_replay.specs.Lines.{lines_of, line_octets, GivesNext, GivesLine, GivesEnd, GivesTooLong}
+use Rattle.cfdp_replay.specs.Lines.{lines_of, line_octets, GivesLine, GivesEnd, GivesTooLong}
 use Rattle.cfdp_replay.specs.Output.{AppendsFront}
 use Rattle.cfdp_replay.specs.Session.{Session, fresh}
 use Rattle.cfdp_replay.specs.World.{Stands}
-use Rattle.cfdp_replay.specs.Run.{PlaysLine, Plays, Prints, PrintsFront, IsBad, IsBadAt, StopsBehind, StopsIn, StopsAt, Stops}
-use Rattle.cfdp_replay.specs.Running.{IsLeft, Ran, GoesOn, PlaysTo}
+use Rattle.cfdp_replay.specs.Run.{PlaysLine, Plays, Prints, IsBad, StopsBehind, StopsIn, StopsAt, Stops}
+use Rattle.cfdp_replay.specs.Running.{Ran, PlaysTo}
 
 -- ---- lines one after the other
 

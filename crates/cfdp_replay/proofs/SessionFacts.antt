@@ -1,25 +1,21 @@
 -- The world goes on as its session does.
-use Rattle.std.proofs.Common.{◌≡◌, ℕ, zero, suc, ◌+◌, ◌≤◌, ◌<◌, Bool, true, false, cond, ◌&&◌, eqb, List, [], ◌∷◌, ◌++◌, length, drop, Option, Some, None, Result, Ok, Err, refl, sym, ap, subst, ◌∙◌, arith, ◌⊎◌, inl, inr}
+use Rattle.std.proofs.Common.{◌≡◌, ℕ, zero, suc, ◌+◌, ◌≤◌, Bool, true, false, cond, ◌&&◌, eqb, List, [], ◌∷◌, ◌++◌, length, drop, Option, Some, None, Ok, Err, refl, sym, ap, subst, ◌∙◌, arith, inl}
 use Rattle.std.specs.Prelude.{slice_get, MatchOption, IfNone, IfSome}
 use Rattle.std.proofs.lemmas.Bool.{eqb-true}
-use Rattle.std.proofs.lemmas.List.{length-append, length-drop}
+use Rattle.std.proofs.lemmas.List.{length-append}
 use lib.Seq.{drop-append-le}
-use Rattle.cfdp_types.specs.declared.key.EntityId.{EntityId}
 use Rattle.cfdp_types.specs.declared.key.TxnKey.{TxnKey}
 use Rattle.pdu_codec.specs.declared.event.What.{What}
-use Rattle.pdu_codec.specs.declared.event.Refusal.{Refusal}
 use Rattle.pdu_codec.specs.declared.event.Refusal.TheVariants as refusal
 use Rattle.ind_words.specs.declared.bundle.Bundle.{Bundle}
 use Rattle.receiver_core.specs.declared.answer.Answer.{Answer}
 use Rattle.receiver_core.specs.Log.{Entry, State, state_of}
-use Rattle.cfdp_replay.specs.declared.command.Command.TheVariants.{Take}
-use Rattle.cfdp_replay.specs.declared.queue.Queue.{Queue}
 use Rattle.cfdp_replay.specs.declared.reply.Reply.TheVariants as reply
 use Rattle.cfdp_replay.specs.declared.world.Reception.{Reception}
 use Rattle.cfdp_replay.specs.declared.world.World.{World}
 use Rattle.cfdp_replay.specs.Queue.{bundles_of, is_refused_by}
-use Rattle.cfdp_replay.specs.Session.{Session, given_by, given_for, given, held, answer_for, is_same_key, running_answer, stepped, step_of, opens, answer_to, taken_by}
-use Rattle.cfdp_replay.specs.World.{StandsFor, Stands, Goes, Steps, IsStepped, Replies}
+use Rattle.cfdp_replay.specs.Session.{Session, given_by, given_for, given, held, answer_for, is_same_key, running_answer, taken_by}
+use Rattle.cfdp_replay.specs.World.{StandsFor, Stands, Goes, Steps}
 
 made : ℕ → ℕ → TxnKey
 made source seq = record { source = record { 0 = source }; seq = seq }

@@ -1,5 +1,5 @@
 -- The bundles of the user that files are for.
-use Rattle.std.specs.Prelude.{◌≡◌, ℕ, ◌+◌, ◌%◌, Bool, ◌&&◌, ◌==◌, not, nat_le, List, [], ◌∷◌, length}
+use Rattle.std.specs.Prelude.{◌+◌, ◌%◌, Bool, ◌&&◌, ◌==◌, not, nat_le, List, [], ◌∷◌, length}
 use Rattle.cfdp_types.specs.declared.key.TxnKey.{TxnKey}
 use Rattle.ind_words.specs.declared.bundle.Bundle.{Bundle}
 use Rattle.ind_words.specs.declared.indication.Indication.{Indication}

@@ -1,5 +1,5 @@
 -- Where a run stands between two lines.
-use Rattle.std.specs.Prelude.{◌≡◌, ℕ, ◌+◌, ◌≤◌, Bool, true, false, List, [], ◌++◌, length, Option, Some, None, Result, Ok, Err, MatchOption}
+use Rattle.std.specs.Prelude.{◌≡◌, ℕ, ◌+◌, Bool, true, false, List, ◌++◌, length, Option, Some, None, Result, Ok, Err}
 use Rattle.std.specs.Io.KnownBytes.{Appends}
 use Rattle.cfdp_replay.specs.declared.fault.ReplayFault.{ReplayFault}
 use Rattle.cfdp_replay.specs.declared.world.World.{World}

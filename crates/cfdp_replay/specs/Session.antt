@@ -1,5 +1,5 @@
 -- What a script has done so far, and what its next line is answered.
-use Rattle.std.specs.Prelude.{◌≡◌, ℕ, ◌+◌, ◌-◌, ◌*◌, ◌%◌, ◌≤◌, Bool, true, false, ◌&&◌, ◌||◌, ◌==◌, not, nat_le, is_some, if◌then◌else◌, List, [], ◌∷◌, ◌++◌, length, drop, slice_get, Option, Some, None, Result, Ok, Err, IsOk, ◌⊎◌}
+use Rattle.std.specs.Prelude.{◌≡◌, ℕ, ◌+◌, Bool, true, false, ◌&&◌, ◌||◌, ◌==◌, not, if◌then◌else◌, List, [], ◌∷◌, ◌++◌, drop, slice_get, Option, Some, None, Result, Ok, Err, IsOk, ◌⊎◌}
 use Rattle.cfdp_types.specs.declared.key.TxnKey.{TxnKey}
 use Rattle.pdu_codec.specs.Pdu.{PduValue}
 use Rattle.pdu_codec.specs.Reading.{reading}
@@ -12,7 +12,6 @@ use Rattle.pdu_codec.specs.declared.pdu.Direction.{Direction}
 use Rattle.pdu_codec.specs.declared.pdu.Direction.TheVariants.{TowardReceiver, TowardSender}
 use Rattle.pdu_codec.specs.declared.pdu.Header.{Header}
 use Rattle.ind_words.specs.declared.bundle.Bundle.{Bundle}
-use Rattle.ind_words.specs.declared.indication.Indication.{Indication}
 use Rattle.receiver_core.specs.declared.answer.Answer.{Answer}
 use Rattle.receiver_core.specs.Log.{Entry, State, state_of}
 use Rattle.receiver_core.specs.Table.{answer_at}

@@ -1,5 +1,5 @@
 -- How the code keeps a session.
-use Rattle.std.specs.Prelude.{◌≡◌, ℕ, ◌≤◌, ◌++◌, ◌⊎◌, true, false, List, [], ◌∷◌, length, drop, Option, Some, None, Result, Ok, Err, IsOk}
+use Rattle.std.specs.Prelude.{◌≡◌, ℕ, ◌≤◌, ◌++◌, ◌⊎◌, true, false, List, [], ◌∷◌, length, Option, Some, None, Result, Ok, Err, IsOk}
 use Rattle.cfdp_types.specs.declared.key.TxnKey.{TxnKey}
 use Rattle.pdu_codec.specs.Pdu.{PduValue}
 use Rattle.pdu_codec.specs.declared.event.What.{What}
@@ -9,11 +9,9 @@ use Rattle.pdu_codec.specs.declared.event.Refusal.TheVariants as refusal
 use Rattle.ind_words.specs.declared.bundle.Bundle.{Bundle}
 use Rattle.receiver_core.specs.declared.answer.Answer.{Answer}
 use Rattle.receiver_core.specs.declared.reception.ReceiverCore.{ReceiverCore}
-use Rattle.receiver_core.specs.Log.{Entry, state_of}
+use Rattle.receiver_core.specs.Log.{Entry}
 use Rattle.receiver_core.specs.Core.{StandsAfter}
-use Rattle.cfdp_replay.specs.declared.reply.StepRefusal.TheVariants.{Lane}
 use Rattle.cfdp_replay.specs.declared.reply.Reply.{Reply}
-use Rattle.cfdp_replay.specs.declared.reply.Reply.TheVariants as reply
 use Rattle.cfdp_replay.specs.declared.command.Command.{Command}
 use Rattle.cfdp_replay.specs.declared.world.Reception.{Reception}
 use Rattle.cfdp_replay.specs.declared.world.World.{World}

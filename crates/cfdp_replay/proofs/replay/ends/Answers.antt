@@ -1,4 +1,4 @@
-use Rattle.std.proofs.Common.{◌≡◌, refl, sym, subst, ◌≤◌, arith}
+use Rattle.std.proofs.Common.{subst, arith}
 use Rattle.std.proofs.lemmas.Result.{err_from_is_err_and}
 use Rattle.cfdp_replay.specs.declared.input.NextLine.{NextLine}
 use Rattle.cfdp_replay.specs.Lines.{GivesNext, GivesLine, GivesTooLong, GivesEnd}

@@ -1,4 +1,4 @@
-use Rattle.std.proofs.Common.{◌≡◌, ◌++◌, sym, ap, ◌∙◌, rules, Some}
+use Rattle.std.proofs.Common.{◌≡◌, ◌++◌, ap, ◌∙◌, rules, Some}
 use Rattle.std.specs.Prelude.{string_bytes}
 use Rattle.cfdp_replay.specs.Commands.{command_of}
 use Rattle.cfdp_replay.specs.Texts.{text_of}

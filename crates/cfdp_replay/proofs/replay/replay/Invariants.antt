@@ -1,4 +1,3 @@
-use Rattle.std.proofs.Common.{◌≡◌}
 use Rattle.std.specs.Prelude.{IfSome}
 use Rattle.cfdp_replay.specs.Lines.{lines_of}
 use Rattle.cfdp_replay.specs.Running.{Ran}

@@ -1,4 +1,4 @@
-use Rattle.std.proofs.Common.{◌≡◌, refl, sym, ap, ◌∙◌, subst, inl, inr, true, false, None, rules, Bool}
+use Rattle.std.proofs.Common.{◌≡◌, sym, ap, ◌∙◌, subst, inr, true, false, None, rules, Bool}
 use Rattle.std.specs.Prelude.{string_bytes, List, ℕ}
 use Rattle.std.specs.Io.KnownBytes.{Appends}
 use Rattle.std.proofs.lemmas.Result.{err_from_is_err_and}
@@ -7,7 +7,7 @@ use Rattle.cfdp_replay.specs.Commands.{command_of}
 use Rattle.cfdp_replay.specs.Lines.{GivesNext, GivesLine, GivesTooLong}
 use Rattle.cfdp_replay.specs.Output.{AppendsFront}
 use Rattle.cfdp_replay.specs.Running.{PlaysTo}
-use Rattle.cfdp_replay.proofs.RunFacts.{read_stops, end_is, long_stops, bad_stops, line_goes_on, write_stops}
+use Rattle.cfdp_replay.proofs.RunFacts.{read_stops, long_stops, bad_stops, line_goes_on, write_stops}
 use Rattle.cfdp_replay.proofs.replay.turn.Goals as goal
 
 pub returns-in_err-next_line : goal.returns-in_err-next_line

@@ -1,5 +1,4 @@
-use Rattle.std.proofs.Common.{◌≡◌, eqb, true, refl, inl, ◌∷◌, [], rules}
-use Rattle.std.proofs.lemmas.Bool.{eq-eqb}
+use Rattle.std.proofs.Common.{◌≡◌, eqb, true, refl, inl, rules}
 use Rattle.cfdp_replay.specs.declared.world.World.{World}
 use Rattle.cfdp_replay.proofs.SessionFacts.{takes, match_of}
 use Rattle.cfdp_replay.proofs.world.World.take.Goals as goal
