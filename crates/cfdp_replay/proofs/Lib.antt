@@ -4,3 +4,4 @@ pub mod WordFacts
 pub mod QueueFacts
 pub mod SessionFacts
 pub mod RunFacts
+pub mod SoundFacts

@@ -8,3 +8,4 @@ pub mod Session
 pub mod World
 pub mod Run
 pub mod Running
+pub mod Laws

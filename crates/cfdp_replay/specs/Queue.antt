@@ -3,13 +3,13 @@ use Rattle.std.specs.Prelude.{◌+◌, ◌%◌, Bool, ◌&&◌, ◌==◌, not, n
 use Rattle.cfdp_types.specs.declared.key.TxnKey.{TxnKey}
 use Rattle.ind_words.specs.declared.bundle.Bundle.{Bundle}
 use Rattle.ind_words.specs.declared.indication.Indication.{Indication}
-use Rattle.cfdp_replay.specs.declared.queue.TheConstants.{QUEUE_BUNDLES, RECEIVER, FIRST_RECEIVING_LANE, RECEIVING_LANES}
+use Rattle.cfdp_replay.specs.declared.queue.TheConstants.{CAPACITY, RECEIVER, FIRST_RECEIVING_LANE, LANES_OF_A_SOURCE}
 
 -- what one answer puts into the user's queue: nothing where it tells nothing
 abbrev pub bundles_of : TxnKey → List Indication → List Bundle
 bundles_of key [] = []
-bundles_of key (told ∷ more) = record { user = RECEIVER; lane = FIRST_RECEIVING_LANE + key.seq % RECEIVING_LANES; key = key; inds = told ∷ more } ∷ []
+bundles_of key (told ∷ more) = record { user = RECEIVER; lane = FIRST_RECEIVING_LANE + key.seq % LANES_OF_A_SOURCE; key = key; inds = told ∷ more } ∷ []
 
 -- the queue has no room for what is told
 abbrev pub is_refused_by : List Bundle → List Bundle → Bool
-is_refused_by held new = not (length new == 0) && nat_le QUEUE_BUNDLES (length held)
+is_refused_by held new = not (length new == 0) && nat_le CAPACITY (length held)

@@ -6,6 +6,7 @@ mod command;
 mod ending;
 mod fault;
 mod input;
+pub mod laws;
 mod output;
 mod queue;
 mod replay;

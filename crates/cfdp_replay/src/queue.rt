@@ -10,7 +10,7 @@ use std::collections::VecDeque;
 use std::marker::Model;
 
 /// How many bundles the queue holds.
-pub const QUEUE_BUNDLES: usize = 8;
+pub const CAPACITY: usize = 8;
 
 /// The number of the user.
 pub const RECEIVER: usize = 0;
@@ -19,7 +19,7 @@ pub const RECEIVER: usize = 0;
 pub const FIRST_RECEIVING_LANE: usize = 2;
 
 /// Lanes for the files of one entity.
-pub const RECEIVING_LANES: u64 = 2;
+pub const LANES_OF_A_SOURCE: u64 = 2;
 
 /// The bundles that the user has not taken, the oldest first. Contracts see the list of them.
 #[derive(Debug, Drop)]
@@ -57,10 +57,10 @@ impl Queue {
             return Ok(());
         }
         let inds = inds.copy()?;
-        if self.bundles.len() >= QUEUE_BUNDLES {
+        if self.bundles.len() >= CAPACITY {
             return Err(Refusal::QueueFull);
         }
-        let lane = FIRST_RECEIVING_LANE + (key.seq % RECEIVING_LANES) as usize;
+        let lane = FIRST_RECEIVING_LANE + (key.seq % LANES_OF_A_SOURCE) as usize;
         self.bundles.push_back(Bundle {
             user: RECEIVER,
             lane,
