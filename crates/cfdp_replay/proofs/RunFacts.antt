@@ -1,5 +1,5 @@
 -- A run goes on line by line.
-use Rattle.std.proofs.Common.{◌≡◌, ℕ, zero, suc, ◌+◌, ◌≤◌, true, List, [], ◌∷◌, ◌++◌, length, take, Option, Some, None, refl, sym, ap, subst, ◌∙◌, arith, ◌⊎◌, inl, inr, append_assoc, append-nil}
+use Rattle.std.proofs.Common.{◌≡◌, ℕ, zero, suc, ◌+◌, ◌≤◌, ◌<◌, true, List, [], ◌∷◌, ◌++◌, length, take, Option, Some, None, refl, sym, ap, subst, ◌∙◌, arith, ◌⊎◌, inl, inr, append_assoc, append-nil}
 use Rattle.std.specs.Prelude.{slice_get, IfSome}
 use Rattle.std.specs.Io.KnownBytes.{Appends}
 use Rattle.std.proofs.KnownBytes.{Appends-trans}
@@ -50,13 +50,14 @@ module _ (lines : List (List ℕ)) (rest : List ℕ) (count : ℕ) (world : Worl
   prints = record { after = ran.session; text = ran.text; plays = rw taken ran.plays; written = ran.written }
 
   pub stops_behind : StopsBehind lines old new
-  stops_behind = record { count = count; within = within; prints = prints }
+  stops_behind = record { count = count; within = within; few = ran.few; prints = prints }
 
   pub stops_at : (line : List ℕ) (others : List (List ℕ)) → lines_of rest ≡ line ∷ others → IsBad count line → StopsAt lines (count + 1) old new
   stops_at line others next bad = record {
     place = count;
     number_is = refl;
     bad = record { line = line; there = ap (λ xs. slice_get xs count) (ran.others ∙ ap (λ xs. ran.done ++ xs) next) ∙ there ran.done line others count ran.counted; bad = bad };
+    few = ran.few;
     prints = prints;
   }
 
@@ -72,27 +73,29 @@ module _ (lines : List (List ℕ)) (rest : List ℕ) (count : ℕ) (world : Worl
   more_counted : (line : List ℕ) → length (ran.done ++ line ∷ []) ≡ count + 1
   more_counted line = omega (arith, length-append ran.done (line ∷ []), ran.counted)
 
-  pub goes_on : (line rest' said : List ℕ) (after : Session) (world' : World) (new' : Option (List ℕ)) → lines_of rest ≡ line ∷ lines_of rest' → PlaysLine ran.session line after said → Stands world' after → Appends new new' said →
+  pub goes_on : (line rest' said : List ℕ) (after : Session) (world' : World) (new' : Option (List ℕ)) → count < LINES → lines_of rest ≡ line ∷ lines_of rest' → PlaysLine ran.session line after said → Stands world' after → Appends new new' said →
       Ran lines (Some rest') (count + 1) world' old new'
-  goes_on line rest' said after world' new' next plays stands written = record {
+  goes_on line rest' said after world' new' fewer next plays stands written = record {
     done = ran.done ++ line ∷ [];
     session = after;
     text = ran.text ++ said;
     counted = more_counted line;
+    few = omega arith;
     others = more_done line rest' next;
     plays = plays_more fresh ran.session after ran.done line ran.text said ran.plays plays;
     stands = stands;
     written = Appends-trans old new new' ran.text said ran.written written;
   }
 
-  pub stops_in : (line rest' said : List ℕ) (after : Session) (new' : Option (List ℕ)) → lines_of rest ≡ line ∷ lines_of rest' → PlaysLine ran.session line after said → AppendsFront new new' said → StopsIn lines old new'
-  stops_in line rest' said after new' next plays front =
+  pub stops_in : (line rest' said : List ℕ) (after : Session) (new' : Option (List ℕ)) → count < LINES → lines_of rest ≡ line ∷ lines_of rest' → PlaysLine ran.session line after said → AppendsFront new new' said → StopsIn lines old new'
+  stops_in line rest' said after new' fewer next plays front =
       let done = ran.done ++ line ∷ [] in
       let all : lines ≡ done ++ lines_of rest' = more_done line rest' next in
       let behind : take (count + 1) lines ≡ done = ap (take (count + 1)) all ∙ take_done done (lines_of rest') (count + 1) (more_counted line) in
       record {
         count = count + 1;
         within = omega (arith, ap length all, length-append done (lines_of rest'), more_counted line);
+        few = omega arith;
         prints = record {
           after = after;
           text = ran.text ++ said;
@@ -131,26 +134,26 @@ played session line world world' text short plays stands =
     let p = plays session stands in
     (p.0, p.1, record { command = p.2.0; said = p.2.1; short = short; says = p.2.2; answers = p.2.3; printed = p.2.4 })
 
-pub line_goes_on : (lines : List (List ℕ)) (left after : Option (List ℕ)) (line : List ℕ) (count : ℕ) (world world' : World) (old mid new : Option (List ℕ)) (text : List ℕ) → GivesLine left after line → PlaysTo true line world world' text → Appends mid new text →
+pub line_goes_on : (lines : List (List ℕ)) (left after : Option (List ℕ)) (line : List ℕ) (count : ℕ) (world world' : World) (old mid new : Option (List ℕ)) (text : List ℕ) → count < LINES → GivesLine left after line → PlaysTo true line world world' text → Appends mid new text →
     Ran lines left count world old mid → Ran lines after (count + 1) world' old new
-line_goes_on lines None after line count world world' old mid new text gives plays written ran = absurd ran.others
-line_goes_on lines (Some rest) None line count world world' old mid new text gives plays written ran = absurd gives
-line_goes_on lines (Some rest) (Some more) line count world world' old mid new text gives plays written ran =
+line_goes_on lines None after line count world world' old mid new text fewer gives plays written ran = absurd ran.others
+line_goes_on lines (Some rest) None line count world world' old mid new text fewer gives plays written ran = absurd gives
+line_goes_on lines (Some rest) (Some more) line count world world' old mid new text fewer gives plays written ran =
     let p = played ran.session line world world' text gives.1 plays ran.stands in
-    goes_on lines rest count world old mid ran line more text p.0 world' new gives.0 p.2 p.1 written
+    goes_on lines rest count world old mid ran line more text p.0 world' new fewer gives.0 p.2 p.1 written
 
-pub write_stops : (lines : List (List ℕ)) (left after : Option (List ℕ)) (line : List ℕ) (count : ℕ) (world world' : World) (old mid new : Option (List ℕ)) (text : List ℕ) → GivesLine left after line → PlaysTo true line world world' text → AppendsFront mid new text →
+pub write_stops : (lines : List (List ℕ)) (left after : Option (List ℕ)) (line : List ℕ) (count : ℕ) (world world' : World) (old mid new : Option (List ℕ)) (text : List ℕ) → count < LINES → GivesLine left after line → PlaysTo true line world world' text → AppendsFront mid new text →
     Ran lines left count world old mid → StopsIn lines old new
-write_stops lines None after line count world world' old mid new text gives plays written ran = absurd ran.others
-write_stops lines (Some rest) None line count world world' old mid new text gives plays written ran = absurd gives
-write_stops lines (Some rest) (Some more) line count world world' old mid new text gives plays written ran =
+write_stops lines None after line count world world' old mid new text fewer gives plays written ran = absurd ran.others
+write_stops lines (Some rest) None line count world world' old mid new text fewer gives plays written ran = absurd gives
+write_stops lines (Some rest) (Some more) line count world world' old mid new text fewer gives plays written ran =
     let p = played ran.session line world world' text gives.1 plays ran.stands in
-    stops_in lines rest count world old mid ran line more text p.0 new gives.0 p.2 written
+    stops_in lines rest count world old mid ran line more text p.0 new fewer gives.0 p.2 written
 
 -- ---- before the first line, and after the last that there may be
 
 pub begins : (script : List ℕ) (world : World) (old : Option (List ℕ)) → Stands world fresh → Appends old old [] → Ran (lines_of script) (Some script) 0 world old old
-begins script world old stands none = record { done = []; session = fresh; text = []; counted = refl; others = refl; plays = (refl, refl); stands = stands; written = none }
+begins script world old stands none = record { done = []; session = fresh; text = []; counted = refl; few = omega arith; others = refl; plays = (refl, refl); stands = stands; written = none }
 
 pub line_too_many : (lines : List (List ℕ)) (left after : Option (List ℕ)) (line : List ℕ) (world : World) (old new : Option (List ℕ)) → GivesLine left after line → Ran lines left LINES world old new → StopsAt lines (LINES + 1) old new
 line_too_many lines None after line world old new gives ran = absurd ran.others

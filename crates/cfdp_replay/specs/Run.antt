@@ -54,18 +54,22 @@ pub record IsBadAt (lines : List (List ℕ)) (place : ℕ) : Type 0 where
 pub record StopsBehind (lines : List (List ℕ)) (old new : Option (List ℕ)) : Type 0 where
   pub count : ℕ
   pub within : count ≤ length lines
+  pub few : count ≤ LINES
   pub prints : Prints (take count lines) old new
 
 pub record StopsIn (lines : List (List ℕ)) (old new : Option (List ℕ)) : Type 0 where
   pub count : ℕ
   pub within : count ≤ length lines
+  pub few : count ≤ LINES
   pub prints : PrintsFront (take count lines) old new
 
--- the line with this number, the first being 1, is the first bad one, and what the lines before it print was written
+-- the line with this number, the first being 1, is the first bad one: the lines before it are no more than a script
+-- may have, and were played; and what they print was written
 pub record StopsAt (lines : List (List ℕ)) (number : ℕ) (old new : Option (List ℕ)) : Type 0 where
   pub place : ℕ
   pub number_is : number ≡ place + 1
   pub bad : IsBadAt lines place
+  pub few : place ≤ LINES
   pub prints : Prints (take place lines) old new
 
 -- what a run that stopped has written

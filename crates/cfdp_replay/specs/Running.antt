@@ -1,7 +1,8 @@
 -- Where a run stands between two lines.
-use Rattle.std.specs.Prelude.{◌≡◌, ℕ, ◌+◌, Bool, true, false, List, ◌++◌, length, Option, Some, None, Result, Ok, Err}
+use Rattle.std.specs.Prelude.{◌≡◌, ℕ, ◌+◌, ◌≤◌, Bool, true, false, List, ◌++◌, length, Option, Some, None, Result, Ok, Err}
 use Rattle.std.specs.Io.KnownBytes.{Appends}
 use Rattle.cfdp_replay.specs.declared.fault.ReplayFault.{ReplayFault}
+use Rattle.cfdp_replay.specs.declared.replay.TheConstants.{LINES}
 use Rattle.cfdp_replay.specs.declared.world.World.{World}
 use Rattle.cfdp_replay.specs.Lines.{lines_of}
 use Rattle.cfdp_replay.specs.declared.command.Command.{Command}
@@ -23,6 +24,7 @@ pub record Ran (lines : List (List ℕ)) (left : Option (List ℕ)) (count : ℕ
   pub session : Session
   pub text : List ℕ
   pub counted : length done ≡ count
+  pub few : count ≤ LINES
   pub others : IsLeft lines done left
   pub plays : Plays fresh done session text
   pub stands : Stands world session

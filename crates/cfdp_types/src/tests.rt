@@ -7,7 +7,26 @@ fn codes_and_numbers(rt: HostRuntime) {
         assert_eq!(rt; Condition::new(code).code(), code);
         assert_eq!(rt; ChecksumType::new(code).number(), code);
     }
-    assert_eq!(rt; Condition::CANCEL_REQUEST.code(), 15);
+    let conditions = [
+        (Condition::NO_ERROR, 0),
+        (Condition::POSITIVE_ACK_LIMIT, 1),
+        (Condition::KEEP_ALIVE_LIMIT, 2),
+        (Condition::INVALID_TRANSMISSION_MODE, 3),
+        (Condition::FILESTORE_REJECTION, 4),
+        (Condition::FILE_CHECKSUM_FAILURE, 5),
+        (Condition::FILE_SIZE_ERROR, 6),
+        (Condition::NAK_LIMIT, 7),
+        (Condition::INACTIVITY, 8),
+        (Condition::INVALID_FILE_STRUCTURE, 9),
+        (Condition::CHECK_LIMIT, 10),
+        (Condition::UNSUPPORTED_CHECKSUM_TYPE, 11),
+        (Condition::SUSPEND_REQUEST, 14),
+        (Condition::CANCEL_REQUEST, 15),
+    ];
+    for (condition, code) in conditions {
+        assert_eq!(rt; condition.code(), code);
+    }
+    assert_eq!(rt; ChecksumType::MODULAR.number(), 0);
     assert_eq!(rt; ChecksumType::NULL.number(), 15);
 }
 

@@ -25,7 +25,7 @@ pub enum Refusal {
     ModeMismatch = 4,
     /// The timer is not armed, or with another stamp.
     StaleTimer = 5,
-    /// No deposit waits, or with another stamp.
+    /// The stamp is not that of a deposit that waits.
     StaleStored = 6,
     /// A deposit waits for the file store's answer.
     Storing = 7,

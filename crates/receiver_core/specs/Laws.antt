@@ -18,11 +18,11 @@ IsLegal (entry ∷ front) =
     ((state_of front).ended ≡ false) × (answer_at (state_of front) entry.event ≡ Ok entry.answer) × IsLegal front
 
 -- a file is there as its Metadata and its EOF describe it
-pub record IsGoodFile (came : Option Metadata) (ended : Option Eof) (received : ℕ → Option ℕ) : Type 0 where
+pub record IsGoodFile (first_metadata : Option Metadata) (first_eof : Option Eof) (received : ℕ → Option ℕ) : Type 0 where
   pub metadata : Metadata
   pub eof : Eof
-  pub metadata_came : came ≡ Some metadata
-  pub eof_came : ended ≡ Some eof
+  pub metadata_came : first_metadata ≡ Some metadata
+  pub eof_came : first_eof ≡ Some eof
   pub modular : metadata.checksum_type ≡ checksum.modular
   pub none_missing : (i : ℕ) → i < eof.size → IsSome (received i)
   pub none_beyond : (i : ℕ) → IsSome (received i) → i < eof.size

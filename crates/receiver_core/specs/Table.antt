@@ -116,7 +116,8 @@ status_of code = if code == condition.filestore_rejection then Rejected else Dis
 abbrev pub faulty : ℕ → Indication
 faulty code = told.TransactionFinished code Incomplete (status_of code)
 
--- the user is told of the first Metadata, of each part of the file, and of the first EOF without an error
+-- what the user is told of a PDU itself, where it is no EOF with an error: of the first Metadata, of each part of
+-- the file, and of the first EOF
 abbrev pub told_of : State → Header → Body → List Indication
 told_of state header (body.Metadata m) =
     if is_some state.metadata then [] else told.MetadataRecv header.source m.size m.source_name m.destination_name m.messages ∷ []

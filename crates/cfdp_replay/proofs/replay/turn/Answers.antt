@@ -51,7 +51,7 @@ returns-in_err-write_whole g c = λ lines old ran.
     let mid = g.W.Write.contents c.args.writer.now in
     let new = g.W.Write.contents c.write_whole.new.writer in
     let front : AppendsFront mid new text = subst (λ (t : List ℕ). AppendsFront mid new t) c.as_bytes.ensures.value c.in_err-write_whole.ensures.err in
-    rw (p.1, p.2, c.in_err-write_whole.ensures.fault) (write_stops lines left after line c.args.count c.args.world.now c.play.new.world old mid new text gives plays front ran)
+    rw (p.1, p.2, c.in_err-write_whole.ensures.fault) (write_stops lines left after line c.args.count c.args.world.now c.play.new.world old mid new text c.requires gives plays front ran)
 
 pub returns : goal.returns
 returns g c = λ lines old ran.
@@ -66,4 +66,4 @@ returns g c = λ lines old ran.
     let mid = g.W.Write.contents c.args.writer.now in
     let new = g.W.Write.contents c.write_whole.new.writer in
     let written : Appends mid new text = subst (λ (t : List ℕ). Appends mid new t) c.as_bytes.ensures.value c.in_ok-write_whole.ensures.ok in
-    line_goes_on lines left after line c.args.count c.args.world.now c.play.new.world old mid new text gives plays written ran
+    line_goes_on lines left after line c.args.count c.args.world.now c.play.new.world old mid new text c.requires gives plays written ran

@@ -1,0 +1,54 @@
+-- The limits of the profile, as they stand in the code.
+use Rattle.std.proofs.Common.{◌≡◌, refl}
+use Rattle.cfdp_types.specs.declared.limits.TheConstants.{FILE_OCTETS, SEGMENT_OCTETS_LEAST, SEGMENT_OCTETS_MOST, JOURNAL_ENTRIES, JOURNAL_ENTRIES_KEPT, USERS, SOURCES_OF_A_USER, REMOTES, RECEIVING_LANES, SENDING_LANES, QUEUE_BUNDLES, NAK_REQUESTS, EXPIRATIONS, TIMER_MILLISECONDS, NAME_OCTETS, MESSAGE_OCTETS, MESSAGES}
+
+file_octets : FILE_OCTETS ≡ 4194304
+file_octets = refl
+
+segment_octets_least : SEGMENT_OCTETS_LEAST ≡ 256
+segment_octets_least = refl
+
+segment_octets_most : SEGMENT_OCTETS_MOST ≡ 1400
+segment_octets_most = refl
+
+journal_entries : JOURNAL_ENTRIES ≡ 65536
+journal_entries = refl
+
+journal_entries_kept : JOURNAL_ENTRIES_KEPT ≡ 2
+journal_entries_kept = refl
+
+users : USERS ≡ 16
+users = refl
+
+sources_of_a_user : SOURCES_OF_A_USER ≡ 8
+sources_of_a_user = refl
+
+remotes : REMOTES ≡ 128
+remotes = refl
+
+receiving_lanes : RECEIVING_LANES ≡ 8
+receiving_lanes = refl
+
+sending_lanes : SENDING_LANES ≡ 32
+sending_lanes = refl
+
+queue_bundles : QUEUE_BUNDLES ≡ 1024
+queue_bundles = refl
+
+nak_requests : NAK_REQUESTS ≡ 64
+nak_requests = refl
+
+expirations : EXPIRATIONS ≡ 255
+expirations = refl
+
+timer_milliseconds : TIMER_MILLISECONDS ≡ 86400000
+timer_milliseconds = refl
+
+name_octets : NAME_OCTETS ≡ 255
+name_octets = refl
+
+message_octets : MESSAGE_OCTETS ≡ 255
+message_octets = refl
+
+messages : MESSAGES ≡ 4
+messages = refl
