@@ -1,7 +1,7 @@
 use Rattle.std.proofs.Common.{◌∙◌, ap}
-use Rattle.pdu_codec.specs.declared.pdu.Body.{Body}
-use Rattle.pdu_codec.specs.Pdu.{PduValue}
-use Rattle.pdu_codec.proofs.pdu.PduClone.clone.Goals as goal
+use Rattle.pdu_format.specs.declared.pdu.Body.{Body}
+use Rattle.pdu_format.specs.Pdu.{PduValue}
+use Rattle.pdu_format.proofs.pdu.PduClone.clone.Goals as goal
 
 pub invariant_of-result : goal.invariant_of-result
 invariant_of-result c = rw c.in_ok-body.ensures c.self.invariant

@@ -2,10 +2,10 @@
 use Rattle.std.specs.Prelude.{ℕ, ◌+◌, ◌/◌, ◌%◌, Bool, ◌==◌, if◌then◌else◌}
 use Rattle.cfdp_types.specs.declared.names.Class.{Class}
 use Rattle.cfdp_types.specs.declared.names.Class.TheVariants.{One, Two}
-use Rattle.pdu_codec.specs.declared.pdu.Direction.{Direction}
-use Rattle.pdu_codec.specs.declared.pdu.Direction.TheVariants.{TowardReceiver, TowardSender}
-use Rattle.pdu_codec.specs.declared.pdu.Header.{Header}
-use Rattle.pdu_codec.specs.declared.opening.Opening.{Opening}
+use Rattle.pdu_format.specs.declared.pdu.Direction.{Direction}
+use Rattle.pdu_format.specs.declared.pdu.Direction.TheVariants.{TowardReceiver, TowardSender}
+use Rattle.pdu_format.specs.declared.pdu.Header.{Header}
+use Rattle.pdu_format.specs.declared.opening.Opening.{Opening}
 
 -- the length of an ID, in the octet of lengths
 abbrev pub entity_octets : ℕ → ℕ

@@ -3,7 +3,7 @@ use Rattle.std.proofs.Common.{◌≡◌, ℕ, zero, suc, ◌+◌, ◌*◌, ◌%�
 use Rattle.std.proofs.Math.Nat.{pow-suc, le-mul_of_pos_right, pow-le-pow_right}
 use Rattle.std.proofs.lemmas.List.{nil_from_length}
 use Rattle.std.proofs.lemmas.Nat.{div-add-mod', div-mul-add, mod-mul-add, mul-add-lt, mod_below}
-use Rattle.pdu_codec.specs.Numbers.{number_of, digits}
+use Rattle.pdu_format.specs.Numbers.{number_of, digits}
 
 -- each is below 256
 abbrev pub IsOctets : List ℕ → Type 0

@@ -1,7 +1,7 @@
 -- The numbers of the faults of decoding.
 use Rattle.std.specs.Prelude.{ℕ}
-use Rattle.pdu_codec.specs.declared.fault.DecodeFault.{DecodeFault}
-use Rattle.pdu_codec.specs.declared.fault.DecodeFault.TheVariants.{TooShort, BadVersion, CrcPresent, LargeFile, LengthMismatch, UnknownDirective, FieldCut, NoFileName, NoMemory}
+use Rattle.pdu_format.specs.declared.fault.DecodeFault.{DecodeFault}
+use Rattle.pdu_format.specs.declared.fault.DecodeFault.TheVariants.{TooShort, BadVersion, CrcPresent, LargeFile, LengthMismatch, UnknownDirective, FieldCut, NoFileName, NoMemory}
 
 -- the number that is printed for a fault
 abbrev pub fault_number : DecodeFault → ℕ

@@ -1,6 +1,7 @@
 ghost use Rattle.std.specs.Prelude.{◌≡◌, IfOk};
 
-use cfdp_types::{ChecksumType, Class, Condition, EntityId, Messages, Octets};
+use crate::bodies::{Ack, Acknowledged, Eof, FileData, Finished, KeepAlive, Metadata, Nak, Prompt};
+use cfdp_types::{Class, EntityId};
 use std::alloc::AllocError;
 use std::marker::Model;
 
@@ -27,41 +28,16 @@ pub struct Header {
     pub destination: EntityId,
 }
 
-/// The end of a file, or of the transaction where the condition is an error (5.2.2).
-#[derive(Clone, Copy, Debug, PartialEq, Eq)]
-pub struct Eof {
-    pub condition: Condition,
-    pub checksum: u32,
-    /// Octets of the file.
-    pub size: u32,
-}
-
-/// What a file is and where it goes (5.2.5).
-#[derive(Clone, Debug, Drop, PartialEq, Eq)]
-pub struct Metadata {
-    /// Whether the sender asks for a Finished PDU in class 1.
-    pub closure: bool,
-    pub checksum_type: ChecksumType,
-    /// Octets of the file.
-    pub size: u32,
-    pub source_name: Octets,
-    pub destination_name: Octets,
-    pub messages: Messages,
-}
-
-/// A part of a file (5.3).
-#[derive(Clone, Debug, Drop, PartialEq, Eq)]
-pub struct FileData {
-    /// The place of the first octet in the file.
-    pub offset: u32,
-    pub octets: Octets,
-}
-
 /// What a PDU says.
 #[derive(Clone, Debug, Drop, PartialEq, Eq)]
 pub enum Body {
     Eof(Eof),
+    Finished(Finished),
+    Ack(Ack),
     Metadata(Metadata),
+    Nak(Nak),
+    Prompt(Prompt),
+    KeepAlive(KeepAlive),
     FileData(FileData),
 }
 
@@ -74,8 +50,8 @@ pub struct Pdu {
 }
 
 impl Model for Pdu {
-    ghost use Rattle.pdu_codec.specs.Pdu.{PduValue};
-    ghost use Rattle.pdu_codec.specs.Spelling.{Fits};
+    ghost use Rattle.pdu_format.specs.Pdu.{PduValue};
+    ghost use Rattle.pdu_format.specs.Spelling.{Fits};
 
     ghost Value = { PduValue };
 
@@ -86,7 +62,8 @@ impl Model for Pdu {
 
 impl Pdu {
     ghost use Rattle.std.specs.Prelude.{◌≡◌};
-    ghost use Rattle.pdu_codec.specs.Spelling.{Fits};
+    ghost use Rattle.pdu_format.specs.Pdu.{is_toward_sender};
+    ghost use Rattle.pdu_format.specs.Spelling.{Fits};
 
     /// A PDU of a header and a body.
     pub fn new(header: Header, body: Body) -> Pdu
@@ -108,6 +85,17 @@ impl Pdu {
         ensures { result.now ≡ self.now.body }
     {
         &self.body
+    }
+
+    /// Whether the kind of the body is one that goes toward the sender of the file.
+    pub fn is_toward_sender(&self) -> bool
+        ensures { result ≡ is_toward_sender self.now.body }
+    {
+        match &self.body {
+            Body::Finished(_) | Body::Nak(_) | Body::KeepAlive(_) => true,
+            Body::Ack(ack) => matches!(ack.of, Acknowledged::Eof),
+            Body::Eof(_) | Body::Metadata(_) | Body::Prompt(_) | Body::FileData(_) => false,
+        }
     }
 
     /// The header and the body.

@@ -1,11 +1,11 @@
 pub mod Pdu
 pub mod Fault
-pub mod Refusal
+pub mod Directive
 pub mod Numbers
-pub mod Spelling
 pub mod Opening
-pub mod Narrowing
-pub mod Parts
+pub mod Tlvs
+pub mod Items
+pub mod Spelling
 pub mod Reading
 pub use Rattle.cfdp_types.specs.Condition
 pub use Rattle.cfdp_types.specs.ChecksumType

@@ -1,6 +1,6 @@
 ghost use Rattle.std.specs.Prelude.{◌≡◌};
-ghost use Rattle.pdu_codec.specs.declared.fault.DecodeFault.TheVariants.{NoMemory};
-ghost use Rattle.pdu_codec.specs.Fault.{fault_number};
+ghost use Rattle.pdu_format.specs.declared.fault.DecodeFault.TheVariants.{NoMemory};
+ghost use Rattle.pdu_format.specs.Fault.{fault_number};
 
 use std::alloc::AllocError;
 

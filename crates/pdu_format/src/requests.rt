@@ -1,0 +1,84 @@
+ghost use Rattle.std.specs.Prelude.{◌≡◌, [], ◌∷◌, ◌++◌, ◌&&◌, IfOk, OnOk, OnErr, nat_eq};
+ghost use Rattle.std.proofs.lemmas.Cmp.{lists_equiv, and_equiv, on_equiv};
+ghost use Rattle.std.specs.Cmp as Cmp;
+ghost use lib.Pointwise.{pointwise};
+
+use std::alloc::{AllocError, Global};
+use std::marker::Model;
+
+/// A run of a file that the receiver asks for: the octets from `start` to the one before `end`.
+/// `(0, 0)` asks for the Metadata (CCSDS 727.0-B-5, 5.2.6).
+#[derive(Clone, Copy, Debug, PartialEq, Eq)]
+pub struct SegmentRequest {
+    pub start: u32,
+    pub end: u32,
+}
+
+/// The segment requests of a NAK PDU, in order. Contracts see the list of them.
+#[derive(Clone, Debug, Drop)]
+pub struct SegmentRequests {
+    items: Vec<SegmentRequest>,
+}
+
+impl Model for SegmentRequests {
+    ghost use Rattle.std.specs.Prelude.{List};
+    ghost use Rattle.pdu_format.specs.declared.requests.SegmentRequest.{SegmentRequest};
+
+    ghost Value = { List SegmentRequest };
+
+    ghost view = { λ r. r.items.items };
+}
+
+impl SegmentRequests {
+    pub fn new(alloc: Global) -> SegmentRequests
+        ensures { result ≡ [] }
+    {
+        SegmentRequests {
+            items: Vec::new(alloc),
+        }
+    }
+
+    pub fn from_vec(items: Vec<SegmentRequest>) -> SegmentRequests
+        ensures { result ≡ items.items }
+    {
+        SegmentRequests { items }
+    }
+
+    pub fn as_slice(&self) -> &[SegmentRequest]
+        ensures { result.now ≡ self.now }
+    {
+        self.items.as_slice()
+    }
+
+    /// Adds a request at the end.
+    pub fn push(&mut self, request: SegmentRequest) -> Result<(), AllocError>
+        ensures ok { OnOk result (self.new ≡ self.old ++ request ∷ []) }
+        ensures err { OnErr result (self.new ≡ self.old) }
+    {
+        self.items.push(request)?;
+        Ok(())
+    }
+
+    /// An equal list.
+    pub fn copy(&self, alloc: Global) -> Result<SegmentRequests, AllocError>
+        ensures { IfOk result (λ copy. copy ≡ self.now) }
+    {
+        Ok(SegmentRequests {
+            items: Vec::from_slice(alloc, self.items.as_slice())?,
+        })
+    }
+}
+
+impl PartialEq for SegmentRequests {
+    ghost eq = { pointwise (λ x y. nat_eq x.start y.start && nat_eq x.end y.end) };
+
+    ghost laws = { Cmp.partial_equiv_from_equiv (lists_equiv (and_equiv (on_equiv (λ r. r.start) Cmp.nat_eq_equiv) (on_equiv (λ r. r.end) Cmp.nat_eq_equiv))) };
+
+    fn eq(&self, other: &SegmentRequests) -> bool {
+        self.as_slice() == other.as_slice()
+    }
+}
+
+impl Eq for SegmentRequests {
+    ghost laws = { lists_equiv (and_equiv (on_equiv (λ r. r.start) Cmp.nat_eq_equiv) (on_equiv (λ r. r.end) Cmp.nat_eq_equiv)) };
+}
