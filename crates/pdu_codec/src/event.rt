@@ -1,13 +1,28 @@
 ghost use Rattle.std.specs.Prelude.{◌≡◌};
 ghost use Rattle.pdu_codec.specs.Refusal.{refusal_number, refusal_name};
 
-use crate::pdu::Pdu;
+use cfdp_types::TimerKind;
+use pdu_format::Pdu;
 
 /// What happens to a transaction: an event of its end in this entity.
 #[derive(Clone, Debug, Drop)]
 pub enum What {
+    /// The user ends the transaction.
+    Cancel,
+    /// The user has the transaction wait.
+    Suspend,
+    /// The user has it go on.
+    Resume,
+    /// The user asks how it stands.
+    Report,
+    /// The user leaves it, without a word to the other entity.
+    Abandon,
+    /// The next PDU is to be sent.
+    Pump,
     /// A PDU of the transaction came.
     Pdu(Pdu),
+    /// The timer that was armed with this stamp expired.
+    Timer(TimerKind, u32),
     /// The file store answered the deposit with this stamp: whether it keeps the file.
     Stored(u32, bool),
 }

@@ -1,11 +1,11 @@
 //! Readers of fields: the value, and the octets behind it.
 
-ghost use Rattle.std.specs.Prelude.{◌≡◌, ◌<◌, ◌≤◌, ◌^◌, length, IfSome};
-ghost use Rattle.pdu_codec.specs.Numbers.{number_of};
-ghost use Rattle.pdu_codec.specs.Reading.{Gives, octets_at, number_at, lv_at};
+ghost use Rattle.std.specs.Prelude.{◌≡◌, ◌<◌, ◌≤◌, ◌+◌, ◌^◌, length, IfSome};
+ghost use Rattle.pdu_format.specs.Numbers.{number_of};
+ghost use Rattle.pdu_format.specs.Reading.{Gives, octets_at, number_at, lv_at};
 
 /// The number that at most eight octets stand for.
-fn number_of(octets: &[u8]) -> u64
+pub fn number_of(octets: &[u8]) -> u64
     requires { length octets.now ≤ 8 }
     ensures value { result ≡ number_of octets.now }
     ensures below { result < 256 ^ length octets.now }
@@ -19,7 +19,8 @@ fn number_of(octets: &[u8]) -> u64
 
 /// This many octets.
 pub fn octets_at(count: usize, octets: &[u8]) -> Option<(&[u8], &[u8])>
-    ensures { Gives (λ x. (x.0.now, x.1.now)) result (octets_at count octets.now) }
+    ensures value { Gives (λ x. (x.0.now, x.1.now)) result (octets_at count octets.now) }
+    ensures left { IfSome result (λ x. count + length x.1.now ≡ length octets.now) }
 {
     if octets.len() < count {
         return None;
@@ -28,11 +29,12 @@ pub fn octets_at(count: usize, octets: &[u8]) -> Option<(&[u8], &[u8])>
 }
 
 /// A number of this many octets.
-#[tactic(auto, unfolding(crate::specs::Reading::number_at))]
+#[tactic(auto, unfolding(pdu_format::specs::Reading::number_at))]
 pub fn number_at(width: usize, octets: &[u8]) -> Option<(u64, &[u8])>
     requires { width ≤ 8 }
     ensures value { Gives (λ x. (x.0, x.1.now)) result (number_at width octets.now) }
     ensures below { IfSome result (λ x. x.0 < 256 ^ width) }
+    ensures left { IfSome result (λ x. width + length x.1.now ≡ length octets.now) }
 {
     let (front, rest) = octets_at(width, octets)?;
     Some((number_of(front), rest))
@@ -40,7 +42,8 @@ pub fn number_at(width: usize, octets: &[u8]) -> Option<(u64, &[u8])>
 
 /// A number of one octet.
 pub fn octet_at(octets: &[u8]) -> Option<(u8, &[u8])>
-    ensures { Gives (λ x. (x.0, x.1.now)) result (number_at 1 octets.now) }
+    ensures value { Gives (λ x. (x.0, x.1.now)) result (number_at 1 octets.now) }
+    ensures left { IfSome result (λ x. 1 + length x.1.now ≡ length octets.now) }
 {
     let (number, rest) = number_at(1, octets)?;
     Some((number as u8, rest))
@@ -48,7 +51,8 @@ pub fn octet_at(octets: &[u8]) -> Option<(u8, &[u8])>
 
 /// A number of two octets.
 pub fn pair_at(octets: &[u8]) -> Option<(u16, &[u8])>
-    ensures { Gives (λ x. (x.0, x.1.now)) result (number_at 2 octets.now) }
+    ensures value { Gives (λ x. (x.0, x.1.now)) result (number_at 2 octets.now) }
+    ensures left { IfSome result (λ x. 2 + length x.1.now ≡ length octets.now) }
 {
     let (number, rest) = number_at(2, octets)?;
     Some((number as u16, rest))
@@ -56,16 +60,18 @@ pub fn pair_at(octets: &[u8]) -> Option<(u16, &[u8])>
 
 /// A number of four octets.
 pub fn word_at(octets: &[u8]) -> Option<(u32, &[u8])>
-    ensures { Gives (λ x. (x.0, x.1.now)) result (number_at 4 octets.now) }
+    ensures value { Gives (λ x. (x.0, x.1.now)) result (number_at 4 octets.now) }
+    ensures left { IfSome result (λ x. 4 + length x.1.now ≡ length octets.now) }
 {
     let (number, rest) = number_at(4, octets)?;
     Some((number as u32, rest))
 }
 
 /// A length in one octet, and that many octets.
-#[tactic(auto, unfolding(crate::specs::Reading::lv_at))]
+#[tactic(auto, unfolding(pdu_format::specs::Reading::lv_at))]
 pub fn lv_at(octets: &[u8]) -> Option<(&[u8], &[u8])>
-    ensures { Gives (λ x. (x.0.now, x.1.now)) result (lv_at octets.now) }
+    ensures value { Gives (λ x. (x.0.now, x.1.now)) result (lv_at octets.now) }
+    ensures shorter { IfSome result (λ x. length x.1.now < length octets.now) }
 {
     let (count, rest) = octet_at(octets)?;
     octets_at(usize::from(count), rest)

@@ -3,17 +3,15 @@
 
 mod decoding;
 mod event;
-mod fault;
 mod fields;
 mod memory;
 mod opening;
+mod options;
 mod parts;
-mod pdu;
 
 pub use decoding::decode;
 pub use event::{Refusal, What};
-pub use fault::DecodeFault;
-pub use pdu::{Body, Direction, Eof, FileData, Header, Metadata, Pdu};
-
-#[cfg(test)]
-mod tests;
+pub use pdu_format::{
+    Ack, Acknowledged, Body, DecodeFault, Direction, Eof, FileData, Finished, Header, KeepAlive,
+    Metadata, Nak, Pdu, Prompt, SegmentRequest, SegmentRequests, TransactionStatus,
+};

@@ -1,30 +1,32 @@
-//! Bodies whose names and octets still lie in the datagram.
+//! Bodies whose lists still lie in the datagram.
 
 ghost use Rattle.std.specs.Prelude.{◌≡◌, IfOk};
-ghost use Rattle.pdu_codec.specs.Spelling.{size_octets};
+ghost use Rattle.pdu_codec.specs.declared.parts.Parts.TheVariants as borrowed;
+ghost use Rattle.pdu_format.specs.Spelling.{size_octets};
+ghost use Rattle.pdu_format.specs.Items.{closed};
+ghost use Rattle.pdu_format.specs.Reading.{Gives, eof_at, finished_at, ack_at, metadata_at, nak_at, prompt_at, keep_alive_at, file_data_at, behind_segment_metadata, delivery_of, file_status_of, transaction_status_of, prompt_of, lacks_name};
 ghost use Rattle.pdu_codec.specs.Parts.{body_of_parts};
-ghost use Rattle.pdu_codec.specs.Reading.{Gives, eof_at, metadata_at, file_data_at, lacks_name};
 
-use crate::fields::{lv_at, octet_at, word_at};
-use crate::pdu::{Body, Eof, FileData, Metadata};
-use cfdp_types::{ChecksumType, Condition, Messages, Octets};
+use crate::fields::{lv_at, octet_at, octets_at, word_at};
+use crate::options::{are_options, are_requests, location_at, messages_at, requests_at};
+use cfdp_types::{ChecksumType, Condition, Delivery, FileStatus, Octets};
+use pdu_format::{
+    Ack, Acknowledged, Body, Eof, FileData, Finished, KeepAlive, Metadata, Nak, Prompt,
+    TransactionStatus,
+};
 use std::alloc::{AllocError, Global};
 
-/// A body's fields, borrowed from the datagram.
+/// A body's fields, their lists borrowed from the datagram.
 #[derive(Clone, Copy)]
 pub enum Parts<'a> {
-    Eof(EofParts),
+    Eof(Eof),
+    Finished(Finished),
+    Ack(Ack),
     Metadata(MetadataParts<'a>),
+    Nak(NakParts<'a>),
+    Prompt(Prompt),
+    KeepAlive(KeepAlive),
     FileData(FileDataParts<'a>),
-}
-
-/// The fields of EOF.
-#[derive(Clone, Copy)]
-pub struct EofParts {
-    /// Condition and spare bits.
-    pub flags: u8,
-    pub checksum: u32,
-    pub size: u32,
 }
 
 /// The fields of Metadata, borrowed from the datagram.
@@ -35,6 +37,17 @@ pub struct MetadataParts<'a> {
     pub size: u32,
     pub source_name: &'a [u8],
     pub destination_name: &'a [u8],
+    /// Optional fields up to the end.
+    pub options: &'a [u8],
+}
+
+/// The fields of a NAK, borrowed from the datagram.
+#[derive(Clone, Copy)]
+pub struct NakParts<'a> {
+    pub start: u32,
+    pub end: u32,
+    /// Segment requests up to the end.
+    pub requests: &'a [u8],
 }
 
 /// The fields of File Data, borrowed from the datagram.
@@ -44,47 +57,178 @@ pub struct FileDataParts<'a> {
     pub octets: &'a [u8],
 }
 
-/// The fields of EOF, and the octets behind them.
-#[tactic(auto, unfolding(crate::specs::Reading::eof_at))]
-pub fn eof_at(octets: &[u8]) -> Option<(Parts<'_>, &[u8])>
-    ensures { Gives (λ x. (body_of_parts x.0, x.1.now)) result (eof_at size_octets octets.now) }
+/// EOF.
+#[tactic(auto, unfolding(pdu_format::specs::Reading::eof_at))]
+pub fn eof_at(octets: &[u8]) -> Option<Parts<'_>>
+    ensures { Gives body_of_parts result (eof_at size_octets octets.now) }
 {
     let (flags, rest) = octet_at(octets)?;
     let (checksum, rest) = word_at(rest)?;
     let (size, rest) = word_at(rest)?;
-    let eof = EofParts {
-        flags,
+    let location = location_at(rest)?;
+    Some(Parts::Eof(Eof {
+        condition: Condition::new(flags / 16),
         checksum,
         size,
-    };
-    Some((Parts::Eof(eof), rest))
+        location,
+    }))
 }
 
-/// The fields of Metadata, and the octets behind them.
-#[tactic(auto, unfolding(crate::specs::Reading::metadata_at))]
-pub fn metadata_at(octets: &[u8]) -> Option<(Parts<'_>, &[u8])>
-    ensures { Gives (λ x. (body_of_parts x.0, x.1.now)) result (metadata_at size_octets octets.now) }
+fn delivery_of(bit: u8) -> Delivery
+    ensures { result ≡ delivery_of bit }
+{
+    if bit == 0 {
+        Delivery::Complete
+    } else {
+        Delivery::Incomplete
+    }
+}
+
+fn file_status_of(bits: u8) -> FileStatus
+    ensures { result ≡ file_status_of bits }
+{
+    match bits {
+        0 => FileStatus::Discarded,
+        1 => FileStatus::Rejected,
+        2 => FileStatus::Retained,
+        _ => FileStatus::Unreported,
+    }
+}
+
+/// Finished.
+#[tactic(auto, unfolding(pdu_format::specs::Reading::finished_at))]
+pub fn finished_at(octets: &[u8]) -> Option<Parts<'_>>
+    ensures { Gives body_of_parts result (finished_at octets.now) }
+{
+    let (flags, rest) = octet_at(octets)?;
+    let location = location_at(rest)?;
+    Some(Parts::Finished(Finished {
+        condition: Condition::new(flags / 16),
+        delivery: delivery_of(flags / 4 % 2),
+        status: file_status_of(flags % 4),
+        location,
+    }))
+}
+
+fn transaction_status_of(bits: u8) -> TransactionStatus
+    ensures { result ≡ transaction_status_of bits }
+{
+    match bits {
+        0 => TransactionStatus::Undefined,
+        1 => TransactionStatus::Active,
+        2 => TransactionStatus::Terminated,
+        _ => TransactionStatus::Unrecognized,
+    }
+}
+
+// The fields, if nothing is left behind them.
+fn closed<'a>(left: &[u8], parts: Parts<'a>) -> Option<Parts<'a>>
+    ensures { Gives body_of_parts result (closed left.now (body_of_parts parts.entry)) }
+{
+    if left.is_empty() { Some(parts) } else { None }
+}
+
+/// The fields of an ACK behind its first octet, which tells what it acknowledges.
+#[tactic(auto, unfolding(pdu_format::specs::Reading::ack_at))]
+pub fn ack_at(of: Acknowledged, octets: &[u8]) -> Option<Parts<'_>>
+    ensures { Gives body_of_parts result (ack_at of octets.now) }
+{
+    let (flags, rest) = octet_at(octets)?;
+    let ack = Ack {
+        of,
+        condition: Condition::new(flags / 16),
+        status: transaction_status_of(flags % 4),
+    };
+    closed(rest, Parts::Ack(ack))
+}
+
+/// Metadata.
+#[tactic(auto, unfolding(pdu_format::specs::Reading::metadata_at))]
+pub fn metadata_at(octets: &[u8]) -> Option<Parts<'_>>
+    ensures { Gives body_of_parts result (metadata_at size_octets octets.now) }
 {
     let (flags, rest) = octet_at(octets)?;
     let (size, rest) = word_at(rest)?;
     let (source_name, rest) = lv_at(rest)?;
-    let (destination_name, rest) = lv_at(rest)?;
-    let metadata = MetadataParts {
+    let (destination_name, options) = lv_at(rest)?;
+    if !are_options(options) {
+        return None;
+    }
+    Some(Parts::Metadata(MetadataParts {
         flags,
         size,
         source_name,
         destination_name,
-    };
-    Some((Parts::Metadata(metadata), rest))
+        options,
+    }))
 }
 
-/// File data: all octets behind the offset are the file's.
-#[tactic(auto, unfolding(crate::specs::Reading::file_data_at))]
-pub fn file_data_at(octets: &[u8]) -> Option<(Parts<'_>, &[u8])>
-    ensures { Gives (λ x. (body_of_parts x.0, x.1.now)) result (file_data_at size_octets octets.now) }
+/// A NAK.
+#[tactic(auto, unfolding(pdu_format::specs::Reading::nak_at))]
+pub fn nak_at(octets: &[u8]) -> Option<Parts<'_>>
+    ensures { Gives body_of_parts result (nak_at size_octets octets.now) }
 {
-    let (offset, octets) = word_at(octets)?;
-    Some((Parts::FileData(FileDataParts { offset, octets }), &[]))
+    let (start, rest) = word_at(octets)?;
+    let (end, requests) = word_at(rest)?;
+    if !are_requests(requests) {
+        return None;
+    }
+    Some(Parts::Nak(NakParts {
+        start,
+        end,
+        requests,
+    }))
+}
+
+fn prompt_of(bit: u8) -> Prompt
+    ensures { result ≡ prompt_of bit }
+{
+    if bit == 0 {
+        Prompt::Nak
+    } else {
+        Prompt::KeepAlive
+    }
+}
+
+/// A Prompt.
+#[tactic(auto, unfolding(pdu_format::specs::Reading::prompt_at))]
+pub fn prompt_at(octets: &[u8]) -> Option<Parts<'_>>
+    ensures { Gives body_of_parts result (prompt_at octets.now) }
+{
+    let (flags, rest) = octet_at(octets)?;
+    closed(rest, Parts::Prompt(prompt_of(flags / 128)))
+}
+
+/// A Keep Alive.
+#[tactic(auto, unfolding(pdu_format::specs::Reading::keep_alive_at))]
+pub fn keep_alive_at(octets: &[u8]) -> Option<Parts<'_>>
+    ensures { Gives body_of_parts result (keep_alive_at size_octets octets.now) }
+{
+    let (progress, rest) = word_at(octets)?;
+    closed(rest, Parts::KeepAlive(KeepAlive { progress }))
+}
+
+// The octets behind the segment metadata, where there is any.
+#[tactic(auto, unfolding(pdu_format::specs::Reading::behind_segment_metadata))]
+fn behind_segment_metadata(has_it: bool, octets: &[u8]) -> Option<&[u8]>
+    ensures { Gives (λ rest. rest.now) result (behind_segment_metadata has_it octets.now) }
+{
+    if !has_it {
+        return Some(octets);
+    }
+    let (count, rest) = octet_at(octets)?;
+    let (_, fields) = octets_at(usize::from(count % 64), rest)?;
+    Some(fields)
+}
+
+/// File Data: all octets behind the offset are the file's.
+#[tactic(auto, unfolding(pdu_format::specs::Reading::file_data_at))]
+pub fn file_data_at(has_segment_metadata: bool, octets: &[u8]) -> Option<Parts<'_>>
+    ensures { Gives body_of_parts result (file_data_at size_octets has_segment_metadata octets.now) }
+{
+    let fields = behind_segment_metadata(has_segment_metadata, octets)?;
+    let (offset, octets) = word_at(fields)?;
+    Some(Parts::FileData(FileDataParts { offset, octets }))
 }
 
 /// Whether a name of Metadata is empty.
@@ -92,31 +236,42 @@ pub fn lacks_name(parts: &Parts<'_>) -> bool
     ensures { result ≡ lacks_name (body_of_parts parts.now) }
 {
     match parts {
-        Parts::Eof(_) | Parts::FileData(_) => false,
         Parts::Metadata(metadata) => {
             metadata.source_name.is_empty() || metadata.destination_name.is_empty()
         }
+        _ => false,
     }
 }
 
-/// The body, copied out of the datagram.
+fn metadata_of_parts(alloc: Global, parts: MetadataParts<'_>) -> Result<Body, AllocError>
+    ensures { IfOk result (λ body. body ≡ body_of_parts (borrowed.Metadata parts.entry)) }
+{
+    Ok(Body::Metadata(Metadata {
+        closure: parts.flags / 64 % 2 == 1,
+        checksum_type: ChecksumType::new(parts.flags % 16),
+        size: parts.size,
+        source_name: Octets::from_slice(alloc, parts.source_name)?,
+        destination_name: Octets::from_slice(alloc, parts.destination_name)?,
+        messages: messages_at(alloc, parts.options)?,
+    }))
+}
+
+/// The body, its lists copied out of the datagram.
 pub fn body_of_parts(alloc: Global, parts: Parts<'_>) -> Result<Body, AllocError>
     ensures { IfOk result (λ body. body ≡ body_of_parts parts.entry) }
 {
     match parts {
-        Parts::Eof(eof) => Ok(Body::Eof(Eof {
-            condition: Condition::new(eof.flags / 16),
-            checksum: eof.checksum,
-            size: eof.size,
+        Parts::Eof(eof) => Ok(Body::Eof(eof)),
+        Parts::Finished(finished) => Ok(Body::Finished(finished)),
+        Parts::Ack(ack) => Ok(Body::Ack(ack)),
+        Parts::Metadata(metadata) => metadata_of_parts(alloc, metadata),
+        Parts::Nak(nak) => Ok(Body::Nak(Nak {
+            start: nak.start,
+            end: nak.end,
+            requests: requests_at(alloc, nak.requests)?,
         })),
-        Parts::Metadata(metadata) => Ok(Body::Metadata(Metadata {
-            closure: metadata.flags / 64 % 2 == 1,
-            checksum_type: ChecksumType::new(metadata.flags % 16),
-            size: metadata.size,
-            source_name: Octets::from_slice(alloc, metadata.source_name)?,
-            destination_name: Octets::from_slice(alloc, metadata.destination_name)?,
-            messages: Messages::new(alloc),
-        })),
+        Parts::Prompt(prompt) => Ok(Body::Prompt(prompt)),
+        Parts::KeepAlive(keep_alive) => Ok(Body::KeepAlive(keep_alive)),
         Parts::FileData(file_data) => Ok(Body::FileData(FileData {
             offset: file_data.offset,
             octets: Octets::from_slice(alloc, file_data.octets)?,

@@ -1,0 +1,26 @@
+-- What the two ends of a transaction ask of an event.
+use Rattle.std.specs.Prelude.{ℕ, Bool, true, false, not, ◌==◌, Option, Some, None}
+use Rattle.cfdp_types.specs.declared.names.Class.{Class}
+use Rattle.cfdp_types.specs.declared.names.Class.TheVariants.{One, Two}
+use Rattle.pdu_codec.specs.declared.event.What.{What}
+use Rattle.pdu_codec.specs.declared.event.What.TheVariants as what
+
+-- the acknowledged class
+abbrev pub is_two : Class → Bool
+is_two One = false
+is_two Two = true
+
+abbrev pub is_same_class : Class → Class → Bool
+is_same_class One class = not (is_two class)
+is_same_class Two class = is_two class
+
+-- ModeMismatch: a PDU whose mode is not the transaction's class
+abbrev pub is_of_other_class : Class → What → Bool
+is_of_other_class class (what.Pdu pdu) = not (is_same_class pdu.header.class class)
+is_of_other_class class _ = false
+
+-- JournalFull: the file store's answer and Abandon never meet it
+abbrev pub needs_room : What → Bool
+needs_room (what.Stored stamp kept) = false
+needs_room what.Abandon = false
+needs_room _ = true

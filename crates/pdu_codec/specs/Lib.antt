@@ -1,0 +1,6 @@
+pub mod Refusal
+pub mod Events
+pub mod Parts
+pub use Rattle.pdu_format.specs.Pdu
+pub use Rattle.pdu_format.specs.Spelling
+pub use Rattle.pdu_format.specs.Reading

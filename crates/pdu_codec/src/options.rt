@@ -1,0 +1,139 @@
+//! Readers of optional fields, each a type, a length and a value (CCSDS 727.0-B-5, 5.4), and of
+//! segment requests.
+
+ghost use Rattle.std.specs.Prelude.{◌≡◌, ◌<◌, is_some, length, IfOk, IfSome};
+ghost use Rattle.std.specs.Option.{option_map};
+ghost use Rattle.pdu_format.specs.Items.{items_to_end};
+ghost use Rattle.pdu_format.specs.Spelling.{size_octets};
+ghost use Rattle.pdu_format.specs.Tlvs.{location_in, may_locate};
+ghost use Rattle.pdu_format.specs.Reading.{Gives, tlv_at, location_tlv_at, request_at};
+ghost use Rattle.pdu_codec.specs.Parts.{tlv_of_parts, messages_at, requests_at};
+
+use crate::fields::{lv_at, number_of, octet_at, word_at};
+use cfdp_types::{EntityId, Messages, Octets};
+use pdu_format::{SegmentRequest, SegmentRequests};
+use std::alloc::{AllocError, Global};
+
+/// The type of a message to the user.
+const MESSAGE: u8 = 2;
+
+/// The type of an entity ID.
+const ENTITY_ID: u8 = 6;
+
+/// An optional field, borrowed from the datagram.
+#[derive(Clone, Copy)]
+pub struct TlvParts<'a> {
+    pub kind: u8,
+    pub value: &'a [u8],
+}
+
+/// An optional field, and the octets behind it.
+#[tactic(auto, unfolding(pdu_format::specs::Reading::tlv_at))]
+pub fn tlv_at(octets: &[u8]) -> Option<(TlvParts<'_>, &[u8])>
+    ensures value { Gives (λ x. (tlv_of_parts x.0, x.1.now)) result (tlv_at octets.now) }
+    ensures shorter { IfSome result (λ x. length x.1.now < length octets.now) }
+{
+    let (kind, rest) = octet_at(octets)?;
+    let (value, rest) = lv_at(rest)?;
+    Some((TlvParts { kind, value }, rest))
+}
+
+// Whether a fault location may stand in this field: an entity ID has 1 to 8 octets.
+fn may_locate(tlv: TlvParts<'_>) -> bool
+    ensures { result ≡ may_locate (tlv_of_parts tlv.entry) }
+{
+    tlv.kind != ENTITY_ID || (!tlv.value.is_empty() && tlv.value.len() <= 8)
+}
+
+/// An optional field of EOF or Finished, and the octets behind it.
+#[tactic(auto, unfolding(pdu_format::specs::Reading::location_tlv_at))]
+pub fn location_tlv_at(octets: &[u8]) -> Option<(TlvParts<'_>, &[u8])>
+    ensures value { Gives (λ x. (tlv_of_parts x.0, x.1.now)) result (location_tlv_at octets.now) }
+    ensures shorter { IfSome result (λ x. length x.1.now < length octets.now) }
+{
+    let (tlv, rest) = tlv_at(octets)?;
+    if may_locate(tlv) { Some((tlv, rest)) } else { None }
+}
+
+/// The fault location among the optional fields of EOF or Finished: the first entity ID.
+pub fn location_at(octets: &[u8]) -> Option<Option<EntityId>>
+    ensures { result ≡ option_map location_in (items_to_end location_tlv_at octets.now) }
+{
+    let mut location = None;
+    let mut rest = octets;
+    while !rest.is_empty() {
+        let (tlv, behind) = location_tlv_at(rest)?;
+        if location.is_none() && tlv.kind == ENTITY_ID {
+            location = Some(EntityId(number_of(tlv.value)));
+        }
+        rest = behind;
+    }
+    Some(location)
+}
+
+/// Whether octets are optional fields up to their end.
+pub fn are_options(octets: &[u8]) -> bool
+    ensures { result ≡ is_some (items_to_end tlv_at octets.now) }
+{
+    let mut rest = octets;
+    while !rest.is_empty() {
+        let Some((_, behind)) = tlv_at(rest) else {
+            return false;
+        };
+        rest = behind;
+    }
+    true
+}
+
+/// The messages to the user among optional fields.
+pub fn messages_at(alloc: Global, octets: &[u8]) -> Result<Messages, AllocError>
+    ensures { IfOk result (λ messages. messages ≡ messages_at octets.now) }
+{
+    let mut messages = Messages::new(alloc);
+    let mut rest = octets;
+    while let Some((tlv, behind)) = tlv_at(rest) {
+        if tlv.kind == MESSAGE {
+            messages.push(Octets::from_slice(alloc, tlv.value)?)?;
+        }
+        rest = behind;
+    }
+    Ok(messages)
+}
+
+/// A segment request, and the octets behind it.
+#[tactic(auto, unfolding(pdu_format::specs::Reading::request_at))]
+pub fn request_at(octets: &[u8]) -> Option<(SegmentRequest, &[u8])>
+    ensures value { Gives (λ x. (x.0, x.1.now)) result (request_at size_octets octets.now) }
+    ensures shorter { IfSome result (λ x. length x.1.now < length octets.now) }
+{
+    let (start, rest) = word_at(octets)?;
+    let (end, rest) = word_at(rest)?;
+    Some((SegmentRequest { start, end }, rest))
+}
+
+/// Whether octets are segment requests up to their end.
+pub fn are_requests(octets: &[u8]) -> bool
+    ensures { result ≡ is_some (items_to_end (request_at size_octets) octets.now) }
+{
+    let mut rest = octets;
+    while !rest.is_empty() {
+        let Some((_, behind)) = request_at(rest) else {
+            return false;
+        };
+        rest = behind;
+    }
+    true
+}
+
+/// The segment requests in octets.
+pub fn requests_at(alloc: Global, octets: &[u8]) -> Result<SegmentRequests, AllocError>
+    ensures { IfOk result (λ requests. requests ≡ requests_at octets.now) }
+{
+    let mut requests = Vec::with_capacity(alloc, octets.len() / 8)?;
+    let mut rest = octets;
+    while let Some((request, behind)) = request_at(rest) {
+        requests.push(request)?;
+        rest = behind;
+    }
+    Ok(SegmentRequests::from_vec(requests))
+}
