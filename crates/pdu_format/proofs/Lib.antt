@@ -1,2 +1,4 @@
 pub mod Numbers
+pub mod FieldLaws
+pub mod ItemLaws
 pub mod Rows
