@@ -5,7 +5,7 @@ use Rattle.pdu_format.specs.declared.pdu.Body.{Body}
 use Rattle.pdu_format.specs.declared.pdu.Body.TheVariants as bodies
 use Rattle.pdu_format.specs.declared.requests.SegmentRequest.{SegmentRequest}
 use Rattle.pdu_format.specs.Tlvs.{Tlv, messages_in}
-use Rattle.pdu_format.specs.Reading.{tlv_at, request_at}
+use Rattle.pdu_format.specs.Reading.{tlv_at, request_at, delivery_of, file_status_of, transaction_status_of}
 use Rattle.pdu_format.specs.Spelling.{size_octets}
 use Rattle.pdu_codec.specs.declared.options.TlvParts.{TlvParts}
 use Rattle.pdu_codec.specs.declared.parts.Parts.{Parts}
@@ -33,9 +33,14 @@ abbrev pub requests_at : List ℕ → List SegmentRequest
 requests_at octets = items_among (request_at size_octets) (length octets) octets
 
 abbrev pub body_of_parts : Parts → Body
-body_of_parts (parts.Eof e) = bodies.Eof e
-body_of_parts (parts.Finished f) = bodies.Finished f
-body_of_parts (parts.Ack a) = bodies.Ack a
+body_of_parts (parts.Eof e) = bodies.Eof (record { condition = e.flags / 16; checksum = e.checksum; size = e.size; location = e.location })
+body_of_parts (parts.Finished f) = bodies.Finished (record {
+  condition = f.flags / 16;
+  delivery = delivery_of (f.flags / 4 % 2);
+  status = file_status_of (f.flags % 4);
+  location = f.location;
+})
+body_of_parts (parts.Ack a) = bodies.Ack (record { of = a.of; condition = a.flags / 16; status = transaction_status_of (a.flags % 4) })
 body_of_parts (parts.Metadata m) = bodies.Metadata (record {
   closure = m.flags / 64 % 2 == 1;
   checksum_type = m.flags % 16;

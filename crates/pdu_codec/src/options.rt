@@ -1,13 +1,13 @@
 //! Readers of optional fields, each a type, a length and a value (CCSDS 727.0-B-5, 5.4), and of
 //! segment requests.
 
-ghost use Rattle.std.specs.Prelude.{◌≡◌, ◌<◌, is_some, length, IfOk, IfSome};
+ghost use Rattle.std.specs.Prelude.{◌≡◌, ◌<◌, [], ◌∷◌, ◌++◌, is_some, length, IsTrue, IfOk, IfSome, OnOk};
 ghost use Rattle.std.specs.Option.{option_map};
 ghost use Rattle.pdu_format.specs.Items.{items_to_end};
 ghost use Rattle.pdu_format.specs.Spelling.{size_octets};
-ghost use Rattle.pdu_format.specs.Tlvs.{location_in, may_locate};
+ghost use Rattle.pdu_format.specs.Tlvs.{location_in, messages_in, may_locate};
 ghost use Rattle.pdu_format.specs.Reading.{Gives, tlv_at, location_tlv_at, request_at};
-ghost use Rattle.pdu_codec.specs.Parts.{tlv_of_parts, messages_at, requests_at};
+ghost use Rattle.pdu_codec.specs.Parts.{tlv_of_parts, first_of, messages_at, requests_at};
 
 use crate::fields::{lv_at, number_of, octet_at, word_at};
 use cfdp_types::{EntityId, Messages, Octets};
@@ -49,10 +49,24 @@ fn may_locate(tlv: TlvParts<'_>) -> bool
 #[tactic(auto, unfolding(pdu_format::specs::Reading::location_tlv_at))]
 pub fn location_tlv_at(octets: &[u8]) -> Option<(TlvParts<'_>, &[u8])>
     ensures value { Gives (λ x. (tlv_of_parts x.0, x.1.now)) result (location_tlv_at octets.now) }
+    ensures located { IfSome result (λ x. IsTrue (may_locate (tlv_of_parts x.0))) }
     ensures shorter { IfSome result (λ x. length x.1.now < length octets.now) }
 {
     let (tlv, rest) = tlv_at(octets)?;
     if may_locate(tlv) { Some((tlv, rest)) } else { None }
+}
+
+// The fault location, where one optional field more was read.
+#[tactic(auto, unfolding(pdu_format::specs::Tlvs::location_in))]
+fn with_field(location: Option<EntityId>, tlv: TlvParts<'_>) -> Option<EntityId>
+    requires { IsTrue (may_locate (tlv_of_parts tlv.entry)) }
+    ensures { result ≡ first_of location (location_in (tlv_of_parts tlv.entry ∷ [])) }
+{
+    if location.is_none() && tlv.kind == ENTITY_ID {
+        Some(EntityId(number_of(tlv.value)))
+    } else {
+        location
+    }
 }
 
 /// The fault location among the optional fields of EOF or Finished: the first entity ID.
@@ -63,9 +77,7 @@ pub fn location_at(octets: &[u8]) -> Option<Option<EntityId>>
     let mut rest = octets;
     while !rest.is_empty() {
         let (tlv, behind) = location_tlv_at(rest)?;
-        if location.is_none() && tlv.kind == ENTITY_ID {
-            location = Some(EntityId(number_of(tlv.value)));
-        }
+        location = with_field(location, tlv);
         rest = behind;
     }
     Some(location)
@@ -85,6 +97,17 @@ pub fn are_options(octets: &[u8]) -> bool
     true
 }
 
+// Adds the message that an optional field may hold.
+#[tactic(auto, unfolding(pdu_format::specs::Tlvs::messages_in))]
+fn add_message(alloc: Global, messages: &mut Messages, tlv: TlvParts<'_>) -> Result<(), AllocError>
+    ensures { OnOk result (messages.new ≡ messages.old ++ messages_in (tlv_of_parts tlv.entry ∷ [])) }
+{
+    if tlv.kind == MESSAGE {
+        messages.push(Octets::from_slice(alloc, tlv.value)?)?;
+    }
+    Ok(())
+}
+
 /// The messages to the user among optional fields.
 pub fn messages_at(alloc: Global, octets: &[u8]) -> Result<Messages, AllocError>
     ensures { IfOk result (λ messages. messages ≡ messages_at octets.now) }
@@ -92,9 +115,7 @@ pub fn messages_at(alloc: Global, octets: &[u8]) -> Result<Messages, AllocError>
     let mut messages = Messages::new(alloc);
     let mut rest = octets;
     while let Some((tlv, behind)) = tlv_at(rest) {
-        if tlv.kind == MESSAGE {
-            messages.push(Octets::from_slice(alloc, tlv.value)?)?;
-        }
+        add_message(alloc, &mut messages, tlv)?;
         rest = behind;
     }
     Ok(messages)

@@ -3,13 +3,12 @@
 ghost use Rattle.std.specs.Prelude.{◌≡◌, IfOk};
 ghost use Rattle.pdu_codec.specs.declared.parts.Parts.TheVariants as borrowed;
 ghost use Rattle.pdu_format.specs.Spelling.{size_octets};
-ghost use Rattle.pdu_format.specs.Items.{closed};
 ghost use Rattle.pdu_format.specs.Reading.{Gives, eof_at, finished_at, ack_at, metadata_at, nak_at, prompt_at, keep_alive_at, file_data_at, behind_segment_metadata, delivery_of, file_status_of, transaction_status_of, prompt_of, lacks_name};
 ghost use Rattle.pdu_codec.specs.Parts.{body_of_parts};
 
 use crate::fields::{lv_at, octet_at, octets_at, word_at};
 use crate::options::{are_options, are_requests, location_at, messages_at, requests_at};
-use cfdp_types::{ChecksumType, Condition, Delivery, FileStatus, Octets};
+use cfdp_types::{ChecksumType, Condition, Delivery, EntityId, FileStatus, Octets};
 use pdu_format::{
     Ack, Acknowledged, Body, Eof, FileData, Finished, KeepAlive, Metadata, Nak, Prompt,
     TransactionStatus,
@@ -19,14 +18,40 @@ use std::alloc::{AllocError, Global};
 /// A body's fields, their lists borrowed from the datagram.
 #[derive(Clone, Copy)]
 pub enum Parts<'a> {
-    Eof(Eof),
-    Finished(Finished),
-    Ack(Ack),
+    Eof(EofParts),
+    Finished(FinishedParts),
+    Ack(AckParts),
     Metadata(MetadataParts<'a>),
     Nak(NakParts<'a>),
     Prompt(Prompt),
     KeepAlive(KeepAlive),
     FileData(FileDataParts<'a>),
+}
+
+/// The fields of EOF.
+#[derive(Clone, Copy)]
+pub struct EofParts {
+    /// Condition and spare bits.
+    pub flags: u8,
+    pub checksum: u32,
+    pub size: u32,
+    pub location: Option<EntityId>,
+}
+
+/// The fields of Finished.
+#[derive(Clone, Copy)]
+pub struct FinishedParts {
+    /// Condition, spare bit, delivery and file status.
+    pub flags: u8,
+    pub location: Option<EntityId>,
+}
+
+/// The fields of an ACK.
+#[derive(Clone, Copy)]
+pub struct AckParts {
+    pub of: Acknowledged,
+    /// Condition, spare bits and transaction status.
+    pub flags: u8,
 }
 
 /// The fields of Metadata, borrowed from the datagram.
@@ -66,33 +91,12 @@ pub fn eof_at(octets: &[u8]) -> Option<Parts<'_>>
     let (checksum, rest) = word_at(rest)?;
     let (size, rest) = word_at(rest)?;
     let location = location_at(rest)?;
-    Some(Parts::Eof(Eof {
-        condition: Condition::new(flags / 16),
+    Some(Parts::Eof(EofParts {
+        flags,
         checksum,
         size,
         location,
     }))
-}
-
-fn delivery_of(bit: u8) -> Delivery
-    ensures { result ≡ delivery_of bit }
-{
-    if bit == 0 {
-        Delivery::Complete
-    } else {
-        Delivery::Incomplete
-    }
-}
-
-fn file_status_of(bits: u8) -> FileStatus
-    ensures { result ≡ file_status_of bits }
-{
-    match bits {
-        0 => FileStatus::Discarded,
-        1 => FileStatus::Rejected,
-        2 => FileStatus::Retained,
-        _ => FileStatus::Unreported,
-    }
 }
 
 /// Finished.
@@ -102,30 +106,7 @@ pub fn finished_at(octets: &[u8]) -> Option<Parts<'_>>
 {
     let (flags, rest) = octet_at(octets)?;
     let location = location_at(rest)?;
-    Some(Parts::Finished(Finished {
-        condition: Condition::new(flags / 16),
-        delivery: delivery_of(flags / 4 % 2),
-        status: file_status_of(flags % 4),
-        location,
-    }))
-}
-
-fn transaction_status_of(bits: u8) -> TransactionStatus
-    ensures { result ≡ transaction_status_of bits }
-{
-    match bits {
-        0 => TransactionStatus::Undefined,
-        1 => TransactionStatus::Active,
-        2 => TransactionStatus::Terminated,
-        _ => TransactionStatus::Unrecognized,
-    }
-}
-
-// The fields, if nothing is left behind them.
-fn closed<'a>(left: &[u8], parts: Parts<'a>) -> Option<Parts<'a>>
-    ensures { Gives body_of_parts result (closed left.now (body_of_parts parts.entry)) }
-{
-    if left.is_empty() { Some(parts) } else { None }
+    Some(Parts::Finished(FinishedParts { flags, location }))
 }
 
 /// The fields of an ACK behind its first octet, which tells what it acknowledges.
@@ -134,12 +115,10 @@ pub fn ack_at(of: Acknowledged, octets: &[u8]) -> Option<Parts<'_>>
     ensures { Gives body_of_parts result (ack_at of octets.now) }
 {
     let (flags, rest) = octet_at(octets)?;
-    let ack = Ack {
-        of,
-        condition: Condition::new(flags / 16),
-        status: transaction_status_of(flags % 4),
-    };
-    closed(rest, Parts::Ack(ack))
+    if !rest.is_empty() {
+        return None;
+    }
+    Some(Parts::Ack(AckParts { of, flags }))
 }
 
 /// Metadata.
@@ -196,7 +175,10 @@ pub fn prompt_at(octets: &[u8]) -> Option<Parts<'_>>
     ensures { Gives body_of_parts result (prompt_at octets.now) }
 {
     let (flags, rest) = octet_at(octets)?;
-    closed(rest, Parts::Prompt(prompt_of(flags / 128)))
+    if !rest.is_empty() {
+        return None;
+    }
+    Some(Parts::Prompt(prompt_of(flags / 128)))
 }
 
 /// A Keep Alive.
@@ -205,7 +187,10 @@ pub fn keep_alive_at(octets: &[u8]) -> Option<Parts<'_>>
     ensures { Gives body_of_parts result (keep_alive_at size_octets octets.now) }
 {
     let (progress, rest) = word_at(octets)?;
-    closed(rest, Parts::KeepAlive(KeepAlive { progress }))
+    if !rest.is_empty() {
+        return None;
+    }
+    Some(Parts::KeepAlive(KeepAlive { progress }))
 }
 
 // The octets behind the segment metadata, where there is any.
@@ -243,6 +228,38 @@ pub fn lacks_name(parts: &Parts<'_>) -> bool
     }
 }
 
+fn delivery_of(bit: u8) -> Delivery
+    ensures { result ≡ delivery_of bit }
+{
+    if bit == 0 {
+        Delivery::Complete
+    } else {
+        Delivery::Incomplete
+    }
+}
+
+fn file_status_of(bits: u8) -> FileStatus
+    ensures { result ≡ file_status_of bits }
+{
+    match bits {
+        0 => FileStatus::Discarded,
+        1 => FileStatus::Rejected,
+        2 => FileStatus::Retained,
+        _ => FileStatus::Unreported,
+    }
+}
+
+fn transaction_status_of(bits: u8) -> TransactionStatus
+    ensures { result ≡ transaction_status_of bits }
+{
+    match bits {
+        0 => TransactionStatus::Undefined,
+        1 => TransactionStatus::Active,
+        2 => TransactionStatus::Terminated,
+        _ => TransactionStatus::Unrecognized,
+    }
+}
+
 fn metadata_of_parts(alloc: Global, parts: MetadataParts<'_>) -> Result<Body, AllocError>
     ensures { IfOk result (λ body. body ≡ body_of_parts (borrowed.Metadata parts.entry)) }
 {
@@ -261,9 +278,23 @@ pub fn body_of_parts(alloc: Global, parts: Parts<'_>) -> Result<Body, AllocError
     ensures { IfOk result (λ body. body ≡ body_of_parts parts.entry) }
 {
     match parts {
-        Parts::Eof(eof) => Ok(Body::Eof(eof)),
-        Parts::Finished(finished) => Ok(Body::Finished(finished)),
-        Parts::Ack(ack) => Ok(Body::Ack(ack)),
+        Parts::Eof(eof) => Ok(Body::Eof(Eof {
+            condition: Condition::new(eof.flags / 16),
+            checksum: eof.checksum,
+            size: eof.size,
+            location: eof.location,
+        })),
+        Parts::Finished(finished) => Ok(Body::Finished(Finished {
+            condition: Condition::new(finished.flags / 16),
+            delivery: delivery_of(finished.flags / 4 % 2),
+            status: file_status_of(finished.flags % 4),
+            location: finished.location,
+        })),
+        Parts::Ack(ack) => Ok(Body::Ack(Ack {
+            of: ack.of,
+            condition: Condition::new(ack.flags / 16),
+            status: transaction_status_of(ack.flags % 4),
+        })),
         Parts::Metadata(metadata) => metadata_of_parts(alloc, metadata),
         Parts::Nak(nak) => Ok(Body::Nak(Nak {
             start: nak.start,

@@ -1,7 +1,7 @@
 -- How loops read items one behind the other, as far as they can be read.
-use Rattle.std.proofs.Common.{◌≡◌, ℕ, zero, suc, ◌+◌, ◌<◌, ◌≤◌, List, [], ◌∷◌, length, Option, Some, None, refl, sym, ◌∙◌, arith}
+use Rattle.std.proofs.Common.{◌≡◌, ℕ, zero, suc, ◌+◌, ◌<◌, ◌≤◌, Bool, true, false, List, [], ◌∷◌, length, Option, Some, None, is_some, refl, sym, ap, ◌∙◌, ◌==◌, arith}
 use Rattle.pdu_format.specs.Items.{◌>>=◌, items_within, items_to_end}
-use Rattle.pdu_format.proofs.ItemLaws.{Item, Shortens, items_within-nil, items_within-step}
+use Rattle.pdu_format.proofs.ItemLaws.{Item, Shortens, items_within-nil, items_within-step, items_to_end-nil, items_to_end-step}
 use Rattle.pdu_format.proofs.FieldLaws.{bind_some, some_is}
 use Rattle.pdu_codec.specs.Parts.{first_and_others, items_among}
 
@@ -58,12 +58,9 @@ items_among_stop item (octet ∷ octets) e = rw e refl
 
 -- items up to the end are those that can be read
 items_within_are : {A : Type 0} (item : Item A) → Shortens item → (most : ℕ) (octets : List ℕ) (xs : List A) → items_within item most octets ≡ Some xs → items_among item most octets ≡ xs
+unfolding items_within
 items_within_are item shortens most [] xs e = items_among-nil item most shortens ∙ some_is [] xs (sym (items_within-nil item most) ∙ e)
-items_within_are item shortens zero (octet ∷ octets) xs e = absurd (none_is_none e)
-  where
-    none_is_none : {A : Type 0} {item : Item A} {octet : ℕ} {octets : List ℕ} {xs : List A} → items_within item zero (octet ∷ octets) ≡ Some xs → ⊥
-    unfolding items_within
-    none_is_none e = cc
+items_within_are item shortens zero (octet ∷ octets) xs e = absurd cc
 items_within_are item shortens (suc most) (octet ∷ octets) xs e =
     let os = octet ∷ octets in
     let first = bind_some (item os) _ xs (sym (items_within-step item most os (omega arith)) ∙ e) in
@@ -74,3 +71,29 @@ items_within_are item shortens (suc most) (octet ∷ octets) xs e =
 pub items_to_end_are : {A : Type 0} (item : Item A) → Shortens item → (octets : List ℕ) (xs : List A) → items_to_end item octets ≡ Some xs → items_among item (length octets) octets ≡ xs
 unfolding items_to_end
 items_to_end_are item shortens octets xs e = items_within_are item shortens (length octets) octets xs e
+
+-- where all can be read, nothing is left out
+pub all_read : {A : Type 0} (item : Item A) → Shortens item → (octets : List ℕ) → is_some (items_to_end item octets) ≡ true
+    → items_to_end item octets ≡ Some (items_among item (length octets) octets)
+all_read {A} item shortens octets there = by_answer (items_to_end item octets) refl
+  where
+    by_answer : (read : Option (List A)) → items_to_end item octets ≡ read → items_to_end item octets ≡ Some (items_among item (length octets) octets)
+    by_answer None e = let none = ap is_some e in absurd cc
+    by_answer (Some xs) e = e ∙ ap Some (sym (items_to_end_are item shortens octets xs e))
+
+-- whether all can be read shows behind the first item
+pub still_some : {A : Type 0} (item : Item A) → Shortens item → (octets rest : List ℕ) (x : A) (all : Bool) → item octets ≡ Some (x, rest)
+    → is_some (items_to_end item octets) ≡ all → is_some (items_to_end item rest) ≡ all
+still_some {A} item shortens octets rest x all e so = sym (by_answer (items_to_end item rest) refl) ∙ so
+  where
+    by_answer : (read : Option (List A)) → items_to_end item rest ≡ read → is_some (items_to_end item octets) ≡ is_some (items_to_end item rest)
+    by_answer None there = rw (items_to_end-step item shortens octets (x, rest) e, there) refl
+    by_answer (Some xs) there = rw (items_to_end-step item shortens octets (x, rest) e, there) refl
+
+pub is_more : (octets : List ℕ) → false ≡ (length octets == 0) → 1 ≤ length octets
+is_more [] e = absurd cc
+is_more (octet ∷ octets) e = omega arith
+
+pub none_left : {A : Type 0} (item : Item A) (octets : List ℕ) → true ≡ (length octets == 0) → items_to_end item octets ≡ Some []
+none_left item [] e = items_to_end-nil item
+none_left item (octet ∷ octets) e = absurd (omega (arith, e))

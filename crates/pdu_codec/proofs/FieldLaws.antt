@@ -1,0 +1,73 @@
+-- What loops over optional fields and segment requests have found so far.
+use Rattle.std.proofs.Common.{◌≡◌, ℕ, ◌+◌, ◌≤◌, Bool, true, false, cond, List, [], ◌∷◌, ◌++◌, length, Option, Some, None, refl, sym, ap, ◌∙◌, ◌==◌, append_assoc, append-nil, arith}
+use Rattle.std.specs.Option.{option_map}
+use Rattle.cfdp_types.specs.declared.key.EntityId.{EntityId}
+use Rattle.pdu_format.specs.declared.requests.SegmentRequest.{SegmentRequest}
+use Rattle.pdu_format.specs.Tlvs.{Tlv, location_in, messages_in, message_kind, entity_id_kind}
+use Rattle.pdu_format.specs.Numbers.{number_of}
+use Rattle.pdu_format.specs.Items.{◌>>=◌, items_to_end}
+use Rattle.pdu_format.specs.Reading.{tlv_at, location_tlv_at, request_at}
+use Rattle.pdu_format.specs.Spelling.{size_octets}
+use Rattle.pdu_format.proofs.ItemLaws.{Shortens, items_to_end-step}
+use Rattle.pdu_format.proofs.FieldLaws.{tlv_behind, location_tlv_behind, request_behind}
+use Rattle.pdu_codec.specs.Parts.{first_of, items_among, messages_at, requests_at}
+use Rattle.pdu_codec.proofs.ItemLaws.{items_among_go_on, items_among_stop}
+
+pub request_shortens : Shortens (request_at size_octets)
+request_shortens octets x e = request_behind size_octets (omega arith) octets x e
+
+-- ---- the fault location
+
+first_of_field : (found : Option EntityId) (t : Tlv) (ts : List Tlv) → first_of found (location_in (t ∷ ts)) ≡ first_of (first_of found (location_in (t ∷ []))) (location_in ts)
+unfolding location_in
+first_of_field (Some id) t ts = refl
+first_of_field None t ts = by_test (t.kind == entity_id_kind)
+  where
+    by_test : (test : Bool) → cond test (Some (record { 0 = number_of t.value })) (location_in ts)
+        ≡ first_of (cond test (Some (record { 0 = number_of t.value })) None) (location_in ts)
+    by_test true = refl
+    by_test false = refl
+
+pub located_step : (found : Option EntityId) (octets rest : List ℕ) (t : Tlv) (all : Option (Option EntityId)) → location_tlv_at octets ≡ Some (t, rest)
+    → option_map (λ tlvs. first_of found (location_in tlvs)) (items_to_end location_tlv_at octets) ≡ all
+    → option_map (λ tlvs. first_of (first_of found (location_in (t ∷ []))) (location_in tlvs)) (items_to_end location_tlv_at rest) ≡ all
+located_step found octets rest t all e so = sym (by_answer (items_to_end location_tlv_at rest) refl) ∙ so
+  where
+    by_answer : (read : Option (List Tlv)) → items_to_end location_tlv_at rest ≡ read
+        → option_map (λ tlvs. first_of found (location_in tlvs)) (items_to_end location_tlv_at octets)
+        ≡ option_map (λ tlvs. first_of (first_of found (location_in (t ∷ []))) (location_in tlvs)) (items_to_end location_tlv_at rest)
+    by_answer None there = rw (items_to_end-step location_tlv_at location_tlv_behind octets (t, rest) e, there) refl
+    by_answer (Some ts) there = rw (items_to_end-step location_tlv_at location_tlv_behind octets (t, rest) e, there) (ap Some (first_of_field found t ts))
+
+-- ---- messages to the user
+
+messages_of_field : (t : Tlv) (ts : List Tlv) → messages_in (t ∷ ts) ≡ messages_in (t ∷ []) ++ messages_in ts
+unfolding messages_in
+messages_of_field t ts = by_test (t.kind == message_kind)
+  where
+    by_test : (test : Bool) → cond test (t.value ∷ messages_in ts) (messages_in ts) ≡ cond test (t.value ∷ []) [] ++ messages_in ts
+    by_test true = refl
+    by_test false = refl
+
+pub told_step : (told : List (List ℕ)) (octets rest : List ℕ) (t : Tlv) (all : List (List ℕ)) → tlv_at octets ≡ Some (t, rest)
+    → told ++ messages_at octets ≡ all → (told ++ messages_in (t ∷ [])) ++ messages_at rest ≡ all
+told_step told octets rest t all e so =
+    append_assoc told (messages_in (t ∷ [])) (messages_at rest)
+    ∙ ap (λ (more : List (List ℕ)). told ++ more) (sym (messages_of_field t (items_among tlv_at (length rest) rest)) ∙ ap messages_in (sym (items_among_go_on tlv_at tlv_behind octets (t, rest) e)))
+    ∙ so
+
+pub told_all : (told : List (List ℕ)) (octets : List ℕ) (all : List (List ℕ)) → tlv_at octets ≡ None → told ++ messages_at octets ≡ all → told ≡ all
+unfolding messages_in
+told_all told octets all e so = sym (append-nil told) ∙ ap (λ (more : List (List ℕ)). told ++ more) (sym (ap messages_in (items_among_stop tlv_at octets e))) ∙ so
+
+-- ---- segment requests
+
+pub asked_step : (asked : List SegmentRequest) (octets rest : List ℕ) (r : SegmentRequest) (all : List SegmentRequest) → request_at size_octets octets ≡ Some (r, rest)
+    → asked ++ requests_at octets ≡ all → (asked ++ r ∷ []) ++ requests_at rest ≡ all
+asked_step asked octets rest r all e so =
+    append_assoc asked (r ∷ []) (requests_at rest)
+    ∙ ap (λ (more : List SegmentRequest). asked ++ more) (sym (items_among_go_on (request_at size_octets) request_shortens octets (r, rest) e))
+    ∙ so
+
+pub asked_all : (asked : List SegmentRequest) (octets : List ℕ) (all : List SegmentRequest) → request_at size_octets octets ≡ None → asked ++ requests_at octets ≡ all → asked ≡ all
+asked_all asked octets all e so = sym (append-nil asked) ∙ ap (λ (more : List SegmentRequest). asked ++ more) (sym (items_among_stop (request_at size_octets) octets e)) ∙ so

@@ -1,0 +1,16 @@
+use Rattle.std.proofs.Common.{sym, ap, ◌∙◌, is_some}
+use Rattle.pdu_format.specs.Reading.{tlv_at}
+use Rattle.pdu_format.proofs.FieldLaws.{tlv_behind}
+use Rattle.pdu_format.proofs.ItemLaws.{items_to_end-none}
+use Rattle.pdu_codec.proofs.ItemLaws.{still_some, is_more, none_left}
+use Rattle.pdu_codec.proofs.options.are_options.Goals as goal
+
+pub returns-in_default : goal.returns-in_default
+returns-in_default c =
+    sym (ap is_some (items_to_end-none tlv_at c.loop-rest.rest.now (is_more c.loop-rest.rest.now c.loop-rest-test.ensures) c.in_default.ensures.value)) ∙ c.loop-rest.invariant
+
+pub loop-rest-preserved : goal.loop-rest-preserved
+loop-rest-preserved c = still_some tlv_at tlv_behind c.loop-rest.rest.now c.in-Some.behind.now _ _ c.in-Some.ensures.value c.loop-rest.invariant
+
+pub returns : goal.returns
+returns c = sym (ap is_some (none_left tlv_at c.loop-rest.rest.now c.loop-rest-test.ensures)) ∙ c.loop-rest.invariant
