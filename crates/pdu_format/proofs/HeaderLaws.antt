@@ -1,5 +1,5 @@
 -- The fixed header: its numbers as they stand there, and what they mean.
-use Rattle.std.proofs.Common.{◌≡◌, ℕ, zero, suc, ◌+◌, ◌-◌, ◌*◌, ◌/◌, ◌%◌, ◌^◌, ◌<◌, Bool, true, false, cond, eqb, not, List, ◌++◌, length, Option, Some, None, refl, sym, ap, subst, ◌∙◌, append_assoc, arith, inl, inr, ◌==◌}
+use Rattle.std.proofs.Common.{◌≡◌, ℕ, ◌+◌, ◌-◌, ◌*◌, ◌/◌, ◌%◌, ◌^◌, ◌<◌, Bool, true, false, cond, eqb, not, List, ◌++◌, length, Option, Some, None, refl, sym, ap, subst, ◌∙◌, append_assoc, arith, inl, inr, ◌==◌}
 use Rattle.std.proofs.lemmas.Bool.{eqb-true, eqb-false, eq-eqb, ne_eqb, cases_eq}
 use Rattle.cfdp_types.specs.declared.names.Class.{Class}
 use Rattle.cfdp_types.specs.declared.names.Class.TheVariants.{One, Two}
@@ -15,18 +15,8 @@ use Rattle.pdu_format.specs.Spelling.{Choice, size_octets, bit, data_field, firs
 use Rattle.pdu_format.specs.Opening.{entity_octets, sequence_octets, has_segment_metadata, version, has_crc, is_large, direction_of, class_of, header_of}
 use Rattle.pdu_format.specs.Reading.{opening_at, opening_fault}
 use Rattle.pdu_format.proofs.Numbers.{IsOctets}
+use Rattle.pdu_format.proofs.BitLaws.{bit-eqb, bit-below}
 use Rattle.pdu_format.proofs.FieldLaws.{some_is, Takes, Takes-then, number_then, number_again}
-
--- ---- bits
-
-pub bit-eqb : (n : ℕ) → n < 2 → bit (eqb n 1) ≡ n
-bit-eqb zero lt = refl
-bit-eqb (suc zero) lt = refl
-bit-eqb (suc (suc n)) lt = absurd (omega arith)
-
-pub bit-below : (b : Bool) → bit b < 2
-bit-below true = omega arith
-bit-below false = omega arith
 
 -- ---- the numbers as they stand there
 

@@ -1,8 +1,8 @@
 -- Optional fields: what is kept of those that were read fits, and those that are written are kept so.
-use Rattle.std.proofs.Common.{◌≡◌, ℕ, zero, suc, ◌+◌, ◌-◌, ◌*◌, ◌^◌, ◌<◌, ◌≤◌, Bool, true, false, cond, eqb, ltb, ◌&&◌, List, [], ◌∷◌, ◌++◌, length, map, Option, Some, None, refl, sym, ap, subst, ◌∙◌, arith, inl, inr}
+use Rattle.std.proofs.Common.{◌≡◌, ℕ, zero, suc, ◌+◌, ◌-◌, ◌^◌, ◌<◌, ◌≤◌, Bool, true, false, cond, eqb, ltb, ◌&&◌, List, [], ◌∷◌, length, map, Option, Some, None, refl, sym, ap, subst, arith}
 use Rattle.std.specs.List.{flat_map, AllByRecursion}
 use Rattle.std.proofs.Math.Nat.{pow-le-pow_right}
-use Rattle.std.proofs.lemmas.Bool.{eqb-true, eq-eqb, ltb-true, ltb-false, lt-ltb, and_parts}
+use Rattle.std.proofs.lemmas.Bool.{ltb-true, lt-ltb, and_parts}
 use Rattle.std.proofs.lemmas.List.{length-append}
 use Rattle.cfdp_types.specs.declared.key.EntityId.{EntityId}
 use Rattle.pdu_format.specs.Numbers.{number_of, digits}
@@ -80,15 +80,14 @@ width_from-is zero width n = record { at_least = omega arith; at_most = omega ar
 width_from-is (suc more) width n =
     let next = width_from-is more (width + 1) n in
     let shifted : IsWidth (width + 1) (width + suc more) n (width_from more (width + 1) n) =
-        subst (λ (k : ℕ). IsWidth (width + 1) k n (width_from more (width + 1) n)) (omega arith) next in
+    subst (λ (k : ℕ). IsWidth (width + 1) k n (width_from more (width + 1) n)) (omega arith) next in
     width_step (ltb n (256 ^ width)) width (width + suc more) n (width_from more (width + 1) n) refl (omega arith) (λ is. shifted)
 
 -- the octets of an entity ID in a TLV are 1 to 8, and hold it
 pub location_octets-is : (entity_octets n : ℕ) → IsIdLength entity_octets → n < 256 ^ 8 → IsIdLength (location_octets entity_octets n) × (n < 256 ^ location_octets entity_octets n)
 location_octets-is entity_octets n is lt =
     let w = width_from-is (8 - entity_octets) entity_octets n in
-    let most : entity_octets + (8 - entity_octets) ≡ 8 = omega (arith, is.most) in
-    (
+    let most : entity_octets + (8 - entity_octets) ≡ 8 = omega (arith, is.most) in (
       record { least = omega (arith, is.least, w.at_least); most = omega (arith, w.at_most, most) },
       w.holds (subst (λ (k : ℕ). n < 256 ^ k) (sym most) lt),
     )
@@ -101,7 +100,7 @@ plain_locates entity_octets (Some id) is fits =
     let w = location_octets-is entity_octets id.0 is fits in
     let long : length (digits width id.0) ≡ width = length-digits width id.0 in
     let tests : (ltb 0 (length (digits width id.0)) && ltb (length (digits width id.0)) 9) ≡ true =
-        rw (lt-ltb 0 (length (digits width id.0)) (omega (arith, long, w.0.least)), lt-ltb (length (digits width id.0)) 9 (omega (arith, long, w.0.most))) refl in
+    rw (lt-ltb 0 (length (digits width id.0)) (omega (arith, long, w.0.least)), lt-ltb (length (digits width id.0)) 9 (omega (arith, long, w.0.most))) refl in
     record {
       each = (
         record { is_tlv = record { kind = omega arith; value = omega (arith, long, w.0.most) }; may_locate = tests },
