@@ -27,7 +27,7 @@ guard_some true x y e = absurd cc
 guard_some false x y e = (refl, cc)
 
 -- the same, where the test is for what passes
-passed_some : {A : Type 0} (b : Bool) (x y : A) → cond b (Some x) None ≡ Some y → (b ≡ true) × (x ≡ y)
+pub passed_some : {A : Type 0} (b : Bool) (x y : A) → cond b (Some x) None ≡ Some y → (b ≡ true) × (x ≡ y)
 passed_some true x y e = (refl, cc)
 passed_some false x y e = absurd cc
 

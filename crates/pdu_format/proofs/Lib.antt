@@ -1,4 +1,11 @@
 pub mod Numbers
+pub mod BitLaws
 pub mod FieldLaws
 pub mod ItemLaws
+pub mod TlvLaws
+pub mod HeaderLaws
+pub mod BodyLaws
+pub mod BodyAgainLaws
+pub mod ReadingLaws
+pub mod MemoryLaws
 pub mod Rows

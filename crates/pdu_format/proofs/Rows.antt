@@ -1,8 +1,8 @@
 -- Worked rows: the definitions, computed on whole datagrams.
-use Rattle.std.proofs.Common.{◌≡◌, ℕ, true, false, List, [], ◌∷◌, Option, Some, None, Ok, Err, refl}
+use Rattle.std.proofs.Common.{◌≡◌, ℕ, true, false, List, [], ◌∷◌, Some, None, Ok, Err, refl}
 use Rattle.cfdp_types.specs.declared.names.Class.TheVariants.{One, Two}
-use Rattle.cfdp_types.specs.declared.names.Delivery.TheVariants.{Complete, Incomplete}
-use Rattle.cfdp_types.specs.declared.names.FileStatus.TheVariants.{Discarded, Retained}
+use Rattle.cfdp_types.specs.declared.names.Delivery.TheVariants.{Incomplete}
+use Rattle.cfdp_types.specs.declared.names.FileStatus.TheVariants.{Retained}
 use Rattle.pdu_format.specs.declared.bodies.Acknowledged.TheVariants as acknowledged
 use Rattle.pdu_format.specs.declared.bodies.Prompt.TheVariants as prompts
 use Rattle.pdu_format.specs.declared.bodies.TransactionStatus.TheVariants.{Terminated}

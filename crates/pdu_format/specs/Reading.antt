@@ -1,6 +1,6 @@
 -- Reading octets from left to right. A reader of fields answers the value and the octets behind it,
 -- or none; which fault it is comes where a whole list of fields was read.
-use Rattle.std.specs.Prelude.{◌≡◌, ℕ, ◌/◌, ◌%◌, Bool, true, false, ◌||◌, not, List, [], length, take, drop, Option, Some, None, Result, Ok, Err, IsOk, ◌⊎◌, nat_lt, ◌==◌, if◌then◌else◌}
+use Rattle.std.specs.Prelude.{◌≡◌, ℕ, ◌/◌, ◌%◌, Bool, true, false, ◌||◌, not, List, length, take, drop, Option, Some, None, Result, Ok, Err, IsOk, ◌⊎◌, nat_lt, ◌==◌, if◌then◌else◌}
 use Rattle.cfdp_types.specs.declared.names.Delivery.{Delivery}
 use Rattle.cfdp_types.specs.declared.names.Delivery.TheVariants.{Complete, Incomplete}
 use Rattle.cfdp_types.specs.declared.names.FileStatus.{FileStatus}
