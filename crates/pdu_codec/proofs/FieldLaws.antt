@@ -8,10 +8,10 @@ use Rattle.pdu_format.specs.Numbers.{number_of}
 use Rattle.pdu_format.specs.Items.{◌>>=◌, items_to_end}
 use Rattle.pdu_format.specs.Reading.{tlv_at, location_tlv_at, request_at}
 use Rattle.pdu_format.specs.Spelling.{size_octets}
-use Rattle.pdu_format.proofs.ItemLaws.{Shortens, items_to_end-step}
+use Rattle.pdu_format.proofs.ItemLaws.{Shortens, items_to_end-step, items_to_end-none}
 use Rattle.pdu_format.proofs.FieldLaws.{tlv_behind, location_tlv_behind, request_behind}
 use Rattle.pdu_codec.specs.Parts.{first_of, items_among, messages_at, requests_at}
-use Rattle.pdu_codec.proofs.ItemLaws.{items_among_go_on, items_among_stop}
+use Rattle.pdu_codec.proofs.ItemLaws.{items_among_go_on, items_among_stop, none_left}
 
 pub request_shortens : Shortens (request_at size_octets)
 request_shortens octets x e = request_behind size_octets (omega arith) octets x e
@@ -38,6 +38,19 @@ located_step found octets rest t all e so = sym (by_answer (items_to_end locatio
         ≡ option_map (λ tlvs. first_of (first_of found (location_in (t ∷ []))) (location_in tlvs)) (items_to_end location_tlv_at rest)
     by_answer None there = rw (items_to_end-step location_tlv_at location_tlv_behind octets (t, rest) e, there) refl
     by_answer (Some ts) there = rw (items_to_end-step location_tlv_at location_tlv_behind octets (t, rest) e, there) (ap Some (first_of_field found t ts))
+
+pub located_none : (found : Option EntityId) (octets : List ℕ) (all : Option (Option EntityId)) → 1 ≤ length octets → location_tlv_at octets ≡ None
+    → option_map (λ tlvs. first_of found (location_in tlvs)) (items_to_end location_tlv_at octets) ≡ all → None ≡ all
+located_none found octets all long e so = sym (ap (option_map (λ tlvs. first_of found (location_in tlvs))) (items_to_end-none location_tlv_at octets long e)) ∙ so
+
+pub located_all : (found : Option EntityId) (octets : List ℕ) (all : Option (Option EntityId)) → true ≡ (length octets == 0)
+    → option_map (λ tlvs. first_of found (location_in tlvs)) (items_to_end location_tlv_at octets) ≡ all → Some found ≡ all
+unfolding location_in
+located_all found octets all e so = sym (rw (none_left location_tlv_at octets e) (by_found found)) ∙ so
+  where
+    by_found : (found : Option EntityId) → Some (first_of found None) ≡ Some found
+    by_found None = refl
+    by_found (Some id) = refl
 
 -- ---- messages to the user
 

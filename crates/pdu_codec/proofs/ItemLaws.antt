@@ -1,5 +1,6 @@
 -- How loops read items one behind the other, as far as they can be read.
 use Rattle.std.proofs.Common.{◌≡◌, ℕ, zero, suc, ◌+◌, ◌<◌, ◌≤◌, Bool, true, false, List, [], ◌∷◌, length, Option, Some, None, is_some, refl, sym, ap, ◌∙◌, ◌==◌, arith}
+use Rattle.std.proofs.lemmas.Bool.{eqb-true}
 use Rattle.pdu_format.specs.Items.{◌>>=◌, items_within, items_to_end}
 use Rattle.pdu_format.proofs.ItemLaws.{Item, Shortens, items_within-nil, items_within-step, items_to_end-nil, items_to_end-step}
 use Rattle.pdu_format.proofs.FieldLaws.{bind_some, some_is}
@@ -96,4 +97,4 @@ is_more (octet ∷ octets) e = omega arith
 
 pub none_left : {A : Type 0} (item : Item A) (octets : List ℕ) → true ≡ (length octets == 0) → items_to_end item octets ≡ Some []
 none_left item [] e = items_to_end-nil item
-none_left item (octet ∷ octets) e = absurd (omega (arith, e))
+none_left item (octet ∷ octets) e = absurd (omega (arith, eqb-true _ _ (sym e)))

@@ -59,7 +59,7 @@ pub fn location_tlv_at(octets: &[u8]) -> Option<(TlvParts<'_>, &[u8])>
 // The fault location, where one optional field more was read.
 #[tactic(auto, unfolding(pdu_format::specs::Tlvs::location_in))]
 fn with_field(location: Option<EntityId>, tlv: TlvParts<'_>) -> Option<EntityId>
-    requires { IsTrue (may_locate (tlv_of_parts tlv.entry)) }
+    requires { IsTrue (may_locate (tlv_of_parts tlv)) }
     ensures { result ≡ first_of location (location_in (tlv_of_parts tlv.entry ∷ [])) }
 {
     if location.is_none() && tlv.kind == ENTITY_ID {
