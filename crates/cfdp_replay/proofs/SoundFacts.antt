@@ -5,13 +5,13 @@ use Rattle.std.specs.List.{flat_map}
 use Rattle.std.proofs.lemmas.Bool.{cases_Bool}
 use Rattle.std.proofs.lemmas.List.Concat.{flat_map-append}
 use Rattle.cfdp_types.specs.declared.key.TxnKey.{TxnKey}
-use Rattle.pdu_codec.specs.Pdu.{PduValue}
-use Rattle.pdu_codec.specs.Reading.{reading}
+use Rattle.pdu_format.specs.Pdu.{PduValue}
+use Rattle.pdu_format.specs.Reading.{reading}
 use Rattle.pdu_codec.specs.declared.event.What.{What}
 use Rattle.pdu_codec.specs.declared.event.What.TheVariants as what
 use Rattle.pdu_codec.specs.declared.event.Refusal.{Refusal}
 use Rattle.pdu_codec.specs.declared.event.Refusal.TheVariants as refusal
-use Rattle.pdu_codec.specs.declared.fault.DecodeFault.{DecodeFault}
+use Rattle.pdu_format.specs.declared.fault.DecodeFault.{DecodeFault}
 use Rattle.ind_words.specs.declared.bundle.Bundle.{Bundle}
 use Rattle.cfdp_types.specs.declared.names.Delivery.TheVariants.{Complete}
 use Rattle.ind_words.specs.declared.indication.Indication.{Indication}
@@ -104,7 +104,7 @@ keeps_routed session pdu None was = keeps_step session (key_of pdu.header) (what
 
 keeps_delivered : (session : Session) (read : Result PduValue DecodeFault) → Keeps session → Keeps (left (delivered session read))
 keeps_delivered session (Err fault) was = was
-keeps_delivered session (Ok pdu) was = keeps_routed session pdu (route_refusal pdu.header) was
+keeps_delivered session (Ok pdu) was = keeps_routed session pdu (route_refusal pdu) was
 
 keeps_taken : (session : Session) (bundle : Option Bundle) → Keeps session → Keeps (left (taken_by session bundle))
 keeps_taken session None was = was

@@ -1,16 +1,18 @@
 -- What a script has done so far, and what its next line is answered.
 use Rattle.std.specs.Prelude.{◌≡◌, ℕ, ◌+◌, Bool, true, false, ◌&&◌, ◌||◌, ◌==◌, not, if◌then◌else◌, List, [], ◌∷◌, ◌++◌, drop, slice_get, Option, Some, None, Result, Ok, Err, IsOk, ◌⊎◌}
 use Rattle.cfdp_types.specs.declared.key.TxnKey.{TxnKey}
-use Rattle.pdu_codec.specs.Pdu.{PduValue}
-use Rattle.pdu_codec.specs.Reading.{reading}
+use Rattle.pdu_format.specs.Pdu.{PduValue, is_toward_sender}
+use Rattle.pdu_format.specs.declared.pdu.Body.{Body}
+use Rattle.pdu_format.specs.declared.pdu.Body.TheVariants as body
+use Rattle.pdu_format.specs.Reading.{reading}
 use Rattle.pdu_codec.specs.declared.event.What.{What}
 use Rattle.pdu_codec.specs.declared.event.What.TheVariants as what
 use Rattle.pdu_codec.specs.declared.event.Refusal.{Refusal}
 use Rattle.pdu_codec.specs.declared.event.Refusal.TheVariants as refusal
-use Rattle.pdu_codec.specs.declared.fault.DecodeFault.{DecodeFault}
-use Rattle.pdu_codec.specs.declared.pdu.Direction.{Direction}
-use Rattle.pdu_codec.specs.declared.pdu.Direction.TheVariants.{TowardReceiver, TowardSender}
-use Rattle.pdu_codec.specs.declared.pdu.Header.{Header}
+use Rattle.pdu_format.specs.declared.fault.DecodeFault.{DecodeFault}
+use Rattle.pdu_format.specs.declared.pdu.Direction.{Direction}
+use Rattle.pdu_format.specs.declared.pdu.Direction.TheVariants.{TowardReceiver, TowardSender}
+use Rattle.pdu_format.specs.declared.pdu.Header.{Header}
 use Rattle.ind_words.specs.declared.bundle.Bundle.{Bundle}
 use Rattle.receiver_core.specs.declared.answer.Answer.{Answer}
 use Rattle.receiver_core.specs.Log.{Entry, State, state_of}
@@ -54,14 +56,21 @@ held session = drop session.taken (given session)
 
 -- ---- where an event goes
 
--- a PDU that the entity does not take for its transaction, by its header
-abbrev pub header_refusal : Direction → ℕ → ℕ → Option StepRefusal
-header_refusal TowardReceiver source destination =
-    if not (destination == LOCAL) then Some NotForUs else if not (source == REMOTE) then Some NoRoute else None
-header_refusal TowardSender source destination = if not (source == LOCAL) then Some NotForUs else Some WrongDirection
+-- a PDU that the entity does not take: by the direction that its header says, the direction that its kind
+-- has, its source and its destination
+abbrev pub direction_refusal : Direction → Bool → ℕ → ℕ → Option StepRefusal
+direction_refusal TowardReceiver to_sender source destination =
+    if not (destination == LOCAL) then Some NotForUs
+    else if to_sender then Some WrongDirection
+    else if not (source == REMOTE) then Some NoRoute
+    else None
+direction_refusal TowardSender to_sender source destination =
+    if not (source == LOCAL) then Some NotForUs
+    else if not to_sender then Some WrongDirection
+    else None
 
-abbrev pub route_refusal : Header → Option StepRefusal
-route_refusal header = header_refusal header.direction header.source.0 header.destination.0
+abbrev pub route_refusal : PduValue → Option StepRefusal
+route_refusal pdu = direction_refusal pdu.header.direction (is_toward_sender pdu.body) pdu.header.source.0 pdu.header.destination.0
 
 -- a transaction of this entity, or of one whose files come here
 abbrev pub is_known : TxnKey → Bool
@@ -75,9 +84,16 @@ is_same_key a b = a.source.0 == b.source.0 && a.seq == b.seq
 
 -- ---- what an event is answered
 
+-- Metadata, File Data and EOF open a reception
+abbrev pub body_opens : Body → Bool
+body_opens (body.Metadata m) = true
+body_opens (body.FileData d) = true
+body_opens (body.Eof e) = true
+body_opens _ = false
+
 abbrev pub opens : What → Bool
-opens (what.Pdu pdu) = true
-opens (what.Stored stamp kept) = false
+opens (what.Pdu pdu) = body_opens pdu.body
+opens _ = false
 
 abbrev pub running_answer : Bool → State → What → Result Answer Refusal
 running_answer true state event = Err refusal.OldTransaction
@@ -106,7 +122,7 @@ routed session pdu None = step_of session (key_of pdu.header) (what.Pdu pdu)
 
 abbrev pub delivered : Session → Result PduValue DecodeFault → Session × Reply
 delivered session (Err fault) = (session, reply.Refused (Decode fault))
-delivered session (Ok pdu) = routed session pdu (route_refusal pdu.header)
+delivered session (Ok pdu) = routed session pdu (route_refusal pdu)
 
 abbrev pub taken_by : Session → Option Bundle → Session × Reply
 taken_by session None = (session, reply.Taken None)

@@ -8,7 +8,7 @@ use Rattle.cfdp_types.specs.declared.names.Delivery.TheVariants.{Complete, Incom
 use Rattle.cfdp_types.specs.declared.names.FileStatus.{FileStatus}
 use Rattle.cfdp_types.specs.declared.names.FileStatus.TheVariants.{Discarded, Rejected, Retained, Unreported}
 use Rattle.pdu_codec.specs.Refusal.{refusal_number, refusal_name}
-use Rattle.pdu_codec.specs.Fault.{fault_number}
+use Rattle.pdu_format.specs.Fault.{fault_number}
 use Rattle.ind_words.specs.declared.indication.Phase.{Phase}
 use Rattle.ind_words.specs.declared.indication.Phase.TheVariants.{Active, Suspended as SuspendedPhase, Storing as StoringPhase, Closing}
 use Rattle.ind_words.specs.declared.indication.Indication.{Indication}

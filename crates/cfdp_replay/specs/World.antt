@@ -1,7 +1,7 @@
 -- How the code keeps a session.
 use Rattle.std.specs.Prelude.{◌≡◌, ℕ, ◌≤◌, ◌++◌, ◌⊎◌, true, false, List, [], ◌∷◌, length, Option, Some, None, Result, Ok, Err, IsOk}
 use Rattle.cfdp_types.specs.declared.key.TxnKey.{TxnKey}
-use Rattle.pdu_codec.specs.Pdu.{PduValue}
+use Rattle.pdu_format.specs.Pdu.{PduValue}
 use Rattle.pdu_codec.specs.declared.event.What.{What}
 use Rattle.pdu_codec.specs.declared.event.What.TheVariants as what
 use Rattle.pdu_codec.specs.declared.event.Refusal.{Refusal}
@@ -17,7 +17,7 @@ use Rattle.cfdp_replay.specs.declared.world.Reception.{Reception}
 use Rattle.cfdp_replay.specs.declared.world.World.{World}
 use Rattle.cfdp_replay.specs.Queue.{bundles_of, is_refused_by}
 use Rattle.cfdp_replay.specs.Session.{Session, given, held, answer_for, step_of, no_memory, Answers, routed, route_refusal, key_of, delivered}
-use Rattle.pdu_codec.specs.Reading.{reading}
+use Rattle.pdu_format.specs.Reading.{reading}
 
 -- the transaction that runs is the session's
 abbrev pub StandsFor : Option Reception → Option TxnKey → List Entry → Type 0
@@ -70,7 +70,7 @@ Steps session key event world said = (after : Session) × Stands world after × 
 -- the same for a PDU
 abbrev pub IsDelivered : Session → PduValue → Session → Reply → Type 0
 IsDelivered session pdu after said =
-    ((after, said) ≡ routed session pdu (route_refusal pdu.header))
+    ((after, said) ≡ routed session pdu (route_refusal pdu))
     ⊎ (IsOk (answer_for session.key session.log (key_of pdu.header) (what.Pdu pdu)) × (after ≡ session) × (said ≡ no_memory))
 
 abbrev pub Delivers : Session → PduValue → World → Reply → Type 0

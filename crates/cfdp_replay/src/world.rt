@@ -1,12 +1,12 @@
 //! One entity with one transaction, as a script sees it.
 
-ghost use Rattle.std.specs.Prelude.{◌≡◌, List, [], false, Option, Some, IfOk, IfErr, OnErr};
+ghost use Rattle.std.specs.Prelude.{◌≡◌, List, [], false, Option, true, Some, IfOk, IfErr, IfSome, IfNone, OnErr};
 ghost use Rattle.pdu_codec.specs.declared.event.What.TheVariants as what;
 ghost use Rattle.receiver_core.specs.Log.{Entry, state_of};
 ghost use Rattle.receiver_core.specs.Table.{answer_at};
 ghost use Rattle.receiver_core.specs.Core.{shown, StandsAfter};
 ghost use Rattle.cfdp_types.specs.declared.key.TxnKey.{TxnKey};
-ghost use Rattle.cfdp_replay.specs.Session.{Session, fresh, answer_for, is_same_key, key_of, route_refusal};
+ghost use Rattle.cfdp_replay.specs.Session.{Session, fresh, answer_for, is_same_key, key_of, opens, route_refusal};
 ghost use Rattle.cfdp_replay.specs.declared.command.Command.TheVariants.{Take, Stored};
 ghost use Rattle.cfdp_replay.specs.World.{Stands, StandsFor, Accepts, Goes, RefusedFor, Steps, Delivers, Receives, Replies};
 
@@ -14,7 +14,7 @@ use crate::command::Command;
 use crate::queue::{Queue, RECEIVER};
 use crate::reply::{Reply, StepRefusal};
 use cfdp_types::TxnKey;
-use pdu_codec::{DecodeFault, Direction, Header, Pdu, Refusal, What, decode};
+use pdu_codec::{Body, DecodeFault, Direction, Header, Pdu, Refusal, What, decode};
 use receiver_core::ReceiverCore;
 use std::alloc::Global;
 
@@ -93,7 +93,7 @@ impl World {
     fn deliver(&mut self, pdu: Pdu) -> Reply
         ensures { (session : Session) → Stands self.old session → Delivers session pdu self.new result }
     {
-        match route_refusal(pdu.header()) {
+        match route_refusal(&pdu) {
             Some(refusal) => Reply::Refused(refusal),
             None => self.step(key_of(pdu.header()), What::Pdu(pdu)),
         }
@@ -132,14 +132,12 @@ impl World {
     {
         match &mut self.reception {
             Some(running) => step_running(running, &mut self.queue, key, &event),
-            None => match event {
-                What::Pdu(pdu) => {
-                    let (core, deposit) = open(self.alloc, &mut self.queue, key, &pdu)?;
-                    self.reception = Some(Reception { key, core });
-                    Ok(deposit)
-                }
-                What::Stored(..) => Err(Refusal::NoTransaction),
-            },
+            None => {
+                let pdu = opening_pdu(&event).ok_or(Refusal::NoTransaction)?;
+                let (core, deposit) = open(self.alloc, &mut self.queue, key, pdu)?;
+                self.reception = Some(Reception { key, core });
+                Ok(deposit)
+            }
         }
     }
 }
@@ -153,17 +151,32 @@ fn key_of(header: &Header) -> TxnKey
     }
 }
 
-// Why the entity does not take a PDU for its transaction, by its header. Every kind of PDU that is
-// decoded so far goes toward the receiver.
-fn route_refusal(header: &Header) -> Option<StepRefusal>
-    ensures { result ≡ route_refusal header.now }
+// The PDU that opens a reception, where the event is one.
+fn opening_pdu(event: &What) -> Option<&Pdu>
+    ensures opens { IfSome result (λ pdu. (event.now ≡ what.Pdu pdu.now) × (opens event.now ≡ true)) }
+    ensures other { IfNone result (opens event.now ≡ false) }
 {
+    let What::Pdu(pdu) = event else {
+        return None;
+    };
+    match pdu.body() {
+        Body::Metadata(_) | Body::FileData(_) | Body::Eof(_) => Some(pdu),
+        _ => None,
+    }
+}
+
+// Why the entity does not take a PDU, if it does not.
+fn route_refusal(pdu: &Pdu) -> Option<StepRefusal>
+    ensures { result ≡ route_refusal pdu.now }
+{
+    let header = pdu.header();
     match header.direction {
         Direction::TowardReceiver if header.destination.0 != LOCAL => Some(StepRefusal::NotForUs),
+        Direction::TowardReceiver if pdu.is_toward_sender() => Some(StepRefusal::WrongDirection),
         Direction::TowardReceiver if header.source.0 != REMOTE => Some(StepRefusal::NoRoute),
-        Direction::TowardReceiver => None,
         Direction::TowardSender if header.source.0 != LOCAL => Some(StepRefusal::NotForUs),
-        Direction::TowardSender => Some(StepRefusal::WrongDirection),
+        Direction::TowardSender if !pdu.is_toward_sender() => Some(StepRefusal::WrongDirection),
+        Direction::TowardReceiver | Direction::TowardSender => None,
     }
 }
 

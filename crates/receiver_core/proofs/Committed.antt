@@ -3,12 +3,12 @@ use Rattle.std.proofs.Common.{◌≡◌, ℕ, ◌+◌, ◌<◌, ◌≤◌, Bool,
 use Rattle.std.specs.Prelude.{slice_get, is_some}
 use Rattle.std.specs.List.{list_any}
 use Rattle.std.proofs.lemmas.Bool.{leb-false}
-use Rattle.pdu_codec.specs.Pdu.{PduValue}
+use Rattle.pdu_format.specs.Pdu.{PduValue}
 use Rattle.pdu_codec.specs.declared.event.What.{What}
 use Rattle.pdu_codec.specs.declared.event.What.TheVariants as what
 use Rattle.pdu_codec.specs.declared.event.Refusal.{Refusal}
-use Rattle.pdu_codec.specs.declared.pdu.Metadata.{Metadata}
-use Rattle.pdu_codec.specs.declared.pdu.Eof.{Eof}
+use Rattle.pdu_format.specs.declared.bodies.Metadata.{Metadata}
+use Rattle.pdu_format.specs.declared.bodies.Eof.{Eof}
 use Rattle.ind_words.specs.Words.{is_end}
 use Rattle.receiver_core.specs.declared.answer.Answer.{Answer}
 use Rattle.receiver_core.specs.declared.plan.Change.TheVariants as change
@@ -103,6 +103,13 @@ pub stepped : (old : ReceiverCore) (new : Kept) (plan : Plan) (event : What) →
     shows new ≡ step (shown old) (record { event = event; answer = plan.answer })
 stepped old new plan (what.Pdu pdu) planned runs done = stepped_pdu old new plan pdu planned runs done
 stepped old new plan (what.Stored stamp kept) planned runs done = stepped_stored old new plan stamp kept planned runs done
+stepped old new plan what.Cancel planned runs done = let accepted = (was_accepted (shown old) what.Cancel plan.answer planned.accepted).0 in absurd cc
+stepped old new plan what.Suspend planned runs done = let accepted = (was_accepted (shown old) what.Suspend plan.answer planned.accepted).0 in absurd cc
+stepped old new plan what.Resume planned runs done = let accepted = (was_accepted (shown old) what.Resume plan.answer planned.accepted).0 in absurd cc
+stepped old new plan what.Report planned runs done = let accepted = (was_accepted (shown old) what.Report plan.answer planned.accepted).0 in absurd cc
+stepped old new plan what.Abandon planned runs done = let accepted = (was_accepted (shown old) what.Abandon plan.answer planned.accepted).0 in absurd cc
+stepped old new plan what.Pump planned runs done = let accepted = (was_accepted (shown old) what.Pump plan.answer planned.accepted).0 in absurd cc
+stepped old new plan (what.Timer kind expired) planned runs done = let accepted = (was_accepted (shown old) (what.Timer kind expired) plan.answer planned.accepted).0 in absurd cc
 
 pub stands_on : (old : ReceiverCore) (new : Kept) (plan : Plan) (event : What) (log : List Entry) → IsPlanOf old plan event → old.ended ≡ false → IsCommitted old new plan →
     StandsAfter old log → shows new ≡ state_of (record { event = event; answer = plan.answer } ∷ log)
@@ -119,3 +126,10 @@ has_room old plan (what.Pdu pdu) planned runs =
 has_room old plan (what.Stored stamp kept) planned runs =
     let answers = (was_accepted (shown old) (what.Stored stamp kept) plan.answer planned.accepted).1 in
     absurd (let ends : list_any is_end plan.answer.inds ≡ true = ap (λ (a : Answer). list_any is_end a.inds) answers ∙ stored_ends kept in cc)
+has_room old plan what.Cancel planned runs = let accepted = (was_accepted (shown old) what.Cancel plan.answer planned.accepted).0 in absurd cc
+has_room old plan what.Suspend planned runs = let accepted = (was_accepted (shown old) what.Suspend plan.answer planned.accepted).0 in absurd cc
+has_room old plan what.Resume planned runs = let accepted = (was_accepted (shown old) what.Resume plan.answer planned.accepted).0 in absurd cc
+has_room old plan what.Report planned runs = let accepted = (was_accepted (shown old) what.Report plan.answer planned.accepted).0 in absurd cc
+has_room old plan what.Abandon planned runs = let accepted = (was_accepted (shown old) what.Abandon plan.answer planned.accepted).0 in absurd cc
+has_room old plan what.Pump planned runs = let accepted = (was_accepted (shown old) what.Pump plan.answer planned.accepted).0 in absurd cc
+has_room old plan (what.Timer kind expired) planned runs = let accepted = (was_accepted (shown old) (what.Timer kind expired) plan.answer planned.accepted).0 in absurd cc

@@ -6,15 +6,15 @@ use Rattle.std.proofs.lemmas.Bool.{cases_lt, eqb-true, ltb-false, ltb-true, le-l
 use Rattle.std.proofs.lemmas.List.Folds.{list_any-append, list_any-from_Any}
 use Rattle.cfdp_types.specs.declared.names.Delivery.TheVariants.{Complete, Incomplete}
 use Rattle.cfdp_types.specs.declared.names.FileStatus.TheVariants.{Discarded}
-use Rattle.pdu_codec.specs.Pdu.{PduValue}
+use Rattle.pdu_format.specs.Pdu.{PduValue}
 use Rattle.pdu_codec.specs.declared.event.What.{What}
 use Rattle.pdu_codec.specs.declared.event.What.TheVariants as what
 use Rattle.pdu_codec.specs.declared.event.Refusal.TheVariants as refusal
-use Rattle.pdu_codec.specs.declared.pdu.Header.{Header}
-use Rattle.pdu_codec.specs.declared.pdu.Body.{Body}
-use Rattle.pdu_codec.specs.declared.pdu.Body.TheVariants as body
-use Rattle.pdu_codec.specs.declared.pdu.Metadata.{Metadata}
-use Rattle.pdu_codec.specs.declared.pdu.Eof.{Eof}
+use Rattle.pdu_format.specs.declared.pdu.Header.{Header}
+use Rattle.pdu_format.specs.declared.pdu.Body.{Body}
+use Rattle.pdu_format.specs.declared.pdu.Body.TheVariants as body
+use Rattle.pdu_format.specs.declared.bodies.Metadata.{Metadata}
+use Rattle.pdu_format.specs.declared.bodies.Eof.{Eof}
 use Rattle.ind_words.specs.declared.indication.Indication.{Indication}
 use Rattle.ind_words.specs.declared.indication.Indication.TheVariants as told
 use Rattle.ind_words.specs.Words.{is_end, MayFollow, IsBegun, IsFilled, MayFinish}
@@ -175,6 +175,11 @@ told_no_end state pdu = told_no_end_of state pdu.header pdu.body where
   told_no_end_of state header (body.Metadata m) = choice_no_end (is_some state.metadata) _ refl
   told_no_end_of state header (body.FileData d) = choice_no_end (eqb (length d.octets) 0) _ refl
   told_no_end_of state header (body.Eof e) = choice_no_end (is_some state.eof) _ refl
+  told_no_end_of state header (body.Finished f) = refl
+  told_no_end_of state header (body.Ack a) = refl
+  told_no_end_of state header (body.Nak n) = refl
+  told_no_end_of state header (body.Prompt p) = refl
+  told_no_end_of state header (body.KeepAlive k) = refl
 
 or_both : (a b : Bool) → a ≡ false → b ≡ false → (a || b) ≡ false
 or_both true b p q = absurd cc
@@ -289,6 +294,13 @@ entry_goes_on state (what.Stored stamp kept) answer before was runs taken =
     let accepted = was_accepted state (what.Stored stamp kept) answer taken in
     let waiting = waits_for state.waiting stamp accepted.0 in
     stored_goes_on state stamp kept answer before was runs (was.waits waiting.0 waiting.1) accepted.1
+entry_goes_on state what.Cancel answer before was runs taken = let accepted = (was_accepted state what.Cancel answer taken).0 in absurd cc
+entry_goes_on state what.Suspend answer before was runs taken = let accepted = (was_accepted state what.Suspend answer taken).0 in absurd cc
+entry_goes_on state what.Resume answer before was runs taken = let accepted = (was_accepted state what.Resume answer taken).0 in absurd cc
+entry_goes_on state what.Report answer before was runs taken = let accepted = (was_accepted state what.Report answer taken).0 in absurd cc
+entry_goes_on state what.Abandon answer before was runs taken = let accepted = (was_accepted state what.Abandon answer taken).0 in absurd cc
+entry_goes_on state what.Pump answer before was runs taken = let accepted = (was_accepted state what.Pump answer taken).0 in absurd cc
+entry_goes_on state (what.Timer kind expired) answer before was runs taken = let accepted = (was_accepted state (what.Timer kind expired) answer taken).0 in absurd cc
 
 -- ---- every log
 

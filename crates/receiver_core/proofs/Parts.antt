@@ -4,15 +4,15 @@ use Rattle.std.specs.Prelude.{slice_get, is_some}
 use Rattle.std.specs.Option.{option_map}
 use Rattle.std.proofs.lemmas.Bool.{cases_lt, cases_Bool, eqb-true, le-leb, lt-leb}
 use Rattle.std.proofs.lemmas.List.{length-append}
-use Rattle.pdu_codec.specs.declared.pdu.Body.{Body}
-use Rattle.pdu_codec.specs.declared.pdu.Body.TheVariants as body
-use Rattle.pdu_codec.specs.declared.pdu.FileData.{FileData}
-use Rattle.pdu_codec.specs.declared.pdu.Metadata.{Metadata}
-use Rattle.pdu_codec.specs.declared.pdu.Eof.{Eof}
+use Rattle.pdu_format.specs.declared.pdu.Body.{Body}
+use Rattle.pdu_format.specs.declared.pdu.Body.TheVariants as body
+use Rattle.pdu_format.specs.declared.bodies.FileData.{FileData}
+use Rattle.pdu_format.specs.declared.bodies.Metadata.{Metadata}
+use Rattle.pdu_format.specs.declared.bodies.Eof.{Eof}
 use Rattle.receiver_core.specs.declared.plan.Change.{Change}
 use Rattle.receiver_core.specs.declared.plan.Change.TheVariants as change
 use Rattle.receiver_core.specs.Log.{State, older_or, body_octet, body_extent, body_metadata, body_eof}
-use Rattle.receiver_core.specs.Table.{is_out_of_order}
+use Rattle.receiver_core.specs.Table.{is_out_of_place}
 use Rattle.receiver_core.specs.Examine.{added, metadata_with, eof_with, type_with}
 use Rattle.receiver_core.specs.Core.{body_change}
 
@@ -42,7 +42,7 @@ not_false true e = refl
 not_false false e = cc
 
 -- file data that is taken begins where the file so far ends
-pub in_order : (state : State) (d : FileData) → is_out_of_order state (body.FileData d) ≡ false → d.offset ≡ state.progress
+pub in_order : (state : State) (d : FileData) → is_out_of_place state (body.FileData d) ≡ false → d.offset ≡ state.progress
 in_order state d e = eqb-true d.offset state.progress (not_false (eqb d.offset state.progress) e)
 
 pub older_or-none : {A : Type 0} (o : Option A) → older_or o None ≡ o
@@ -66,16 +66,21 @@ eof_adds_nothing state e =
     added_choice (eqb e.condition 0) (cond (is_some state.eof) change.Nothing (change.Eof e)) change.Nothing (added_choice (is_some state.eof) change.Nothing (change.Eof e) refl refl) refl
 
 -- what is received after the body of a PDU
-pub received_parts : (state : State) (xs : List ℕ) (b : Body) (i : ℕ) → state.progress ≡ length xs → is_out_of_order state b ≡ false →
+pub received_parts : (state : State) (xs : List ℕ) (b : Body) (i : ℕ) → state.progress ≡ length xs → is_out_of_place state b ≡ false →
     older_or (slice_get xs i) (body_octet b i) ≡ slice_get (xs ++ added (body_change state b)) i
 received_parts state xs (body.FileData d) i all e =
     let begins : d.offset ≡ length xs = in_order state d e ∙ all in
     rw begins (slice_get-append xs d.octets i)
 received_parts state xs (body.Metadata m) i all e = rw metadata_adds_nothing (slice_get-append-nil xs i)
 received_parts state xs (body.Eof e) i all h = rw eof_adds_nothing (slice_get-append-nil xs i)
+received_parts state xs (body.Finished f) i all e = absurd cc
+received_parts state xs (body.Ack a) i all e = absurd cc
+received_parts state xs (body.Nak n) i all e = absurd cc
+received_parts state xs (body.Prompt p) i all e = absurd cc
+received_parts state xs (body.KeepAlive k) i all e = absurd cc
 
 -- how far the file reaches after the body of a PDU
-pub progress_parts : (state : State) (xs : List ℕ) (b : Body) → state.progress ≡ length xs → is_out_of_order state b ≡ false →
+pub progress_parts : (state : State) (xs : List ℕ) (b : Body) → state.progress ≡ length xs → is_out_of_place state b ≡ false →
     max (length xs) (body_extent b) ≡ length (xs ++ added (body_change state b))
 progress_parts state xs (body.FileData d) all e =
     let begins : d.offset ≡ length xs = in_order state d e ∙ all in
@@ -85,6 +90,11 @@ progress_parts state xs (body.FileData d) all e =
     ]
 progress_parts state xs (body.Metadata m) all e = rw metadata_adds_nothing (omega (arith, length-append xs []))
 progress_parts state xs (body.Eof e) all h = rw eof_adds_nothing (omega (arith, length-append xs []))
+progress_parts state xs (body.Finished f) all e = absurd cc
+progress_parts state xs (body.Ack a) all e = absurd cc
+progress_parts state xs (body.Nak n) all e = absurd cc
+progress_parts state xs (body.Prompt p) all e = absurd cc
+progress_parts state xs (body.KeepAlive k) all e = absurd cc
 
 metadata_choice : (was : Option Metadata) (m : Metadata) → older_or was (Some m) ≡ metadata_with was (cond (is_some was) change.Nothing (change.Metadata m))
 metadata_choice None m = refl
@@ -98,6 +108,11 @@ metadata_kept was false x y p q = q
 pub metadata_parts : (state : State) (b : Body) → older_or state.metadata (body_metadata b) ≡ metadata_with state.metadata (body_change state b)
 metadata_parts state (body.Metadata m) = metadata_choice state.metadata m
 metadata_parts state (body.FileData d) = older_or-none state.metadata
+metadata_parts state (body.Finished f) = older_or-none state.metadata
+metadata_parts state (body.Ack a) = older_or-none state.metadata
+metadata_parts state (body.Nak n) = older_or-none state.metadata
+metadata_parts state (body.Prompt p) = older_or-none state.metadata
+metadata_parts state (body.KeepAlive k) = older_or-none state.metadata
 metadata_parts state (body.Eof e) =
     older_or-none state.metadata
     ∙ sym (metadata_kept state.metadata (eqb e.condition 0) (cond (is_some state.eof) change.Nothing (change.Eof e)) change.Nothing
@@ -117,6 +132,11 @@ eof_kept was false x y p q = q
 pub eof_parts : (state : State) (b : Body) → older_or state.eof (body_eof b) ≡ eof_with state.eof (body_change state b)
 eof_parts state (body.Metadata m) = older_or-none state.eof ∙ sym (eof_kept state.eof (is_some state.metadata) change.Nothing (change.Metadata m) refl refl)
 eof_parts state (body.FileData d) = older_or-none state.eof
+eof_parts state (body.Finished f) = older_or-none state.eof
+eof_parts state (body.Ack a) = older_or-none state.eof
+eof_parts state (body.Nak n) = older_or-none state.eof
+eof_parts state (body.Prompt p) = older_or-none state.eof
+eof_parts state (body.KeepAlive k) = older_or-none state.eof
 eof_parts state (body.Eof e) = eof_choice state.eof e (eqb e.condition 0)
 
 -- the type of checksum after a change

@@ -1,19 +1,21 @@
 -- What is planned is what the table answers.
-use Rattle.std.proofs.Common.{◌≡◌, ℕ, Bool, true, false, cond, ◌++◌, length, Option, Some, None, Ok, Err, refl, sym, ap, ◌∙◌}
+use Rattle.std.proofs.Common.{◌≡◌, ℕ, Bool, true, false, cond, ◌++◌, length, Option, Some, None, Ok, Err, refl, sym, ap, ◌∙◌, inl, inr, ◌⊎◌}
 use Rattle.std.specs.Prelude.{slice_get, is_some, IsOk}
 use Rattle.std.proofs.Math.Path.{fun_ext}
-use Rattle.pdu_codec.specs.Pdu.{PduValue}
+use Rattle.pdu_format.specs.Pdu.{PduValue}
+use Rattle.cfdp_types.specs.declared.names.TimerKind.{TimerKind}
+use Rattle.pdu_codec.specs.declared.event.What.{What}
 use Rattle.pdu_codec.specs.declared.event.What.TheVariants as what
 use Rattle.pdu_codec.specs.declared.event.Refusal.{Refusal}
 use Rattle.pdu_codec.specs.declared.event.Refusal.TheVariants as refusal
-use Rattle.pdu_codec.specs.declared.pdu.Metadata.{Metadata}
-use Rattle.pdu_codec.specs.declared.pdu.Eof.{Eof}
+use Rattle.pdu_format.specs.declared.bodies.Metadata.{Metadata}
+use Rattle.pdu_format.specs.declared.bodies.Eof.{Eof}
 use Rattle.receiver_core.specs.declared.answer.Answer.{Answer}
 use Rattle.receiver_core.specs.declared.examine.Finding.{Finding}
 use Rattle.receiver_core.specs.declared.examine.Finding.TheVariants.{Faulty}
 use Rattle.receiver_core.specs.declared.reception.ReceiverCore.{ReceiverCore}
 use Rattle.receiver_core.specs.Log.{State, step}
-use Rattle.receiver_core.specs.Table.{is_acknowledged, is_out_of_order, is_too_large, is_full, pdu_refusal, answer_at, seen, examine, is_unsupported, is_beyond, compared, pdu_answer, cancel_code, stored_answer, is_waiting}
+use Rattle.receiver_core.specs.Table.{is_acknowledged, is_out_of_place, is_too_large, is_full, pdu_refusal, answer_at, seen, examine, is_unsupported, is_beyond, compared, pdu_answer, cancel_code, stored_answer, is_waiting, request_refusal}
 use Rattle.receiver_core.specs.Examine.{looked, type_with, eof_with, metadata_with, added}
 use Rattle.receiver_core.specs.Core.{shown, IsSame, body_change, HasRoom, IsPlanOf}
 use Rattle.receiver_core.specs.declared.plan.Change.{Change}
@@ -34,7 +36,7 @@ same_look : (r r' : ℕ → Option ℕ) (p p' : ℕ) (m m' : Option Metadata) (e
 same_look r r' p p' m m' e e' a b c d = cc
 
 -- the table's look after a PDU is the code's look after the change
-pub seen_looks : (core : ReceiverCore) (pdu : PduValue) → is_out_of_order (shown core) pdu.body ≡ false →
+pub seen_looks : (core : ReceiverCore) (pdu : PduValue) → is_out_of_place (shown core) pdu.body ≡ false →
     let change = body_change (shown core) pdu.body in
     examine (seen (shown core) (what.Pdu pdu)) ≡ looked (type_with core.metadata change) (eof_with core.eof change) (core.octets.items ++ added change)
 unfolding seen step look_of
@@ -61,9 +63,9 @@ none_of false false false false true h = cc
 none_of false false false false false h = (refl, refl, refl, refl, refl)
 
 pub not_refused : (state : State) (pdu : PduValue) → pdu_refusal state pdu ≡ None →
-    NoneOf (is_acknowledged pdu.header.class) (is_some state.waiting) (is_out_of_order state pdu.body) (is_too_large pdu.body) (is_full state)
+    NoneOf (is_acknowledged pdu.header.class) (is_some state.waiting) (is_out_of_place state pdu.body) (is_too_large pdu.body) (is_full state)
 not_refused state pdu h =
-    none_of (is_acknowledged pdu.header.class) (is_some state.waiting) (is_out_of_order state pdu.body) (is_too_large pdu.body) (is_full state) h
+    none_of (is_acknowledged pdu.header.class) (is_some state.waiting) (is_out_of_place state pdu.body) (is_too_large pdu.body) (is_full state) h
 
 pub too_large-none : (state : State) (pdu : PduValue) → pdu_refusal state pdu ≡ None → is_too_large pdu.body ≡ false
 too_large-none state pdu h = (not_refused state pdu h).3
@@ -124,3 +126,25 @@ answered_pdu state pdu taken = rw taken refl
 pub answered_stored : (state : State) (stamp : ℕ) (kept : Bool) → is_waiting state.waiting stamp ≡ true → IsOk (answer_at state (what.Stored stamp kept))
 unfolding answer_at
 answered_stored state stamp kept waits = rw waits refl
+
+-- no timer was armed
+pub refused_timer : (state : State) (event : What) (kind : TimerKind) (stamp : ℕ) → event ≡ what.Timer kind stamp → answer_at state event ≡ Err refusal.StaleTimer
+unfolding answer_at
+refused_timer state event kind stamp is = rw is refl
+
+-- a request of the user
+abbrev pub IsRequest : What → Type 0
+IsRequest event =
+    (event ≡ what.Cancel) ⊎ ((event ≡ what.Suspend) ⊎ ((event ≡ what.Resume) ⊎ ((event ≡ what.Report) ⊎ ((event ≡ what.Abandon) ⊎ (event ≡ what.Pump)))))
+
+pub refused_request : (state : State) (event : What) → IsRequest event → answer_at state event ≡ Err (request_refusal state)
+unfolding answer_at
+refused_request state event (inl is) = rw is refl
+refused_request state event (inr (inl is)) = rw is refl
+refused_request state event (inr (inr (inl is))) = rw is refl
+refused_request state event (inr (inr (inr (inl is)))) = rw is refl
+refused_request state event (inr (inr (inr (inr (inl is))))) = rw is refl
+refused_request state event (inr (inr (inr (inr (inr is))))) = rw is refl
+
+pub refused_request_so : (state front : State) (event : What) (why : Refusal) → why ≡ request_refusal state → state ≡ front → IsRequest event → answer_at front event ≡ Err why
+refused_request_so state front event why is same request = rw (is, same) (refused_request front event request)

@@ -1,8 +1,8 @@
 -- When two states are one.
 use Rattle.std.proofs.Common.{◌≡◌, ℕ, Bool, Option}
 use Rattle.std.proofs.Math.Path.{fun_ext}
-use Rattle.pdu_codec.specs.declared.pdu.Metadata.{Metadata}
-use Rattle.pdu_codec.specs.declared.pdu.Eof.{Eof}
+use Rattle.pdu_format.specs.declared.bodies.Metadata.{Metadata}
+use Rattle.pdu_format.specs.declared.bodies.Eof.{Eof}
 use Rattle.receiver_core.specs.Log.{State}
 
 made : ℕ → (ℕ → Option ℕ) → ℕ → Option Metadata → Option Eof → Option ℕ → Bool → State

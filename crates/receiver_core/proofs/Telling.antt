@@ -5,18 +5,18 @@ use Rattle.std.specs.List.{list_any}
 use Rattle.std.proofs.lemmas.Bool.{cases_lt, cases_Bool, eqb-true, eqb-false, le-leb, ltb-false, lt-ltb, le-ltb}
 use Rattle.std.proofs.lemmas.Option.{slice_get-get_or, slice_get_past}
 use Rattle.cfdp_types.specs.declared.limits.TheConstants.{FILE_OCTETS}
-use Rattle.pdu_codec.specs.declared.pdu.Header.{Header}
-use Rattle.pdu_codec.specs.declared.pdu.Body.{Body}
-use Rattle.pdu_codec.specs.declared.pdu.Body.TheVariants as body
-use Rattle.pdu_codec.specs.declared.pdu.Metadata.{Metadata}
-use Rattle.pdu_codec.specs.declared.pdu.Eof.{Eof}
-use Rattle.pdu_codec.specs.declared.pdu.FileData.{FileData}
+use Rattle.pdu_format.specs.declared.pdu.Header.{Header}
+use Rattle.pdu_format.specs.declared.pdu.Body.{Body}
+use Rattle.pdu_format.specs.declared.pdu.Body.TheVariants as body
+use Rattle.pdu_format.specs.declared.bodies.Metadata.{Metadata}
+use Rattle.pdu_format.specs.declared.bodies.Eof.{Eof}
+use Rattle.pdu_format.specs.declared.bodies.FileData.{FileData}
 use Rattle.ind_words.specs.declared.indication.Indication.{Indication}
 use Rattle.ind_words.specs.declared.indication.Indication.TheVariants as told
 use Rattle.ind_words.specs.Words.{is_end, is_metadata, is_eof, tells_of, IsNext, IsNew, MayFollow}
 use Rattle.ind_words.proofs.WordLemmas.{told_onto}
 use Rattle.receiver_core.specs.Log.{State, older_or, body_octet, body_extent, body_metadata, body_eof}
-use Rattle.receiver_core.specs.Table.{is_out_of_order, is_too_large, told_of, cancel_code}
+use Rattle.receiver_core.specs.Table.{is_out_of_place, is_too_large, told_of, cancel_code}
 use Rattle.receiver_core.proofs.Parts.{in_order, older_or-none}
 
 -- what was told, newest first, fits what was received
@@ -176,16 +176,26 @@ no_error : (e : Eof) → cancel_code (body.Eof e) ≡ None → eqb e.condition 0
 no_error e h = elim (cases_Bool (eqb e.condition 0)) [ inl is ↦ is | inr other ↦ absurd (let s : Some e.condition ≡ None = sym (ap (λ b. cond b None (Some e.condition)) other) ∙ h in cc) ]
 
 pub body_tells : (state : State) (header : Header) (b : Body) (before : List Indication) → Tells state.metadata state.eof state.received state.progress before → list_any is_end before ≡ false →
-    is_out_of_order state b ≡ false → is_too_large b ≡ false → cancel_code b ≡ None → TellsBody state header b before
+    is_out_of_place state b ≡ false → is_too_large b ≡ false → cancel_code b ≡ None → TellsBody state header b before
 body_tells state header (body.Metadata m) before was runs ordered small fine = metadata_tells state header m before was runs
 body_tells state header (body.Eof e) before was runs ordered small fine = eof_tells state header e before was runs (no_error e fine)
 body_tells state header (body.FileData d) before was runs ordered small fine = data_tells state header d before was runs (in_order state d ordered) small
+body_tells state header (body.Finished f) before was runs ordered small fine = absurd cc
+body_tells state header (body.Ack a) before was runs ordered small fine = absurd cc
+body_tells state header (body.Nak n) before was runs ordered small fine = absurd cc
+body_tells state header (body.Prompt p) before was runs ordered small fine = absurd cc
+body_tells state header (body.KeepAlive k) before was runs ordered small fine = absurd cc
 
 -- a PDU with an error tells nothing of itself and brings nothing
 pub cancel_tells : (state : State) (b : Body) (code : ℕ) (before : List Indication) → Tells state.metadata state.eof state.received state.progress before → cancel_code b ≡ Some code →
     Tells (older_or state.metadata (body_metadata b)) (older_or state.eof (body_eof b)) (λ i. older_or (state.received i) (body_octet b i)) (max state.progress (body_extent b)) before
 cancel_tells state (body.Metadata m) code before was e = absurd cc
 cancel_tells state (body.FileData d) code before was e = absurd cc
+cancel_tells state (body.Finished f) code before was e = absurd cc
+cancel_tells state (body.Ack a) code before was e = absurd cc
+cancel_tells state (body.Nak n) code before was e = absurd cc
+cancel_tells state (body.Prompt p) code before was e = absurd cc
+cancel_tells state (body.KeepAlive k) code before was e = absurd cc
 cancel_tells state (body.Eof eof) code before was h =
     elim (cases_Bool (eqb eof.condition 0)) [
       | inl is ↦ absurd (let n : None ≡ Some code = sym (ap (λ b. cond b None (Some eof.condition)) is) ∙ h in cc)

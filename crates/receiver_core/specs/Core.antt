@@ -3,8 +3,8 @@ use Rattle.std.specs.Prelude.{◌≡◌, ◌+◌, ◌≤◌, ◌==◌, is_some, 
 use Rattle.cfdp_types.specs.Condition as condition
 use Rattle.pdu_codec.specs.declared.event.What.{What}
 use Rattle.pdu_codec.specs.declared.event.What.TheVariants as what
-use Rattle.pdu_codec.specs.declared.pdu.Body.{Body}
-use Rattle.pdu_codec.specs.declared.pdu.Body.TheVariants as body
+use Rattle.pdu_format.specs.declared.pdu.Body.{Body}
+use Rattle.pdu_format.specs.declared.pdu.Body.TheVariants as body
 use Rattle.receiver_core.specs.declared.plan.Change.{Change}
 use Rattle.receiver_core.specs.declared.plan.Change.TheVariants as change
 use Rattle.receiver_core.specs.declared.plan.Plan.{Plan}
@@ -37,10 +37,11 @@ abbrev pub body_change : State → Body → Change
 body_change state (body.Metadata m) = if is_some state.metadata then change.Nothing else change.Metadata m
 body_change state (body.Eof e) = if e.condition == condition.no_error then (if is_some state.eof then change.Nothing else change.Eof e) else change.Nothing
 body_change state (body.FileData d) = change.Octets d.octets
+body_change state _ = change.Nothing
 
 abbrev pub change_of : State → What → Change
 change_of state (what.Pdu pdu) = body_change state pdu.body
-change_of state (what.Stored stamp kept) = change.Nothing
+change_of state _ = change.Nothing
 
 -- everything but the octets is the same
 abbrev pub IsSameButOctets : ReceiverCore → ReceiverCore → Type 0

@@ -4,11 +4,11 @@ use Rattle.std.specs.List.{list_any}
 use Rattle.cfdp_types.specs.Condition.{no_error}
 use Rattle.pdu_codec.specs.declared.event.What.{What}
 use Rattle.pdu_codec.specs.declared.event.What.TheVariants as what
-use Rattle.pdu_codec.specs.declared.pdu.Body.{Body}
-use Rattle.pdu_codec.specs.declared.pdu.Body.TheVariants as body
-use Rattle.pdu_codec.specs.declared.pdu.Metadata.{Metadata}
-use Rattle.pdu_codec.specs.declared.pdu.Eof.{Eof}
-use Rattle.pdu_codec.specs.declared.pdu.FileData.{FileData}
+use Rattle.pdu_format.specs.declared.pdu.Body.{Body}
+use Rattle.pdu_format.specs.declared.pdu.Body.TheVariants as body
+use Rattle.pdu_format.specs.declared.bodies.Metadata.{Metadata}
+use Rattle.pdu_format.specs.declared.bodies.Eof.{Eof}
+use Rattle.pdu_format.specs.declared.bodies.FileData.{FileData}
 use Rattle.ind_words.specs.declared.indication.Indication.{Indication}
 use Rattle.ind_words.specs.Words.{is_end}
 use Rattle.receiver_core.specs.declared.answer.Answer.{Answer}
@@ -44,49 +44,46 @@ older_or (Some old) newer = Some old
 -- the Metadata, the EOF without an error and the File Data that an event brings
 abbrev pub body_metadata : Body → Option Metadata
 body_metadata (body.Metadata m) = Some m
-body_metadata (body.Eof e) = None
-body_metadata (body.FileData d) = None
+body_metadata _ = None
 
 abbrev pub body_eof : Body → Option Eof
-body_eof (body.Metadata m) = None
 body_eof (body.Eof e) = if e.condition == no_error then Some e else None
-body_eof (body.FileData d) = None
+body_eof _ = None
 
 -- the octet that a part of a file has at an offset
 abbrev pub octet_at : FileData → ℕ → Option ℕ
 octet_at d i = if nat_le d.offset i then slice_get d.octets (i - d.offset) else None
 
 abbrev pub body_octet : Body → ℕ → Option ℕ
-body_octet (body.Metadata m) i = None
-body_octet (body.Eof e) i = None
 body_octet (body.FileData d) i = octet_at d i
+body_octet _ i = None
 
 -- one more than the greatest offset of the body's octets, 0 if it has none
 abbrev pub body_extent : Body → ℕ
-body_extent (body.Metadata m) = 0
-body_extent (body.Eof e) = 0
 body_extent (body.FileData d) = if length d.octets == 0 then 0 else d.offset + length d.octets
+body_extent _ = 0
 
 -- a waiting deposit waits until the file store answers
 abbrev pub waiting_after : Option ℕ → What → Option ℕ → Option ℕ
 waiting_after waiting (what.Stored stamp kept) deposit = None
 waiting_after waiting (what.Pdu pdu) deposit = older_or deposit waiting
+waiting_after waiting _ deposit = waiting
 
 abbrev pub received_after : (ℕ → Option ℕ) → What → ℕ → Option ℕ
 received_after received (what.Pdu pdu) i = older_or (received i) (body_octet pdu.body i)
-received_after received (what.Stored stamp kept) i = received i
+received_after received _ i = received i
 
 abbrev pub progress_after : ℕ → What → ℕ
 progress_after progress (what.Pdu pdu) = max progress (body_extent pdu.body)
-progress_after progress (what.Stored stamp kept) = progress
+progress_after progress _ = progress
 
 abbrev pub metadata_after : Option Metadata → What → Option Metadata
 metadata_after metadata (what.Pdu pdu) = older_or metadata (body_metadata pdu.body)
-metadata_after metadata (what.Stored stamp kept) = metadata
+metadata_after metadata _ = metadata
 
 abbrev pub eof_after : Option Eof → What → Option Eof
 eof_after eof (what.Pdu pdu) = older_or eof (body_eof pdu.body)
-eof_after eof (what.Stored stamp kept) = eof
+eof_after eof _ = eof
 
 -- before the first event
 unfoldable pub initial : State

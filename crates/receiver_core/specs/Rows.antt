@@ -7,10 +7,10 @@ use Rattle.pdu_codec.specs.declared.event.What.{What}
 use Rattle.pdu_codec.specs.declared.event.What.TheVariants as what
 use Rattle.pdu_codec.specs.declared.event.Refusal.{Refusal}
 use Rattle.pdu_codec.specs.declared.event.Refusal.TheVariants as refusal
-use Rattle.pdu_codec.specs.declared.pdu.Direction.TheVariants.{TowardReceiver}
-use Rattle.pdu_codec.specs.declared.pdu.Header.{Header}
-use Rattle.pdu_codec.specs.declared.pdu.Body.{Body}
-use Rattle.pdu_codec.specs.declared.pdu.Body.TheVariants as body
+use Rattle.pdu_format.specs.declared.pdu.Direction.TheVariants.{TowardReceiver}
+use Rattle.pdu_format.specs.declared.pdu.Header.{Header}
+use Rattle.pdu_format.specs.declared.pdu.Body.{Body}
+use Rattle.pdu_format.specs.declared.pdu.Body.TheVariants as body
 use Rattle.ind_words.specs.declared.indication.Indication.{Indication}
 use Rattle.ind_words.specs.declared.indication.Indication.TheVariants as told
 use Rattle.receiver_core.specs.declared.answer.Answer.{Answer}
@@ -47,7 +47,7 @@ abbrev pub file_data : ℕ → List ℕ → What
 file_data offset octets = pdu (body.FileData (record { offset = offset; octets = octets }))
 
 abbrev pub eof_of : ℕ → ℕ → ℕ → What
-eof_of condition checksum size = pdu (body.Eof (record { condition = condition; checksum = checksum; size = size }))
+eof_of condition checksum size = pdu (body.Eof (record { condition = condition; checksum = checksum; size = size; location = None }))
 
 -- "abc", and its Metadata and EOF
 abbrev pub abc : List ℕ

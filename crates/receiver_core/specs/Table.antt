@@ -8,16 +8,16 @@ use Rattle.cfdp_types.specs.declared.names.Class.TheVariants.{One, Two}
 use Rattle.cfdp_types.specs.declared.names.Delivery.TheVariants.{Complete, Incomplete}
 use Rattle.cfdp_types.specs.declared.names.FileStatus.{FileStatus}
 use Rattle.cfdp_types.specs.declared.names.FileStatus.TheVariants.{Discarded, Rejected, Retained}
-use Rattle.pdu_codec.specs.Pdu.{PduValue}
+use Rattle.pdu_format.specs.Pdu.{PduValue}
 use Rattle.pdu_codec.specs.declared.event.What.{What}
 use Rattle.pdu_codec.specs.declared.event.What.TheVariants as what
 use Rattle.pdu_codec.specs.declared.event.Refusal.{Refusal}
 use Rattle.pdu_codec.specs.declared.event.Refusal.TheVariants as refusal
-use Rattle.pdu_codec.specs.declared.pdu.Header.{Header}
-use Rattle.pdu_codec.specs.declared.pdu.Body.{Body}
-use Rattle.pdu_codec.specs.declared.pdu.Body.TheVariants as body
-use Rattle.pdu_codec.specs.declared.pdu.Metadata.{Metadata}
-use Rattle.pdu_codec.specs.declared.pdu.Eof.{Eof}
+use Rattle.pdu_format.specs.declared.pdu.Header.{Header}
+use Rattle.pdu_format.specs.declared.pdu.Body.{Body}
+use Rattle.pdu_format.specs.declared.pdu.Body.TheVariants as body
+use Rattle.pdu_format.specs.declared.bodies.Metadata.{Metadata}
+use Rattle.pdu_format.specs.declared.bodies.Eof.{Eof}
 use Rattle.ind_words.specs.declared.indication.Indication.{Indication}
 use Rattle.ind_words.specs.declared.indication.Indication.TheVariants as told
 use Rattle.receiver_core.specs.declared.answer.Answer.{Answer}
@@ -32,17 +32,20 @@ abbrev pub is_acknowledged : Class → Bool
 is_acknowledged One = false
 is_acknowledged Two = true
 
--- file data that does not begin where the file so far ends
-abbrev pub is_out_of_order : State → Body → Bool
-is_out_of_order state (body.FileData d) = not (d.offset == state.progress)
-is_out_of_order state (body.Metadata m) = false
-is_out_of_order state (body.Eof e) = false
+-- file data that does not begin where the file so far ends, and every kind of PDU that has no place in
+-- such a reception
+abbrev pub is_out_of_place : State → Body → Bool
+is_out_of_place state (body.FileData d) = not (d.offset == state.progress)
+is_out_of_place state (body.Metadata m) = false
+is_out_of_place state (body.Eof e) = false
+is_out_of_place state _ = true
 
 -- a file, or a part of one, that goes past the file limit
 abbrev pub is_too_large : Body → Bool
 is_too_large (body.FileData d) = nat_lt FILE_OCTETS (d.offset + length d.octets)
 is_too_large (body.Metadata m) = nat_lt FILE_OCTETS m.size
 is_too_large (body.Eof e) = e.condition == condition.no_error && nat_lt FILE_OCTETS e.size
+is_too_large _ = false
 
 -- only the file store's answer is taken where the journal is full
 abbrev pub is_full : State → Bool
@@ -52,7 +55,7 @@ abbrev pub pdu_refusal : State → PduValue → Option Refusal
 pdu_refusal state pdu =
     if is_acknowledged pdu.header.class then Some refusal.ModeMismatch
     else if is_some state.waiting then Some refusal.Storing
-    else if is_out_of_order state pdu.body then Some refusal.WrongState
+    else if is_out_of_place state pdu.body then Some refusal.WrongState
     else if is_too_large pdu.body then Some refusal.TooLarge
     else if is_full state then Some refusal.JournalFull
     else None
@@ -62,9 +65,15 @@ abbrev pub is_waiting : Option ℕ → ℕ → Bool
 is_waiting None stamp = false
 is_waiting (Some waiting) stamp = waiting == stamp
 
+-- requests of the user have no place yet
+abbrev pub request_refusal : State → Refusal
+request_refusal state = if is_some state.waiting then refusal.Storing else refusal.WrongState
+
 abbrev pub refusal_at : State → What → Option Refusal
 refusal_at state (what.Pdu pdu) = pdu_refusal state pdu
 refusal_at state (what.Stored stamp kept) = if is_waiting state.waiting stamp then None else Some refusal.StaleStored
+refusal_at state (what.Timer kind stamp) = Some refusal.StaleTimer
+refusal_at state _ = Some (request_refusal state)
 
 -- ---- what a look at the file so far finds
 
@@ -123,6 +132,7 @@ told_of state header (body.Metadata m) =
     if is_some state.metadata then [] else told.MetadataRecv header.source m.size m.source_name m.destination_name m.messages ∷ []
 told_of state header (body.FileData d) = if length d.octets == 0 then [] else told.FileSegmentRecv d.offset (length d.octets) ∷ []
 told_of state header (body.Eof e) = if is_some state.eof then [] else told.EofRecv ∷ []
+told_of state header _ = []
 
 abbrev pub found : ℕ → List Indication → Finding → Answer
 found place before Nothing = record { inds = before; deposit = None }
@@ -132,8 +142,7 @@ found place before Whole = record { inds = before; deposit = Some place }
 -- an EOF with an error ends the reception
 abbrev pub cancel_code : Body → Option ℕ
 cancel_code (body.Eof e) = if e.condition == condition.no_error then None else Some e.condition
-cancel_code (body.Metadata m) = None
-cancel_code (body.FileData d) = None
+cancel_code _ = None
 
 -- the state with the event, before it is answered
 unfoldable pub seen : State → What → State
@@ -152,6 +161,7 @@ stored_answer false = record { inds = faulty condition.filestore_rejection ∷ [
 abbrev pub accepted_at : State → What → Answer
 accepted_at state (what.Pdu pdu) = pdu_answer state pdu (examine (seen state (what.Pdu pdu))) (cancel_code pdu.body)
 accepted_at state (what.Stored stamp kept) = stored_answer kept
+accepted_at state _ = quiet
 
 -- the answer to an event, or why it is refused
 abbrev pub unless_refused : Option Refusal → Answer → Result Answer Refusal

@@ -26,7 +26,7 @@ impl ReceiverCore {
     ghost use Rattle.std.specs.Prelude.{◌≡◌, ◌++◌, ◌==◌, [], length, if◌then◌else◌, IfOk, IfErr, OnOk, OnErr, List, ◌∷◌, Some, None, slice_get, ◌+◌, ◌≤◌, vec_len, vec_capacity};
     ghost use Rattle.std.specs.Option.{option_map};
     ghost use Rattle.pdu_codec.specs.declared.event.What.TheVariants as what;
-    ghost use Rattle.receiver_core.specs.Table.{pdu_refusal, is_out_of_order, is_too_large, is_waiting, told_of, found, pdu_answer, cancel_code, stored_answer, answer_at, is_too_large};
+    ghost use Rattle.receiver_core.specs.Table.{pdu_refusal, request_refusal, is_out_of_place, is_too_large, is_waiting, told_of, found, pdu_answer, cancel_code, stored_answer, answer_at, is_too_large};
     ghost use Rattle.receiver_core.specs.Examine.{looked, type_with, eof_with, added};
     ghost use Rattle.receiver_core.specs.Core.{shown, StandsAfter, body_change, IsSame, IsSameButOctets, HasRoom, IsPlanOf, IsWhy, IsChangedBy, plan_answer};
     ghost use Rattle.receiver_core.specs.Log.{Entry, state_of};
@@ -59,7 +59,7 @@ impl ReceiverCore {
             Some(Refusal::ModeMismatch)
         } else if self.waiting.is_some() {
             Some(Refusal::Storing)
-        } else if self.is_out_of_order(pdu.body()) {
+        } else if self.is_out_of_place(pdu.body()) {
             Some(Refusal::WrongState)
         } else if is_too_large(pdu.body()) {
             Some(Refusal::TooLarge)
@@ -70,12 +70,13 @@ impl ReceiverCore {
         }
     }
 
-    fn is_out_of_order(&self, body: &Body) -> bool
-        ensures { result ≡ is_out_of_order (shown self.now) body.now }
+    fn is_out_of_place(&self, body: &Body) -> bool
+        ensures { result ≡ is_out_of_place (shown self.now) body.now }
     {
         match body {
             Body::FileData(data) => data.offset as usize != self.octets.len(),
             Body::Metadata(_) | Body::Eof(_) => false,
+            _ => true,
         }
     }
 
@@ -91,7 +92,7 @@ impl ReceiverCore {
                 Ok(Change::Eof(*eof))
             }
             Body::FileData(data) => Ok(Change::Octets(data.octets.clone()?)),
-            Body::Metadata(_) | Body::Eof(_) => Ok(Change::Nothing),
+            _ => Ok(Change::Nothing),
         }
     }
 
@@ -176,7 +177,7 @@ impl ReceiverCore {
                 })?;
             }
             Body::Eof(_) if self.eof.is_none() => inds.push(Indication::EofRecv)?,
-            Body::Metadata(_) | Body::FileData(_) | Body::Eof(_) => {}
+            _ => {}
         }
         Ok(inds)
     }
@@ -255,6 +256,17 @@ impl ReceiverCore {
         Ok(Plan { change, answer })
     }
 
+    // Why a request of the user is refused.
+    fn request_refusal(&self) -> Refusal
+        ensures { result ≡ request_refusal (shown self.now) }
+    {
+        if self.waiting.is_some() {
+            Refusal::Storing
+        } else {
+            Refusal::WrongState
+        }
+    }
+
     // Carries out a change in room that is there.
     fn apply(&mut self, change: Change)
         requires { HasRoom self.old change }
@@ -300,6 +312,13 @@ impl ReceiverCore {
         match event {
             What::Pdu(pdu) => self.plan_pdu(pdu),
             What::Stored(stamp, kept) => self.plan_stored(*stamp, *kept),
+            What::Timer(_, _) => Err(Refusal::StaleTimer),
+            What::Cancel
+            | What::Suspend
+            | What::Resume
+            | What::Report
+            | What::Abandon
+            | What::Pump => Err(self.request_refusal()),
         }
     }
 
@@ -334,6 +353,7 @@ fn is_too_large(body: &Body) -> bool
         }
         Body::Metadata(metadata) => metadata.size > FILE_OCTETS,
         Body::Eof(eof) => eof.condition == Condition::NO_ERROR && eof.size > FILE_OCTETS,
+        _ => false,
     }
 }
 
@@ -342,7 +362,7 @@ fn cancel_code(body: &Body) -> Option<Condition>
 {
     match body {
         Body::Eof(eof) if eof.condition != Condition::NO_ERROR => Some(eof.condition),
-        Body::Eof(_) | Body::Metadata(_) | Body::FileData(_) => None,
+        _ => None,
     }
 }
 
