@@ -16,16 +16,8 @@ use Rattle.pdu_format.specs.declared.pdu.Body.TheVariants as bodies
 use Rattle.pdu_format.specs.Numbers.{digits}
 use Rattle.pdu_format.specs.Pdu.{PduValue}
 use Rattle.pdu_format.specs.Tlvs.{message_tlv}
-use Rattle.pdu_format.specs.Spelling.{size_octets, lv, tlv, request, IsIdLength, IsName, IsMessage, Fits, EofFits, FinishedFits, AckFits, MetadataFits, NakFits, KeepAliveFits, FileDataFits}
+use Rattle.pdu_format.specs.Spelling.{size_octets, lv, tlv, request, IsIdLength, IsName, IsMessage, Fits, EofFits, FinishedFits, AckFits, MetadataFits, NakFits, KeepAliveFits, FileDataFits, HeaderFits}
 use Rattle.pdu_format.proofs.TlvLaws.{location_short}
-
--- every number of a header fits its field
-pub record HeaderFits (header : Header) : Type 0 where
-  pub entity_octets : IsIdLength header.entity_octets
-  pub sequence_octets : IsIdLength header.sequence_octets
-  pub source : header.source.0 < 256 ^ header.entity_octets
-  pub sequence : header.sequence < 256 ^ header.sequence_octets
-  pub destination : header.destination.0 < 256 ^ header.entity_octets
 
 pub header_fits : (pdu : PduValue) → Fits pdu → HeaderFits pdu.header
 header_fits pdu fits = record {

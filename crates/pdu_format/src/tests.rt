@@ -1,8 +1,8 @@
 use crate::{
-    Ack, Acknowledged, Body, DecodeFault, Direction, Directive, Finished, Header, KeepAlive, Nak,
-    Opening, Pdu, Prompt, SegmentRequest, SegmentRequests, TransactionStatus,
+    Body, DecodeFault, Direction, Directive, Header, Nak, Opening, Pdu, Prompt, SegmentRequest,
+    SegmentRequests,
 };
-use cfdp_types::{Class, Condition, Delivery, EntityId, FileStatus};
+use cfdp_types::{Class, EntityId};
 use std::test::*;
 
 #[test]
@@ -74,5 +74,56 @@ fn requests(rt: HostRuntime) -> Result<(), Fail> {
         SegmentRequests::from_vec(vec![in alloc; metadata]?),
         requests
     );
+    Ok(())
+}
+
+#[test]
+fn pdus(rt: HostRuntime) -> Result<(), Fail> {
+    // class 2, from entity 1 to entity 2, transaction 5
+    let header = Header {
+        direction: Direction::TowardReceiver,
+        class: Class::Two,
+        entity_octets: 1,
+        sequence_octets: 1,
+        source: EntityId(1),
+        sequence: 5,
+        destination: EntityId(2),
+    };
+    let prompt = Pdu::new(header, Body::Prompt(Prompt::Nak));
+    assert!(rt; !prompt.is_toward_sender());
+    assert_eq!(rt; *prompt.header(), header);
+    assert_eq!(rt; *prompt.body(), Body::Prompt(Prompt::Nak));
+    let (copied_header, copied_body) = prompt.clone()?.into_parts();
+    assert_eq!(rt; copied_header, header);
+    assert_eq!(rt; copied_body, Body::Prompt(Prompt::Nak));
+    Ok(())
+}
+
+#[test]
+fn naks(rt: HostRuntime) -> Result<(), Fail> {
+    let alloc = rt.alloc();
+    // entity IDs of 2 octets, sequence numbers of 4
+    let header = Header {
+        direction: Direction::TowardSender,
+        class: Class::Two,
+        entity_octets: 2,
+        sequence_octets: 4,
+        source: EntityId(258),
+        sequence: 5,
+        destination: EntityId(2),
+    };
+    let requests = SegmentRequests::new(alloc);
+    let nak = Pdu::new(
+        header,
+        Body::Nak(Nak {
+            start: 0,
+            end: 9,
+            requests,
+        }),
+    );
+    assert!(rt; nak.is_toward_sender());
+    let (copied_header, copied_body) = nak.clone()?.into_parts();
+    assert_eq!(rt; copied_header, header);
+    assert_eq!(rt; &copied_body, nak.body());
     Ok(())
 }
