@@ -8,6 +8,7 @@ mod memory;
 mod opening;
 mod options;
 mod parts;
+mod writing;
 
 pub use decoding::decode;
 pub use event::{Refusal, What};

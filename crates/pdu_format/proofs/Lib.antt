@@ -8,4 +8,6 @@ pub mod BodyLaws
 pub mod BodyAgainLaws
 pub mod ReadingLaws
 pub mod MemoryLaws
+pub mod FaultLaws
+pub mod FitLaws
 pub mod Rows

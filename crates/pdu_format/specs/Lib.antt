@@ -7,5 +7,6 @@ pub mod Tlvs
 pub mod Items
 pub mod Spelling
 pub mod Reading
+pub mod FirstFault
 pub use Rattle.cfdp_types.specs.Condition
 pub use Rattle.cfdp_types.specs.ChecksumType

@@ -324,6 +324,14 @@ BodyFits width (bodies.Prompt p) = Unit {0}
 BodyFits width (bodies.KeepAlive k) = KeepAliveFits width k
 BodyFits width (bodies.FileData f) = FileDataFits width f
 
+-- every number of a header fits its field
+pub record HeaderFits (header : Header) : Type 0 where
+  pub entity_octets : IsIdLength header.entity_octets
+  pub sequence_octets : IsIdLength header.sequence_octets
+  pub source : header.source.0 < 256 ^ header.entity_octets
+  pub sequence : header.sequence < 256 ^ header.sequence_octets
+  pub destination : header.destination.0 < 256 ^ header.entity_octets
+
 -- every number fits its field, and the written data field its length
 pub record Fits (pdu : PduValue) : Type 0 where
   pub entity_octets : IsIdLength pdu.header.entity_octets

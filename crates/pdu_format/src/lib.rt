@@ -16,3 +16,6 @@ pub use fault::DecodeFault;
 pub use opening::Opening;
 pub use pdu::{Body, Direction, Header, Pdu};
 pub use requests::{SegmentRequest, SegmentRequests};
+
+#[cfg(test)]
+mod tests;

@@ -1,0 +1,73 @@
+//! Writers of fields, into room that is there.
+
+ghost use Rattle.std.specs.Prelude.{◌≡◌, ◌<◌, ◌≤◌, ◌+◌, ◌^◌, [], ◌∷◌, length};
+ghost use Rattle.std.specs.List.{flat_map, map, AllByRecursion};
+ghost use Rattle.pdu_format.specs.Numbers.{digits};
+ghost use Rattle.pdu_format.specs.Tlvs.{message_tlv, location_tlvs, location_octets};
+ghost use Rattle.pdu_format.specs.Spelling.{size_octets, lv, tlv, request, IsIdLength, IsLocation, IsMessage};
+ghost use Rattle.pdu_codec.specs.Writing.{HasRoom, Writes};
+
+use cfdp_types::{EntityId, Messages};
+use pdu_format::{SegmentRequest, SegmentRequests};
+
+/// The type of a message to the user.
+const MESSAGE: u8 = 2;
+
+/// The type of an entity ID.
+const ENTITY_ID: u8 = 6;
+
+/// A number of one octet.
+#[tactic(auto, unfolding(pdu_format::specs::Numbers::digits))]
+pub fn put_octet(out: &mut Vec<u8>, number: u8)
+    requires { HasRoom out.old (digits 1 number) }
+    ensures { Writes out.old out.new (digits 1 number) }
+{
+    let pushed = out.push(number);
+    pushed.unwrap()
+}
+
+/// Octets as they are.
+pub fn put_octets(out: &mut Vec<u8>, octets: &[u8])
+    requires { HasRoom out.old octets.now }
+    ensures { Writes out.old out.new octets.now }
+{
+    let added = out.extend_from_slice(octets);
+    added.unwrap()
+}
+
+/// A number of so many octets, the most significant first.
+pub fn put_number(out: &mut Vec<u8>, width: u8, number: u64)
+    requires fits { number < 256 ^ width }
+    requires short { width ≤ 8 }
+    requires room { HasRoom out.old (digits width number) }
+    ensures { Writes out.old out.new (digits width number) }
+{
+    let mut left = width;
+    let mut rest = number;
+    while left > 0 {
+        left -= 1;
+        let power = 256_u64.pow(u32::from(left));
+        put_octet(out, (rest / power) as u8);
+        rest %= power;
+    }
+}
+
+/// A length in one octet, and the value.
+pub fn put_lv(out: &mut Vec<u8>, value: &[u8])
+    requires fits { length value.now < 256 }
+    requires room { HasRoom out.old (lv value.now) }
+    ensures { Writes out.old out.new (lv value.now) }
+{
+    put_octet(out, value.len() as u8);
+    put_octets(out, value);
+}
+
+/// A type, a length and a value.
+pub fn put_tlv(out: &mut Vec<u8>, kind: u8, value: &[u8])
+    requires fits { length value.now < 256 }
+    requires room { HasRoom out.old (tlv (record { kind = kind; value = value.now })) }
+    ensures { Writes out.old out.new (tlv (record { kind = kind; value = value.now })) }
+{
+    put_octet(out, kind);
+    put_lv(out, value);
+}

@@ -1,0 +1,314 @@
+-- Which fault is read, by the octets at their places.
+use Rattle.std.proofs.Common.{◌≡◌, ℕ, ◌+◌, ◌-◌, ◌*◌, ◌/◌, ◌%◌, ◌^◌, ◌<◌, ◌≤◌, Bool, true, false, cond, eqb, ltb, not, ◌&&◌, ◌||◌, ◌==◌, ◌⊎◌, inl, inr, List, [], ◌∷◌, ◌++◌, length, take, drop, Option, Some, None, Result, Ok, Err, refl, sym, ap, subst, ◌∙◌, arith}
+use Rattle.std.specs.Prelude.{is_none}
+use Rattle.std.proofs.lemmas.Bool.{eqb-true, and_parts, eq-eqb, ne_eqb, lt-ltb, le-ltb, cases_lt, cases_eq}
+use Rattle.std.proofs.lemmas.List.{length-drop, drop-drop}
+use Rattle.pdu_format.specs.declared.bodies.Acknowledged.{Acknowledged}
+use Rattle.pdu_format.specs.declared.directive.Directive.{Directive}
+use Rattle.pdu_format.specs.declared.directive.Directive.TheVariants as directives
+use Rattle.pdu_format.specs.declared.opening.Opening.{Opening}
+use Rattle.pdu_format.specs.declared.pdu.Body.{Body}
+use Rattle.pdu_format.specs.declared.fault.DecodeFault.{DecodeFault}
+use Rattle.pdu_format.specs.declared.fault.DecodeFault.TheVariants.{TooShort, BadVersion, CrcPresent, LargeFile, LengthMismatch, UnknownDirective, FieldCut, NoFileName}
+use Rattle.pdu_format.specs.Directive.{directive_with_code}
+use Rattle.pdu_format.specs.Pdu.{PduValue}
+use Rattle.pdu_format.specs.Numbers.{number_of}
+use Rattle.pdu_format.specs.Items.{◌>>=◌}
+use Rattle.pdu_format.specs.Opening.{entity_octets, sequence_octets, version, is_file_data, has_crc, is_large, has_segment_metadata}
+use Rattle.pdu_format.specs.Reading.{number_at, opening_at, opening_fault, acknowledged_with_code, eof_at, finished_at, ack_at, metadata_at, nak_at, prompt_at, keep_alive_at, file_data_at, lacks_name, whole_body, ack_of_kind, ack_of, fields_of, directive_of, body_of, pdu_with_body, pdu_from_field, pdu_from_opening, reading}
+use Rattle.pdu_format.specs.FirstFault.{ids_octets, number_fault, header_fault, acknowledges_other, has_unknown_code, is_unknown_directive}
+use Rattle.pdu_format.specs.Spelling.{size_octets}
+use Rattle.pdu_format.proofs.BitLaws.{directive_code-is}
+use Rattle.pdu_format.proofs.FieldLaws.{octets_again}
+
+-- ---- numbers at the front
+
+number_short : (width : ℕ) (octets : List ℕ) → length octets < width → number_at width octets ≡ None
+unfolding number_at
+number_short width octets lt = rw (lt-ltb (length octets) width lt) refl
+
+number_long : (width : ℕ) (octets : List ℕ) → width ≤ length octets → number_at width octets ≡ Some (number_of (take width octets), drop width octets)
+unfolding number_at
+number_long width octets le = rw (le-ltb (length octets) width le) refl
+
+octet_front : (a : ℕ) (rest : List ℕ) → number_at 1 (a ∷ rest) ≡ Some (a, rest)
+unfolding number_at number_of
+octet_front a rest =
+    let value : a * 256 ^ 0 + 0 ≡ a = omega arith in
+    rw (octets_again 1 (a ∷ []) rest refl) (ap (λ (n : ℕ). some (n, rest)) value)
+  where
+    some : ℕ × List ℕ → Option (ℕ × List ℕ)
+    some x = Some x
+
+pair_front : (a b : ℕ) (rest : List ℕ) → number_at 2 (a ∷ b ∷ rest) ≡ Some (256 * a + b, rest)
+unfolding number_at number_of
+pair_front a b rest =
+    let value : a * 256 ^ 1 + (b * 256 ^ 0 + 0) ≡ 256 * a + b = omega arith in
+    rw (octets_again 2 (a ∷ b ∷ []) rest refl) (ap (λ (n : ℕ). some (n, rest)) value)
+  where
+    some : ℕ × List ℕ → Option (ℕ × List ℕ)
+    some x = Some x
+
+-- ---- the header by its places
+
+-- the IDs and the sequence number, behind the first four octets
+abbrev ids_at : ℕ → ℕ → ℕ → List ℕ → Option (Opening × List ℕ)
+ids_at first size lengths rest =
+    number_at (entity_octets lengths) rest >>= (λ source. number_at (sequence_octets lengths) source.1 >>= (λ sequence. number_at (entity_octets lengths) sequence.1 >>= (λ destination.
+    Some (record { first = first; size = size; lengths = lengths; source = source.0; sequence = sequence.0; destination = destination.0 }, destination.1))))
+
+opening_front : (first high low lengths : ℕ) (rest : List ℕ) → opening_at (first ∷ high ∷ low ∷ lengths ∷ rest) ≡ ids_at first (256 * high + low) lengths rest
+unfolding opening_at
+opening_front first high low lengths rest =
+    rw (octet_front first (high ∷ low ∷ lengths ∷ rest), pair_front high low (lengths ∷ rest), octet_front lengths rest) refl
+
+ids_short : (first size lengths : ℕ) (rest : List ℕ) → length rest < ids_octets lengths → ids_at first size lengths rest ≡ None
+ids_short first size lengths rest lt =
+    let e = entity_octets lengths in
+    let s = sequence_octets lengths in
+    elim (cases_lt (length rest) e) [
+      | inl no_source ↦ rw (number_short e rest no_source) refl
+      | inr source ↦
+          let behind : length (drop e rest) ≡ length rest - e = length-drop e rest in
+          elim (cases_lt (length (drop e rest)) s) [
+            | inl no_sequence ↦ rw (number_long e rest source, number_short s (drop e rest) no_sequence) refl
+            | inr sequence ↦
+                let no_destination : length (drop s (drop e rest)) < e = omega (arith, length-drop s (drop e rest), behind) in
+                rw (number_long e rest source, number_long s (drop e rest) sequence, number_short e (drop s (drop e rest)) no_destination) refl
+          ]
+    ]
+
+record IsOpened (first size lengths : ℕ) (rest : List ℕ) : Type 0 where
+  pub opening : Opening
+  pub first_is : opening.first ≡ first
+  pub size_is : opening.size ≡ size
+  pub lengths_is : opening.lengths ≡ lengths
+  pub opened : ids_at first size lengths rest ≡ Some (opening, drop (ids_octets lengths) rest)
+
+ids_long : (first size lengths : ℕ) (rest : List ℕ) → ids_octets lengths ≤ length rest → IsOpened first size lengths rest
+ids_long first size lengths rest le =
+    let e = entity_octets lengths in
+    let s = sequence_octets lengths in
+    let behind : length (drop e rest) ≡ length rest - e = length-drop e rest in
+    let left : drop e (drop s (drop e rest)) ≡ drop (e + s + e) rest = ap (drop e) (drop-drop s e rest) ∙ drop-drop e (e + s) rest in
+    record {
+      opening = record {
+        first = first;
+        size = size;
+        lengths = lengths;
+        source = number_of (take e rest);
+        sequence = number_of (take s (drop e rest));
+        destination = number_of (take e (drop s (drop e rest)));
+      };
+      first_is = refl;
+      size_is = refl;
+      lengths_is = refl;
+      opened = rw (
+        number_long e rest (omega (arith, le)),
+        number_long s (drop e rest) (omega (arith, behind, le)),
+        number_long e (drop s (drop e rest)) (omega (arith, length-drop s (drop e rest), behind, le)),
+        left,
+      ) refl;
+    }
+
+-- the number of octets behind the header, by that behind the first four
+size_again : (lengths size behind : ℕ) → ids_octets lengths ≤ behind → (behind - ids_octets lengths == size) ≡ (behind == ids_octets lengths + size)
+size_again lengths size behind le =
+    elim (cases_eq behind (ids_octets lengths + size)) [
+      | inl is ↦ eq-eqb (behind - ids_octets lengths) size (omega (arith, is)) ∙ sym (eq-eqb behind (ids_octets lengths + size) is)
+      | inr is_not ↦ ne_eqb (behind - ids_octets lengths) size (λ is. is_not (omega (arith, is, le))) ∙ sym (ne_eqb behind (ids_octets lengths + size) is_not)
+    ]
+
+opened_fault : (first size lengths : ℕ) (rest : List ℕ) → ids_octets lengths ≤ length rest → (opened : IsOpened first size lengths rest) → opening_fault opened.opening (drop (ids_octets lengths) rest) ≡ number_fault first size lengths (length rest)
+unfolding opening_fault
+opened_fault first size lengths rest le opened =
+    rw (opened.first_is, opened.size_is, length-drop (ids_octets lengths) rest, size_again lengths size (length rest) le) refl
+
+-- ---- the faults of the header
+
+header_step : (first high low lengths : ℕ) (rest : List ℕ) (fault : DecodeFault) → (length rest < ids_octets lengths) ⊎ (ids_octets lengths ≤ length rest) → header_fault (first ∷ high ∷ low ∷ lengths ∷ rest) ≡ Some fault
+    → reading (first ∷ high ∷ low ∷ lengths ∷ rest) ≡ Err fault
+unfolding reading
+header_step first high low lengths rest fault (inl short) e =
+    let size = 256 * high + low in
+    let tests : cond true (Some TooShort) (number_fault first size lengths (length rest)) ≡ Some fault = subst (λ (b : Bool). cond b (Some TooShort) (number_fault first size lengths (length rest)) ≡ Some fault) (lt-ltb (length rest) (ids_octets lengths) short) e in
+    let is : TooShort ≡ fault = cc in
+    rw (opening_front first high low lengths rest, ids_short first size lengths rest short) (ap (λ (f : DecodeFault). err f) is)
+  where
+    err : DecodeFault → Result PduValue DecodeFault
+    err f = Err f
+header_step first high low lengths rest fault (inr long) e =
+    let size = 256 * high + low in
+    let opened = ids_long first size lengths rest long in
+    let is : number_fault first size lengths (length rest) ≡ Some fault = subst (λ (b : Bool). cond b (Some TooShort) (number_fault first size lengths (length rest)) ≡ Some fault) (le-ltb (length rest) (ids_octets lengths) long) e in
+    rw (opening_front first high low lengths rest, opened.opened, opened_fault first size lengths rest long opened, is) refl
+
+short_opening : (octets : List ℕ) → length octets < 4 → opening_at octets ≡ None
+unfolding opening_at number_at number_of
+short_opening [] lt = refl
+short_opening (a ∷ []) lt = refl
+short_opening (a ∷ b ∷ []) lt = refl
+short_opening (a ∷ b ∷ c ∷ []) lt = refl
+short_opening (a ∷ b ∷ c ∷ d ∷ rest) lt = absurd (omega arith)
+
+short_read : (octets : List ℕ) (fault : DecodeFault) → length octets < 4 → header_fault [] ≡ Some fault → reading octets ≡ Err fault
+unfolding reading
+short_read octets fault lt e =
+    let is : TooShort ≡ fault = cc in
+    rw (short_opening octets lt) (ap (λ (f : DecodeFault). err f) is)
+  where
+    err : DecodeFault → Result PduValue DecodeFault
+    err f = Err f
+
+-- what is wrong with the header is the fault that is read
+pub header_fault_is_read : (octets : List ℕ) (fault : DecodeFault) → header_fault octets ≡ Some fault → reading octets ≡ Err fault
+header_fault_is_read [] fault e = short_read [] fault (omega arith) e
+header_fault_is_read (a ∷ []) fault e = short_read (a ∷ []) fault (omega arith) e
+header_fault_is_read (a ∷ b ∷ []) fault e = short_read (a ∷ b ∷ []) fault (omega arith) e
+header_fault_is_read (a ∷ b ∷ c ∷ []) fault e = short_read (a ∷ b ∷ c ∷ []) fault (omega arith) e
+header_fault_is_read (first ∷ high ∷ low ∷ lengths ∷ rest) fault e = header_step first high low lengths rest fault (cases_lt (length rest) (ids_octets lengths)) e
+
+-- ---- the faults of the data field
+
+-- a sound header: what is read is the data field's
+record IsSound (first high low lengths : ℕ) (rest : List ℕ) : Type 0 where
+  pub opening : Opening
+  pub first_is : opening.first ≡ first
+  pub read_so : reading (first ∷ high ∷ low ∷ lengths ∷ rest) ≡ pdu_with_body opening (body_of opening (drop (ids_octets lengths) rest))
+
+sound_step : (first high low lengths : ℕ) (rest : List ℕ) → (length rest < ids_octets lengths) ⊎ (ids_octets lengths ≤ length rest) → header_fault (first ∷ high ∷ low ∷ lengths ∷ rest) ≡ None → IsSound first high low lengths rest
+unfolding reading
+sound_step first high low lengths rest (inl short) e =
+    let size = 256 * high + low in
+    let tests : cond true (Some TooShort) (number_fault first size lengths (length rest)) ≡ None = subst (λ (b : Bool). cond b (Some TooShort) (number_fault first size lengths (length rest)) ≡ None) (lt-ltb (length rest) (ids_octets lengths) short) e in
+    absurd cc
+sound_step first high low lengths rest (inr long) e =
+    let size = 256 * high + low in
+    let opened = ids_long first size lengths rest long in
+    let is : number_fault first size lengths (length rest) ≡ None = subst (λ (b : Bool). cond b (Some TooShort) (number_fault first size lengths (length rest)) ≡ None) (le-ltb (length rest) (ids_octets lengths) long) e in
+    record {
+      opening = opened.opening;
+      first_is = opened.first_is;
+      read_so = rw (opening_front first high low lengths rest, opened.opened, opened_fault first size lengths rest long opened, is) refl;
+    }
+
+sound : (first high low lengths : ℕ) (rest : List ℕ) → header_fault (first ∷ high ∷ low ∷ lengths ∷ rest) ≡ None → IsSound first high low lengths rest
+sound first high low lengths rest e = sound_step first high low lengths rest (cases_lt (length rest) (ids_octets lengths)) e
+
+-- ---- a code without a meaning
+
+none_is : {A : Type 0} (o : Option A) → is_none o ≡ true → o ≡ None
+none_is None e = refl
+none_is (Some x) e = absurd cc
+
+unknown_ack : (fields : List ℕ) → acknowledges_other fields ≡ true → ack_of (number_at 1 fields) ≡ Err UnknownDirective
+unknown_ack [] e = absurd cc
+unknown_ack (first ∷ more) e = rw (octet_front first more, none_is (acknowledged_with_code (first / 16)) e) refl
+
+unknown_fields : (code : ℕ) (fields : List ℕ) (kind : Option Directive) → directive_with_code code ≡ kind → (is_none kind || ((code == 6) && acknowledges_other fields)) ≡ true → fields_of kind fields ≡ Err UnknownDirective
+unknown_fields code fields None kind_is e = refl
+unknown_fields code fields (Some d) kind_is e =
+    let both = and_parts (code == 6) (acknowledges_other fields) e in
+    let code_is : code ≡ 6 = eqb-true code 6 both.0 in
+    let ack_is : found_ack ≡ Some d = sym (ap directive_with_code code_is) ∙ kind_is in
+    subst (λ (k : Option Directive). fields_of k fields ≡ Err UnknownDirective) ack_is (unknown_ack fields both.1)
+  where
+    found_ack : Option Directive
+    found_ack = Some directives.Ack
+
+unknown_code : (field : List ℕ) → has_unknown_code field ≡ true → directive_of (number_at 1 field) ≡ Err UnknownDirective
+unknown_code [] e = absurd cc
+unknown_code (code ∷ fields) e = rw (octet_front code fields) (unknown_fields code fields (directive_with_code code) refl e)
+
+unknown_body : (o : Opening) (field : List ℕ) → is_file_data o.first ≡ false → has_unknown_code field ≡ true → body_of o field ≡ Err UnknownDirective
+unfolding body_of
+unknown_body o field directive unknown = rw directive (unknown_code field unknown)
+
+not-true-is : (b : Bool) → not b ≡ true → b ≡ false
+not-true-is true e = absurd cc
+not-true-is false e = refl
+
+-- a directive with a code without a meaning is read as that
+pub unknown_is_read : (octets : List ℕ) → header_fault octets ≡ None → is_unknown_directive octets ≡ true → reading octets ≡ Err UnknownDirective
+unknown_is_read [] none e = absurd cc
+unknown_is_read (a ∷ []) none e = absurd cc
+unknown_is_read (a ∷ b ∷ []) none e = absurd cc
+unknown_is_read (a ∷ b ∷ c ∷ []) none e = absurd cc
+unknown_is_read (first ∷ high ∷ low ∷ lengths ∷ rest) none e =
+    let s = sound first high low lengths rest none in
+    let field = drop (ids_octets lengths) rest in
+    let both = and_parts (not (is_file_data first)) (has_unknown_code field) e in
+    let directive : is_file_data s.opening.first ≡ false = ap is_file_data s.first_is ∙ not-true-is (is_file_data first) both.0 in
+    s.read_so ∙ rw (unknown_body s.opening field directive both.1) refl
+
+-- ---- what is left
+
+abbrev IsLate : DecodeFault → Type 0
+IsLate fault = (fault ≡ FieldCut) ⊎ (fault ≡ NoFileName)
+
+late_step : (b : Bool) (body : Body) (fault : DecodeFault) → cond b (Err NoFileName) (Ok body) ≡ Err fault → IsLate fault
+late_step true body fault e = inr cc
+late_step false body fault e = absurd cc
+
+late_whole : (found : Option Body) (fault : DecodeFault) → whole_body found ≡ Err fault → IsLate fault
+late_whole None fault e = inl cc
+late_whole (Some body) fault e = late_step (lacks_name body) body fault e
+
+late_kind : (kind : Option Acknowledged) (octets : List ℕ) (fault : DecodeFault) → is_none kind ≡ false → ack_of_kind kind octets ≡ Err fault → IsLate fault
+late_kind None octets fault known e = absurd cc
+late_kind (Some of) octets fault known e = late_whole (ack_at of octets) fault e
+
+late_ack : (fields : List ℕ) (fault : DecodeFault) → acknowledges_other fields ≡ false → ack_of (number_at 1 fields) ≡ Err fault → IsLate fault
+unfolding number_at
+late_ack [] fault known e = inl cc
+late_ack (first ∷ more) fault known e =
+    let fields_fault : ack_of_kind (acknowledged_with_code (first / 16)) more ≡ Err fault = sym (ap ack_of (octet_front first more)) ∙ e in
+    late_kind (acknowledged_with_code (first / 16)) more fault known fields_fault
+
+late_fields : (code : ℕ) (fields : List ℕ) (kind : Option Directive) (fault : DecodeFault) → directive_with_code code ≡ kind → (is_none kind || ((code == 6) && acknowledges_other fields)) ≡ false → fields_of kind fields ≡ Err fault → IsLate fault
+late_fields code fields None fault kind_is known e = absurd cc
+late_fields code fields (Some directives.Eof) fault kind_is known e = late_whole (eof_at size_octets fields) fault e
+late_fields code fields (Some directives.Finished) fault kind_is known e = late_whole (finished_at fields) fault e
+late_fields code fields (Some directives.Ack) fault kind_is known e =
+    let code_is : code ≡ 6 = directive_code-is code directives.Ack kind_is in
+    let is_ack : (code == 6) ≡ true = eq-eqb code 6 code_is in
+    let other : acknowledges_other fields ≡ false = subst (λ (b : Bool). (b && acknowledges_other fields) ≡ false) is_ack known in
+    late_ack fields fault other e
+late_fields code fields (Some directives.Metadata) fault kind_is known e = late_whole (metadata_at size_octets fields) fault e
+late_fields code fields (Some directives.Nak) fault kind_is known e = late_whole (nak_at size_octets fields) fault e
+late_fields code fields (Some directives.Prompt) fault kind_is known e = late_whole (prompt_at fields) fault e
+late_fields code fields (Some directives.KeepAlive) fault kind_is known e = late_whole (keep_alive_at size_octets fields) fault e
+
+late_code : (field : List ℕ) (fault : DecodeFault) → has_unknown_code field ≡ false → directive_of (number_at 1 field) ≡ Err fault → IsLate fault
+unfolding number_at
+late_code [] fault known e = inl cc
+late_code (code ∷ fields) fault known e =
+    let fields_fault : fields_of (directive_with_code code) fields ≡ Err fault = sym (ap directive_of (octet_front code fields)) ∙ e in
+    late_fields code fields (directive_with_code code) fault refl known fields_fault
+
+late_body : (o : Opening) (field : List ℕ) (fault : DecodeFault) (b : Bool) → is_file_data o.first ≡ b → (not b && has_unknown_code field) ≡ false → body_of o field ≡ Err fault → IsLate fault
+unfolding body_of
+late_body o field fault true is known e =
+    let found = file_data_at size_octets (has_segment_metadata o.lengths) field in
+    let whole : whole_body found ≡ Err fault = subst (λ (b : Bool). cond b (whole_body found) (directive_of (number_at 1 field)) ≡ Err fault) is e in
+    late_whole found fault whole
+late_body o field fault false is known e =
+    let found = file_data_at size_octets (has_segment_metadata o.lengths) field in
+    let directive : directive_of (number_at 1 field) ≡ Err fault = subst (λ (b : Bool). cond b (whole_body found) (directive_of (number_at 1 field)) ≡ Err fault) is e in
+    late_code field fault known directive
+
+late_pdu : (o : Opening) (r : Result Body DecodeFault) (fault : DecodeFault) → pdu_with_body o r ≡ Err fault → r ≡ Err fault
+late_pdu o (Ok body) fault e = absurd cc
+late_pdu o (Err other) fault e = let same : other ≡ fault = cc in cc
+
+-- with a sound header and a code that has a meaning, the fault is one of a field or of a name
+pub later_fault_is_read : (octets : List ℕ) (fault : DecodeFault) → header_fault octets ≡ None → is_unknown_directive octets ≡ false → reading octets ≡ Err fault → (fault ≡ FieldCut) ⊎ (fault ≡ NoFileName)
+later_fault_is_read [] fault none known e = absurd cc
+later_fault_is_read (a ∷ []) fault none known e = absurd cc
+later_fault_is_read (a ∷ b ∷ []) fault none known e = absurd cc
+later_fault_is_read (a ∷ b ∷ c ∷ []) fault none known e = absurd cc
+later_fault_is_read (first ∷ high ∷ low ∷ lengths ∷ rest) fault none known e =
+    let s = sound first high low lengths rest none in
+    let field = drop (ids_octets lengths) rest in
+    let body_fault = late_pdu s.opening (body_of s.opening field) fault (sym s.read_so ∙ e) in
+    late_body s.opening field fault (is_file_data first) (ap is_file_data s.first_is) known body_fault
