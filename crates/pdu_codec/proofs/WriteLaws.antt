@@ -1,8 +1,22 @@
 -- Octets written one behind the other.
-use Rattle.std.proofs.Common.{◌≡◌, ℕ, ◌+◌, ◌≤◌, List, ◌++◌, length, ap, sym, ◌∙◌, append_assoc, arith}
+use Rattle.std.proofs.Common.{◌≡◌, ℕ, zero, suc, ◌+◌, ◌-◌, ◌*◌, ◌^◌, ◌/◌, ◌%◌, ◌<◌, ◌≤◌, Bool, false, List, [], ◌∷◌, ◌++◌, length, Option, Some, refl, ap, sym, subst, ◌∙◌, append_assoc, append-nil, mod-lt, arith}
 use Rattle.std.proofs.lemmas.List.{length-append}
-use Rattle.std_alloc.specs.declared.vec.Vec.{Vec}
-use Rattle.pdu_codec.specs.Writing.{HasRoom, Writes}
+use Rattle.std.specs.Prelude.{Vec, vec_len, vec_capacity}
+use Rattle.std.specs.List.{flat_map}
+use Rattle.std.proofs.lemmas.Bool.{le-ltb}
+use Rattle.std.proofs.Math.Nat.{pow-le-pow_right}
+use Rattle.cfdp_types.specs.declared.key.EntityId.{EntityId}
+use Rattle.pdu_format.specs.Numbers.{digits}
+use Rattle.pdu_format.specs.Tlvs.{width_from, location_octets, location_tlvs}
+use Rattle.pdu_format.specs.Spelling.{size_octets, tlv, request, ids, type_bit, data_field, plain_choice, lengths_octet, spelling, written, Fits}
+use Rattle.pdu_format.specs.Pdu.{PduValue}
+use Rattle.pdu_format.specs.declared.bodies.Nak as nak_type
+use Rattle.pdu_format.specs.declared.requests.SegmentRequest.{SegmentRequest}
+use Rattle.pdu_format.specs.declared.pdu.Header.{Header}
+use Rattle.pdu_format.specs.declared.pdu.Body.{Body}
+use Rattle.pdu_format.specs.declared.pdu.Body.TheVariants as bodies
+use Rattle.pdu_format.proofs.Numbers.{length-digits, pow_256_pos}
+use Rattle.pdu_codec.specs.Writing.{HasRoom, Writes, field_of, header_of, text_of, FieldFits}
 
 pub room_first : {Z : Type 0} (v : Vec ℕ Z) (a b : List ℕ) → HasRoom v (a ++ b) → HasRoom v a
 room_first v a b room = omega (arith, length-append a b, room)
@@ -16,3 +30,132 @@ writes_then u v w a b first second = record {
   len = omega (arith, length-append a b, first.len, second.len);
   capacity = omega (arith, first.capacity, second.capacity);
 }
+
+-- ---- numbers
+
+pub pow_fits : (width : ℕ) → width < 8 → 256 ^ width < 18446744073709551616
+pow_fits width short = omega (arith, pow-le-pow_right {n = 256} (omega arith) {i = width} {j = 7} (omega (arith, short)))
+
+-- the first octet of a number, and the others
+digits_first : (left n : ℕ) → 1 ≤ left → digits left n ≡ (n / 256 ^ (left - 1)) ∷ digits (left - 1) (n % 256 ^ (left - 1))
+unfolding digits
+digits_first zero n some = absurd (omega (arith, some))
+digits_first (suc left) n some = let same : suc left - 1 ≡ left = omega arith in rw same refl
+
+one_digit : (n : ℕ) → digits 1 n ≡ n ∷ []
+unfolding digits
+one_digit n = let same : n / 1 ≡ n = omega arith in rw same refl
+
+pub digits_go_on : (left n power : ℕ) (front now : List ℕ) → power ≡ 256 ^ (left - 1) → 1 ≤ left → now ≡ front ++ digits 1 (n / power)
+    → now ++ digits (left - 1) (n % power) ≡ front ++ digits left n
+digits_go_on left n power front now is some done =
+    rw (done, is, one_digit, digits_first left n some) (append_assoc front ((n / 256 ^ (left - 1)) ∷ []) (digits (left - 1) (n % 256 ^ (left - 1))))
+
+pub below_power : (n left power : ℕ) → power ≡ 256 ^ (left - 1) → n % power < 256 ^ (left - 1)
+below_power n left power is = rw is (mod-lt n (pow_256_pos (left - 1)))
+
+pub all_digits : {Z : Type 0} (u v : Vec ℕ Z) (left width rest n : ℕ) → left ≡ 0 → v.items ++ digits left rest ≡ u.items ++ digits width n → vec_len v + left ≡ vec_len u + width
+    → vec_capacity u ≤ vec_capacity v → Writes u v (digits width n)
+unfolding digits
+all_digits u v left width rest n none items len capacity = record {
+  items = sym (append-nil v.items) ∙ ap (λ (k : ℕ). v.items ++ digits k rest) (sym none) ∙ items;
+  len = omega (arith, length-digits width n, len, none);
+  capacity = capacity;
+}
+
+pub octet_room : {Z : Type 0} (u v : Vec ℕ Z) (left width n x : ℕ) → HasRoom u (digits width n) → 1 ≤ left → vec_len v + left ≡ vec_len u + width
+    → vec_capacity u ≤ vec_capacity v → HasRoom v (digits 1 x)
+octet_room u v left width n x room some len capacity = omega (arith, length-digits width n, length-digits 1 x, room, some, len, capacity)
+
+pub octet_len : {Z : Type 0} (v w : Vec ℕ Z) (x left all : ℕ) → Writes v w (digits 1 x) → 1 ≤ left → vec_len v + left ≡ all → vec_len w + (left - 1) ≡ all
+octet_len v w x left all done some len = omega (arith, length-digits 1 x, done.len, some, len)
+
+-- ---- fault locations
+
+pub width_goes_on : (width n : ℕ) → width < 8 → 256 ^ width ≤ n → width_from (8 - (width + 1)) (width + 1) n ≡ width_from (8 - width) width n
+unfolding width_from
+width_goes_on width n short above = let more : 8 - width ≡ suc (8 - (width + 1)) = omega (arith, short) in rw (more, le-ltb n (256 ^ width) above) refl
+
+pub location_text : (entity_octets n width : ℕ) → width ≡ location_octets entity_octets n
+    → flat_map tlv (location_tlvs entity_octets (Some (record { 0 = n }))) ≡ digits 1 6 ++ (digits 1 width ++ digits width n)
+location_text entity_octets n width is = rw (is, append-nil, length-digits) refl
+
+pub room_for_location : {Z : Type 0} (v : Vec ℕ Z) (entity_octets n width : ℕ) (location : Option EntityId) → location ≡ Some (record { 0 = n }) → width ≡ location_octets entity_octets n
+    → HasRoom v (flat_map tlv (location_tlvs entity_octets location)) → HasRoom v (digits 1 6 ++ (digits 1 width ++ digits width n))
+room_for_location v entity_octets n width location there is room = subst (HasRoom v) (ap (λ l. flat_map tlv (location_tlvs entity_octets l)) there ∙ location_text entity_octets n width is) room
+
+pub location_written : {Z : Type 0} (u v : Vec ℕ Z) (entity_octets n width : ℕ) (location : Option EntityId) → location ≡ Some (record { 0 = n }) → width ≡ location_octets entity_octets n
+    → Writes u v (digits 1 6 ++ (digits 1 width ++ digits width n)) → Writes u v (flat_map tlv (location_tlvs entity_octets location))
+location_written u v entity_octets n width location there is done =
+    subst (Writes u v) (sym (ap (λ l. flat_map tlv (location_tlvs entity_octets l)) there ∙ location_text entity_octets n width is)) done
+
+pub location_length : (entity_octets n width : ℕ) (location : Option EntityId) → location ≡ Some (record { 0 = n }) → width ≡ location_octets entity_octets n
+    → 2 + width ≡ length (flat_map tlv (location_tlvs entity_octets location))
+location_length entity_octets n width location there is =
+    let text = ap length (ap (λ l. flat_map tlv (location_tlvs entity_octets l)) there ∙ location_text entity_octets n width is) in
+    omega (arith, text, length-append (digits 1 6) (digits 1 width ++ digits width n), length-append (digits 1 width) (digits width n), length-digits 1 6, length-digits 1 width, length-digits width n)
+
+-- ---- how long a text is
+
+pub ids_length : (header : Header) → 4 + (2 * header.entity_octets + header.sequence_octets) ≡ 4 + length (ids header)
+ids_length header =
+    omega (
+      arith,
+      length-append (digits header.entity_octets header.source.0) (digits header.sequence_octets header.sequence ++ digits header.entity_octets header.destination.0),
+      length-append (digits header.sequence_octets header.sequence) (digits header.entity_octets header.destination.0),
+      length-digits header.entity_octets header.source.0,
+      length-digits header.sequence_octets header.sequence,
+      length-digits header.entity_octets header.destination.0,
+    )
+
+length-requests : (requests : List SegmentRequest) → length (flat_map (request size_octets) requests) ≡ 8 * length requests
+unfolding digits
+length-requests [] = refl
+length-requests (r ∷ requests) = omega (arith, length-requests requests)
+
+pub nak_length : (entity_octets : ℕ) (n : nak_type.Nak) → 9 + 8 * length n.requests ≡ length (field_of entity_octets (bodies.Nak n))
+unfolding digits
+nak_length entity_octets n = omega (arith, length-requests n.requests)
+
+text_length : (size : ℕ) (header : Header) (body : Body) → length (text_of size header body) ≡ (4 + length (ids header)) + length (field_of header.entity_octets body)
+unfolding digits
+text_length size header body = omega (arith, length-append (header_of (type_bit body) size header) (field_of header.entity_octets body))
+
+pub room_for_pdu : {Z : Type 0} (v : Vec ℕ Z) (size before behind : ℕ) (header : Header) (body : Body) → before ≡ 4 + length (ids header) → behind ≡ length (field_of header.entity_octets body)
+    → vec_len v + (before + behind) ≤ vec_capacity v → HasRoom v (text_of size header body)
+room_for_pdu v size before behind header body first second room = omega (arith, text_length size header body, first, second, room)
+
+-- ---- what is written
+
+field_is_plain : (pdu : PduValue) → data_field size_octets (plain_choice pdu) pdu.body ≡ field_of pdu.header.entity_octets pdu.body
+field_is_plain pdu = by_body pdu.header pdu.body
+  where
+    by_body : (header : Header) (body : Body) → data_field size_octets (plain_choice (record { header = header; body = body })) body ≡ field_of header.entity_octets body
+    by_body header (bodies.Eof e) = refl
+    by_body header (bodies.Finished f) = refl
+    by_body header (bodies.Ack a) = refl
+    by_body header (bodies.Metadata m) = refl
+    by_body header (bodies.Nak n) = refl
+    by_body header (bodies.Prompt p) = refl
+    by_body header (bodies.KeepAlive k) = refl
+    by_body header (bodies.FileData d) = refl
+
+lengths_plain : (pdu : PduValue) → lengths_octet (plain_choice pdu) pdu.header ≡ 16 * (pdu.header.entity_octets - 1) + (pdu.header.sequence_octets - 1)
+lengths_plain pdu = omega arith
+
+pub written_is : (pdu : PduValue) → written pdu ≡ text_of (length (field_of pdu.header.entity_octets pdu.body)) pdu.header pdu.body
+unfolding written spelling
+written_is pdu = rw (field_is_plain pdu, lengths_plain pdu) refl
+
+pub fits_field : (pdu : PduValue) → Fits pdu → FieldFits pdu.header.entity_octets pdu.body
+fits_field pdu fits = record {
+  entity_octets_fit = fits.entity_octets;
+  body_fits = fits.body;
+  short = rw (sym (field_is_plain pdu)) fits.data_field;
+}
+
+pub encoded : {Z : Type 0} (old ready new : Vec ℕ Z) (pdu : PduValue) (header : Header) (body : Body) (size : ℕ) → header ≡ pdu.header → body ≡ pdu.body
+    → size ≡ length (field_of header.entity_octets body) → ready.items ≡ old.items → Writes ready new (text_of size header body) → new.items ≡ old.items ++ written pdu
+encoded old ready new pdu header body size first second long same done =
+    let whole : text_of size header body ≡ written pdu = rw (long, first, second) (sym (written_is pdu)) in
+    done.items ∙ ap (λ (octets : List ℕ). octets ++ text_of size header body) same ∙ ap (λ (text : List ℕ). old.items ++ text) whole

@@ -2,8 +2,10 @@
 #![tactic(auto)]
 
 mod decoding;
+mod encoding;
 mod event;
 mod fields;
+pub mod laws;
 mod memory;
 mod opening;
 mod options;
@@ -11,6 +13,7 @@ mod parts;
 mod writing;
 
 pub use decoding::decode;
+pub use encoding::encode;
 pub use event::{Refusal, What};
 pub use pdu_format::{
     Ack, Acknowledged, Body, DecodeFault, Direction, Eof, FileData, Finished, Header, KeepAlive,

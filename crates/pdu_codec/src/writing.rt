@@ -1,7 +1,7 @@
 //! Writers of fields, into room that is there.
 
-ghost use Rattle.std.specs.Prelude.{◌≡◌, ◌<◌, ◌≤◌, ◌+◌, ◌^◌, [], ◌∷◌, length};
-ghost use Rattle.std.specs.List.{flat_map, map, AllByRecursion};
+ghost use Rattle.std.specs.Prelude.{◌≡◌, ◌<◌, ◌≤◌, ◌+◌, ◌^◌, [], ◌∷◌, map, length};
+ghost use Rattle.std.specs.List.{flat_map, AllByRecursion};
 ghost use Rattle.pdu_format.specs.Numbers.{digits};
 ghost use Rattle.pdu_format.specs.Tlvs.{message_tlv, location_tlvs, location_octets};
 ghost use Rattle.pdu_format.specs.Spelling.{size_octets, lv, tlv, request, IsIdLength, IsLocation, IsMessage};
@@ -70,4 +70,65 @@ pub fn put_tlv(out: &mut Vec<u8>, kind: u8, value: &[u8])
 {
     put_octet(out, kind);
     put_lv(out, value);
+}
+
+/// The octets of an entity ID in an optional field: as many as the header's IDs have, or as hold it.
+#[tactic(auto, unfolding(pdu_format::specs::Tlvs::width_from))]
+pub fn location_octets(entity_octets: u8, id: EntityId) -> u8
+    requires length { IsIdLength entity_octets }
+    requires fits { id.0 < 256 ^ 8 }
+    ensures value { result ≡ location_octets entity_octets id.0 }
+    ensures most { result ≤ 8 }
+    ensures holds { id.0 < 256 ^ result }
+{
+    let mut width = entity_octets;
+    while width < 8 && id.0 >= 256_u64.pow(u32::from(width)) {
+        width += 1;
+    }
+    width
+}
+
+/// The optional field of a fault location, where there is one.
+pub fn put_location(out: &mut Vec<u8>, entity_octets: u8, location: Option<EntityId>)
+    requires length { IsIdLength entity_octets }
+    requires fits { IsLocation location }
+    requires room { HasRoom out.old (flat_map tlv (location_tlvs entity_octets location)) }
+    ensures { Writes out.old out.new (flat_map tlv (location_tlvs entity_octets location)) }
+{
+    if let Some(id) = location {
+        let width = location_octets(entity_octets, id);
+        put_octet(out, ENTITY_ID);
+        put_octet(out, width);
+        put_number(out, width, id.0);
+    }
+}
+
+/// The optional fields of messages to the user.
+pub fn put_messages(out: &mut Vec<u8>, messages: &Messages)
+    requires fits { AllByRecursion IsMessage messages.now }
+    requires room { HasRoom out.old (flat_map tlv (map message_tlv messages.now)) }
+    ensures { Writes out.old out.new (flat_map tlv (map message_tlv messages.now)) }
+{
+    for message in messages.as_slice() {
+        put_tlv(out, MESSAGE, message.as_slice());
+    }
+}
+
+// A segment request.
+fn put_request(out: &mut Vec<u8>, asked: SegmentRequest)
+    requires { HasRoom out.old (request size_octets asked) }
+    ensures { Writes out.old out.new (request size_octets asked) }
+{
+    put_number(out, 4, u64::from(asked.start));
+    put_number(out, 4, u64::from(asked.end));
+}
+
+/// Segment requests.
+pub fn put_requests(out: &mut Vec<u8>, requests: &SegmentRequests)
+    requires { HasRoom out.old (flat_map (request size_octets) requests.now) }
+    ensures { Writes out.old out.new (flat_map (request size_octets) requests.now) }
+{
+    for asked in requests.as_slice() {
+        put_request(out, *asked);
+    }
 }

@@ -87,6 +87,15 @@ impl Pdu {
         &self.body
     }
 
+    /// The header and the body, which fit the fields that they are written in.
+    pub fn parts(&self) -> (&Header, &Body)
+        ensures header { result.0.now ≡ self.now.header }
+        ensures body { result.1.now ≡ self.now.body }
+        ensures fits { Fits self.now }
+    {
+        (&self.header, &self.body)
+    }
+
     /// Whether the kind of the body is one that goes toward the sender of the file.
     pub fn is_toward_sender(&self) -> bool
         ensures { result ≡ is_toward_sender self.now.body }
