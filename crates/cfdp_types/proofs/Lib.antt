@@ -1,1 +1,2 @@
+pub mod HandlerLemmas
 pub mod LimitFacts

@@ -3,6 +3,7 @@
 
 mod checksum_type;
 mod condition;
+mod fault_table;
 mod key;
 pub mod limits;
 mod messages;
@@ -11,6 +12,7 @@ mod octets;
 
 pub use checksum_type::ChecksumType;
 pub use condition::Condition;
+pub use fault_table::{FaultTable, HandlerNotAllowed, Handlers};
 pub use key::{Deposit, EntityId, TxnKey};
 pub use messages::Messages;
 pub use names::{Class, Delivery, FileStatus, Handler, Role, TimerKind};
