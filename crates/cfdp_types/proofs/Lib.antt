@@ -1,2 +1,3 @@
 pub mod HandlerLemmas
 pub mod LimitFacts
+pub mod PutLemmas

@@ -124,7 +124,8 @@ impl FaultTable {
 
     /// Whose table it is.
     pub fn role(&self) -> Role
-        ensures { result ≡ self.now.role }
+        ensures role { result ≡ self.now.role }
+        ensures handlers { IsFaultTable self.now }
     {
         self.role
     }
@@ -133,7 +134,6 @@ impl FaultTable {
     pub fn action(&self, condition: Condition) -> Handler
         ensures handler { result ≡ handler_in self.now condition }
         ensures allowed { IsTrue (has_handler condition) → IsTrue (is_allowed self.now.role condition result) }
-        ensures table { IsFaultTable self.now }
     {
         let handlers = self.handlers;
         match condition {
