@@ -1,3 +1,4 @@
 pub mod HandlerLemmas
 pub mod LimitFacts
 pub mod PutLemmas
+pub mod Rows
