@@ -54,9 +54,9 @@ IsTableOf-append role pairs table pair is allowed = record {
   role_is = is.role_is;
   allowed = All-push (λ (p : ℕ × Handler). IsTrue (is_allowed role p.0 p.1)) pairs pair is.allowed allowed;
   handlers = λ c.
-    handler_in-with table pair.0 pair.1 c (allowed-has_handler role pair.0 pair.1 allowed)
-    ∙ ap (λ (h : Handler). cond (pair.0 == c) pair.1 h) (is.handlers c)
-    ∙ sym (act_after-append Cancel pairs pair c);
+      handler_in-with table pair.0 pair.1 c (allowed-has_handler role pair.0 pair.1 allowed)
+      ∙ ap (λ (h : Handler). cond (pair.0 == c) pair.1 h) (is.handlers c)
+      ∙ sym (act_after-append Cancel pairs pair c);
 }
 
 -- one more pair of a list

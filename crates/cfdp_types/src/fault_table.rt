@@ -78,10 +78,7 @@ impl FaultTable {
     ghost use Rattle.cfdp_types.specs.Handlers.{AreAllowed, IsFaultTable, act, handler_in, has_handler, is_allowed, with_handler};
 
     /// The table of a role that does what the pairs name, and cancels at every other fault.
-    pub fn new(
-        role: Role,
-        pairs: &[(Condition, Handler)],
-    ) -> Result<FaultTable, HandlerNotAllowed>
+    pub fn new(role: Role, pairs: &[(Condition, Handler)]) -> Result<FaultTable, HandlerNotAllowed>
         ensures allowed { IsOk result ↔ AreAllowed role pairs.now }
         ensures role { IfOk result (λ table. table.role ≡ role) }
         ensures handlers { IfOk result (λ table. (c : ℕ) → handler_in table c ≡ act pairs.now c) }

@@ -2,9 +2,7 @@ ghost use Rattle.std.specs.Prelude.{◌≡◌, ◌↔◌, IsTrue};
 
 use crate::fault_table::FaultTable;
 use crate::key::EntityId;
-use crate::limits::{
-    ID_OCTETS, SEGMENT_OCTETS_LEAST, SEGMENT_OCTETS_MOST, TIMER_MILLISECONDS,
-};
+use crate::limits::{ID_OCTETS, SEGMENT_OCTETS_LEAST, SEGMENT_OCTETS_MOST, TIMER_MILLISECONDS};
 use crate::names::{Role, TimerKind};
 use std::marker::Model;
 
@@ -134,16 +132,31 @@ impl Model for Params {
     ghost Value = { ParamsValue };
 
     ghost view = { λ p. record {
-        local = p.local; lengths = p.lengths; segment_octets = p.segment_octets;
-        timers = p.timers; limits = p.limits; tables = p.tables } };
+      local = p.local;
+      lengths = p.lengths;
+      segment_octets = p.segment_octets;
+      timers = p.timers;
+      limits = p.limits;
+      tables = p.tables;
+    } };
 
     ghost invariant = { λ p. IsParams (record {
-        local = p.local; lengths = p.lengths; segment_octets = p.segment_octets;
-        timers = p.timers; limits = p.limits; tables = p.tables }) };
+      local = p.local;
+      lengths = p.lengths;
+      segment_octets = p.segment_octets;
+      timers = p.timers;
+      limits = p.limits;
+      tables = p.tables;
+    }) };
 
     ghost inverse = { λ v. record {
-        local = v.local; lengths = v.lengths; segment_octets = v.segment_octets;
-        timers = v.timers; limits = v.limits; tables = v.tables } };
+      local = v.local;
+      lengths = v.lengths;
+      segment_octets = v.segment_octets;
+      timers = v.timers;
+      limits = v.limits;
+      tables = v.tables;
+    } };
 }
 
 impl Params {
@@ -160,11 +173,21 @@ impl Params {
         tables: FaultTables,
     ) -> Option<Params>
         ensures ranges { IsSome result ↔ IsParams (record {
-            local = local; lengths = lengths; segment_octets = segment_octets;
-            timers = timers; limits = limits; tables = tables }) }
+          local = local;
+          lengths = lengths;
+          segment_octets = segment_octets;
+          timers = timers;
+          limits = limits;
+          tables = tables;
+        }) }
         ensures kept { IfSome result (λ params. params ≡ record {
-            local = local; lengths = lengths; segment_octets = segment_octets;
-            timers = timers; limits = limits; tables = tables }) }
+          local = local;
+          lengths = lengths;
+          segment_octets = segment_octets;
+          timers = timers;
+          limits = limits;
+          tables = tables;
+        }) }
     {
         let segments = SEGMENT_OCTETS_LEAST..=SEGMENT_OCTETS_MOST;
         let are_in_range = lengths.are_in_range()

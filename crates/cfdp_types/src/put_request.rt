@@ -4,7 +4,7 @@ ghost use Rattle.cfdp_types.specs.Put.{is_longer, put_fault, put_fault_number};
 ghost use Rattle.cfdp_types.specs.declared.put_request.PutFault.TheVariants as faults;
 
 use crate::key::EntityId;
-use crate::limits::{MESSAGES, MESSAGE_OCTETS, NAME_OCTETS};
+use crate::limits::{MESSAGE_OCTETS, MESSAGES, NAME_OCTETS};
 use crate::messages::Messages;
 use crate::names::Class;
 use crate::octets::Octets;
@@ -61,12 +61,22 @@ impl Model for PutRequest {
     ghost Value = { PutValue };
 
     ghost view = { λ p. record {
-        destination = p.destination; class = p.class; source_name = p.source_name;
-        destination_name = p.destination_name; messages = p.messages; file = p.file } };
+      destination = p.destination;
+      class = p.class;
+      source_name = p.source_name;
+      destination_name = p.destination_name;
+      messages = p.messages;
+      file = p.file;
+    } };
 
     ghost invariant = { λ p. IsPut (record {
-        destination = p.destination; class = p.class; source_name = p.source_name;
-        destination_name = p.destination_name; messages = p.messages; file = p.file }) };
+      destination = p.destination;
+      class = p.class;
+      source_name = p.source_name;
+      destination_name = p.destination_name;
+      messages = p.messages;
+      file = p.file;
+    }) };
 }
 
 impl PutRequest {
@@ -84,9 +94,13 @@ impl PutRequest {
         file: &[u8],
     ) -> Result<PutRequest, PutFault>
         ensures kept { IfOk result (λ request. request ≡ record {
-            destination = destination; class = class; source_name = source_name.now;
-            destination_name = destination_name.now; messages = map (λ m. m.now) messages.now;
-            file = file.now }) }
+          destination = destination;
+          class = class;
+          source_name = source_name.now;
+          destination_name = destination_name.now;
+          messages = map (λ m. m.now) messages.now;
+          file = file.now;
+        }) }
         ensures refused { (fault : PutFault)
             → put_fault source_name.now destination_name.now (map (λ m. m.now) messages.now) ≡ Some fault
             → result ≡ Err fault }

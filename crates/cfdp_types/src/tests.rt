@@ -3,6 +3,7 @@ use crate::{
     HandlerNotAllowed, HeaderLengths, Image, Messages, Octets, Params, PutFault, PutRequest, Role,
     TimerKind, TimerLengths,
 };
+use std::alloc::Global;
 use std::test::*;
 
 #[test]
@@ -137,7 +138,13 @@ fn cancelling() -> Result<FaultTables, HandlerNotAllowed> {
     })
 }
 
-fn params_of(octets: u8, segment: u16, timer: u32, limit: u8, tables: &FaultTables) -> Option<Params> {
+fn params_of(
+    octets: u8,
+    segment: u16,
+    timer: u32,
+    limit: u8,
+    tables: &FaultTables,
+) -> Option<Params> {
     let lengths = HeaderLengths {
         entity_octets: octets,
         sequence_octets: 1,
@@ -175,7 +182,11 @@ fn ranges_of_params(rt: HostRuntime) {
     ];
     for (octets, segment, timer, limit, is_some) in rows {
         let params = params_of(octets, segment, timer, limit, &tables);
-        assert_eq!(rt; params.is_some(), is_some, "at {octets}, {segment}, {timer}, {limit}");
+        assert_eq!(rt;
+            params.is_some(),
+            is_some,
+            "at {octets}, {segment}, {timer}, {limit}"
+        );
     }
     let exchanged = FaultTables {
         send: tables.receive_two,
@@ -272,5 +283,40 @@ fn kept_puts(rt: HostRuntime) -> Result<(), Fail> {
         octets: put.file().copy()?,
     };
     assert_eq!(rt; image.octets, *put.file());
+    Ok(())
+}
+
+fn put_of(alloc: Global) -> Result<PutRequest, PutFault> {
+    let messages: [&[u8]; 2] = [b"m", b"n"];
+    PutRequest::new(
+        alloc,
+        EntityId(1),
+        Class::Two,
+        b"a",
+        b"b",
+        &messages,
+        b"abc",
+    )
+}
+
+// Where the first try is refused memory, the second goes well.
+#[test]
+fn memory_refused_to_a_put(rt: HostRuntime) {
+    let alloc = rt.alloc();
+    let put = put_of(alloc).or_else(|_| put_of(alloc));
+    assert!(rt; put.is_ok());
+}
+
+#[test]
+fn memory_refused_to_messages(rt: HostRuntime) -> Result<(), Fail> {
+    let alloc = rt.alloc();
+    let mut messages = Messages::new(alloc);
+    for count in 0..5usize {
+        if messages.push(Octets::new(alloc)).is_err() {
+            assert_eq!(rt; messages.as_slice().len(), count);
+            messages.push(Octets::new(alloc))?;
+        }
+    }
+    assert_eq!(rt; messages.as_slice().len(), 5);
     Ok(())
 }
