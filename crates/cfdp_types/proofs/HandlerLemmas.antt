@@ -1,13 +1,13 @@
 -- Fault tables, one pair after the other.
-use Rattle.std.proofs.Common.{◌≡◌, ℕ, ◌+◌, ◌<◌, Bool, true, false, cond, ◌==◌, ◌&&◌, ◌||◌, List, [], ◌∷◌, ◌++◌, IsTrue, length, take, get_or, refl, sym, ap, ◌∙◌, arith}
-use Rattle.std.specs.List.{All}
+use Rattle.std.proofs.Common.{◌≡◌, ℕ, ◌+◌, ◌<◌, Bool, true, false, cond, ◌==◌, ◌&&◌, List, [], ◌∷◌, ◌++◌, IsTrue, length, take, get_or, refl, sym, ap, ◌∙◌, arith}
 use Rattle.std.proofs.lemmas.List.{take_more}
 use Rattle.std.proofs.lemmas.List.Elements.{All-push}
 use Rattle.cfdp_types.specs.Condition.{positive_ack_limit, filestore_rejection, file_checksum_failure, file_size_error, nak_limit, inactivity, check_limit, unsupported_checksum_type}
-use Rattle.cfdp_types.specs.Handlers.{AreAllowed, FaultTableValue, act, act_after, can_resume, handler_in, has_handler, is_allowed, is_limit, with_handler}
+use Rattle.cfdp_types.specs.Handlers.{AreAllowed, FaultTableValue, act, IsFaultTable, act_after, handler_in, has_handler, is_allowed, is_limit, with_handler}
 use Rattle.cfdp_types.specs.declared.names.Handler.{Handler}
 use Rattle.cfdp_types.specs.declared.names.Handler.TheVariants.{Cancel, Suspend, Ignore, Abandon}
 use Rattle.cfdp_types.specs.declared.names.Role.{Role}
+use Rattle.cfdp_types.specs.declared.names.Role.TheVariants.{RecvOne}
 
 -- a later pair counts where it is for the condition
 pub act_after-append : (before : Handler) (pairs : List (ℕ × Handler)) (pair : ℕ × Handler) (c : ℕ) → act_after before (pairs ++ pair ∷ []) c ≡ cond (pair.0 == c) pair.1 (act_after before pairs c)
@@ -65,3 +65,17 @@ IsTableOf-next role pairs i pair table next h at is allowed e =
     let more : take (i + 1) pairs ≡ take i pairs ++ pair ∷ [] = take_more pairs i pair h ∙ ap (λ (p : ℕ × Handler). take i pairs ++ p ∷ []) (sym at) in
     let may : IsTrue (is_allowed role pair.0 pair.1) = rw is.role_is at allowed in
     rw (more, e) (IsTableOf-append role (take i pairs) table pair is may)
+
+-- a condition without a handler is cancelled
+pub handler_in-none : (table : FaultTableValue) (c : ℕ) → has_handler c ≡ false → handler_in table c ≡ Cancel
+handler_in-none table c h = Prim.grind arith
+
+no_suspend_by : (table : FaultTableValue) → IsFaultTable table → table.role ≡ RecvOne → (c : ℕ) (b : Bool) → has_handler c ≡ b → handler_in table c ≡ Suspend → ⊥
+no_suspend_by table is role c false none suspends =
+    let cancels : handler_in table c ≡ Cancel = handler_in-none table c none in cc
+no_suspend_by table is role c true some suspends =
+    let may : IsTrue (is_limit c && false) = rw suspends at (rw role at (is c some)) in Prim.grind arith
+
+-- a class 1 receiver is suspended by no fault
+pub never_suspends : (table : FaultTableValue) → IsFaultTable table → table.role ≡ RecvOne → (c : ℕ) → handler_in table c ≡ Suspend → ⊥
+never_suspends table is role c suspends = no_suspend_by table is role c (has_handler c) refl suspends

@@ -1,14 +1,13 @@
 -- Worked rows: what the definitions give, computed.
-use Rattle.std.proofs.Common.{◌≡◌, ℕ, Bool, true, false, List, [], ◌∷◌, map, replicate, Option, Some, None, refl, arith}
-use Rattle.cfdp_types.specs.Handlers.{FaultTableValue, IsFaultTable, act, handler_in, handlers_with, is_allowed, with_handler}
-use Rattle.cfdp_types.specs.Params.{AreFaultTables, IsParams, ParamsValue, table_for, timer_length}
+use Rattle.std.proofs.Common.{◌≡◌, ℕ, Bool, true, false, List, [], ◌∷◌, map, replicate, Some, None, refl, arith}
+use Rattle.cfdp_types.specs.Handlers.{FaultTableValue, IsFaultTable, act, handler_in, is_allowed, with_handler}
+use Rattle.cfdp_types.specs.Params.{IsParams, ParamsValue, table_for, timer_length}
 use Rattle.cfdp_types.specs.Put.{put_fault}
 use Rattle.cfdp_types.specs.declared.names.Handler.{Handler}
 use Rattle.cfdp_types.specs.declared.names.Handler.TheVariants.{Cancel, Suspend, Ignore, Abandon}
 use Rattle.cfdp_types.specs.declared.names.Role.{Role}
 use Rattle.cfdp_types.specs.declared.names.Role.TheVariants.{Send, RecvOne, RecvTwo}
 use Rattle.cfdp_types.specs.declared.names.TimerKind.TheVariants.{Ack, Nak, Check, Inactivity}
-use Rattle.cfdp_types.specs.declared.fault_table.Handlers.{Handlers}
 use Rattle.cfdp_types.specs.declared.put_request.PutFault.TheVariants as faults
 
 -- whether a role may name cancel, suspend, ignore and abandon for a condition

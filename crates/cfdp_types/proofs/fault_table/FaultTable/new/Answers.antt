@@ -1,4 +1,4 @@
-use Rattle.std.proofs.Common.{◌<◌, length, refl, arith}
+use Rattle.std.proofs.Common.{refl, arith}
 use Rattle.cfdp_types.proofs.HandlerLemmas.{IsTableOf-next}
 use Rattle.cfdp_types.proofs.fault_table.FaultTable.new.Goals as goal
 
