@@ -1,1 +1,4 @@
+pub mod HandlerLemmas
 pub mod LimitFacts
+pub mod PutLemmas
+pub mod Rows

@@ -1,6 +1,6 @@
 -- The limits of the profile, as they stand in the code.
-use Rattle.std.proofs.Common.{◌≡◌, refl}
-use Rattle.cfdp_types.specs.declared.limits.TheConstants.{FILE_OCTETS, SEGMENT_OCTETS_LEAST, SEGMENT_OCTETS_MOST, JOURNAL_ENTRIES, JOURNAL_ENTRIES_KEPT, USERS, SOURCES_OF_A_USER, REMOTES, RECEIVING_LANES, SENDING_LANES, QUEUE_BUNDLES, NAK_REQUESTS, EXPIRATIONS, TIMER_MILLISECONDS, NAME_OCTETS, MESSAGE_OCTETS, MESSAGES}
+use Rattle.std.proofs.Common.{◌≡◌, ◌^◌, refl}
+use Rattle.cfdp_types.specs.declared.limits.TheConstants.{FILE_OCTETS, SEGMENT_OCTETS_LEAST, SEGMENT_OCTETS_MOST, JOURNAL_ENTRIES, JOURNAL_ENTRIES_KEPT, USERS, SOURCES_OF_A_USER, REMOTES, RECEIVING_LANES, SENDING_LANES, QUEUE_BUNDLES, NAK_REQUESTS, EXPIRATIONS, TIMER_MILLISECONDS, NAME_OCTETS, MESSAGE_OCTETS, MESSAGES, ID_OCTETS, CONFIGURED_NUMBER, USER_NAME_OCTETS, QUEUE_PUSHES}
 
 file_octets : FILE_OCTETS ≡ 4194304
 file_octets = refl
@@ -52,3 +52,15 @@ message_octets = refl
 
 messages : MESSAGES ≡ 4
 messages = refl
+
+id_octets : ID_OCTETS ≡ 8
+id_octets = refl
+
+configured_number : CONFIGURED_NUMBER ≡ 9223372036854775807
+configured_number = refl
+
+user_name_octets : USER_NAME_OCTETS ≡ 32
+user_name_octets = refl
+
+queue_pushes : QUEUE_PUSHES ≡ 2 ^ 62
+queue_pushes = refl

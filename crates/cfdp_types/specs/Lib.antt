@@ -1,2 +1,5 @@
 pub mod Condition
 pub mod ChecksumType
+pub mod Handlers
+pub mod Params
+pub mod Put

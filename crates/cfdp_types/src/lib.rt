@@ -3,18 +3,28 @@
 
 mod checksum_type;
 mod condition;
+mod fault_table;
+mod image;
 mod key;
 pub mod limits;
 mod messages;
 mod names;
 mod octets;
+mod params;
+mod put_request;
+mod timer_op;
 
 pub use checksum_type::ChecksumType;
 pub use condition::Condition;
+pub use fault_table::{FaultTable, HandlerNotAllowed, Handlers};
+pub use image::Image;
 pub use key::{Deposit, EntityId, TxnKey};
 pub use messages::Messages;
 pub use names::{Class, Delivery, FileStatus, Handler, Role, TimerKind};
 pub use octets::Octets;
+pub use params::{ExpirationLimits, FaultTables, HeaderLengths, Params, TimerLengths};
+pub use put_request::{PutFault, PutRequest};
+pub use timer_op::TimerOp;
 
 #[cfg(test)]
 mod tests;

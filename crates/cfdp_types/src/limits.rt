@@ -1,4 +1,5 @@
-//! What one entity holds at the most.
+//! What one entity holds at the most. Where a limit has no least number of its own, and the thing
+//! is needed at all, the least is one.
 
 /// Octets of a file.
 pub const FILE_OCTETS: u32 = 4_194_304;
@@ -50,3 +51,17 @@ pub const MESSAGE_OCTETS: usize = 255;
 
 /// Messages to the user in a Put request.
 pub const MESSAGES: usize = 4;
+
+/// Octets of an entity ID and of a transaction sequence number in a header.
+pub const ID_OCTETS: u8 = 8;
+
+/// The greatest entity ID, and the greatest number that a sending lane may begin with, in a
+/// configuration.
+pub const CONFIGURED_NUMBER: u64 = 9_223_372_036_854_775_807;
+
+/// Octets of a user's name.
+pub const USER_NAME_OCTETS: usize = 32;
+
+/// Pushes into one user's queue in a run: a premise of what is said of the queue, which no run
+/// reaches.
+pub const QUEUE_PUSHES: u64 = 4_611_686_018_427_387_904;

@@ -1,4 +1,4 @@
-ghost use Rattle.std.specs.Prelude.{◌≡◌, [], ◌∷◌, ◌++◌, IfOk, OnOk, OnErr, nat_eq};
+ghost use Rattle.std.specs.Prelude.{◌≡◌, [], ◌∷◌, ◌++◌, IfOk, OnOk, OnErr, map, nat_eq};
 ghost use Rattle.std.proofs.lemmas.Cmp.{nat_list_eq_equiv, lists_equiv};
 ghost use Rattle.std.specs.Cmp as Cmp;
 ghost use lib.Pointwise.{pointwise};
@@ -28,6 +28,28 @@ impl Messages {
         Messages {
             items: Vec::new(alloc),
         }
+    }
+
+    /// A copy of each of the slices, in order.
+    pub fn from_slices(alloc: Global, slices: &[&[u8]]) -> Result<Messages, AllocError>
+        ensures { IfOk result (λ messages. messages ≡ map (λ slice. slice.now) slices.now) }
+    {
+        let mut items = Vec::with_capacity(alloc, slices.len())?;
+        for slice in slices {
+            items.push(Octets::from_slice(alloc, slice)?)?;
+        }
+        Ok(Messages { items })
+    }
+
+    /// The same messages once more.
+    pub fn copy(&self) -> Result<Messages, AllocError>
+        ensures { IfOk result (λ copy. copy ≡ self.now) }
+    {
+        let mut items = Vec::with_capacity(*self.items.allocator(), self.items.len())?;
+        for message in &self.items {
+            items.push(message.copy()?)?;
+        }
+        Ok(Messages { items })
     }
 
     pub fn as_slice(&self) -> &[Octets]

@@ -50,6 +50,13 @@ impl Octets {
         self.items
     }
 
+    /// The same octets once more.
+    pub fn copy(&self) -> Result<Octets, AllocError>
+        ensures { IfOk result (λ copy. copy ≡ self.now) }
+    {
+        Octets::from_slice(*self.items.allocator(), &self.items)
+    }
+
     pub fn as_slice(&self) -> &[u8]
         ensures { result.now ≡ self.now }
     {

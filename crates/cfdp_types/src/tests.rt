@@ -1,4 +1,9 @@
-use crate::{ChecksumType, Condition, Messages, Octets};
+use crate::{
+    ChecksumType, Class, Condition, EntityId, ExpirationLimits, FaultTable, FaultTables, Handler,
+    HandlerNotAllowed, HeaderLengths, Image, Messages, Octets, Params, PutFault, PutRequest, Role,
+    TimerKind, TimerLengths,
+};
+use std::alloc::Global;
 use std::test::*;
 
 #[test]
@@ -28,6 +33,9 @@ fn codes_and_numbers(rt: HostRuntime) {
     }
     assert_eq!(rt; ChecksumType::MODULAR.number(), 0);
     assert_eq!(rt; ChecksumType::NULL.number(), 15);
+    assert_eq!(rt; HandlerNotAllowed.number(), 1);
+    assert_eq!(rt; PutFault::NoName.number(), 1);
+    assert_eq!(rt; PutFault::NoMemory.number(), 5);
 }
 
 #[test]
@@ -37,6 +45,7 @@ fn octets_and_messages(rt: HostRuntime) -> Result<(), Fail> {
     assert_eq!(rt; name.as_slice(), b"abc".as_slice());
     assert_eq!(rt; Octets::new(alloc).as_slice().len(), 0);
     assert_eq!(rt; name.clone()?, name);
+    assert_eq!(rt; name.copy()?, name);
     assert_ne!(rt; name, Octets::from_vec(vec![in alloc; 97, 98, 100]?));
     assert_eq!(rt; name.clone()?.into_vec().as_slice(), b"abc".as_slice());
 
@@ -45,6 +54,269 @@ fn octets_and_messages(rt: HostRuntime) -> Result<(), Fail> {
     messages.push(Octets::new(alloc))?;
     assert_eq!(rt; messages.as_slice().len(), 2);
     assert_eq!(rt; messages.clone()?, messages);
+    assert_eq!(rt; messages.copy()?, messages);
+    assert_eq!(rt; Messages::from_slices(alloc, &[b"abc", b""])?, messages);
     assert_ne!(rt; Messages::new(alloc), messages);
+    Ok(())
+}
+
+// For each condition code, which handlers a fault table may name: none, all four, or cancel and
+// abandon.
+const ROWS: [&str; 16] = [
+    "none", "all", "none", "none", "ends", "ends", "ends", "all", "all", "none", "all", "ends",
+    "none", "none", "none", "none",
+];
+
+#[test]
+fn every_handler_of_every_table(rt: HostRuntime) {
+    let handlers = [
+        (Handler::Cancel, true),
+        (Handler::Suspend, false),
+        (Handler::Ignore, false),
+        (Handler::Abandon, true),
+    ];
+    for role in [Role::Send, Role::RecvOne, Role::RecvTwo] {
+        for (code, row) in ROWS.iter().enumerate() {
+            let condition = Condition::new(code as u8);
+            for (handler, is_end) in handlers {
+                let suspends_class_one = role == Role::RecvOne && handler == Handler::Suspend;
+                let is_allowed = match *row {
+                    "all" => !suspends_class_one,
+                    "ends" => is_end,
+                    _ => false,
+                };
+                let answer = FaultTable::new(role, &[(condition, handler)]);
+                let action = answer.map(|table| table.action(condition));
+                let want = if is_allowed {
+                    Ok(handler)
+                } else {
+                    Err(HandlerNotAllowed)
+                };
+                assert_eq!(rt; action, want, "at {role:?}, {code}, {handler:?}");
+            }
+        }
+    }
+}
+
+#[test]
+fn later_pairs(rt: HostRuntime) {
+    let pairs = [
+        (Condition::NAK_LIMIT, Handler::Suspend),
+        (Condition::INACTIVITY, Handler::Ignore),
+        (Condition::NAK_LIMIT, Handler::Abandon),
+    ];
+    let Ok(table) = FaultTable::new(Role::RecvTwo, &pairs) else {
+        assert!(rt; false);
+        return;
+    };
+    assert_eq!(rt; table.role(), Role::RecvTwo);
+    let actions = [
+        (Condition::NAK_LIMIT, Handler::Abandon),
+        (Condition::INACTIVITY, Handler::Ignore),
+        (Condition::CHECK_LIMIT, Handler::Cancel),
+        (Condition::NO_ERROR, Handler::Cancel),
+    ];
+    for (condition, handler) in actions {
+        assert_eq!(rt; table.action(condition), handler);
+    }
+    let changed = table.with(Condition::CHECK_LIMIT, Handler::Suspend);
+    assert_eq!(rt;
+        changed.map(|table| table.action(Condition::CHECK_LIMIT)),
+        Ok(Handler::Suspend)
+    );
+    assert_eq!(rt;
+        FaultTable::new(Role::RecvOne, &pairs),
+        Err(HandlerNotAllowed)
+    );
+}
+
+fn cancelling() -> Result<FaultTables, HandlerNotAllowed> {
+    Ok(FaultTables {
+        send: FaultTable::new(Role::Send, &[])?,
+        receive_one: FaultTable::new(Role::RecvOne, &[])?,
+        receive_two: FaultTable::new(Role::RecvTwo, &[])?,
+    })
+}
+
+fn params_of(
+    octets: u8,
+    segment: u16,
+    timer: u32,
+    limit: u8,
+    tables: &FaultTables,
+) -> Option<Params> {
+    let lengths = HeaderLengths {
+        entity_octets: octets,
+        sequence_octets: 1,
+    };
+    let timers = TimerLengths {
+        ack: 1,
+        nak: 2,
+        check: 3,
+        inactivity: timer,
+    };
+    let limits = ExpirationLimits {
+        ack: 1,
+        nak: 2,
+        check: limit,
+    };
+    Params::new(EntityId(2), lengths, segment, timers, limits, *tables)
+}
+
+#[test]
+fn ranges_of_params(rt: HostRuntime) {
+    let Ok(tables) = cancelling() else {
+        assert!(rt; false);
+        return;
+    };
+    let rows = [
+        (1, 256, 1, 1, true),
+        (8, 1_400, 86_400_000, 255, true),
+        (0, 256, 1, 1, false),
+        (9, 256, 1, 1, false),
+        (1, 255, 1, 1, false),
+        (1, 1_401, 1, 1, false),
+        (1, 256, 0, 1, false),
+        (1, 256, 86_400_001, 1, false),
+        (1, 256, 1, 0, false),
+    ];
+    for (octets, segment, timer, limit, is_some) in rows {
+        let params = params_of(octets, segment, timer, limit, &tables);
+        assert_eq!(rt;
+            params.is_some(),
+            is_some,
+            "at {octets}, {segment}, {timer}, {limit}"
+        );
+    }
+    let exchanged = FaultTables {
+        send: tables.receive_two,
+        ..tables
+    };
+    assert!(rt; params_of(1, 256, 1, 1, &exchanged).is_none());
+}
+
+#[test]
+fn parts_of_params(rt: HostRuntime) {
+    let made = cancelling().ok();
+    let Some(params) = made.and_then(|tables| params_of(4, 300, 5, 6, &tables)) else {
+        assert!(rt; false);
+        return;
+    };
+    assert_eq!(rt; params.local(), EntityId(2));
+    assert_eq!(rt; params.lengths().entity_octets, 4);
+    assert_eq!(rt; params.lengths().sequence_octets, 1);
+    assert_eq!(rt; params.segment_octets(), 300);
+    let timers = [
+        (TimerKind::Ack, 1),
+        (TimerKind::Nak, 2),
+        (TimerKind::Check, 3),
+        (TimerKind::Inactivity, 5),
+    ];
+    for (kind, length) in timers {
+        assert_eq!(rt; params.timers().of(kind), length);
+    }
+    let limits = params.limits();
+    assert_eq!(rt; (limits.ack, limits.nak, limits.check), (1, 2, 6));
+    for role in [Role::Send, Role::RecvOne, Role::RecvTwo] {
+        assert_eq!(rt; params.tables().of(role).role(), role);
+    }
+}
+
+#[test]
+fn refused_puts(rt: HostRuntime) -> Result<(), Fail> {
+    let alloc = rt.alloc();
+    let octets = vec![in alloc; 97; 256]?;
+    let part = |count: usize| octets.as_slice().get(..count).unwrap_or_default();
+    // octets of both names and of each message, messages, and what is wrong
+    let rows = [
+        (0, 1, 0, 0, Some(PutFault::NoName)),
+        (256, 0, 0, 0, Some(PutFault::NoName)),
+        (256, 1, 256, 1, Some(PutFault::NameTooLong)),
+        (1, 256, 0, 0, Some(PutFault::NameTooLong)),
+        (255, 255, 0, 0, None),
+        (1, 1, 256, 5, Some(PutFault::MessageTooLong)),
+        (1, 1, 255, 5, Some(PutFault::TooManyMessages)),
+        (1, 1, 255, 4, None),
+    ];
+    for (source, destination, message, count, fault) in rows {
+        let messages = [part(message); 5];
+        let put = PutRequest::new(
+            alloc,
+            EntityId(1),
+            Class::One,
+            part(source),
+            part(destination),
+            messages.get(..count).unwrap_or_default(),
+            b"abc",
+        );
+        assert_eq!(rt; put.err(), fault, "at {source} and {destination}");
+    }
+    Ok(())
+}
+
+#[test]
+fn kept_puts(rt: HostRuntime) -> Result<(), Fail> {
+    let alloc = rt.alloc();
+    let messages: [&[u8]; 2] = [b"m", b""];
+    let made = PutRequest::new(
+        alloc,
+        EntityId(1),
+        Class::Two,
+        b"a",
+        b"b",
+        &messages,
+        b"abc",
+    );
+    let Ok(put) = made else {
+        return Err("refused".into());
+    };
+    let put = put.copy()?;
+    assert_eq!(rt; put.destination(), EntityId(1));
+    assert_eq!(rt; put.class(), Class::Two);
+    assert_eq!(rt; put.source_name().as_slice(), b"a".as_slice());
+    assert_eq!(rt; put.destination_name().as_slice(), b"b".as_slice());
+    assert_eq!(rt; *put.messages(), Messages::from_slices(alloc, &messages)?);
+    assert_eq!(rt; put.file().as_slice(), b"abc".as_slice());
+    let image = Image {
+        source_name: put.source_name().copy()?,
+        destination_name: put.destination_name().copy()?,
+        octets: put.file().copy()?,
+    };
+    assert_eq!(rt; image.octets, *put.file());
+    Ok(())
+}
+
+fn put_of(alloc: Global) -> Result<PutRequest, PutFault> {
+    let messages: [&[u8]; 2] = [b"m", b"n"];
+    PutRequest::new(
+        alloc,
+        EntityId(1),
+        Class::Two,
+        b"a",
+        b"b",
+        &messages,
+        b"abc",
+    )
+}
+
+// Where the first try is refused memory, the second goes well.
+#[test]
+fn memory_refused_to_a_put(rt: HostRuntime) {
+    let alloc = rt.alloc();
+    let put = put_of(alloc).or_else(|_| put_of(alloc));
+    assert!(rt; put.is_ok());
+}
+
+#[test]
+fn memory_refused_to_messages(rt: HostRuntime) -> Result<(), Fail> {
+    let alloc = rt.alloc();
+    let mut messages = Messages::new(alloc);
+    for count in 0..5usize {
+        if messages.push(Octets::new(alloc)).is_err() {
+            assert_eq!(rt; messages.as_slice().len(), count);
+            messages.push(Octets::new(alloc))?;
+        }
+    }
+    assert_eq!(rt; messages.as_slice().len(), 5);
     Ok(())
 }

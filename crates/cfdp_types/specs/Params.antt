@@ -1,0 +1,87 @@
+-- What the transactions with one remote entity go by, and the ranges that it keeps.
+use Rattle.std.specs.Prelude.{◌≡◌, ℕ, ◌≤◌}
+use Rattle.cfdp_types.specs.declared.key.EntityId.{EntityId}
+use Rattle.cfdp_types.specs.declared.limits.TheConstants.{EXPIRATIONS, ID_OCTETS, SEGMENT_OCTETS_LEAST, SEGMENT_OCTETS_MOST, TIMER_MILLISECONDS}
+use Rattle.cfdp_types.specs.declared.names.Role.{Role}
+use Rattle.cfdp_types.specs.declared.names.Role.TheVariants.{Send, RecvOne, RecvTwo}
+use Rattle.cfdp_types.specs.declared.names.TimerKind.{TimerKind}
+use Rattle.cfdp_types.specs.declared.names.TimerKind.TheVariants.{Ack, Nak, Check, Inactivity}
+use Rattle.cfdp_types.specs.declared.params.ExpirationLimits.{ExpirationLimits}
+use Rattle.cfdp_types.specs.declared.params.FaultTables.{FaultTables}
+use Rattle.cfdp_types.specs.declared.params.HeaderLengths.{HeaderLengths}
+use Rattle.cfdp_types.specs.declared.params.TimerLengths.{TimerLengths}
+use Rattle.cfdp_types.specs.Handlers.{FaultTableValue, IsFaultTable}
+
+-- the parts of the parameters
+pub record ParamsValue : Type 0 where
+  pub local : EntityId
+  pub lengths : HeaderLengths
+  pub segment_octets : ℕ
+  pub timers : TimerLengths
+  pub limits : ExpirationLimits
+  pub tables : FaultTables
+
+-- how long the timers of a kind run
+abbrev pub timer_length : TimerLengths → TimerKind → ℕ
+timer_length timers Ack = timers.ack
+timer_length timers Nak = timers.nak
+timer_length timers Check = timers.check
+timer_length timers Inactivity = timers.inactivity
+
+-- the fault table for a role
+abbrev pub table_for : FaultTables → Role → FaultTableValue
+table_for tables Send = tables.send
+table_for tables RecvOne = tables.receive_one
+table_for tables RecvTwo = tables.receive_two
+
+-- from one millisecond to a day
+pub record IsTimerLength (length : ℕ) : Type 0 where
+  pub least : 1 ≤ length
+  pub most : length ≤ TIMER_MILLISECONDS
+
+pub record AreTimerLengths (timers : TimerLengths) : Type 0 where
+  pub ack : IsTimerLength timers.ack
+  pub nak : IsTimerLength timers.nak
+  pub check : IsTimerLength timers.check
+  pub inactivity : IsTimerLength timers.inactivity
+
+-- the first expiration may be the one that is a fault
+pub record IsExpirationLimit (limit : ℕ) : Type 0 where
+  pub least : 1 ≤ limit
+  pub most : limit ≤ EXPIRATIONS
+
+pub record AreExpirationLimits (limits : ExpirationLimits) : Type 0 where
+  pub ack : IsExpirationLimit limits.ack
+  pub nak : IsExpirationLimit limits.nak
+  pub check : IsExpirationLimit limits.check
+
+-- the octets of a number in a header: the header has three bits for one less
+pub record IsIdLength (octets : ℕ) : Type 0 where
+  pub least : 1 ≤ octets
+  pub most : octets ≤ ID_OCTETS
+
+pub record AreHeaderLengths (lengths : HeaderLengths) : Type 0 where
+  pub entity : IsIdLength lengths.entity_octets
+  pub sequence : IsIdLength lengths.sequence_octets
+
+pub record IsSegmentLength (octets : ℕ) : Type 0 where
+  pub least : SEGMENT_OCTETS_LEAST ≤ octets
+  pub most : octets ≤ SEGMENT_OCTETS_MOST
+
+-- a fault table that is for the role
+pub record IsTableFor (role : Role) (table : FaultTableValue) : Type 0 where
+  pub role_is : table.role ≡ role
+  pub handlers : IsFaultTable table
+
+pub record AreFaultTables (tables : FaultTables) : Type 0 where
+  pub send : IsTableFor Send tables.send
+  pub receive_one : IsTableFor RecvOne tables.receive_one
+  pub receive_two : IsTableFor RecvTwo tables.receive_two
+
+-- each part is in its range, and each fault table is for its own role
+pub record IsParams (params : ParamsValue) : Type 0 where
+  pub lengths : AreHeaderLengths params.lengths
+  pub segment : IsSegmentLength params.segment_octets
+  pub timers : AreTimerLengths params.timers
+  pub limits : AreExpirationLimits params.limits
+  pub tables : AreFaultTables params.tables

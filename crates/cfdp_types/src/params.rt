@@ -1,0 +1,258 @@
+ghost use Rattle.std.specs.Prelude.{◌≡◌, ◌↔◌, IsTrue};
+
+use crate::fault_table::FaultTable;
+use crate::key::EntityId;
+use crate::limits::{ID_OCTETS, SEGMENT_OCTETS_LEAST, SEGMENT_OCTETS_MOST, TIMER_MILLISECONDS};
+use crate::names::{Role, TimerKind};
+use std::marker::Model;
+
+/// How long each timer of a transaction runs, in milliseconds.
+#[derive(Clone, Copy, Debug, PartialEq, Eq)]
+pub struct TimerLengths {
+    pub ack: u32,
+    pub nak: u32,
+    pub check: u32,
+    pub inactivity: u32,
+}
+
+impl TimerLengths {
+    ghost use Rattle.std.specs.Prelude.{◌≡◌, ◌↔◌, IsTrue};
+    ghost use Rattle.cfdp_types.specs.Params.{AreTimerLengths, IsTimerLength, timer_length};
+
+    /// How long the timers of a kind run.
+    pub fn of(&self, kind: TimerKind) -> u32
+        ensures { result ≡ timer_length self.now kind }
+    {
+        match kind {
+            TimerKind::Ack => self.ack,
+            TimerKind::Nak => self.nak,
+            TimerKind::Check => self.check,
+            TimerKind::Inactivity => self.inactivity,
+        }
+    }
+
+    fn are_in_range(&self) -> bool
+        ensures { IsTrue result ↔ AreTimerLengths self.now }
+    {
+        let range = 1..=TIMER_MILLISECONDS;
+        range.contains(&self.ack)
+            && range.contains(&self.nak)
+            && range.contains(&self.check)
+            && range.contains(&self.inactivity)
+    }
+}
+
+/// The number of the expiration of a timer that is a fault, counted from one.
+#[derive(Clone, Copy, Debug, PartialEq, Eq)]
+pub struct ExpirationLimits {
+    pub ack: u8,
+    pub nak: u8,
+    pub check: u8,
+}
+
+impl ExpirationLimits {
+    ghost use Rattle.std.specs.Prelude.{◌↔◌, IsTrue};
+    ghost use Rattle.cfdp_types.specs.Params.{AreExpirationLimits};
+
+    fn are_in_range(&self) -> bool
+        ensures { IsTrue result ↔ AreExpirationLimits self.now }
+    {
+        self.ack > 0 && self.nak > 0 && self.check > 0
+    }
+}
+
+/// How many octets the numbers in a PDU's header have.
+#[derive(Clone, Copy, Debug, PartialEq, Eq)]
+pub struct HeaderLengths {
+    /// Of an entity ID.
+    pub entity_octets: u8,
+    /// Of a transaction sequence number.
+    pub sequence_octets: u8,
+}
+
+impl HeaderLengths {
+    ghost use Rattle.std.specs.Prelude.{◌↔◌, IsTrue};
+    ghost use Rattle.cfdp_types.specs.Params.{AreHeaderLengths};
+
+    fn are_in_range(&self) -> bool
+        ensures { IsTrue result ↔ AreHeaderLengths self.now }
+    {
+        let range = 1..=ID_OCTETS;
+        range.contains(&self.entity_octets) && range.contains(&self.sequence_octets)
+    }
+}
+
+/// What is done at a fault, for each role that an entity has.
+#[derive(Clone, Copy, Debug, PartialEq, Eq)]
+pub struct FaultTables {
+    pub send: FaultTable,
+    pub receive_one: FaultTable,
+    pub receive_two: FaultTable,
+}
+
+impl FaultTables {
+    ghost use Rattle.std.specs.Prelude.{◌≡◌, ◌↔◌, IsTrue};
+    ghost use Rattle.cfdp_types.specs.Params.{AreFaultTables, table_for};
+
+    /// The table for a role.
+    pub fn of(&self, role: Role) -> FaultTable
+        ensures { result ≡ table_for self.now role }
+    {
+        match role {
+            Role::Send => self.send,
+            Role::RecvOne => self.receive_one,
+            Role::RecvTwo => self.receive_two,
+        }
+    }
+
+    fn are_of_their_roles(&self) -> bool
+        ensures { IsTrue result ↔ AreFaultTables self.now }
+    {
+        self.send.role() == Role::Send
+            && self.receive_one.role() == Role::RecvOne
+            && self.receive_two.role() == Role::RecvTwo
+    }
+}
+
+/// What the transactions with one remote entity go by. Contracts see its parts, each of which is in
+/// its range.
+#[derive(Clone, Copy, Debug, PartialEq, Eq)]
+pub struct Params {
+    local: EntityId,
+    lengths: HeaderLengths,
+    segment_octets: u16,
+    timers: TimerLengths,
+    limits: ExpirationLimits,
+    tables: FaultTables,
+}
+
+impl Model for Params {
+    ghost use Rattle.cfdp_types.specs.Params.{ParamsValue, IsParams};
+
+    ghost Value = { ParamsValue };
+
+    ghost view = { λ p. record {
+      local = p.local;
+      lengths = p.lengths;
+      segment_octets = p.segment_octets;
+      timers = p.timers;
+      limits = p.limits;
+      tables = p.tables;
+    } };
+
+    ghost invariant = { λ p. IsParams (record {
+      local = p.local;
+      lengths = p.lengths;
+      segment_octets = p.segment_octets;
+      timers = p.timers;
+      limits = p.limits;
+      tables = p.tables;
+    }) };
+
+    ghost inverse = { λ v. record {
+      local = v.local;
+      lengths = v.lengths;
+      segment_octets = v.segment_octets;
+      timers = v.timers;
+      limits = v.limits;
+      tables = v.tables;
+    } };
+}
+
+impl Params {
+    ghost use Rattle.std.specs.Prelude.{◌≡◌, ◌≤◌, ◌↔◌, IfSome, IsSome};
+    ghost use Rattle.cfdp_types.specs.Params.{AreExpirationLimits, AreFaultTables, AreHeaderLengths, AreTimerLengths, IsParams};
+
+    /// Parameters, where each is in its range.
+    pub fn new(
+        local: EntityId,
+        lengths: HeaderLengths,
+        segment_octets: u16,
+        timers: TimerLengths,
+        limits: ExpirationLimits,
+        tables: FaultTables,
+    ) -> Option<Params>
+        ensures ranges { IsSome result ↔ IsParams (record {
+          local = local;
+          lengths = lengths;
+          segment_octets = segment_octets;
+          timers = timers;
+          limits = limits;
+          tables = tables;
+        }) }
+        ensures kept { IfSome result (λ params. params ≡ record {
+          local = local;
+          lengths = lengths;
+          segment_octets = segment_octets;
+          timers = timers;
+          limits = limits;
+          tables = tables;
+        }) }
+    {
+        let segments = SEGMENT_OCTETS_LEAST..=SEGMENT_OCTETS_MOST;
+        let are_in_range = lengths.are_in_range()
+            && segments.contains(&segment_octets)
+            && timers.are_in_range()
+            && limits.are_in_range()
+            && tables.are_of_their_roles();
+        if !are_in_range {
+            return None;
+        }
+        Some(Params {
+            local,
+            lengths,
+            segment_octets,
+            timers,
+            limits,
+            tables,
+        })
+    }
+
+    /// The ID of this entity.
+    pub fn local(&self) -> EntityId
+        ensures { result ≡ self.now.local }
+    {
+        self.local
+    }
+
+    /// The lengths that this entity writes the numbers of a header with.
+    pub fn lengths(&self) -> HeaderLengths
+        ensures lengths { result ≡ self.now.lengths }
+        ensures range { AreHeaderLengths result }
+    {
+        self.lengths
+    }
+
+    /// The most octets of the file in a File Data PDU that this entity sends.
+    pub fn segment_octets(&self) -> u16
+        ensures octets { result ≡ self.now.segment_octets }
+        ensures least { SEGMENT_OCTETS_LEAST ≤ result }
+        ensures most { result ≤ SEGMENT_OCTETS_MOST }
+    {
+        self.segment_octets
+    }
+
+    /// How long each timer runs.
+    pub fn timers(&self) -> TimerLengths
+        ensures timers { result ≡ self.now.timers }
+        ensures range { AreTimerLengths result }
+    {
+        self.timers
+    }
+
+    /// Which expiration of each timer is a fault.
+    pub fn limits(&self) -> ExpirationLimits
+        ensures limits { result ≡ self.now.limits }
+        ensures range { AreExpirationLimits result }
+    {
+        self.limits
+    }
+
+    /// What is done at a fault.
+    pub fn tables(&self) -> FaultTables
+        ensures tables { result ≡ self.now.tables }
+        ensures roles { AreFaultTables result }
+    {
+        self.tables
+    }
+}

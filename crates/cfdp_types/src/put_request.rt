@@ -1,0 +1,208 @@
+ghost use Rattle.std.specs.Prelude.{◌≡◌, map};
+ghost use Rattle.std.specs.List.{list_any};
+ghost use Rattle.cfdp_types.specs.Put.{is_longer, put_fault, put_fault_number};
+ghost use Rattle.cfdp_types.specs.declared.put_request.PutFault.TheVariants as faults;
+
+use crate::key::EntityId;
+use crate::limits::{MESSAGE_OCTETS, MESSAGES, NAME_OCTETS};
+use crate::messages::Messages;
+use crate::names::Class;
+use crate::octets::Octets;
+use std::alloc::{AllocError, Global};
+use std::marker::Model;
+
+/// Why a Put request can't be made: the first that applies.
+#[derive(Clone, Copy, Debug, PartialEq, Eq)]
+pub enum PutFault {
+    /// A file name is empty.
+    NoName = 1,
+    /// A file name has more octets than Metadata can hold.
+    NameTooLong = 2,
+    /// A message has more octets than Metadata can hold.
+    MessageTooLong = 3,
+    /// More messages than the entity takes.
+    TooManyMessages = 4,
+    /// Memory ran out.
+    NoMemory = 5,
+}
+
+impl PutFault {
+    /// The number of the fault.
+    pub fn number(self) -> u8
+        ensures { result ≡ put_fault_number self }
+    {
+        self as u8
+    }
+}
+
+impl From<AllocError> for PutFault {
+    ghost from_gives = { λ _ fault. fault ≡ faults.NoMemory };
+
+    fn from(_error: AllocError) -> PutFault {
+        PutFault::NoMemory
+    }
+}
+
+/// A local user's request to send a file (CCSDS 727.0-B-5, 3.4.1). Contracts see its parts, which
+/// keep the limits of names and messages.
+#[derive(Debug, Drop)]
+pub struct PutRequest {
+    destination: EntityId,
+    class: Class,
+    source_name: Octets,
+    destination_name: Octets,
+    messages: Messages,
+    file: Octets,
+}
+
+impl Model for PutRequest {
+    ghost use Rattle.cfdp_types.specs.Put.{PutValue, IsPut};
+
+    ghost Value = { PutValue };
+
+    ghost view = { λ p. record {
+      destination = p.destination;
+      class = p.class;
+      source_name = p.source_name;
+      destination_name = p.destination_name;
+      messages = p.messages;
+      file = p.file;
+    } };
+
+    ghost invariant = { λ p. IsPut (record {
+      destination = p.destination;
+      class = p.class;
+      source_name = p.source_name;
+      destination_name = p.destination_name;
+      messages = p.messages;
+      file = p.file;
+    }) };
+}
+
+impl PutRequest {
+    ghost use Rattle.std.specs.Prelude.{◌≡◌, None, Some, Err, IfErr, IfOk, map};
+    ghost use Rattle.cfdp_types.specs.Put.{AreMessages, IsName, IsPut, put_fault};
+
+    /// Copies what the user gave.
+    pub fn new(
+        alloc: Global,
+        destination: EntityId,
+        class: Class,
+        source_name: &[u8],
+        destination_name: &[u8],
+        messages: &[&[u8]],
+        file: &[u8],
+    ) -> Result<PutRequest, PutFault>
+        ensures kept { IfOk result (λ request. request ≡ record {
+          destination = destination;
+          class = class;
+          source_name = source_name.now;
+          destination_name = destination_name.now;
+          messages = map (λ m. m.now) messages.now;
+          file = file.now;
+        }) }
+        ensures refused { (fault : PutFault)
+            → put_fault source_name.now destination_name.now (map (λ m. m.now) messages.now) ≡ Some fault
+            → result ≡ Err fault }
+        ensures memory { put_fault source_name.now destination_name.now (map (λ m. m.now) messages.now) ≡ None
+            → IfErr result (λ fault. fault ≡ PutFault.NoMemory) }
+    {
+        if let Some(fault) = fault_of(source_name, destination_name, messages) {
+            return Err(fault);
+        }
+        Ok(PutRequest {
+            destination,
+            class,
+            source_name: Octets::from_slice(alloc, source_name)?,
+            destination_name: Octets::from_slice(alloc, destination_name)?,
+            messages: Messages::from_slices(alloc, messages)?,
+            file: Octets::from_slice(alloc, file)?,
+        })
+    }
+
+    /// The same request once more.
+    pub fn copy(&self) -> Result<PutRequest, AllocError>
+        ensures { IfOk result (λ copy. copy ≡ self.now) }
+    {
+        Ok(PutRequest {
+            destination: self.destination,
+            class: self.class,
+            source_name: self.source_name.copy()?,
+            destination_name: self.destination_name.copy()?,
+            messages: self.messages.copy()?,
+            file: self.file.copy()?,
+        })
+    }
+
+    /// The entity that is to receive the file.
+    pub fn destination(&self) -> EntityId
+        ensures { result ≡ self.now.destination }
+    {
+        self.destination
+    }
+
+    /// The service class that is asked for.
+    pub fn class(&self) -> Class
+        ensures { result ≡ self.now.class }
+    {
+        self.class
+    }
+
+    /// The name of the file here.
+    pub fn source_name(&self) -> &Octets
+        ensures name { result.now ≡ self.now.source_name }
+        ensures range { IsName result.now }
+    {
+        &self.source_name
+    }
+
+    /// The name of the file at the receiver.
+    pub fn destination_name(&self) -> &Octets
+        ensures name { result.now ≡ self.now.destination_name }
+        ensures range { IsName result.now }
+    {
+        &self.destination_name
+    }
+
+    /// The messages to the receiving user, in order.
+    pub fn messages(&self) -> &Messages
+        ensures messages { result.now ≡ self.now.messages }
+        ensures range { AreMessages result.now }
+    {
+        &self.messages
+    }
+
+    /// The octets of the file.
+    pub fn file(&self) -> &Octets
+        ensures { result.now ≡ self.now.file }
+    {
+        &self.file
+    }
+}
+
+// The first fault that names and messages have.
+#[tactic(auto, using(crate::proofs::PutLemmas::borrowed))]
+fn fault_of(source_name: &[u8], destination_name: &[u8], messages: &[&[u8]]) -> Option<PutFault>
+    ensures { result ≡ put_fault source_name.now destination_name.now (map (λ m. m.now) messages.now) }
+{
+    if source_name.is_empty() || destination_name.is_empty() {
+        Some(PutFault::NoName)
+    } else if source_name.len() > NAME_OCTETS || destination_name.len() > NAME_OCTETS {
+        Some(PutFault::NameTooLong)
+    } else if has_long_message(messages) {
+        Some(PutFault::MessageTooLong)
+    } else if messages.len() > MESSAGES {
+        Some(PutFault::TooManyMessages)
+    } else {
+        None
+    }
+}
+
+// Whether a message is longer than Metadata can hold.
+fn has_long_message(messages: &[&[u8]]) -> bool
+    ensures { result ≡ list_any (λ m. is_longer MESSAGE_OCTETS m.now) messages.now }
+{
+    messages
+        .iter()
+        .any(|message| message.len() > MESSAGE_OCTETS)
+}
