@@ -2,7 +2,9 @@
 use Rattle.std.proofs.Common.{◌≡◌, Bool, true, false, ◌||◌, List, [], ◌∷◌, ◌++◌, refl, sym, ◌∙◌}
 use Rattle.std.specs.List.{list_any}
 use Rattle.ind_words.specs.declared.indication.Indication.{Indication}
-use Rattle.ind_words.specs.Words.{MayFollow}
+use Rattle.ind_words.specs.declared.side.Side.{Side}
+use Rattle.ind_words.specs.declared.side.Side.TheVariants.{Receiver}
+use Rattle.ind_words.specs.Words.{MayFollowOf, MayFollow}
 
 -- what was told, newest first, once more is told
 abbrev pub told_onto : List Indication → List Indication → List Indication
@@ -26,11 +28,26 @@ list_any-told_onto test before (x ∷ xs) =
     list_any-told_onto test (x ∷ before) xs ∙ sym (or_moves (test x) (list_any test xs) (list_any test before))
 
 -- what may be told may be told in parts
-pub MayFollow-append : (before xs ys : List Indication) → MayFollow before xs → MayFollow (told_onto before xs) ys → MayFollow before (xs ++ ys)
-MayFollow-append before [] ys first second = second
-MayFollow-append before (x ∷ xs) ys first second = (first.0, first.1, MayFollow-append (x ∷ before) xs ys first.2 second)
+pub MayFollowOf-append : (side : Side) (before xs ys : List Indication)
+    → MayFollowOf side before xs → MayFollowOf side (told_onto before xs) ys → MayFollowOf side before (xs ++ ys)
+MayFollowOf-append side before [] ys first second = second
+MayFollowOf-append side before (x ∷ xs) ys first second =
+    (first.0, first.1, MayFollowOf-append side (x ∷ before) xs ys first.2 second)
 
 -- of what may be told the front may be told
+pub MayFollowOf-front : (side : Side) (before xs ys : List Indication) → MayFollowOf side before (xs ++ ys) → MayFollowOf side before xs
+MayFollowOf-front side before [] ys all = tt
+MayFollowOf-front side before (x ∷ xs) ys all = (all.0, all.1, MayFollowOf-front side (x ∷ before) xs ys all.2)
+
+-- and the rest after it
+pub MayFollowOf-rest : (side : Side) (before xs ys : List Indication)
+    → MayFollowOf side before (xs ++ ys) → MayFollowOf side (told_onto before xs) ys
+MayFollowOf-rest side before [] ys all = all
+MayFollowOf-rest side before (x ∷ xs) ys all = MayFollowOf-rest side (x ∷ before) xs ys all.2
+
+-- the same of a receiver
+pub MayFollow-append : (before xs ys : List Indication) → MayFollow before xs → MayFollow (told_onto before xs) ys → MayFollow before (xs ++ ys)
+MayFollow-append before xs ys first second = MayFollowOf-append Receiver before xs ys first second
+
 pub MayFollow-front : (before xs ys : List Indication) → MayFollow before (xs ++ ys) → MayFollow before xs
-MayFollow-front before [] ys all = tt
-MayFollow-front before (x ∷ xs) ys all = (all.0, all.1, MayFollow-front (x ∷ before) xs ys all.2)
+MayFollow-front before xs ys all = MayFollowOf-front Receiver before xs ys all

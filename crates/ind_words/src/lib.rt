@@ -3,9 +3,13 @@
 
 mod bundle;
 mod indication;
+mod marks;
+mod segments;
+mod side;
 
 pub use bundle::Bundle;
 pub use indication::{Indication, Indications, Phase};
+pub use side::Side;
 
 #[cfg(test)]
 mod tests;
