@@ -1,5 +1,5 @@
 -- Rising runs, taken apart at a place and joined with one more.
-use Rattle.std.proofs.Common.{◌≡◌, ◌≢◌, ℕ, zero, suc, ◌+◌, ◌-◌, ◌<◌, ◌≤◌, Bool, true, false, ◌&&◌, ◌||◌, ◌⊎◌, nat_le, nat_lt, nat_eq, List, [], ◌∷◌, ◌++◌, length, get_or, set, take, drop, refl, ap, sym, ◌∙◌, arith, subst, max, IsTrue, ◌↔◌, length-drop}
+use Rattle.std.proofs.Common.{◌≡◌, ◌≢◌, ℕ, zero, suc, ◌+◌, ◌-◌, ◌<◌, ◌≤◌, Bool, true, false, ◌&&◌, ◌||◌, ◌⊎◌, nat_le, nat_lt, nat_eq, List, [], ◌∷◌, ◌++◌, length, get_or, set, take, drop, refl, ap, sym, ◌∙◌, arith, subst, max, IsTrue, ◌↔◌, Some, length-drop}
 use Rattle.std.specs.List.{All, AllWithin}
 use Rattle.std.proofs.lemmas.Bool.{le-leb, lt-leb, lt-ltb, le-ltb, cases_lt, and_left, and_right, true≢false, leb-true, leb-false, ltb-true, eqb-true, eqb-false, eq-eqb, or_right, and_parts, false≢true}
 use Rattle.std.proofs.lemmas.Bool.Decides.{nat_tests}
@@ -10,9 +10,10 @@ use Rattle.std.proofs.lemmas.List.Edits.{get_or-remove_below}
 use Rattle.std.proofs.lemmas.List.Sorted.{IsPartitionedBy-leb}
 use Rattle.std.proofs.lemmas.List.Elements.{All-head, All-tail}
 use Rattle.std.proofs.lemmas.List.Folds.{list_any-append}
+use Rattle.cfdp_types.specs.declared.limits.TheConstants.{FILE_OCTETS}
 use Rattle.gap_list.specs.declared.run.Run.{Run}
 use Rattle.gap_list.specs.Runs.{is_within, in_runs, SameSet, with_range, IsRisingFrom}
-use Rattle.ind_words.specs.Offsets.{IsFree, IsInitial, beyond, begins_from, begins_at}
+use Rattle.ind_words.specs.Offsets.{Kept, covers, room_left, IsFree, IsInitial, beyond, begins_from, begins_at}
 
 pub rising_front : (low : ℕ) (xs ys : List Run) → IsRisingFrom low (xs ++ ys) → IsRisingFrom low xs
 rising_front low [] ys rising = tt
@@ -405,3 +406,13 @@ start_moved runs place start run d within read =
     let same : run ≡ get_or runs place d = get_or_read runs place run within read d in
     let next : suc place ≡ place + 1 = omega arith in
     rw (set_split runs place (record { start = start; end = run.end }) within, next, same) refl
+
+-- when a segment may be taken, as its run and as the offset and length that tell of it
+pub take_exact : (kept : Kept) (start end offset length : ℕ) (result : Bool) → start ≡ offset → end ≡ offset + length
+    → 0 < length → offset + length ≤ FILE_OCTETS
+    → (IsTrue result ↔ ((0 < kept.left) × IsFree (in_runs kept.runs) start end))
+    → IsTrue result ↔ ((0 < length) × (offset + length ≤ FILE_OCTETS) × IsFree (covers (Some kept)) offset (offset + length) × (0 < room_left (Some kept)))
+take_exact kept start end offset length result first last filled within exact = (
+  λ is. (filled, within, λ i from below. (exact.0 is).1 i (omega (arith, first, from)) (omega (arith, last, below)), (exact.0 is).0),
+  λ may. exact.1 (may.3, λ i from below. may.2 i (omega (arith, first, from)) (omega (arith, last, below))),
+)

@@ -1,15 +1,12 @@
 -- Words, told one after the other.
-use Rattle.std.proofs.Common.{◌≡◌, Bool, true, false, ◌||◌, List, [], ◌∷◌, ◌++◌, refl, sym, ◌∙◌}
-use Rattle.std.specs.List.{list_any}
+use Rattle.std.proofs.Common.{◌≡◌, Bool, true, false, ◌||◌, List, [], ◌∷◌, ◌++◌, refl, sym, ◌∙◌, arith, ◌+◌, cond, ℕ}
+use Rattle.std.specs.List.{list_any, count_by}
+use Rattle.std.proofs.lemmas.List.Sums.{sum_by-cons}
 use Rattle.ind_words.specs.declared.indication.Indication.{Indication}
 use Rattle.ind_words.specs.declared.side.Side.{Side}
 use Rattle.ind_words.specs.declared.side.Side.TheVariants.{Receiver}
 use Rattle.ind_words.specs.Words.{MayFollowOf, MayFollow}
-
--- what was told, newest first, once more is told
-abbrev pub told_onto : List Indication → List Indication → List Indication
-told_onto before [] = before
-told_onto before (next ∷ rest) = told_onto (next ∷ before) rest
+pub use Rattle.ind_words.specs.Words.{told_onto}
 
 pub told_onto-append : (before xs ys : List Indication) → told_onto before (xs ++ ys) ≡ told_onto (told_onto before xs) ys
 told_onto-append before [] ys = refl
@@ -26,6 +23,15 @@ pub list_any-told_onto : (test : Indication → Bool) (before xs : List Indicati
 list_any-told_onto test before [] = refl
 list_any-told_onto test before (x ∷ xs) =
     list_any-told_onto test (x ∷ before) xs ∙ sym (or_moves (test x) (list_any test xs) (list_any test before))
+
+count_by-cons : (test : Indication → Bool) (x : Indication) (xs : List Indication) → count_by test (x ∷ xs) ≡ count_by test xs + cond (test x) 1 0
+count_by-cons test x xs = sum_by-cons (λ y. cond (test y) 1 0) x xs ∙ omega arith
+
+-- and so does a count
+pub count_by-told_onto : (test : Indication → Bool) (before xs : List Indication) → count_by test (told_onto before xs) ≡ count_by test xs + count_by test before
+count_by-told_onto test before [] = omega arith
+count_by-told_onto test before (x ∷ xs) =
+    omega (arith, count_by-told_onto test (x ∷ before) xs, count_by-cons test x xs, count_by-cons test x before)
 
 -- what may be told may be told in parts
 pub MayFollowOf-append : (side : Side) (before xs ys : List Indication)

@@ -1,11 +1,21 @@
 -- The offsets of the segments that a reader was told of.
-use Rattle.std.specs.Prelude.{◌≡◌, ℕ, ◌+◌, ◌<◌, ◌≤◌, ◌↔◌, Bool, true, false, ◌==◌, nat_le, IsTrue, List, [], ◌∷◌}
+use Rattle.std.specs.Prelude.{◌≡◌, ℕ, ◌+◌, ◌<◌, ◌≤◌, ◌↔◌, Bool, true, false, ◌==◌, nat_le, IsTrue, List, [], ◌∷◌, Option, None, Some}
 use Rattle.gap_list.specs.declared.run.Run.{Run}
+use Rattle.gap_list.specs.Runs.{in_runs}
 
 -- for how many more segments there is room, and the runs of those taken
 pub record Kept : Type 0 where
   pub left : ℕ
   pub runs : List Run
+
+-- for how many more segments there is room, and whether an offset is of one taken; without room there is nothing
+abbrev pub room_left : Option Kept → ℕ
+room_left None = 0
+room_left (Some kept) = kept.left
+
+abbrev pub covers : Option Kept → ℕ → Bool
+covers None i = false
+covers (Some kept) i = in_runs kept.runs i
 
 -- none of the offsets from start to end - 1 is in the set
 abbrev pub IsFree : (ℕ → Bool) → ℕ → ℕ → Type 0

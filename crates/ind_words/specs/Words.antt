@@ -97,6 +97,11 @@ abbrev pub IsNextOf : Side → List Indication → Indication → Type 0
 IsNextOf Sender = IsNextOfSender
 IsNextOf Receiver = IsNext
 
+-- what was told, newest first, and then what is told, oldest first
+abbrev pub told_onto : List Indication → List Indication → List Indication
+told_onto before [] = before
+told_onto before (next ∷ rest) = told_onto (next ∷ before) rest
+
 -- each of these may be told after those before it, which stand newest first, and nothing after an end
 abbrev pub MayFollowOf : Side → List Indication → List Indication → Type 0
 MayFollowOf side before [] = Unit {0}

@@ -1,4 +1,4 @@
-ghost use Rattle.std.specs.Prelude.{◌≡◌, ◌∷◌, ◌↔◌, List, IsTrue, false};
+ghost use Rattle.std.specs.Prelude.{◌≡◌, ◌∷◌, ◌↔◌, List, IsTrue, true, false};
 ghost use Rattle.ind_words.specs.declared.indication.Indication.{Indication};
 ghost use Rattle.ind_words.specs.Words.{IsNext, IsNextOfSender, IsFilled, MayFinish, is_segment};
 ghost use Rattle.ind_words.specs.Marks.{marks_of};
@@ -69,7 +69,8 @@ impl Marks {
 
     /// Whether a sender that has told no end may tell the indication next.
     pub fn allow_sender(self, indication: &Indication) -> bool
-        ensures { (before : List Indication) → self ≡ marks_of before → (IsTrue result ↔ IsNextOfSender before indication.now) }
+        ensures exact { (before : List Indication) → self ≡ marks_of before → (IsTrue result ↔ IsNextOfSender before indication.now) }
+        ensures other { result ≡ true → is_segment indication.now ≡ false }
     {
         match indication {
             Indication::Transaction => !self.opened,
@@ -89,8 +90,9 @@ impl Marks {
     /// Whether a receiver that has told no end may tell the indication next, if it is no segment:
     /// the caller says whether the segments are all offsets below some size.
     pub fn allow_receiver(self, indication: &Indication, initial: bool) -> bool
-        ensures { (before : List Indication) → self ≡ marks_of before → (IsTrue initial ↔ IsFilled before)
+        ensures exact { (before : List Indication) → self ≡ marks_of before → (IsTrue initial ↔ IsFilled before)
             → is_segment indication.now ≡ false → (IsTrue result ↔ IsNext before indication.now) }
+        ensures other { result ≡ true → is_segment indication.now ≡ false }
     {
         match indication {
             Indication::EofRecv => !self.eof_recv,

@@ -1,10 +1,12 @@
 //! The file segments that were told of: runs of offsets that rise and don't touch, in reserved room.
-ghost use Rattle.std.specs.Prelude.{◌≡◌, ℕ, ◌+◌, ◌<◌, ◌≤◌, ◌-◌, ◌∷◌, ◌++◌, ◌↔◌, true, false, [], IsTrue, IfOk, length, take, drop, All, vec_len, vec_capacity, nat_le, slice_index_or};
+ghost use Rattle.std.specs.Prelude.{◌≡◌, ℕ, ◌+◌, ◌<◌, ◌≤◌, ◌-◌, ◌∷◌, ◌++◌, ◌↔◌, true, false, [], IsTrue, IfOk, IfSome, IsSome, length, take, drop, All, vec_len, vec_capacity, nat_le, slice_index_or};
 ghost use Rattle.std.specs.List.{insert};
+ghost use Rattle.cfdp_types.specs.declared.limits.TheConstants.{FILE_OCTETS};
 ghost use Rattle.gap_list.specs.declared.run.Run.{Run};
 ghost use Rattle.gap_list.specs.Runs.{in_runs, SameSet, with_range, IsRisingFrom};
-ghost use Rattle.ind_words.specs.Offsets.{IsFree, IsInitial, beyond, begins_from, begins_at};
+ghost use Rattle.ind_words.specs.Offsets.{covers, room_left, IsFree, IsInitial, beyond, begins_from, begins_at};
 
+use cfdp_types::limits::FILE_OCTETS;
 use gap_list::Run;
 use std::alloc::{AllocError, Global};
 use std::marker::Model;
@@ -68,6 +70,35 @@ impl Segments {
             _ => false,
         }
     }
+}
+
+/// Takes a segment that is within a file and shares no offset with those before it, while there is
+/// room.
+pub fn take_segment(segments: &mut Option<Segments>, offset: u32, length: u32) -> bool
+    ensures exact { IsTrue result ↔ ((0 < length) × (offset + length ≤ FILE_OCTETS) × IsFree (covers segments.old) offset (offset + length) × (0 < room_left segments.old)) }
+    ensures left { result ≡ true → room_left segments.new + 1 ≡ room_left segments.old }
+    ensures covered { result ≡ true → SameSet (covers segments.new) (with_range (covers segments.old) offset (offset + length)) }
+    ensures refused { result ≡ false → segments.new ≡ segments.old }
+{
+    let Some(segments) = segments else {
+        return false;
+    };
+    match run_of(offset, length) {
+        None => false,
+        Some(run) => segments.take(run),
+    }
+}
+
+// The offsets of a segment, where it is not empty and within a file.
+fn run_of(offset: u32, length: u32) -> Option<Run>
+    ensures some { IfSome result (λ run. (run.start ≡ offset) × (run.end ≡ offset + length) × (0 < length) × (offset + length ≤ FILE_OCTETS)) }
+    ensures none { 0 < length → offset + length ≤ FILE_OCTETS → IsSome result }
+{
+    let end = offset.checked_add(length)?;
+    if length == 0 || end > FILE_OCTETS {
+        return None;
+    }
+    Some(Run { start: offset, end })
 }
 
 // How many runs end at or below the offset.
