@@ -1,5 +1,5 @@
 -- What a reader knows of the indications that it has taken.
-use Rattle.std.proofs.Common.{◌≡◌, ℕ, ◌+◌, ◌<◌, ◌≤◌, ◌↔◌, Bool, true, false, ◌||◌, cond, List, [], ◌∷◌, ◌++◌, Option, IsTrue, refl, ap, sym, ◌∙◌, arith, subst}
+use Rattle.std.proofs.Common.{◌≡◌, ℕ, ◌+◌, ◌<◌, ◌≤◌, ◌↔◌, Bool, true, false, ◌||◌, List, [], ◌∷◌, ◌++◌, Option, IsTrue, refl, ap, sym, ◌∙◌, arith}
 use Rattle.std.specs.List.{list_any, count_by}
 use Rattle.std.proofs.lemmas.Bool.{true≢false, false≢true}
 use Rattle.cfdp_types.specs.declared.limits.TheConstants.{FILE_OCTETS}
@@ -12,8 +12,8 @@ use Rattle.ind_words.specs.declared.side.Side.TheVariants.{Receiver}
 use Rattle.ind_words.specs.Marks.{marks_of}
 use Rattle.ind_words.specs.Offsets.{Kept, IsFree, IsInitial, covers, room_left}
 use Rattle.ind_words.specs.Reading.{HasRoom, MayGoOn, Knows, HasAdded, StandsAfter}
-use Rattle.ind_words.specs.Words.{IsNext, IsNextOf, IsBegunOf, IsWordOf, IsFilled, MayFollowOf, is_end, is_segment, tells_of, told_onto}
-use Rattle.ind_words.proofs.WordLemmas.{told_onto-append, list_any-told_onto, count_by-told_onto, MayFollowOf-append, MayFollowOf-front, MayFollowOf-rest}
+use Rattle.ind_words.specs.Words.{IsNext, IsNextOf, IsBegunOf, IsWordOf, IsFilled, is_end, is_segment, tells_of, told_onto}
+use Rattle.ind_words.proofs.WordLemmas.{told_onto-append, list_any-told_onto, count_by-told_onto, MayFollowOf-append, MayFollowOf-rest}
 
 -- what isn't a segment
 pub is_segment_other : (next : Indication) → ((offset length : ℕ) → next ≡ told.FileSegmentRecv offset length → ⊥) → is_segment next ≡ false
@@ -56,14 +56,20 @@ adds_nothing reader next other = record {
 pub initial_filled : (segments : Option Kept) (before : List Indication) → ((i : ℕ) → covers segments i ≡ list_any (tells_of i) before)
     → IsInitial (covers segments) ↔ IsFilled before
 initial_filled segments before covered = (
-  λ initial. (initial.0, λ i. (
-    λ has. (initial.1 i).0 (covered i ∙ has),
-    λ below. sym (covered i) ∙ (initial.1 i).1 below,
-  )),
-  λ filled. (filled.0, λ i. (
-    λ has. (filled.1 i).0 (sym (covered i) ∙ has),
-    λ below. covered i ∙ (filled.1 i).1 below,
-  )),
+  λ initial. (
+    initial.0,
+    λ i. (
+      λ has. (initial.1 i).0 (covered i ∙ has),
+      λ below. sym (covered i) ∙ (initial.1 i).1 below,
+    ),
+  ),
+  λ filled. (
+    filled.0,
+    λ i. (
+      λ has. (filled.1 i).0 (sym (covered i) ∙ has),
+      λ below. covered i ∙ (filled.1 i).1 below,
+    ),
+  ),
 )
 
 -- when a segment may be taken
@@ -74,11 +80,11 @@ pub segment_exact : (segments : Option Kept) (room : ℕ) (before : List Indicat
     → IsTrue result ↔ (IsNext before (told.FileSegmentRecv offset length) × HasRoom room before (told.FileSegmentRecv offset length))
 segment_exact segments room before offset length result exact left covered = (
   λ is.
-    let all = exact.0 is in
-    ((all.0, all.1, λ i from below. sym (covered i) ∙ all.2 i from below), λ segment. omega (arith, left, all.3)),
+      let all = exact.0 is in
+      ((all.0, all.1, λ i from below. sym (covered i) ∙ all.2 i from below), λ segment. omega (arith, left, all.3)),
   λ may.
-    let less : count_by is_segment before < room = may.1 refl in
-    exact.1 (may.0.0, may.0.1, λ i from below. covered i ∙ may.0.2 i from below, omega (arith, left, less)),
+      let less : count_by is_segment before < room = may.1 refl in
+      exact.1 (may.0.0, may.0.1, λ i from below. covered i ∙ may.0.2 i from below, omega (arith, left, less)),
 )
 
 -- when a receiver may tell what is no segment
@@ -111,8 +117,8 @@ pub may_go_on : (side : Side) (room : ℕ) (word : List Indication) (next : Indi
 may_go_on side room word next begun = (
   λ may. (begun_more side word next begun may.0 may.1, (HasRoom-told_onto room word next).0 may.2),
   λ may.
-    let last = MayFollowOf-rest side [] word (next ∷ []) may.0 in
-    (last.0, last.1, (HasRoom-told_onto room word next).1 may.1),
+      let last = MayFollowOf-rest side [] word (next ∷ []) may.0 in
+      (last.0, last.1, (HasRoom-told_onto room word next).1 may.1),
 )
 
 -- one more indication after those that a reader has taken

@@ -1,7 +1,7 @@
 -- Rising runs, taken apart at a place and joined with one more.
-use Rattle.std.proofs.Common.{◌≡◌, ◌≢◌, ℕ, zero, suc, ◌+◌, ◌-◌, ◌<◌, ◌≤◌, Bool, true, false, ◌&&◌, ◌||◌, ◌⊎◌, nat_le, nat_lt, nat_eq, List, [], ◌∷◌, ◌++◌, length, get_or, set, take, drop, refl, ap, sym, ◌∙◌, arith, subst, max, IsTrue, ◌↔◌, Some, length-drop}
+use Rattle.std.proofs.Common.{◌≡◌, ◌≢◌, ℕ, zero, suc, ◌+◌, ◌<◌, ◌≤◌, Bool, true, false, ◌||◌, nat_le, nat_lt, nat_eq, List, [], ◌∷◌, ◌++◌, length, get_or, set, take, drop, refl, ap, sym, ◌∙◌, arith, subst, max, IsTrue, ◌↔◌, Some, length-drop}
 use Rattle.std.specs.List.{All, AllWithin}
-use Rattle.std.proofs.lemmas.Bool.{le-leb, lt-leb, lt-ltb, le-ltb, cases_lt, and_left, and_right, true≢false, leb-true, leb-false, ltb-true, eqb-true, eqb-false, eq-eqb, or_right, and_parts, false≢true}
+use Rattle.std.proofs.lemmas.Bool.{le-leb, lt-leb, lt-ltb, le-ltb, and_right, true≢false, leb-true, leb-false, ltb-true, eqb-true, eqb-false, eq-eqb, or_right, and_parts, false≢true}
 use Rattle.std.proofs.lemmas.Bool.Decides.{nat_tests}
 use Rattle.std.specs.List.{remove}
 use Rattle.std.specs.List.Sorted.{IsPartitionedBy}
@@ -52,7 +52,6 @@ past_ends start offset (run ∷ runs) le ends =
     let first : run.end ≤ start = All-head (λ (run : Run). run.end ≤ start) run runs ends in
     rw (and_right (nat_le run.start offset) (nat_lt offset run.end) (le-ltb offset run.end (omega arith)))
     (past_ends start offset runs le (All-tail (λ (run : Run). run.end ≤ start) run runs ends))
-
 
 -- a run between runs, at some distance from both
 rising_with : (xs ys : List Run) (run : Run) → IsRisingFrom 0 xs → beyond 0 xs ≤ run.start → run.start < run.end
@@ -347,15 +346,18 @@ one_run (run ∷ other ∷ runs) d least most = absurd (omega arith)
 
 initial_one : (run : Run) → run.start < run.end → IsTrue (nat_eq run.start 0) ↔ IsInitial (in_runs (run ∷ []))
 initial_one run filled = (
-  λ zero_is. (run.end, λ i. (
-    λ has. omega (arith, (within_one run i has).1),
-    λ below. rw (le-leb run.start i (omega (arith, eqb-true run.start 0 zero_is)), lt-ltb i run.end below) refl,
-  )),
+  λ zero_is. (
+    run.end,
+    λ i. (
+      λ has. omega (arith, (within_one run i has).1),
+      λ below. rw (le-leb run.start i (omega (arith, eqb-true run.start 0 zero_is)), lt-ltb i run.end below) refl,
+    ),
+  ),
   λ initial.
-    let first : in_runs (run ∷ []) run.start ≡ true = rw (le-leb run.start run.start (omega arith), lt-ltb run.start run.end filled) refl in
-    let positive : run.start < initial.0 = (initial.1 run.start).0 first in
-    let start : run.start ≤ 0 = (within_one run 0 ((initial.1 0).1 (omega arith))).0 in
-    eq-eqb run.start 0 (omega arith),
+      let first : in_runs (run ∷ []) run.start ≡ true = rw (le-leb run.start run.start (omega arith), lt-ltb run.start run.end filled) refl in
+      let positive : run.start < initial.0 = (initial.1 run.start).0 first in
+      let start : run.start ≤ 0 = (within_one run 0 ((initial.1 0).1 (omega arith))).0 in
+      eq-eqb run.start 0 (omega arith),
 )
 
 pub initial_of_one : (runs : List Run) (d : Run) → 1 ≤ length runs → length runs < 2 → IsRisingFrom 0 runs

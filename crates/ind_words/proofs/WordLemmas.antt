@@ -1,16 +1,24 @@
 -- Words, told one after the other.
-use Rattle.std.proofs.Common.{◌≡◌, Bool, true, false, ◌||◌, List, [], ◌∷◌, ◌++◌, refl, sym, ◌∙◌, arith, ◌+◌, cond, ℕ}
+use Rattle.std.proofs.Common.{◌≡◌, Bool, true, false, ◌||◌, List, [], ◌∷◌, ◌++◌, refl, sym, ◌∙◌, arith, ◌+◌, cond, ℕ, IsTrue}
 use Rattle.std.specs.List.{list_any, count_by}
+use Rattle.std.proofs.lemmas.Bool.{true≢false, false≢true, or_left, or_right}
+use Rattle.std.proofs.lemmas.List.Folds.{list_any-append}
+use Rattle.cfdp_types.specs.declared.condition.Condition.{Condition}
 use Rattle.std.proofs.lemmas.List.Sums.{sum_by-cons}
 use Rattle.ind_words.specs.declared.indication.Indication.{Indication}
+use Rattle.ind_words.specs.declared.indication.Indication.TheVariants as told
 use Rattle.ind_words.specs.declared.side.Side.{Side}
-use Rattle.ind_words.specs.declared.side.Side.TheVariants.{Receiver}
-use Rattle.ind_words.specs.Words.{MayFollowOf, MayFollow}
+use Rattle.ind_words.specs.declared.side.Side.TheVariants.{Sender, Receiver}
+use Rattle.ind_words.specs.Words.{MayFollowOf, MayFollow, IsNextOf, IsBegunOf, IsWordOf, is_end, is_transaction}
 pub use Rattle.ind_words.specs.Words.{told_onto}
 
 pub told_onto-append : (before xs ys : List Indication) → told_onto before (xs ++ ys) ≡ told_onto (told_onto before xs) ys
 told_onto-append before [] ys = refl
 told_onto-append before (x ∷ xs) ys = told_onto-append (x ∷ before) xs ys
+
+or_nothing : (a : Bool) → (a || false) ≡ a
+or_nothing true = refl
+or_nothing false = refl
 
 or_moves : (a b c : Bool) → ((a || b) || c) ≡ (b || (a || c))
 or_moves true true c = refl
@@ -57,3 +65,52 @@ MayFollow-append before xs ys first second = MayFollowOf-append Receiver before 
 
 pub MayFollow-front : (before xs ys : List Indication) → MayFollow before (xs ++ ys) → MayFollow before xs
 MayFollow-front before xs ys all = MayFollowOf-front Receiver before xs ys all
+
+-- nothing follows a word
+pub word_is_over : (side : Side) (word : List Indication) (next : Indication) (rest : List Indication)
+    → IsWordOf side word → IsBegunOf side (word ++ next ∷ rest) → ⊥
+word_is_over side word next rest is begun =
+    let none : list_any is_end (told_onto [] word) ≡ false = (MayFollowOf-rest side [] word (next ∷ rest) begun).0 in
+    true≢false (sym (list_any-told_onto is_end [] word ∙ or_nothing (list_any is_end word) ∙ is.1) ∙ none)
+
+-- the first that a sender tells is Transaction
+pub opens_sender : (next : Indication) (rest : List Indication) → IsBegunOf Sender (next ∷ rest) → IsTrue (is_transaction next)
+opens_sender told.Transaction rest begun = refl
+opens_sender told.EofSent rest begun = absurd (false≢true begun.1.0)
+opens_sender told.EofRecv rest begun = absurd begun.1
+opens_sender (told.TransactionFinished a b c) rest begun = absurd (false≢true begun.1)
+opens_sender (told.MetadataRecv a b c d e) rest begun = absurd begun.1
+opens_sender (told.FileSegmentRecv a b) rest begun = absurd begun.1
+opens_sender (told.Suspended a) rest begun = absurd (false≢true begun.1.0)
+opens_sender (told.Resumed a) rest begun = absurd (false≢true begun.1.0)
+opens_sender (told.Report a b) rest begun = absurd (false≢true begun.1)
+opens_sender (told.Fault a b) rest begun = absurd (false≢true begun.1)
+opens_sender (told.Abandoned a b) rest begun = absurd (false≢true begun.1)
+
+-- what a side must have told before an end
+abbrev pub MayEnd : Side → List Indication → Type 0
+MayEnd Sender word = IsTrue (list_any is_transaction word)
+MayEnd Receiver word = Unit {0}
+
+-- a beginning of a sender's word that isn't empty
+pub MayEnd-sender : (next : Indication) (rest : List Indication) → IsBegunOf Sender (next ∷ rest) → MayEnd Sender (next ∷ rest)
+MayEnd-sender next rest begun = or_left (is_transaction next) (list_any is_transaction rest) (opens_sender next rest begun)
+
+IsNextOf-abandoned : (side : Side) (word : List Indication) (condition : Condition) (progress : ℕ)
+    → MayEnd side word → IsNextOf side (told_onto [] word) (told.Abandoned condition progress)
+IsNextOf-abandoned Sender word condition progress may =
+    list_any-told_onto is_transaction [] word ∙ or_nothing (list_any is_transaction word) ∙ may
+IsNextOf-abandoned Receiver word condition progress may = tt
+
+-- a beginning of a word without an end becomes a word by Abandoned
+pub abandoned_word : (side : Side) (word : List Indication) (condition : Condition) (progress : ℕ)
+    → IsBegunOf side word → list_any is_end word ≡ false → MayEnd side word
+    → IsWordOf side (word ++ told.Abandoned condition progress ∷ [])
+abandoned_word side word condition progress begun goes may = (
+  MayFollowOf-append side [] word (told.Abandoned condition progress ∷ []) begun (
+    list_any-told_onto is_end [] word ∙ or_nothing (list_any is_end word) ∙ goes,
+    IsNextOf-abandoned side word condition progress may,
+    tt,
+  ),
+  list_any-append is_end word (told.Abandoned condition progress ∷ []) ∙ or_right (list_any is_end word) true refl,
+)

@@ -1,10 +1,13 @@
 -- The words that the indications of one transaction form, at its sender and at its receiver.
-use Rattle.std.specs.Prelude.{◌≡◌, ℕ, ◌+◌, ◌<◌, ◌≤◌, ◌↔◌, Bool, true, false, ◌&&◌, nat_lt, nat_le, IsTrue, List, [], ◌∷◌}
+use Rattle.std.specs.Prelude.{◌≡◌, ℕ, ◌+◌, ◌<◌, ◌≤◌, ◌↔◌, Bool, true, false, ◌&&◌, nat_lt, nat_le, IsTrue, List, [], ◌∷◌, refl}
 use Rattle.std.specs.List.{list_any}
 use Rattle.cfdp_types.specs.declared.limits.TheConstants.{FILE_OCTETS}
 use Rattle.cfdp_types.specs.declared.names.Delivery.{Delivery}
 use Rattle.cfdp_types.specs.declared.names.Delivery.TheVariants.{Complete, Incomplete}
+use Rattle.cfdp_types.specs.declared.condition.Condition.{Condition}
+use Rattle.cfdp_types.specs.declared.names.FileStatus.{FileStatus}
 use Rattle.ind_words.specs.declared.indication.Indication.{Indication}
+use Rattle.ind_words.specs.declared.indication.Phase.{Phase}
 use Rattle.ind_words.specs.declared.indication.Indication.TheVariants as told
 use Rattle.ind_words.specs.declared.side.Side.{Side}
 use Rattle.ind_words.specs.declared.side.Side.TheVariants.{Sender, Receiver}
@@ -126,3 +129,15 @@ IsBegun = IsBegunOf Receiver
 -- a receiver's word
 abbrev pub IsWord : List Indication → Type 0
 IsWord = IsWordOf Receiver
+
+-- a sender's word: suspended before its EOF and resumed after it
+suspended_sending : (condition : Condition) (status : FileStatus) → IsWordOf Sender (
+    told.Transaction ∷ told.Suspended condition ∷ told.EofSent ∷ told.Resumed 3
+    ∷ told.TransactionFinished condition Complete status ∷ [])
+suspended_sending condition status =
+    ((refl, refl, (refl, (refl, refl), (refl, (refl, refl), (refl, (refl, refl), (refl, refl, tt))))), refl)
+
+-- a beginning of a receiver's word, which reports and faults don't end
+reported_reception : (phase : Phase) (condition : Condition) → IsBegun (
+    told.EofRecv ∷ told.Report phase 0 ∷ told.Fault condition 0 ∷ told.Suspended condition ∷ [])
+reported_reception phase condition = (refl, refl, (refl, tt, (refl, tt, (refl, refl, tt))))

@@ -1,6 +1,6 @@
 use crate::{Indication, Indications, NotAWord, Phase, Side, WordReader};
-use cfdp_types::{Condition, Delivery, EntityId, FileStatus, Messages, Octets};
 use cfdp_types::limits::FILE_OCTETS;
+use cfdp_types::{Condition, Delivery, EntityId, FileStatus, Messages, Octets};
 use std::alloc::{AllocError, Global};
 use std::test::*;
 
@@ -118,7 +118,10 @@ fn receiver_of_a_whole_file(rt: HostRuntime) -> Result<(), Fail> {
     assert_eq!(rt; reader.next(&suspended()), Ok(()));
     assert_eq!(rt; reader.next(&suspended()), Err(NotAWord));
     assert_eq!(rt; reader.next(&Indication::Resumed { progress: 8 }), Ok(()));
-    assert_eq!(rt; reader.next(&Indication::Resumed { progress: 8 }), Err(NotAWord));
+    assert_eq!(rt;
+        reader.next(&Indication::Resumed { progress: 8 }),
+        Err(NotAWord)
+    );
     assert_eq!(rt; reader.next(&segment(4, 4)), Ok(()));
     assert_eq!(rt; reader.next(&Indication::Transaction), Err(NotAWord));
     assert_eq!(rt; reader.next(&complete), Ok(()));
@@ -147,7 +150,10 @@ fn sender_from_transaction_to_end(rt: HostRuntime) {
     assert_eq!(rt; reader.next(&abandoned(0)), Err(NotAWord));
     assert_eq!(rt; reader.next(&Indication::Transaction), Ok(()));
     assert_eq!(rt; reader.next(&Indication::Transaction), Err(NotAWord));
-    assert_eq!(rt; reader.next(&Indication::Resumed { progress: 0 }), Err(NotAWord));
+    assert_eq!(rt;
+        reader.next(&Indication::Resumed { progress: 0 }),
+        Err(NotAWord)
+    );
     assert_eq!(rt; reader.next(&suspended()), Ok(()));
     assert_eq!(rt; reader.next(&Indication::EofSent), Ok(()));
     assert_eq!(rt; reader.next(&Indication::EofSent), Err(NotAWord));

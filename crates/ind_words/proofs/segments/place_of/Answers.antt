@@ -1,4 +1,4 @@
-use Rattle.std.proofs.Common.{rules, nat_le, true, false}
+use Rattle.std.proofs.Common.{rules, nat_le}
 use Rattle.std.proofs.lemmas.List.Sorted.{IsPartitionPoint-from_clause}
 use Rattle.ind_words.proofs.SegmentLemmas.{partitioned_by_end, below_point, above_point}
 use Rattle.ind_words.proofs.segments.place_of.Goals as goal
