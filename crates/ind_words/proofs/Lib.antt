@@ -1,1 +1,4 @@
 pub mod WordLemmas
+pub mod SegmentLemmas
+pub mod ReadingLemmas
+pub mod LaneLemmas

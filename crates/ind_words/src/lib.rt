@@ -3,9 +3,15 @@
 
 mod bundle;
 mod indication;
+mod marks;
+mod reader;
+mod segments;
+mod side;
 
 pub use bundle::Bundle;
 pub use indication::{Indication, Indications, Phase};
+pub use reader::{NotAWord, WordReader};
+pub use side::Side;
 
 #[cfg(test)]
 mod tests;

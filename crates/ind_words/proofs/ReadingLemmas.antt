@@ -1,0 +1,144 @@
+-- What a reader knows of the indications that it has taken.
+use Rattle.std.proofs.Common.{◌≡◌, ℕ, ◌+◌, ◌<◌, ◌≤◌, ◌↔◌, Bool, true, false, ◌||◌, List, [], ◌∷◌, ◌++◌, Option, IsTrue, refl, ap, sym, ◌∙◌, arith}
+use Rattle.std.specs.List.{list_any, count_by}
+use Rattle.std.proofs.lemmas.Bool.{true≢false, false≢true}
+use Rattle.cfdp_types.specs.declared.limits.TheConstants.{FILE_OCTETS}
+use Rattle.ind_words.specs.declared.indication.Indication.{Indication}
+use Rattle.ind_words.specs.declared.indication.Indication.TheVariants as told
+use Rattle.ind_words.specs.declared.marks.Marks.{Marks}
+use Rattle.ind_words.specs.declared.reader.WordReader.{WordReader}
+use Rattle.ind_words.specs.declared.side.Side.{Side}
+use Rattle.ind_words.specs.declared.side.Side.TheVariants.{Receiver}
+use Rattle.ind_words.specs.Marks.{marks_of}
+use Rattle.ind_words.specs.Offsets.{Kept, IsFree, IsInitial, covers, room_left}
+use Rattle.ind_words.specs.Reading.{HasRoom, MayGoOn, Knows, HasAdded, StandsAfter}
+use Rattle.ind_words.specs.Words.{IsNext, IsNextOf, IsBegunOf, IsWordOf, IsFilled, is_end, is_segment, tells_of, told_onto}
+use Rattle.ind_words.proofs.WordLemmas.{told_onto-append, list_any-told_onto, count_by-told_onto, MayFollowOf-append, MayFollowOf-rest}
+
+-- what isn't a segment
+pub is_segment_other : (next : Indication) → ((offset length : ℕ) → next ≡ told.FileSegmentRecv offset length → ⊥) → is_segment next ≡ false
+is_segment_other (told.FileSegmentRecv offset length) other = absurd (other offset length refl)
+is_segment_other told.Transaction other = refl
+is_segment_other told.EofSent other = refl
+is_segment_other told.EofRecv other = refl
+is_segment_other (told.TransactionFinished a b c) other = refl
+is_segment_other (told.MetadataRecv a b c d e) other = refl
+is_segment_other (told.Suspended a) other = refl
+is_segment_other (told.Resumed a) other = refl
+is_segment_other (told.Report a b) other = refl
+is_segment_other (told.Fault a b) other = refl
+is_segment_other (told.Abandoned a b) other = refl
+
+-- what is no segment tells of no octet
+pub tells_of_other : (i : ℕ) (next : Indication) → is_segment next ≡ false → tells_of i next ≡ false
+tells_of_other i (told.FileSegmentRecv offset length) other = absurd (true≢false other)
+tells_of_other i told.Transaction other = refl
+tells_of_other i told.EofSent other = refl
+tells_of_other i told.EofRecv other = refl
+tells_of_other i (told.TransactionFinished a b c) other = refl
+tells_of_other i (told.MetadataRecv a b c d e) other = refl
+tells_of_other i (told.Suspended a) other = refl
+tells_of_other i (told.Resumed a) other = refl
+tells_of_other i (told.Report a b) other = refl
+tells_of_other i (told.Fault a b) other = refl
+tells_of_other i (told.Abandoned a b) other = refl
+
+-- and adds nothing to the segments
+pub adds_nothing : (reader : WordReader) (next : Indication) → is_segment next ≡ false → HasAdded reader reader next
+adds_nothing reader next other = record {
+  side = refl;
+  marks = refl;
+  left = let none : count_by is_segment (next ∷ []) ≡ 0 = rw other refl in rw none (omega arith);
+  covered = λ i. rw (tells_of_other i next other) refl;
+}
+
+-- the segments that cover all offsets below some size
+pub initial_filled : (segments : Option Kept) (before : List Indication) → ((i : ℕ) → covers segments i ≡ list_any (tells_of i) before)
+    → IsInitial (covers segments) ↔ IsFilled before
+initial_filled segments before covered = (
+  λ initial. (
+    initial.0,
+    λ i. (
+      λ has. (initial.1 i).0 (covered i ∙ has),
+      λ below. sym (covered i) ∙ (initial.1 i).1 below,
+    ),
+  ),
+  λ filled. (
+    filled.0,
+    λ i. (
+      λ has. (filled.1 i).0 (sym (covered i) ∙ has),
+      λ below. covered i ∙ (filled.1 i).1 below,
+    ),
+  ),
+)
+
+-- when a segment may be taken
+pub segment_exact : (segments : Option Kept) (room : ℕ) (before : List Indication) (offset length : ℕ) (result : Bool)
+    → (IsTrue result ↔ ((0 < length) × (offset + length ≤ FILE_OCTETS) × IsFree (covers segments) offset (offset + length) × (0 < room_left segments)))
+    → room_left segments + count_by is_segment before ≡ room
+    → ((i : ℕ) → covers segments i ≡ list_any (tells_of i) before)
+    → IsTrue result ↔ (IsNext before (told.FileSegmentRecv offset length) × HasRoom room before (told.FileSegmentRecv offset length))
+segment_exact segments room before offset length result exact left covered = (
+  λ is.
+      let all = exact.0 is in
+      ((all.0, all.1, λ i from below. sym (covered i) ∙ all.2 i from below), λ segment. omega (arith, left, all.3)),
+  λ may.
+      let less : count_by is_segment before < room = may.1 refl in
+      exact.1 (may.0.0, may.0.1, λ i from below. covered i ∙ may.0.2 i from below, omega (arith, left, less)),
+)
+
+-- when a receiver may tell what is no segment
+pub other_exact : (reader : WordReader) (room : ℕ) (before : List Indication) (next : Indication) (initial result : Bool)
+    → Knows reader Receiver room before → is_segment next ≡ false → (IsTrue initial ↔ IsInitial (covers reader.segments))
+    → ((told : List Indication) → reader.marks ≡ marks_of told → (IsTrue initial ↔ IsFilled told) → is_segment next ≡ false → (IsTrue result ↔ IsNext told next))
+    → IsTrue result ↔ (IsNext before next × HasRoom room before next)
+other_exact reader room before next initial result knows other is_initial exact =
+    let filled = initial_filled reader.segments before knows.covered in
+    let may = exact before knows.marks (λ is. filled.0 (is_initial.0 is), λ is. is_initial.1 (filled.1 is)) other in
+    (λ is. (may.0 is, λ segment. absurd (false≢true (sym other ∙ segment))), λ goes. may.1 goes.0)
+
+-- the indications in either order have as many segments
+pub HasRoom-told_onto : (room : ℕ) (word : List Indication) (next : Indication) → HasRoom room (told_onto [] word) next ↔ HasRoom room word next
+HasRoom-told_onto room word next =
+    let same : count_by is_segment (told_onto [] word) ≡ count_by is_segment word =
+    count_by-told_onto is_segment [] word ∙ omega arith in
+    (λ has segment. rw same at (has segment), λ has segment. rw same (has segment))
+
+-- one more indication after the beginning of a word
+pub begun_more : (side : Side) (word : List Indication) (next : Indication) → IsBegunOf side word
+    → list_any is_end (told_onto [] word) ≡ false → IsNextOf side (told_onto [] word) next → IsBegunOf side (word ++ next ∷ [])
+begun_more side word next begun open_ may =
+    MayFollowOf-append side [] word (next ∷ []) begun (open_, may, tt)
+
+-- when a reader may go on
+pub may_go_on : (side : Side) (room : ℕ) (word : List Indication) (next : Indication) → IsBegunOf side word
+    → ((list_any is_end (told_onto [] word) ≡ false) × IsNextOf side (told_onto [] word) next × HasRoom room (told_onto [] word) next)
+    ↔ MayGoOn side room word next
+may_go_on side room word next begun = (
+  λ may. (begun_more side word next begun may.0 may.1, (HasRoom-told_onto room word next).0 may.2),
+  λ may.
+      let last = MayFollowOf-rest side [] word (next ∷ []) may.0 in
+      (last.0, last.1, (HasRoom-told_onto room word next).1 may.1),
+)
+
+-- one more indication after those that a reader has taken
+pub stands_more : (old new : WordReader) (side : Side) (room : ℕ) (word : List Indication) (next : Indication)
+    → StandsAfter old side room word
+    → (Knows old side room (told_onto [] word) → Knows new side room (next ∷ told_onto [] word))
+    → MayGoOn side room word next → StandsAfter new side room (word ++ next ∷ [])
+stands_more old new side room word next stands more may = record {
+  begun = may.0;
+  known = rw (told_onto-append [] word (next ∷ [])) (more stands.known);
+}
+
+or_nothing : (a : Bool) → (a || false) ≡ a
+or_nothing true = refl
+or_nothing false = refl
+
+-- the end of what a reader has taken
+pub ends_word : (reader : WordReader) (side : Side) (room : ℕ) (word : List Indication) → StandsAfter reader side room word
+    → IsTrue reader.marks.ended ↔ IsWordOf side word
+ends_word reader side room word stands =
+    let ended : reader.marks.ended ≡ list_any is_end word =
+    ap (λ (m : Marks). m.ended) stands.known.marks ∙ list_any-told_onto is_end [] word ∙ or_nothing (list_any is_end word) in
+    (λ is. (stands.begun, sym ended ∙ is), λ is. ended ∙ is.1)

@@ -1,0 +1,135 @@
+use crate::indication::Indication;
+use crate::marks::Marks;
+use crate::segments::{Segments, take_segment};
+use crate::side::Side;
+use std::alloc::{AllocError, Global};
+
+/// The indication may not come next, or there is no room for its segment.
+#[derive(Clone, Copy, Debug, PartialEq, Eq)]
+pub struct NotAWord;
+
+/// Reads the indications of one transaction, at its sender or at its receiver, in their order, and
+/// takes those that keep a beginning of a word. Only `with_room` takes memory.
+#[derive(Debug, Drop)]
+pub struct WordReader {
+    side: Side,
+    marks: Marks,
+    // None where there is room for no segment.
+    segments: Option<Segments>,
+}
+
+impl WordReader {
+    ghost use Rattle.std.specs.Prelude.{◌≡◌, ℕ, ◌∷◌, ◌++◌, [], List, ◌↔◌, IsTrue, true, false, IsOk, IfOk, OnOk, OnErr};
+    ghost use Rattle.std.specs.List.{list_any};
+    ghost use Rattle.ind_words.specs.declared.indication.Indication.{Indication};
+    ghost use Rattle.ind_words.specs.declared.side.Side.{Side};
+    ghost use Rattle.ind_words.specs.declared.side.Side.TheVariants.{Receiver};
+    ghost use Rattle.ind_words.specs.Offsets.{covers, room_left, IsInitial};
+    ghost use Rattle.ind_words.specs.Reading.{StandsAfter, Knows, MayGoOn, HasRoom, HasAdded};
+    ghost use Rattle.ind_words.specs.Words.{IsNextOf, IsNext, IsWordOf, is_end};
+
+    /// A reader that has room for no segment.
+    pub fn new(side: Side) -> WordReader
+        ensures { StandsAfter result side 0 [] }
+    {
+        WordReader::of(side, None)
+    }
+
+    /// A reader that has room for so many segments.
+    pub fn with_room(alloc: Global, side: Side, room: usize) -> Result<WordReader, AllocError>
+        ensures { IfOk result (λ reader. StandsAfter reader side room []) }
+    {
+        let segments = Segments::with_room(alloc, room)?;
+        Ok(WordReader::of(side, Some(segments)))
+    }
+
+    /// Takes an indication, where it may come next and there is room for its segment.
+    pub fn next(&mut self, indication: &Indication) -> Result<(), NotAWord>
+        ensures exact { (side : Side) (room : ℕ) (word : List Indication) → StandsAfter self.old side room word
+            → (IsOk result ↔ MayGoOn side room word indication.now) }
+        ensures taken { OnOk result ((side : Side) (room : ℕ) (word : List Indication) → StandsAfter self.old side room word
+            → StandsAfter self.new side room (word ++ indication.now ∷ [])) }
+        ensures refused { OnErr result (self.new ≡ self.old) }
+    {
+        if self.accept(indication) {
+            Ok(())
+        } else {
+            Err(NotAWord)
+        }
+    }
+
+    /// Whether the indications taken are a whole word, which ends with an end of the transaction.
+    pub fn at_end(&self) -> bool
+        ensures { (side : Side) (room : ℕ) (word : List Indication) → StandsAfter self.now side room word
+            → (IsTrue result ↔ IsWordOf side word) }
+    {
+        self.marks.ended
+    }
+
+    fn of(side: Side, segments: Option<Segments>) -> WordReader
+        requires { (i : ℕ) → covers segments i ≡ false }
+        ensures { StandsAfter result side (room_left segments) [] }
+    {
+        WordReader {
+            side,
+            marks: Marks::NONE,
+            segments,
+        }
+    }
+
+    // Takes an indication, where it may come next.
+    fn accept(&mut self, indication: &Indication) -> bool
+        ensures exact { (side : Side) (room : ℕ) (before : List Indication) → Knows self.old side room before
+            → (IsTrue result ↔ ((list_any is_end before ≡ false) × IsNextOf side before indication.now × HasRoom room before indication.now)) }
+        ensures taken { result ≡ true → (side : Side) (room : ℕ) (before : List Indication) → Knows self.old side room before
+            → Knows self.new side room (indication.now ∷ before) }
+        ensures refused { result ≡ false → self.new ≡ self.old }
+    {
+        if self.marks.ended || !self.allow(indication) {
+            return false;
+        }
+        self.marks = self.marks.after(indication);
+        true
+    }
+
+    // Whether a side that has told no end may tell the indication. The offsets of a segment are
+    // taken at once, and no mark is.
+    fn allow(&mut self, indication: &Indication) -> bool
+        ensures exact { (side : Side) (room : ℕ) (before : List Indication) → Knows self.old side room before
+            → (IsTrue result ↔ (IsNextOf side before indication.now × HasRoom room before indication.now)) }
+        ensures added { result ≡ true → HasAdded self.old self.new indication.now }
+        ensures refused { result ≡ false → self.new ≡ self.old }
+    {
+        match self.side {
+            Side::Sender => self.marks.allow_sender(indication),
+            Side::Receiver => self.allow_of_receiver(indication),
+        }
+    }
+
+    fn allow_of_receiver(&mut self, indication: &Indication) -> bool
+        ensures exact { (room : ℕ) (before : List Indication) → Knows self.old Receiver room before
+            → (IsTrue result ↔ (IsNext before indication.now × HasRoom room before indication.now)) }
+        ensures added { result ≡ true → HasAdded self.old self.new indication.now }
+        ensures refused { result ≡ false → self.new ≡ self.old }
+    {
+        match indication {
+            Indication::FileSegmentRecv { offset, length } => {
+                take_segment(&mut self.segments, *offset, *length)
+            }
+            _ => {
+                let initial = self.is_initial();
+                self.marks.allow_receiver(indication, initial)
+            }
+        }
+    }
+
+    // Whether the segments taken are all offsets below some size.
+    fn is_initial(&self) -> bool
+        ensures { IsTrue result ↔ IsInitial (covers self.now.segments) }
+    {
+        match &self.segments {
+            None => true,
+            Some(segments) => segments.is_initial(),
+        }
+    }
+}
