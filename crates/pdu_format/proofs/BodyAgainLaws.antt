@@ -1,7 +1,7 @@
 -- The data field: what is spelled there is read.
-use Rattle.std.proofs.Common.{◌≡◌, ℕ, ◌+◌, ◌*◌, ◌/◌, ◌%◌, ◌^◌, ◌<◌, ◌≤◌, Bool, true, false, eqb, ◌==◌, List, [], ◌++◌, length, Some, Ok, refl, sym, ap, ◌∙◌, append_assoc, arith}
+use Rattle.std.proofs.Common.{◌≡◌, ℕ, ◌+◌, ◌*◌, ◌/◌, ◌%◌, ◌^◌, ◌<◌, ◌≤◌, Bool, true, false, eqb, List, [], ◌++◌, length, Some, Ok, refl, sym, ap, ◌∙◌, append_assoc, arith}
 use Rattle.std.specs.List.{flat_map}
-use Rattle.std.proofs.lemmas.Bool.{eq-eqb, ne_eqb, or_from}
+use Rattle.std.proofs.lemmas.Bool.{eq-eqb, ne_eqb}
 use Rattle.std.proofs.lemmas.List.{append-nil, length-append}
 use Rattle.pdu_format.specs.declared.bodies.Eof as eof_type
 use Rattle.pdu_format.specs.declared.bodies.Finished as finished_type
@@ -15,8 +15,8 @@ use Rattle.pdu_format.specs.declared.requests.SegmentRequest.{SegmentRequest}
 use Rattle.pdu_format.specs.declared.pdu.Body.TheVariants as bodies
 use Rattle.pdu_format.specs.Numbers.{digits}
 use Rattle.pdu_format.specs.Tlvs.{Tlv}
-use Rattle.pdu_format.specs.Spelling.{bit, delivery_bit, file_status_bits, transaction_status_bits, acknowledged_code, prompt_bit, lv, tlv, request, eof, finished, ack, metadata, nak, prompt, keep_alive, segment, file_data, EofFits, FinishedFits, AckFits, MetadataFits, NakFits, KeepAliveFits, FileDataFits, RequestFits, IsTlv, IsLocationTlv, Locates, Tells}
-use Rattle.pdu_format.specs.Reading.{number_at, tlv_at, location_tlv_at, request_at, delivery_of, file_status_of, transaction_status_of, prompt_of, eof_at, finished_at, ack_at, metadata_at, nak_at, prompt_at, keep_alive_at, behind_segment_metadata, file_data_at, lacks_name, ack_of}
+use Rattle.pdu_format.specs.Spelling.{bit, delivery_bit, file_status_bits, transaction_status_bits, acknowledged_code, prompt_bit, lv, tlv, request, eof, finished, ack, metadata, nak, prompt, keep_alive, segment, file_data, EofFits, FinishedFits, AckFits, MetadataFieldsFit, NakFits, KeepAliveFits, FileDataFits, RequestFits, IsTlv, IsLocationTlv, Locates, Tells}
+use Rattle.pdu_format.specs.Reading.{number_at, tlv_at, location_tlv_at, request_at, delivery_of, file_status_of, transaction_status_of, prompt_of, eof_at, finished_at, ack_at, metadata_at, nak_at, prompt_at, keep_alive_at, behind_segment_metadata, file_data_at, ack_of}
 use Rattle.pdu_format.proofs.Numbers.{length-digits}
 use Rattle.pdu_format.proofs.BitLaws.{bit-below, delivery_of-delivery_bit, delivery_bit-below, file_status_of-file_status_bits, file_status_bits-below, transaction_status_of-transaction_status_bits, transaction_status_bits-below, prompt_of-prompt_bit, prompt_bit-below, acknowledged_with_code-again, acknowledged_code-below}
 use Rattle.pdu_format.proofs.FieldLaws.{octets_again, number_again, lv_again, tlv_again, location_tlv_again, request_again}
@@ -86,7 +86,7 @@ closure_again : (high low kind : ℕ) (closure : Bool) → low < 4 → kind < 16
 closure_again high low kind true ll lk = eq-eqb ((128 * high + 64 * 1 + 16 * low + kind) / 64 % 2) 1 (omega arith)
 closure_again high low kind false ll lk = ne_eqb ((128 * high + 64 * 0 + 16 * low + kind) / 64 % 2) 1 (λ e. omega arith)
 
-pub metadata_again : (width reserved spare : ℕ) (tlvs : List Tlv) (m : metadata_type.Metadata) → MetadataFits width m → reserved < 2 → spare < 4 → Tells tlvs m.messages
+pub metadata_again : (width reserved spare : ℕ) (tlvs : List Tlv) (m : metadata_type.Metadata) → MetadataFieldsFit width m → reserved < 2 → spare < 4 → Tells tlvs m.messages
     → metadata_at width (metadata width reserved spare tlvs m) ≡ Some (bodies.Metadata m)
 unfolding metadata_at
 metadata_again width reserved spare tlvs m fits lr lt tells =
@@ -98,20 +98,13 @@ metadata_again width reserved spare tlvs m fits lr lt tells =
     rw (
       number_again 1 flags (digits width m.size ++ names) small,
       number_again width m.size names fits.size,
-      lv_again m.source_name (lv m.destination_name ++ text) fits.source_name.most,
-      lv_again m.destination_name text fits.destination_name.most,
+      lv_again m.source_name (lv m.destination_name ++ text) fits.source_name,
+      lv_again m.destination_name text fits.destination_name,
       items_again tlv_at tlv IsTlv tlv_again tlv_long tlvs tells.each,
       closure_again reserved spare m.checksum_type m.closure lt fits.checksum_type,
       type_is,
       tells.kept,
     ) refl
-
--- Metadata that fits has both names
-pub metadata_named : (width : ℕ) (m : metadata_type.Metadata) → MetadataFits width m → lacks_name (bodies.Metadata m) ≡ false
-metadata_named width m fits =
-    let source = fits.source_name.least in
-    let destination = fits.destination_name.least in
-    or_from (length m.source_name == 0) (length m.destination_name == 0) (ne_eqb (length m.source_name) 0 (λ is. omega arith)) (ne_eqb (length m.destination_name) 0 (λ is. omega arith))
 
 request_long : (width : ℕ) → 1 ≤ width → (r : SegmentRequest) → 1 ≤ length (request width r)
 request_long width long r = omega (arith, length-append (digits width r.start) (digits width r.end), length-digits width r.start, long)

@@ -1,7 +1,7 @@
 -- The data field: what is read there is spelled so.
-use Rattle.std.proofs.Common.{◌≡◌, ℕ, ◌+◌, ◌*◌, ◌/◌, ◌%◌, ◌^◌, ◌<◌, Bool, true, false, cond, eqb, ◌==◌, List, [], ◌++◌, length, Option, Some, None, Ok, Err, refl, ap, subst, ◌∙◌, arith}
+use Rattle.std.proofs.Common.{◌≡◌, ℕ, ◌+◌, ◌*◌, ◌/◌, ◌%◌, ◌^◌, ◌<◌, Bool, true, false, cond, eqb, ◌==◌, List, [], ◌++◌, length, Option, Some, None, Result, Ok, Err, refl, ap, subst, ◌∙◌, arith}
 use Rattle.std.specs.List.{flat_map, AllByRecursion}
-use Rattle.std.proofs.lemmas.Bool.{eqb-true, eqb-false, or_parts}
+use Rattle.std.proofs.lemmas.Bool.{eqb-true}
 use Rattle.std.proofs.lemmas.List.{append-nil, nil_from_length}
 use Rattle.pdu_format.specs.declared.bodies.Acknowledged.{Acknowledged}
 use Rattle.pdu_format.specs.declared.requests.SegmentRequest.{SegmentRequest}
@@ -10,18 +10,29 @@ use Rattle.pdu_format.specs.declared.directive.Directive.TheVariants as directiv
 use Rattle.pdu_format.specs.declared.pdu.Body.{Body}
 use Rattle.pdu_format.specs.declared.pdu.Body.TheVariants as bodies
 use Rattle.pdu_format.specs.declared.fault.DecodeFault.{DecodeFault}
-use Rattle.pdu_format.specs.declared.fault.DecodeFault.TheVariants.{NoFileName}
+use Rattle.pdu_format.specs.declared.fault.DecodeFault.TheVariants.{TooShort, BadVersion, CrcPresent, LargeFile, LengthMismatch, UnknownDirective, FieldCut, NoFileName, NoMemory}
 use Rattle.pdu_format.specs.Directive.{directive_code}
 use Rattle.pdu_format.specs.Numbers.{digits}
 use Rattle.pdu_format.specs.Tlvs.{Tlv, messages_in, location_in}
 use Rattle.pdu_format.specs.Items.{◌>>=◌, items_to_end, closed}
-use Rattle.pdu_format.specs.Spelling.{Choice, bit, delivery_bit, file_status_bits, transaction_status_bits, acknowledged_code, prompt_bit, lv, tlv, request, segment, data_field, type_bit, IsName, BodyFits, RequestFits, IsBodyChoice}
+use Rattle.pdu_format.specs.Spelling.{Choice, bit, delivery_bit, file_status_bits, transaction_status_bits, acknowledged_code, prompt_bit, lv, tlv, request, segment, data_field, type_bit, MetadataFieldsFit, BodyFits, RequestFits, IsBodyChoice}
 use Rattle.pdu_format.specs.Reading.{number_at, octets_at, tlv_at, location_tlv_at, request_at, delivery_of, file_status_of, transaction_status_of, acknowledged_with_code, prompt_of, eof_at, finished_at, ack_at, metadata_at, nak_at, prompt_at, keep_alive_at, behind_segment_metadata, file_data_at, lacks_name, whole_body, ack_of, ack_of_kind}
 use Rattle.pdu_format.proofs.Numbers.{IsOctets}
 use Rattle.pdu_format.proofs.BitLaws.{bit-eqb, delivery_bit-delivery_of, file_status_bits-file_status_of, transaction_status_bits-transaction_status_of, prompt_bit-prompt_of, acknowledged_code-is}
 use Rattle.pdu_format.proofs.FieldLaws.{bind_some, some_is, passed_some, Takes, Takes-then, number_takes, number_then, octets_take, lv_then, IsTlvRead, IsLocationTlvRead, TakesItem, tlv_takes, location_tlv_takes, request_takes}
 use Rattle.pdu_format.proofs.ItemLaws.{Item, items_take}
 use Rattle.pdu_format.proofs.TlvLaws.{location_fits, locates_read, tells_read, messages_fit}
+
+-- every number of a body fits its field, where a name of Metadata may be empty
+abbrev pub FieldsFit : ℕ → Body → Type 0
+FieldsFit width (bodies.Eof e) = BodyFits width (bodies.Eof e)
+FieldsFit width (bodies.Finished f) = BodyFits width (bodies.Finished f)
+FieldsFit width (bodies.Ack a) = BodyFits width (bodies.Ack a)
+FieldsFit width (bodies.Metadata m) = MetadataFieldsFit width m
+FieldsFit width (bodies.Nak n) = BodyFits width (bodies.Nak n)
+FieldsFit width (bodies.Prompt p) = BodyFits width (bodies.Prompt p)
+FieldsFit width (bodies.KeepAlive k) = BodyFits width (bodies.KeepAlive k)
+FieldsFit width (bodies.FileData f) = BodyFits width (bodies.FileData f)
 
 -- the data field spells the body, of a kind, under a choice with this segmentation control and this
 -- segment metadata flag
@@ -31,7 +42,7 @@ pub record IsSpelled (width control kind : ℕ) (flag : Bool) (field : List ℕ)
   pub flag_is : choice.flag ≡ flag
   pub kind_is : type_bit body ≡ kind
   pub is_choice : IsBodyChoice choice body
-  pub fits : BodyFits width body
+  pub fits : FieldsFit width body
   pub spelled : field ≡ data_field width choice body
 
 -- all else zero
@@ -164,10 +175,7 @@ metadata_of flags size source_name destination_name tlvs = bodies.Metadata (reco
   messages = messages_in tlvs;
 })
 
-is_name : (name : List ℕ) → length name < 256 → eqb (length name) 0 ≡ false → IsName name
-is_name name short not_empty = record { least = omega (arith, eqb-false (length name) 0 not_empty); most = short }
-
-metadata_spelled : (width control : ℕ) (flag : Bool) (flags size : ℕ) (source destination : List ℕ) (tlvs : List Tlv) (octets : List ℕ) → flags < 256 → size < 256 ^ width → IsName source → IsName destination → AllByRecursion IsTlvRead tlvs
+metadata_spelled : (width control : ℕ) (flag : Bool) (flags size : ℕ) (source destination : List ℕ) (tlvs : List Tlv) (octets : List ℕ) → flags < 256 → size < 256 ^ width → length source < 256 → length destination < 256 → AllByRecursion IsTlvRead tlvs
     → octets ≡ digits 1 flags ++ (digits width size ++ (lv source ++ (lv destination ++ flat_map tlv tlvs))) → IsSpelled width control 0 flag (behind_code directives.Metadata octets) (metadata_of flags size source destination tlvs)
 metadata_spelled width control flag flags size source destination tlvs octets flags_fit size_fits source_fits destination_fits tlvs_read octets_are =
     let behind : List ℕ = digits width size ++ (lv source ++ (lv destination ++ flat_map tlv tlvs)) in
@@ -184,7 +192,7 @@ metadata_spelled width control flag flags size source destination tlvs octets fl
       spelled = ap (behind_code directives.Metadata) (octets_are ∙ ap (λ (k : ℕ). digits 1 k ++ behind) flags_are);
     }
 
-pub metadata_is_spelled : (width control : ℕ) (flag : Bool) (octets : List ℕ) (body : Body) → IsOctets octets → metadata_at width octets ≡ Some body → lacks_name body ≡ false → IsSpelled width control 0 flag (behind_code directives.Metadata octets) body
+pub metadata_is_spelled : (width control : ℕ) (flag : Bool) (octets : List ℕ) (body : Body) → IsOctets octets → metadata_at width octets ≡ Some body → IsSpelled width control 0 flag (behind_code directives.Metadata octets) body
 unfolding metadata_at
 metadata_is_spelled width control flag octets body h e =
     let flags = number_then 1 octets body h e in
@@ -194,12 +202,9 @@ metadata_is_spelled width control flag octets body h e =
     let tlvs = items_then tlv_at tlv IsTlvRead tlv_takes destination.rest body destination.takes.rest_octets destination.goes_on in
     let parts : octets ≡ digits 1 flags.value ++ (digits width size.value ++ (lv source.value ++ (lv destination.value ++ flat_map tlv tlvs.items))) =
     then_is flags.takes (then_is size.takes (then_is source.takes (then_is destination.takes tlvs.spelled))) in
-    subst (λ (b : Body). lacks_name b ≡ false → IsSpelled width control 0 flag (behind_code directives.Metadata octets) b)
+    subst (IsSpelled width control 0 flag (behind_code directives.Metadata octets))
     (some_is (metadata_of flags.value size.value source.value destination.value tlvs.items) body tlvs.goes_on)
-    (λ named.
-    let names = or_parts (eqb (length source.value) 0) (eqb (length destination.value) 0) named in
-    metadata_spelled width control flag flags.value size.value source.value destination.value tlvs.items octets flags.fits size.fits
-    (is_name source.value source.fits.short names.0) (is_name destination.value destination.fits.short names.1) tlvs.each parts)
+    (metadata_spelled width control flag flags.value size.value source.value destination.value tlvs.items octets flags.fits size.fits source.fits.short destination.fits.short tlvs.each parts)
 
 -- ---- NAK
 
@@ -337,39 +342,53 @@ file_data_is_spelled width control flag octets body h e =
 
 -- ---- a body whose fields were read
 
-pub record IsWhole (found : Option Body) (body : Body) : Type 0 where
-  pub found_so : found ≡ Some body
-  pub named : lacks_name body ≡ false
+-- what is answered for a body whose fields were read
+abbrev pub answer_of : Body → Result Body DecodeFault
+answer_of body = cond (lacks_name body) (Err NoFileName) (Ok body)
 
-refused : {A : Type 0} (b : Bool) (fault : DecodeFault) (x y : A) → cond b (Err fault) (Ok x) ≡ Ok y → (b ≡ false) × (x ≡ y)
-refused true fault x y e = absurd cc
-refused false fault x y e = (refl, cc)
+-- an answer for fields that were read
+abbrev pub IsAll : Result Body DecodeFault → Type 0
+IsAll (Ok body) = Unit {0}
+IsAll (Err NoFileName) = Unit {0}
+IsAll (Err TooShort) = ⊥
+IsAll (Err BadVersion) = ⊥
+IsAll (Err CrcPresent) = ⊥
+IsAll (Err LargeFile) = ⊥
+IsAll (Err LengthMismatch) = ⊥
+IsAll (Err UnknownDirective) = ⊥
+IsAll (Err FieldCut) = ⊥
+IsAll (Err NoMemory) = ⊥
 
-pub whole_is : (found : Option Body) (body : Body) → whole_body found ≡ Ok body → IsWhole found body
-whole_is None body e = absurd cc
-whole_is (Some x) body e =
-    let r = refused (lacks_name x) NoFileName x body e in
-    record { found_so = ap some r.1; named = subst (λ (b : Body). lacks_name b ≡ false) r.1 r.0 }
-  where
-    some : Body → Option Body
-    some b = Some b
+-- the data field spells a body, which is answered
+pub record IsReadAs (width control kind : ℕ) (flag : Bool) (field : List ℕ) (result : Result Body DecodeFault) : Type 0 where
+  pub body : Body
+  pub spelled : IsSpelled width control kind flag field body
+  pub answered : result ≡ answer_of body
 
-ack_second : (width control : ℕ) (flag : Bool) (first : ℕ) (octets rest : List ℕ) (kind : Option Acknowledged) (body : Body) → first < 256 → Takes octets (digits 1 first) rest → acknowledged_with_code (first / 16) ≡ kind
-    → ack_of_kind kind rest ≡ Ok body → IsSpelled width control 0 flag (behind_code directives.Ack octets) body
+pub whole_read : (width control kind : ℕ) (flag : Bool) (field : List ℕ) (found : Option Body) → ((body : Body) → found ≡ Some body → IsSpelled width control kind flag field body) → IsAll (whole_body found) → IsReadAs width control kind flag field (whole_body found)
+whole_read width control kind flag field None spelled all = absurd all
+whole_read width control kind flag field (Some body) spelled all = record { body = body; spelled = spelled body refl; answered = refl }
+
+ack_spelled_by : (width control : ℕ) (flag : Bool) (of : Acknowledged) (first : ℕ) (octets rest : List ℕ) (body : Body) → first < 256 → Takes octets (digits 1 first) rest → acknowledged_with_code (first / 16) ≡ Some of → ack_at of rest ≡ Some body
+    → IsSpelled width control 0 flag (behind_code directives.Ack octets) body
 unfolding ack_at
-ack_second width control flag first octets rest None body first_fits takes kind_is e = absurd cc
-ack_second width control flag first octets rest (Some of) body first_fits takes kind_is e =
-    let whole = whole_is (ack_at of rest) body e in
-    let flags = number_then 1 rest body takes.rest_octets whole.found_so in
+ack_spelled_by width control flag of first octets rest body first_fits takes kind_is e =
+    let flags = number_then 1 rest body takes.rest_octets e in
     let last = closed_some flags.rest (ack_with of flags.value) body flags.goes_on in
     subst (IsSpelled width control 0 flag (behind_code directives.Ack octets)) last.1
     (ack_spelled width control flag of first flags.value octets first_fits flags.fits (acknowledged_code-is (first / 16) of kind_is) (then_is takes (last_is flags.takes last.0)))
 
-ack_first : (width control : ℕ) (flag : Bool) (octets : List ℕ) (found : Option (ℕ × List ℕ)) (body : Body) → IsOctets octets → number_at 1 octets ≡ found → ack_of found ≡ Ok body → IsSpelled width control 0 flag (behind_code directives.Ack octets) body
-ack_first width control flag octets None body h found_is e = absurd cc
-ack_first width control flag octets (Some x) body h found_is e =
-    let first = number_takes 1 octets x.0 x.1 h found_is in
-    ack_second width control flag x.0 octets x.1 (acknowledged_with_code (x.0 / 16)) body first.below first.takes refl e
+ack_second : (width control : ℕ) (flag : Bool) (first : ℕ) (octets rest : List ℕ) (kind : Option Acknowledged) → first < 256 → Takes octets (digits 1 first) rest → acknowledged_with_code (first / 16) ≡ kind → IsAll (ack_of_kind kind rest)
+    → IsReadAs width control 0 flag (behind_code directives.Ack octets) (ack_of_kind kind rest)
+ack_second width control flag first octets rest None first_fits takes kind_is all = absurd all
+ack_second width control flag first octets rest (Some of) first_fits takes kind_is all =
+    whole_read width control 0 flag (behind_code directives.Ack octets) (ack_at of rest) (λ body e. ack_spelled_by width control flag of first octets rest body first_fits takes kind_is e) all
 
-pub ack_is_spelled : (width control : ℕ) (flag : Bool) (octets : List ℕ) (body : Body) → IsOctets octets → ack_of (number_at 1 octets) ≡ Ok body → IsSpelled width control 0 flag (behind_code directives.Ack octets) body
-ack_is_spelled width control flag octets body h e = ack_first width control flag octets (number_at 1 octets) body h refl e
+ack_first : (width control : ℕ) (flag : Bool) (octets : List ℕ) (found : Option (ℕ × List ℕ)) → IsOctets octets → number_at 1 octets ≡ found → IsAll (ack_of found) → IsReadAs width control 0 flag (behind_code directives.Ack octets) (ack_of found)
+ack_first width control flag octets None h found_is all = absurd all
+ack_first width control flag octets (Some x) h found_is all =
+    let first = number_takes 1 octets x.0 x.1 h found_is in
+    ack_second width control flag x.0 octets x.1 (acknowledged_with_code (x.0 / 16)) first.below first.takes refl all
+
+pub ack_is_read : (width control : ℕ) (flag : Bool) (octets : List ℕ) → IsOctets octets → IsAll (ack_of (number_at 1 octets)) → IsReadAs width control 0 flag (behind_code directives.Ack octets) (ack_of (number_at 1 octets))
+ack_is_read width control flag octets h all = ack_first width control flag octets (number_at 1 octets) h refl all

@@ -1,5 +1,5 @@
 -- Which fault is read, by the octets at their places.
-use Rattle.std.proofs.Common.{◌≡◌, ℕ, ◌+◌, ◌-◌, ◌*◌, ◌/◌, ◌%◌, ◌^◌, ◌<◌, ◌≤◌, Bool, true, false, cond, eqb, ltb, not, ◌&&◌, ◌||◌, ◌==◌, ◌⊎◌, inl, inr, List, [], ◌∷◌, ◌++◌, length, take, drop, Option, Some, None, Result, Ok, Err, refl, sym, ap, subst, ◌∙◌, arith}
+use Rattle.std.proofs.Common.{◌≡◌, ℕ, ◌+◌, ◌-◌, ◌*◌, ◌/◌, ◌^◌, ◌<◌, ◌≤◌, Bool, true, false, cond, ltb, not, ◌&&◌, ◌||◌, ◌==◌, ◌⊎◌, inl, inr, List, [], ◌∷◌, length, take, drop, Option, Some, None, Result, Ok, Err, refl, sym, ap, subst, ◌∙◌, arith}
 use Rattle.std.specs.Prelude.{is_none}
 use Rattle.std.proofs.lemmas.Bool.{eqb-true, and_parts, eq-eqb, ne_eqb, lt-ltb, le-ltb, cases_lt, cases_eq}
 use Rattle.std.proofs.lemmas.List.{length-drop, drop-drop}
@@ -9,15 +9,17 @@ use Rattle.pdu_format.specs.declared.directive.Directive.TheVariants as directiv
 use Rattle.pdu_format.specs.declared.opening.Opening.{Opening}
 use Rattle.pdu_format.specs.declared.pdu.Body.{Body}
 use Rattle.pdu_format.specs.declared.fault.DecodeFault.{DecodeFault}
-use Rattle.pdu_format.specs.declared.fault.DecodeFault.TheVariants.{TooShort, BadVersion, CrcPresent, LargeFile, LengthMismatch, UnknownDirective, FieldCut, NoFileName}
+use Rattle.pdu_format.specs.declared.fault.DecodeFault.TheVariants.{TooShort, BadVersion, CrcPresent, LargeFile, LengthMismatch, UnknownDirective, FieldCut, NoFileName, NoMemory}
 use Rattle.pdu_format.specs.Directive.{directive_with_code}
 use Rattle.pdu_format.specs.Pdu.{PduValue}
 use Rattle.pdu_format.specs.Numbers.{number_of}
 use Rattle.pdu_format.specs.Items.{◌>>=◌}
 use Rattle.pdu_format.specs.Opening.{entity_octets, sequence_octets, version, is_file_data, has_crc, is_large, has_segment_metadata}
-use Rattle.pdu_format.specs.Reading.{number_at, opening_at, opening_fault, acknowledged_with_code, eof_at, finished_at, ack_at, metadata_at, nak_at, prompt_at, keep_alive_at, file_data_at, lacks_name, whole_body, ack_of_kind, ack_of, fields_of, directive_of, body_of, pdu_with_body, pdu_from_field, pdu_from_opening, reading}
-use Rattle.pdu_format.specs.FirstFault.{ids_octets, number_fault, header_fault, acknowledges_other, has_unknown_code, is_unknown_directive}
+use Rattle.pdu_format.specs.Reading.{number_at, opening_at, opening_fault, acknowledged_with_code, eof_at, finished_at, ack_at, metadata_at, nak_at, prompt_at, keep_alive_at, file_data_at, lacks_name, whole_body, ack_of_kind, ack_of, fields_of, directive_of, body_of, pdu_with_body, reading}
+use Rattle.pdu_format.specs.FirstFault.{ids_octets, number_fault, header_fault, acknowledges_other, has_unknown_code, is_unknown_directive, IsCut, IsUnknown, IsFirstFault}
 use Rattle.pdu_format.specs.Spelling.{size_octets}
+use Rattle.pdu_format.proofs.Numbers.{IsOctets}
+use Rattle.pdu_format.proofs.ReadingLaws.{spelled_is_read, read_is_spelled, nameless_is_read, read_is_nameless}
 use Rattle.pdu_format.proofs.BitLaws.{directive_code-is}
 use Rattle.pdu_format.proofs.FieldLaws.{octets_again}
 
@@ -312,3 +314,113 @@ later_fault_is_read (first ∷ high ∷ low ∷ lengths ∷ rest) fault none kno
     let field = drop (ids_octets lengths) rest in
     let body_fault = late_pdu s.opening (body_of s.opening field) fault (sym s.read_so ∙ e) in
     late_body s.opening field fault (is_file_data first) (ap is_file_data s.first_is) known body_fault
+
+-- ---- the first fault, whole
+
+-- the faults that a header can have
+abbrev IsEarly : DecodeFault → Type 0
+IsEarly TooShort = Unit {0}
+IsEarly BadVersion = Unit {0}
+IsEarly CrcPresent = Unit {0}
+IsEarly LargeFile = Unit {0}
+IsEarly LengthMismatch = Unit {0}
+IsEarly UnknownDirective = ⊥
+IsEarly FieldCut = ⊥
+IsEarly NoFileName = ⊥
+IsEarly NoMemory = ⊥
+
+early_number : (a b c d : Bool) (fault : DecodeFault) → cond a (Some BadVersion) (cond b (Some CrcPresent) (cond c (Some LargeFile) (cond d (Some LengthMismatch) None))) ≡ Some fault → IsEarly fault
+early_number true b c d fault e = let same : BadVersion ≡ fault = cc in subst IsEarly same tt
+early_number false true c d fault e = let same : CrcPresent ≡ fault = cc in subst IsEarly same tt
+early_number false false true d fault e = let same : LargeFile ≡ fault = cc in subst IsEarly same tt
+early_number false false false true fault e = let same : LengthMismatch ≡ fault = cc in subst IsEarly same tt
+early_number false false false false fault e = absurd cc
+
+early_short : (fault : DecodeFault) → header_fault [] ≡ Some fault → IsEarly fault
+early_short fault e = let same : TooShort ≡ fault = cc in subst IsEarly same tt
+
+early_step : (b : Bool) (first size lengths behind : ℕ) (fault : DecodeFault) → cond b (Some TooShort) (number_fault first size lengths behind) ≡ Some fault → IsEarly fault
+early_step true first size lengths behind fault e = early_short fault e
+early_step false first size lengths behind fault e = early_number (not (version first == 1)) (has_crc first) (is_large first) (not (behind == ids_octets lengths + size)) fault e
+
+early : (octets : List ℕ) (fault : DecodeFault) → header_fault octets ≡ Some fault → IsEarly fault
+early [] fault e = early_short fault e
+early (a ∷ []) fault e = early_short fault e
+early (a ∷ b ∷ []) fault e = early_short fault e
+early (a ∷ b ∷ c ∷ []) fault e = early_short fault e
+early (first ∷ high ∷ low ∷ lengths ∷ rest) fault e = early_step (ltb (length rest) (ids_octets lengths)) first (256 * high + low) lengths (length rest) fault e
+
+early_is_first : (octets : List ℕ) (fault : DecodeFault) → IsEarly fault → header_fault octets ≡ Some fault → IsFirstFault octets fault
+early_is_first octets TooShort is e = e
+early_is_first octets BadVersion is e = e
+early_is_first octets CrcPresent is e = e
+early_is_first octets LargeFile is e = e
+early_is_first octets LengthMismatch is e = e
+early_is_first octets UnknownDirective is e = absurd is
+early_is_first octets FieldCut is e = absurd is
+early_is_first octets NoFileName is e = absurd is
+early_is_first octets NoMemory is e = absurd is
+
+abbrev err : DecodeFault → Result PduValue DecodeFault
+err fault = Err fault
+
+err_is : (a b : DecodeFault) → err a ≡ err b → a ≡ b
+err_is a b e = cc
+
+abbrev ok : PduValue → Result PduValue DecodeFault
+ok pdu = Ok pdu
+
+cut_is : (octets : List ℕ) → header_fault octets ≡ None → is_unknown_directive octets ≡ false → reading octets ≡ Err FieldCut → IsCut octets
+cut_is octets none known e = record {
+  header = none;
+  known = known;
+  no_pdu = λ pdu spells. not_ok pdu FieldCut (sym (spelled_is_read octets pdu spells) ∙ e);
+  not_nameless = λ nameless. not_cut (sym (nameless_is_read octets nameless) ∙ e);
+}
+  where
+    not_ok : (pdu : PduValue) (fault : DecodeFault) → ok pdu ≡ err fault → ⊥
+    not_ok pdu fault e = absurd cc
+
+    not_cut : err NoFileName ≡ err FieldCut → ⊥
+    not_cut e = absurd cc
+
+late_is_first : (octets : List ℕ) (fault : DecodeFault) → IsOctets octets → header_fault octets ≡ None → is_unknown_directive octets ≡ false → reading octets ≡ Err fault → IsLate fault → IsFirstFault octets fault
+late_is_first octets fault h none known e (inl cut) = subst (IsFirstFault octets) (sym cut) (cut_is octets none known (e ∙ ap err cut))
+late_is_first octets fault h none known e (inr nameless) = subst (IsFirstFault octets) (sym nameless) (read_is_nameless octets h (e ∙ ap err nameless))
+
+directive_is_first : (octets : List ℕ) (fault : DecodeFault) (b : Bool) → IsOctets octets → header_fault octets ≡ None → is_unknown_directive octets ≡ b → reading octets ≡ Err fault → IsFirstFault octets fault
+directive_is_first octets fault true h none is e =
+    let same : UnknownDirective ≡ fault = err_is UnknownDirective fault (sym (unknown_is_read octets none is) ∙ e) in
+    let unknown : IsUnknown octets = record { header = none; unknown = is } in
+    subst (IsFirstFault octets) same unknown
+directive_is_first octets fault false h none is e = late_is_first octets fault h none is e (later_fault_is_read octets fault none is e)
+
+fault_is_first : (octets : List ℕ) (fault : DecodeFault) (found : Option DecodeFault) → IsOctets octets → header_fault octets ≡ found → reading octets ≡ Err fault → IsFirstFault octets fault
+fault_is_first octets fault None h found_is e = directive_is_first octets fault (is_unknown_directive octets) h found_is refl e
+fault_is_first octets fault (Some f) h found_is e =
+    let same : f ≡ fault = err_is f fault (sym (header_fault_is_read octets f found_is) ∙ e) in
+    subst (IsFirstFault octets) same (early_is_first octets f (early octets f found_is) found_is)
+
+-- a fault that is read is the first one
+pub read_fault_is_first : (octets : List ℕ) (fault : DecodeFault) → IsOctets octets → reading octets ≡ Err fault → IsFirstFault octets fault
+read_fault_is_first octets fault h e = fault_is_first octets fault (header_fault octets) h refl e
+
+cut_is_read : (octets : List ℕ) (result : Result PduValue DecodeFault) → IsOctets octets → IsCut octets → reading octets ≡ result → result ≡ Err FieldCut
+cut_is_read octets (Ok pdu) h cut e = absurd (cut.no_pdu pdu (read_is_spelled octets pdu h e))
+cut_is_read octets (Err fault) h cut e =
+    elim (later_fault_is_read octets fault cut.header cut.known e) [
+      | inl is ↦ ap err is
+      | inr nameless ↦ absurd (cut.not_nameless (read_is_nameless octets h (e ∙ ap err nameless)))
+    ]
+
+-- the first fault is read
+pub first_fault_is_read : (octets : List ℕ) (fault : DecodeFault) → IsOctets octets → IsFirstFault octets fault → reading octets ≡ Err fault
+first_fault_is_read octets TooShort h is = header_fault_is_read octets TooShort is
+first_fault_is_read octets BadVersion h is = header_fault_is_read octets BadVersion is
+first_fault_is_read octets CrcPresent h is = header_fault_is_read octets CrcPresent is
+first_fault_is_read octets LargeFile h is = header_fault_is_read octets LargeFile is
+first_fault_is_read octets LengthMismatch h is = header_fault_is_read octets LengthMismatch is
+first_fault_is_read octets UnknownDirective h is = unknown_is_read octets is.header is.unknown
+first_fault_is_read octets FieldCut h is = cut_is_read octets (reading octets) h is refl
+first_fault_is_read octets NoFileName h is = nameless_is_read octets is
+first_fault_is_read octets NoMemory h is = absurd is

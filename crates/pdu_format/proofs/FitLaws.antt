@@ -1,6 +1,6 @@
 -- What a header and a body must hold for a PDU to fit: for those who build one.
-use Rattle.std.proofs.Common.{◌≡◌, ℕ, zero, suc, ◌+◌, ◌*◌, ◌^◌, ◌<◌, ◌≤◌, List, [], ◌∷◌, ◌++◌, length, map, Option, refl, sym, ap, ◌∙◌, arith}
-use Rattle.std.specs.List.{flat_map, AllByRecursion}
+use Rattle.std.proofs.Common.{◌≡◌, ℕ, ◌+◌, ◌*◌, ◌≤◌, List, [], ◌∷◌, ◌++◌, length, map, refl, arith}
+use Rattle.std.specs.List.{flat_map}
 use Rattle.std.proofs.lemmas.List.{length-append}
 use Rattle.pdu_format.specs.declared.bodies.Eof as eof_type
 use Rattle.pdu_format.specs.declared.bodies.Finished as finished_type
@@ -16,7 +16,7 @@ use Rattle.pdu_format.specs.declared.pdu.Body.TheVariants as bodies
 use Rattle.pdu_format.specs.Numbers.{digits}
 use Rattle.pdu_format.specs.Pdu.{PduValue}
 use Rattle.pdu_format.specs.Tlvs.{message_tlv}
-use Rattle.pdu_format.specs.Spelling.{size_octets, lv, tlv, request, IsIdLength, IsName, IsMessage, Fits, EofFits, FinishedFits, AckFits, MetadataFits, NakFits, KeepAliveFits, FileDataFits, HeaderFits}
+use Rattle.pdu_format.specs.Spelling.{size_octets, lv, tlv, request, Fits, EofFits, FinishedFits, AckFits, MetadataFits, NakFits, KeepAliveFits, FileDataFits, HeaderFits}
 use Rattle.pdu_format.proofs.TlvLaws.{location_short}
 
 pub header_fits : (pdu : PduValue) → Fits pdu → HeaderFits pdu.header

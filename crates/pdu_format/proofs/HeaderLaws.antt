@@ -11,7 +11,7 @@ use Rattle.pdu_format.specs.declared.fault.DecodeFault.TheVariants.{BadVersion, 
 use Rattle.pdu_format.specs.declared.opening.Opening.{Opening}
 use Rattle.pdu_format.specs.Numbers.{digits}
 use Rattle.pdu_format.specs.Pdu.{PduValue}
-use Rattle.pdu_format.specs.Spelling.{Choice, size_octets, bit, data_field, first_octet, lengths_octet, spelling, IsIdLength, Fits, IsChoice, type_bit, direction_bit, mode_bit}
+use Rattle.pdu_format.specs.Spelling.{Choice, size_octets, bit, data_field, first_octet, lengths_octet, spelling, IsIdLength, HeaderFits, IsChoice, type_bit, direction_bit, mode_bit}
 use Rattle.pdu_format.specs.Opening.{entity_octets, sequence_octets, has_segment_metadata, version, has_crc, is_large, direction_of, class_of, header_of}
 use Rattle.pdu_format.specs.Reading.{opening_at, opening_fault}
 use Rattle.pdu_format.proofs.Numbers.{IsOctets}
@@ -147,10 +147,10 @@ lengths_again control entity flag sequence lt e s = record {
   small = omega (arith, bit-below flag);
 }
 
-pub lengths_of : (choice : Choice) (pdu : PduValue) → Fits pdu → IsChoice choice pdu → LengthsAgain choice.control pdu.header.entity_octets choice.flag pdu.header.sequence_octets
+pub lengths_of : (choice : Choice) (pdu : PduValue) → HeaderFits pdu.header → IsChoice choice pdu → LengthsAgain choice.control pdu.header.entity_octets choice.flag pdu.header.sequence_octets
 lengths_of choice pdu fits is_choice = lengths_again choice.control pdu.header.entity_octets choice.flag pdu.header.sequence_octets is_choice.control fits.entity_octets fits.sequence_octets
 
-pub OpeningFits-opening_of : (choice : Choice) (pdu : PduValue) → Fits pdu → IsChoice choice pdu → OpeningFits (opening_of choice pdu)
+pub OpeningFits-opening_of : (choice : Choice) (pdu : PduValue) → HeaderFits pdu.header → IsChoice choice pdu → OpeningFits (opening_of choice pdu)
 OpeningFits-opening_of choice pdu fits is_choice =
     let again = lengths_of choice pdu fits is_choice in
     record {
@@ -162,13 +162,13 @@ OpeningFits-opening_of choice pdu fits is_choice =
       destination = subst (λ (k : ℕ). pdu.header.destination.0 < 256 ^ k) (sym again.entity_again) fits.destination;
     }
 
-pub spelling-is : (choice : Choice) (pdu : PduValue) → Fits pdu → IsChoice choice pdu → spelling choice pdu ≡ opening_text (opening_of choice pdu) ++ data_field size_octets choice pdu.body
+pub spelling-is : (choice : Choice) (pdu : PduValue) → HeaderFits pdu.header → IsChoice choice pdu → spelling choice pdu ≡ opening_text (opening_of choice pdu) ++ data_field size_octets choice pdu.body
 unfolding spelling
 spelling-is choice pdu fits is_choice =
     let again = lengths_of choice pdu fits is_choice in
     rw (again.entity_again, again.sequence_again) refl
 
-pub header_again : (choice : Choice) (pdu : PduValue) → Fits pdu → IsChoice choice pdu → header_of (opening_of choice pdu) ≡ pdu.header
+pub header_again : (choice : Choice) (pdu : PduValue) → HeaderFits pdu.header → IsChoice choice pdu → header_of (opening_of choice pdu) ≡ pdu.header
 unfolding header_of
 header_again choice pdu fits is_choice =
     let again = lengths_of choice pdu fits is_choice in

@@ -6,6 +6,7 @@ pub mod TlvLaws
 pub mod HeaderLaws
 pub mod BodyLaws
 pub mod BodyAgainLaws
+pub mod NameLaws
 pub mod ReadingLaws
 pub mod MemoryLaws
 pub mod FaultLaws

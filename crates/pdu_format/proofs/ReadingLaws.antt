@@ -1,5 +1,5 @@
 -- The whole: what is read is spelled so, and what is spelled so is read.
-use Rattle.std.proofs.Common.{◌≡◌, ℕ, ◌/◌, ◌%◌, ◌^◌, ◌<◌, ◌≤◌, Bool, true, false, cond, inl, inr, List, ◌++◌, length, map, Option, Some, None, Result, Ok, Err, refl, sym, ap, subst, ◌∙◌, arith}
+use Rattle.std.proofs.Common.{◌≡◌, ℕ, ◌/◌, ◌%◌, ◌^◌, ◌<◌, ◌≤◌, Bool, true, false, cond, not, ◌==◌, inl, inr, List, ◌++◌, length, map, Option, Some, None, Result, Ok, Err, refl, sym, ap, subst, ◌∙◌, arith}
 use Rattle.std.specs.Prelude.{IfOk}
 use Rattle.std.specs.List.{flat_map}
 use Rattle.std.proofs.lemmas.Bool.{eqb-true, eqb-false, eq-eqb, ne_eqb}
@@ -13,75 +13,89 @@ use Rattle.pdu_format.specs.declared.pdu.Header.{Header}
 use Rattle.pdu_format.specs.declared.pdu.Body.{Body}
 use Rattle.pdu_format.specs.declared.pdu.Body.TheVariants as bodies
 use Rattle.pdu_format.specs.declared.fault.DecodeFault.{DecodeFault}
+use Rattle.pdu_format.specs.declared.fault.DecodeFault.TheVariants.{TooShort, BadVersion, CrcPresent, LargeFile, LengthMismatch, UnknownDirective, FieldCut, NoFileName, NoMemory}
+use Rattle.pdu_format.specs.FirstFault.{SpellsNameless}
 use Rattle.pdu_format.specs.Directive.{directive_code, directive_with_code}
 use Rattle.pdu_format.specs.Pdu.{PduValue}
 use Rattle.pdu_format.specs.Numbers.{digits}
 use Rattle.pdu_format.specs.Tlvs.{message_tlv}
-use Rattle.pdu_format.specs.Spelling.{Choice, plain_choice, size_octets, lv, tlv, segment, file_data, data_field, type_bit, first_octet, lengths_octet, spelling, written, IsIdLength, BodyFits, Fits, IsBodyChoice, IsChoice, Spells, acknowledged_subtype, Keeps, plain_tlvs, spare_limit, plain_subtype, eof, finished, ack, metadata, nak, prompt, keep_alive}
-use Rattle.pdu_format.specs.Opening.{entity_octets, sequence_octets, has_segment_metadata, is_file_data, header_of}
-use Rattle.pdu_format.specs.Reading.{number_at, opening_at, opening_fault, eof_at, finished_at, metadata_at, nak_at, prompt_at, keep_alive_at, file_data_at, whole_body, fields_of, directive_of, body_of, pdu_with_body, pdu_from_field, pdu_from_opening, reading, IsUnlessMemory, IsFound}
+use Rattle.pdu_format.specs.Spelling.{Choice, plain_choice, size_octets, lv, tlv, segment, file_data, data_field, type_bit, first_octet, lengths_octet, spelling, written, IsIdLength, BodyFits, Fits, HeaderFits, IsBodyChoice, IsChoice, Spells, acknowledged_subtype, Keeps, plain_tlvs, spare_limit, plain_subtype, eof, finished, ack, metadata, nak, prompt, keep_alive}
+use Rattle.pdu_format.specs.Opening.{version, has_crc, is_large, entity_octets, sequence_octets, has_segment_metadata, is_file_data, header_of}
+use Rattle.pdu_format.specs.Reading.{number_at, opening_at, opening_fault, eof_at, finished_at, metadata_at, nak_at, prompt_at, keep_alive_at, file_data_at, lacks_name, whole_body, fields_of, directive_of, body_of, pdu_with_body, pdu_from_field, pdu_from_opening, reading, IsUnlessMemory, IsFound}
 use Rattle.pdu_format.proofs.Numbers.{IsOctets}
 use Rattle.pdu_format.proofs.BitLaws.{directive_code-is, directive_with_code-again, directive_code-below}
 use Rattle.pdu_format.proofs.FieldLaws.{Takes, number_takes, number_again}
 use Rattle.pdu_format.proofs.TlvLaws.{plain_locates, plain_tells, location_short, messages_shorter}
-use Rattle.pdu_format.proofs.HeaderLaws.{opening_text, OpeningFits, opening_takes, opening_again, opening_of, kind_again, OpeningFits-opening_of, spelling-is, header_again, no_fault_again, HasNoFault, HasNoFault-from_none, first_octet-is, lengths_octet-is, lengths_of}
-use Rattle.pdu_format.proofs.BodyLaws.{IsSpelled, whole_is, eof_is_spelled, finished_is_spelled, ack_is_spelled, metadata_is_spelled, nak_is_spelled, prompt_is_spelled, keep_alive_is_spelled, file_data_is_spelled}
-use Rattle.pdu_format.proofs.BodyAgainLaws.{eof_again, finished_again, ack_again, metadata_again, metadata_named, nak_again, prompt_again, keep_alive_again, file_data_again}
+use Rattle.pdu_format.proofs.HeaderLaws.{opening_text, OpeningFits, TakesOpening, opening_takes, opening_again, opening_of, kind_again, OpeningFits-opening_of, spelling-is, header_again, no_fault_again, HasNoFault, HasNoFault-from_none, first_octet-is, lengths_octet-is, lengths_of}
+use Rattle.pdu_format.proofs.BodyLaws.{FieldsFit, answer_of, IsAll, IsReadAs, whole_read, IsSpelled, eof_is_spelled, finished_is_spelled, ack_is_read, metadata_is_spelled, nak_is_spelled, prompt_is_spelled, keep_alive_is_spelled, file_data_is_spelled}
+use Rattle.pdu_format.proofs.NameLaws.{fields_and_names, fields_fit, names_fit, lacking, lacking_is}
+use Rattle.pdu_format.proofs.FitLaws.{header_fits}
+use Rattle.pdu_format.proofs.BodyAgainLaws.{eof_again, finished_again, ack_again, metadata_again, nak_again, prompt_again, keep_alive_again, file_data_again}
 
 -- ---- a data field that is read is spelled so
 
-fields_spelled : (control : ℕ) (flag : Bool) (d : Directive) (octets : List ℕ) (body : Body) → IsOctets octets → fields_of (Some d) octets ≡ Ok body → IsSpelled size_octets control 0 flag (digits 1 (directive_code d) ++ octets) body
-fields_spelled control flag directives.Eof octets body h e =
-    let whole = whole_is (eof_at size_octets octets) body e in
-    eof_is_spelled size_octets control flag octets body h whole.found_so
-fields_spelled control flag directives.Finished octets body h e =
-    let whole = whole_is (finished_at octets) body e in
-    finished_is_spelled size_octets control flag octets body h whole.found_so
-fields_spelled control flag directives.Ack octets body h e = ack_is_spelled size_octets control flag octets body h e
-fields_spelled control flag directives.Metadata octets body h e =
-    let whole = whole_is (metadata_at size_octets octets) body e in
-    metadata_is_spelled size_octets control flag octets body h whole.found_so whole.named
-fields_spelled control flag directives.Nak octets body h e =
-    let whole = whole_is (nak_at size_octets octets) body e in
-    nak_is_spelled size_octets control flag octets body h whole.found_so
-fields_spelled control flag directives.Prompt octets body h e =
-    let whole = whole_is (prompt_at octets) body e in
-    prompt_is_spelled size_octets control flag octets body h whole.found_so
-fields_spelled control flag directives.KeepAlive octets body h e =
-    let whole = whole_is (keep_alive_at size_octets octets) body e in
-    keep_alive_is_spelled size_octets control flag octets body h whole.found_so
+fields_read : (control : ℕ) (flag : Bool) (d : Directive) (octets : List ℕ) → IsOctets octets → IsAll (fields_of (Some d) octets) → IsReadAs size_octets control 0 flag (digits 1 (directive_code d) ++ octets) (fields_of (Some d) octets)
+fields_read control flag directives.Eof octets h all =
+    whole_read size_octets control 0 flag (digits 1 (directive_code directives.Eof) ++ octets) (eof_at size_octets octets) (λ body e. eof_is_spelled size_octets control flag octets body h e) all
+fields_read control flag directives.Finished octets h all =
+    whole_read size_octets control 0 flag (digits 1 (directive_code directives.Finished) ++ octets) (finished_at octets) (λ body e. finished_is_spelled size_octets control flag octets body h e) all
+fields_read control flag directives.Ack octets h all = ack_is_read size_octets control flag octets h all
+fields_read control flag directives.Metadata octets h all =
+    whole_read size_octets control 0 flag (digits 1 (directive_code directives.Metadata) ++ octets) (metadata_at size_octets octets) (λ body e. metadata_is_spelled size_octets control flag octets body h e) all
+fields_read control flag directives.Nak octets h all =
+    whole_read size_octets control 0 flag (digits 1 (directive_code directives.Nak) ++ octets) (nak_at size_octets octets) (λ body e. nak_is_spelled size_octets control flag octets body h e) all
+fields_read control flag directives.Prompt octets h all =
+    whole_read size_octets control 0 flag (digits 1 (directive_code directives.Prompt) ++ octets) (prompt_at octets) (λ body e. prompt_is_spelled size_octets control flag octets body h e) all
+fields_read control flag directives.KeepAlive octets h all =
+    whole_read size_octets control 0 flag (digits 1 (directive_code directives.KeepAlive) ++ octets) (keep_alive_at size_octets octets) (λ body e. keep_alive_is_spelled size_octets control flag octets body h e) all
 
-coded_spelled : (control : ℕ) (flag : Bool) (field rest : List ℕ) (code : ℕ) (kind : Option Directive) (body : Body) → Takes field (digits 1 code) rest → directive_with_code code ≡ kind → fields_of kind rest ≡ Ok body
-    → IsSpelled size_octets control 0 flag field body
-coded_spelled control flag field rest code None body takes kind_is e = absurd cc
-coded_spelled control flag field rest code (Some d) body takes kind_is e =
+coded_read : (control : ℕ) (flag : Bool) (field rest : List ℕ) (code : ℕ) (kind : Option Directive) → Takes field (digits 1 code) rest → directive_with_code code ≡ kind → IsAll (fields_of kind rest) → IsReadAs size_octets control 0 flag field (fields_of kind rest)
+coded_read control flag field rest code None takes kind_is all = absurd all
+coded_read control flag field rest code (Some d) takes kind_is all =
     let field_is : field ≡ digits 1 (directive_code d) ++ rest = takes.parts ∙ ap (λ (k : ℕ). digits 1 k ++ rest) (directive_code-is code d kind_is) in
-    rw field_is (fields_spelled control flag d rest body takes.rest_octets e)
+    subst (λ (f : List ℕ). IsReadAs size_octets control 0 flag f (fields_of (Some d) rest)) (sym field_is) (fields_read control flag d rest takes.rest_octets all)
 
-directive_spelled : (control : ℕ) (flag : Bool) (field : List ℕ) (found : Option (ℕ × List ℕ)) (body : Body) → IsOctets field → number_at 1 field ≡ found → directive_of found ≡ Ok body → IsSpelled size_octets control 0 flag field body
-directive_spelled control flag field None body h found_is e = absurd cc
-directive_spelled control flag field (Some x) body h found_is e =
+directive_read : (control : ℕ) (flag : Bool) (field : List ℕ) (found : Option (ℕ × List ℕ)) → IsOctets field → number_at 1 field ≡ found → IsAll (directive_of found) → IsReadAs size_octets control 0 flag field (directive_of found)
+directive_read control flag field None h found_is all = absurd all
+directive_read control flag field (Some x) h found_is all =
     let code = number_takes 1 field x.0 x.1 h found_is in
-    coded_spelled control flag field x.1 x.0 (directive_with_code x.0) body code.takes refl e
+    coded_read control flag field x.1 x.0 (directive_with_code x.0) code.takes refl all
 
 -- a data field that was read
-abbrev IsRead : Opening → List ℕ → Body → Type 0
-IsRead o field body = IsSpelled size_octets (o.lengths / 128) (o.first / 16 % 2) (has_segment_metadata o.lengths) field body
+abbrev IsRead : Opening → List ℕ → Result Body DecodeFault → Type 0
+IsRead o field result = IsReadAs size_octets (o.lengths / 128) (o.first / 16 % 2) (has_segment_metadata o.lengths) field result
 
-body_step : (o : Opening) (field : List ℕ) (body : Body) (b : Bool) → IsOctets field → is_file_data o.first ≡ b → cond b (whole_body (file_data_at size_octets (has_segment_metadata o.lengths) field)) (directive_of (number_at 1 field)) ≡ Ok body → IsRead o field body
-body_step o field body true h is e =
+body_step : (o : Opening) (field : List ℕ) (b : Bool) → IsOctets field → is_file_data o.first ≡ b → IsAll (cond b (whole_body (file_data_at size_octets (has_segment_metadata o.lengths) field)) (directive_of (number_at 1 field)))
+    → IsRead o field (cond b (whole_body (file_data_at size_octets (has_segment_metadata o.lengths) field)) (directive_of (number_at 1 field)))
+body_step o field true h is all =
     let flag = has_segment_metadata o.lengths in
-    let whole = whole_is (file_data_at size_octets flag field) body e in
+    let found = file_data_at size_octets flag field in
     let kind : 1 ≡ o.first / 16 % 2 = sym (eqb-true (o.first / 16 % 2) 1 is) in
-    subst (λ (k : ℕ). IsSpelled size_octets (o.lengths / 128) k flag field body) kind (file_data_is_spelled size_octets (o.lengths / 128) flag field body h whole.found_so)
-body_step o field body false h is e =
+    subst (λ (k : ℕ). IsReadAs size_octets (o.lengths / 128) k flag field (whole_body found)) kind
+    (whole_read size_octets (o.lengths / 128) 1 flag field found (λ body e. file_data_is_spelled size_octets (o.lengths / 128) flag field body h e) all)
+body_step o field false h is all =
     let flag = has_segment_metadata o.lengths in
     let kind : 0 ≡ o.first / 16 % 2 = omega (arith, eqb-false (o.first / 16 % 2) 1 is) in
-    subst (λ (k : ℕ). IsSpelled size_octets (o.lengths / 128) k flag field body) kind (directive_spelled (o.lengths / 128) flag field (number_at 1 field) body h refl e)
+    subst (λ (k : ℕ). IsReadAs size_octets (o.lengths / 128) k flag field (directive_of (number_at 1 field))) kind (directive_read (o.lengths / 128) flag field (number_at 1 field) h refl all)
 
-body_is_read : (o : Opening) (field : List ℕ) (body : Body) → IsOctets field → body_of o field ≡ Ok body → IsRead o field body
+body_is_read : (o : Opening) (field : List ℕ) → IsOctets field → IsAll (body_of o field) → IsRead o field (body_of o field)
 unfolding body_of
-body_is_read o field body h e = body_step o field body (is_file_data o.first) h refl e
+body_is_read o field h all = body_step o field (is_file_data o.first) h refl all
+
+-- a body that is answered has its names
+abbrev ok : Body → Result Body DecodeFault
+ok body = Ok body
+
+answered_ok : (b : Bool) (x y : Body) → ok y ≡ cond b (Err NoFileName) (Ok x) → (b ≡ false) × (x ≡ y)
+answered_ok true x y e = absurd cc
+answered_ok false x y e = (refl, cc)
+
+abbrev nameless : Result Body DecodeFault
+nameless = Err NoFileName
+
+answered_nameless : (b : Bool) (x : Body) → nameless ≡ cond b (Err NoFileName) (Ok x) → b ≡ true
+answered_nameless true x e = refl
+answered_nameless false x e = absurd cc
 
 -- ---- the written data field is not much longer than any other
 
@@ -120,86 +134,164 @@ laid first size lengths ids field = (digits 1 first ++ (digits 2 size ++ (digits
 abbrev ids_of : Opening → List ℕ
 ids_of o = digits (entity_octets o.lengths) o.source ++ (digits (sequence_octets o.lengths) o.sequence ++ digits (entity_octets o.lengths) o.destination)
 
-spelled_whole : (o : Opening) (field : List ℕ) (body : Body) → HasNoFault o field → (r : IsRead o field body) → opening_text o ++ field ≡ spelling r.choice (record { header = header_of o; body = body })
+-- a data field that spells a body
+abbrev IsFieldOf : Opening → List ℕ → Body → Type 0
+IsFieldOf o field body = IsSpelled size_octets (o.lengths / 128) (o.first / 16 % 2) (has_segment_metadata o.lengths) field body
+
+abbrev pdu_of : Opening → Body → PduValue
+pdu_of o body = record { header = header_of o; body = body }
+
+spelled_whole : (o : Opening) (field : List ℕ) (body : Body) → HasNoFault o field → (r : IsFieldOf o field body) → opening_text o ++ field ≡ spelling r.choice (pdu_of o body)
 unfolding spelling header_of
 spelled_whole o field body sound r =
     let choice = r.choice in
-    let first : o.first ≡ first_octet (record { header = header_of o; body = body }) = sym (first_octet-is o field body sound r.kind_is) in
+    let first : o.first ≡ first_octet (pdu_of o body) = sym (first_octet-is o field body sound r.kind_is) in
     let lengths : o.lengths ≡ lengths_octet choice (header_of o) = sym (lengths_octet-is o choice r.control_is r.flag_is) in
     let size : o.size ≡ length (data_field size_octets choice body) = sym sound.size_is ∙ ap length r.spelled in
     ap (λ (k : ℕ). laid k o.size o.lengths (ids_of o) field) first
-    ∙ ap (λ (k : ℕ). laid (first_octet (record { header = header_of o; body = body })) k o.lengths (ids_of o) field) size
-    ∙ ap (λ (k : ℕ). laid (first_octet (record { header = header_of o; body = body })) (length (data_field size_octets choice body)) k (ids_of o) field) lengths
-    ∙ ap (λ (os : List ℕ). laid (first_octet (record { header = header_of o; body = body })) (length (data_field size_octets choice body)) (lengths_octet choice (header_of o)) (ids_of o) os) r.spelled
+    ∙ ap (λ (k : ℕ). laid (first_octet (pdu_of o body)) k o.lengths (ids_of o) field) size
+    ∙ ap (λ (k : ℕ). laid (first_octet (pdu_of o body)) (length (data_field size_octets choice body)) k (ids_of o) field) lengths
+    ∙ ap (λ (os : List ℕ). laid (first_octet (pdu_of o body)) (length (data_field size_octets choice body)) (lengths_octet choice (header_of o)) (ids_of o) os) r.spelled
 
-field_short : (o : Opening) (field : List ℕ) (body : Body) → OpeningFits o → HasNoFault o field → (r : IsRead o field body) → length (data_field size_octets r.choice body) < 2 ^ 16
+field_short : (o : Opening) (field : List ℕ) (body : Body) → OpeningFits o → HasNoFault o field → (r : IsFieldOf o field body) → length (data_field size_octets r.choice body) < 2 ^ 16
 field_short o field body fits sound r = omega (arith, ap length r.spelled, sound.size_is, fits.size)
 
-fits_whole : (o : Opening) (field : List ℕ) (body : Body) → OpeningFits o → HasNoFault o field → (r : IsRead o field body) → Fits (record { header = header_of o; body = body })
+opening_header_fits : (o : Opening) → OpeningFits o → HeaderFits (header_of o)
 unfolding header_of
-fits_whole o field body fits sound r =
-    let entity : IsIdLength (entity_octets o.lengths) = record { least = omega arith; most = omega arith } in
-    record {
-      entity_octets = entity;
-      sequence_octets = record { least = omega arith; most = omega arith };
-      source = fits.source;
-      sequence = fits.sequence;
-      destination = fits.destination;
-      body = r.fits;
-      data_field = plain_short (header_of o) body r.choice entity r.fits r.is_choice (field_short o field body fits sound r);
-    }
+opening_header_fits o fits = record {
+  entity_octets = record { least = omega arith; most = omega arith };
+  sequence_octets = record { least = omega arith; most = omega arith };
+  source = fits.source;
+  sequence = fits.sequence;
+  destination = fits.destination;
+}
 
-choice_whole : (o : Opening) (field : List ℕ) (body : Body) → OpeningFits o → HasNoFault o field → (r : IsRead o field body) → IsChoice r.choice (record { header = header_of o; body = body })
+choice_whole : (o : Opening) (field : List ℕ) (body : Body) → OpeningFits o → HasNoFault o field → (r : IsFieldOf o field body) → IsChoice r.choice (pdu_of o body)
 choice_whole o field body fits sound r = record {
   control = omega (arith, r.control_is, fits.lengths);
   body = r.is_choice;
   data_field = field_short o field body fits sound r;
 }
 
-whole_spelled : (octets : List ℕ) (o : Opening) (field : List ℕ) (body : Body) → IsOctets octets → opening_at octets ≡ Some (o, field) → opening_fault o field ≡ None → body_of o field ≡ Ok body → Spells octets (record { header = header_of o; body = body })
-whole_spelled octets o field body h opening_is no_fault body_is =
-    let t = opening_takes octets (o, field) h opening_is in
-    let sound = HasNoFault-from_none o field no_fault in
-    let r = body_is_read o field body t.takes.rest_octets body_is in
+pub fits_of : (pdu : PduValue) → HeaderFits pdu.header → BodyFits size_octets pdu.body → length (data_field size_octets (plain_choice pdu) pdu.body) < 2 ^ 16 → Fits pdu
+fits_of pdu header body short = record {
+  entity_octets = header.entity_octets;
+  sequence_octets = header.sequence_octets;
+  source = header.source;
+  sequence = header.sequence;
+  destination = header.destination;
+  body = body;
+  data_field = short;
+}
+
+-- a datagram without a fault in its header
+record IsDatagram (octets : List ℕ) (o : Opening) (field : List ℕ) : Type 0 where
+  pub taken : TakesOpening octets o field
+  pub sound : HasNoFault o field
+
+whole_spelled : (octets : List ℕ) (o : Opening) (field : List ℕ) (body : Body) → IsDatagram octets o field → IsFieldOf o field body → lacks_name body ≡ false → Spells octets (pdu_of o body)
+whole_spelled octets o field body d r named =
+    let fits = fields_and_names body r.fits named in
+    let header = opening_header_fits o d.taken.fits in
     record {
       choice = r.choice;
-      is_choice = choice_whole o field body t.fits sound r;
-      fits = fits_whole o field body t.fits sound r;
-      spelled = t.takes.parts ∙ spelled_whole o field body sound r;
+      is_choice = choice_whole o field body d.taken.fits d.sound r;
+      fits = fits_of (pdu_of o body) header fits (plain_short (header_of o) body r.choice header.entity_octets fits r.is_choice (field_short o field body d.taken.fits d.sound r));
+      spelled = d.taken.takes.parts ∙ spelled_whole o field body d.sound r;
     }
 
-from_body : (octets : List ℕ) (o : Opening) (field : List ℕ) (found : Result Body DecodeFault) (pdu : PduValue) → IsOctets octets → opening_at octets ≡ Some (o, field) → opening_fault o field ≡ None → body_of o field ≡ found → pdu_with_body o found ≡ Ok pdu → Spells octets pdu
-from_body octets o field (Ok body) pdu h opening_is no_fault body_is e =
-    let same : record { header = header_of o; body = body } ≡ pdu = cc in
-    subst (Spells octets) same (whole_spelled octets o field body h opening_is no_fault body_is)
-from_body octets o field (Err fault) pdu h opening_is no_fault body_is e = absurd cc
+whole_nameless : (octets : List ℕ) (o : Opening) (field : List ℕ) (body : Body) → IsDatagram octets o field → IsFieldOf o field body → lacks_name body ≡ true → SpellsNameless octets
+whole_nameless octets o field (bodies.Eof e) d r lacks = absurd cc
+whole_nameless octets o field (bodies.Finished f) d r lacks = absurd cc
+whole_nameless octets o field (bodies.Ack a) d r lacks = absurd cc
+whole_nameless octets o field (bodies.Metadata m) d r lacks = record {
+  header = header_of o;
+  metadata = m;
+  choice = r.choice;
+  header_fits = opening_header_fits o d.taken.fits;
+  metadata_fits = r.fits;
+  nameless = lacking m lacks;
+  is_choice = choice_whole o field (bodies.Metadata m) d.taken.fits d.sound r;
+  spelled = d.taken.takes.parts ∙ spelled_whole o field (bodies.Metadata m) d.sound r;
+}
+whole_nameless octets o field (bodies.Nak n) d r lacks = absurd cc
+whole_nameless octets o field (bodies.Prompt p) d r lacks = absurd cc
+whole_nameless octets o field (bodies.KeepAlive k) d r lacks = absurd cc
+whole_nameless octets o field (bodies.FileData f) d r lacks = absurd cc
 
-from_fault : (octets : List ℕ) (o : Opening) (field : List ℕ) (found : Option DecodeFault) (pdu : PduValue) → IsOctets octets → opening_at octets ≡ Some (o, field) → opening_fault o field ≡ found → pdu_from_field o field found ≡ Ok pdu → Spells octets pdu
-from_fault octets o field None pdu h opening_is fault_is e = from_body octets o field (body_of o field) pdu h opening_is fault_is refl e
-from_fault octets o field (Some fault) pdu h opening_is fault_is e = absurd cc
+-- what is spelled where a PDU or Metadata that leaves a name out is read
+abbrev IsRight : List ℕ → Result PduValue DecodeFault → Type 0
+IsRight octets (Ok pdu) = Spells octets pdu
+IsRight octets (Err NoFileName) = SpellsNameless octets
+IsRight octets (Err TooShort) = Unit {0}
+IsRight octets (Err BadVersion) = Unit {0}
+IsRight octets (Err CrcPresent) = Unit {0}
+IsRight octets (Err LargeFile) = Unit {0}
+IsRight octets (Err LengthMismatch) = Unit {0}
+IsRight octets (Err UnknownDirective) = Unit {0}
+IsRight octets (Err FieldCut) = Unit {0}
+IsRight octets (Err NoMemory) = Unit {0}
 
-from_opening : (octets : List ℕ) (found : Option (Opening × List ℕ)) (pdu : PduValue) → IsOctets octets → opening_at octets ≡ found → pdu_from_opening found ≡ Ok pdu → Spells octets pdu
-from_opening octets None pdu h opening_is e = absurd cc
-from_opening octets (Some x) pdu h opening_is e = from_fault octets x.0 x.1 (opening_fault x.0 x.1) pdu h opening_is refl e
+from_body : (octets : List ℕ) (o : Opening) (field : List ℕ) (found : Result Body DecodeFault) → IsDatagram octets o field → IsOctets field → body_of o field ≡ found → IsRight octets (pdu_with_body o found)
+from_body octets o field (Ok body) d h body_is =
+    let r = body_is_read o field h (subst IsAll (sym body_is) tt) in
+    let named = answered_ok (lacks_name r.body) r.body body (sym body_is ∙ r.answered) in
+    subst (λ (b : Body). Spells octets (pdu_of o b)) named.1 (whole_spelled octets o field r.body d r.spelled named.0)
+from_body octets o field (Err NoFileName) d h body_is =
+    let r = body_is_read o field h (subst IsAll (sym body_is) tt) in
+    whole_nameless octets o field r.body d r.spelled (answered_nameless (lacks_name r.body) r.body (sym body_is ∙ r.answered))
+from_body octets o field (Err TooShort) d h body_is = tt
+from_body octets o field (Err BadVersion) d h body_is = tt
+from_body octets o field (Err CrcPresent) d h body_is = tt
+from_body octets o field (Err LargeFile) d h body_is = tt
+from_body octets o field (Err LengthMismatch) d h body_is = tt
+from_body octets o field (Err UnknownDirective) d h body_is = tt
+from_body octets o field (Err FieldCut) d h body_is = tt
+from_body octets o field (Err NoMemory) d h body_is = tt
+
+-- a fault of the header is not that a name is left out
+header_right : (a b c d : Bool) (octets : List ℕ) (fault : DecodeFault) → cond a (Some BadVersion) (cond b (Some CrcPresent) (cond c (Some LargeFile) (cond d (Some LengthMismatch) None))) ≡ Some fault → IsRight octets (Err fault)
+header_right true b c d octets fault e = let same : BadVersion ≡ fault = cc in subst (λ (f : DecodeFault). IsRight octets (Err f)) same tt
+header_right false true c d octets fault e = let same : CrcPresent ≡ fault = cc in subst (λ (f : DecodeFault). IsRight octets (Err f)) same tt
+header_right false false true d octets fault e = let same : LargeFile ≡ fault = cc in subst (λ (f : DecodeFault). IsRight octets (Err f)) same tt
+header_right false false false true octets fault e = let same : LengthMismatch ≡ fault = cc in subst (λ (f : DecodeFault). IsRight octets (Err f)) same tt
+header_right false false false false octets fault e = absurd cc
+
+from_fault : (octets : List ℕ) (o : Opening) (field : List ℕ) (found : Option DecodeFault) → TakesOpening octets o field → opening_fault o field ≡ found → IsRight octets (pdu_from_field o field found)
+unfolding opening_fault
+from_fault octets o field None taken fault_is = from_body octets o field (body_of o field) (record { taken = taken; sound = HasNoFault-from_none o field fault_is }) taken.takes.rest_octets refl
+from_fault octets o field (Some fault) taken fault_is =
+    header_right (not (version o.first == 1)) (has_crc o.first) (is_large o.first) (not (length field == o.size)) octets fault fault_is
+
+from_opening : (octets : List ℕ) (found : Option (Opening × List ℕ)) → IsOctets octets → opening_at octets ≡ found → IsRight octets (pdu_from_opening found)
+from_opening octets None h opening_is = tt
+from_opening octets (Some x) h opening_is = from_fault octets x.0 x.1 (opening_fault x.0 x.1) (opening_takes octets x h opening_is) refl
+
+reading_is_right : (octets : List ℕ) → IsOctets octets → IsRight octets (reading octets)
+unfolding reading
+reading_is_right octets h = from_opening octets (opening_at octets) h refl
 
 pub read_is_spelled : (octets : List ℕ) (pdu : PduValue) → IsOctets octets → reading octets ≡ Ok pdu → Spells octets pdu
-unfolding reading
-read_is_spelled octets pdu h e = from_opening octets (opening_at octets) pdu h refl e
+read_is_spelled octets pdu h e = subst (IsRight octets) e (reading_is_right octets h)
 
 -- what is read fits its fields, so it can be written
 pub read_fits : (octets : List ℕ) (pdu : PduValue) → IsOctets octets → reading octets ≡ Ok pdu → Fits pdu
 read_fits octets pdu h e = let spells = read_is_spelled octets pdu h e in spells.fits
 
+-- where it is read that a name is left out, such Metadata is spelled
+pub read_is_nameless : (octets : List ℕ) → IsOctets octets → reading octets ≡ Err NoFileName → SpellsNameless octets
+read_is_nameless octets h e = subst (IsRight octets) e (reading_is_right octets h)
+
 -- ---- what is spelled so is read
 
-directive_again : (o : Opening) (d : Directive) (octets : List ℕ) (body : Body) → o.first / 16 % 2 ≡ 0 → fields_of (Some d) octets ≡ Ok body → body_of o (digits 1 (directive_code d) ++ octets) ≡ Ok body
+directive_again : (o : Opening) (d : Directive) (octets : List ℕ) (body : Body) → o.first / 16 % 2 ≡ 0 → fields_of (Some d) octets ≡ answer_of body → body_of o (digits 1 (directive_code d) ++ octets) ≡ answer_of body
 unfolding body_of
 directive_again o d octets body kind fields =
     let directive : is_file_data o.first ≡ false = ne_eqb (o.first / 16 % 2) 1 (λ is. omega (arith, kind)) in
     rw (directive, number_again 1 (directive_code d) octets (directive_code-below d), directive_with_code-again d) fields
 
-body_again : (o : Opening) (choice : Choice) (body : Body) → o.first / 16 % 2 ≡ type_bit body → has_segment_metadata o.lengths ≡ choice.flag → BodyFits size_octets body → IsBodyChoice choice body
-    → body_of o (data_field size_octets choice body) ≡ Ok body
+body_again : (o : Opening) (choice : Choice) (body : Body) → o.first / 16 % 2 ≡ type_bit body → has_segment_metadata o.lengths ≡ choice.flag → FieldsFit size_octets body → IsBodyChoice choice body
+    → body_of o (data_field size_octets choice body) ≡ answer_of body
 unfolding body_of
 body_again o choice (bodies.Eof e) kind flag fits free =
     directive_again o directives.Eof (eof size_octets choice.spare choice.tlvs e) (bodies.Eof e) kind (rw (eof_again size_octets choice.spare choice.tlvs e fits free.spare free.tlvs) refl)
@@ -209,7 +301,7 @@ body_again o choice (bodies.Ack a) kind flag fits free =
     directive_again o directives.Ack (ack choice.subtype choice.spare a) (bodies.Ack a) kind (ack_again choice.subtype choice.spare a fits free.subtype free.spare)
 body_again o choice (bodies.Metadata m) kind flag fits free =
     directive_again o directives.Metadata (metadata size_octets choice.reserved choice.spare choice.tlvs m) (bodies.Metadata m) kind
-    (rw (metadata_again size_octets choice.reserved choice.spare choice.tlvs m fits free.reserved free.spare free.tlvs, metadata_named size_octets m fits) refl)
+    (rw (metadata_again size_octets choice.reserved choice.spare choice.tlvs m fits free.reserved free.spare free.tlvs) refl)
 body_again o choice (bodies.Nak n) kind flag fits free =
     directive_again o directives.Nak (nak size_octets n) (bodies.Nak n) kind (rw (nak_again size_octets n (omega arith) fits) refl)
 body_again o choice (bodies.Prompt p) kind flag fits free =
@@ -220,18 +312,32 @@ body_again o choice (bodies.FileData f) kind flag fits free =
     let is_data : is_file_data o.first ≡ true = eq-eqb (o.first / 16 % 2) 1 kind in
     rw (is_data, flag, file_data_again size_octets choice.flag choice.state choice.segment_metadata f fits free.state free.segment_metadata) refl
 
-pub spelling_is_read : (choice : Choice) (pdu : PduValue) → Fits pdu → IsChoice choice pdu → reading (spelling choice pdu) ≡ Ok pdu
+spelling_is_answered : (choice : Choice) (pdu : PduValue) → HeaderFits pdu.header → FieldsFit size_octets pdu.body → IsChoice choice pdu → reading (spelling choice pdu) ≡ pdu_with_body (opening_of choice pdu) (answer_of pdu.body)
 unfolding reading
-spelling_is_read choice pdu fits is_choice =
+spelling_is_answered choice pdu header fits is_choice =
     let o = opening_of choice pdu in
     let field = data_field size_octets choice pdu.body in
-    let again = lengths_of choice pdu fits is_choice in
-    let body_read = body_again o choice pdu.body (kind_again pdu) again.flag_again fits.body is_choice.body in
-    ap reading (spelling-is choice pdu fits is_choice)
-    ∙ rw (opening_again o field (OpeningFits-opening_of choice pdu fits is_choice), no_fault_again choice pdu, body_read, header_again choice pdu fits is_choice) refl
+    let again = lengths_of choice pdu header is_choice in
+    ap reading (spelling-is choice pdu header is_choice)
+    ∙ rw (
+      opening_again o field (OpeningFits-opening_of choice pdu header is_choice),
+      no_fault_again choice pdu,
+      body_again o choice pdu.body (kind_again pdu) again.flag_again fits is_choice.body,
+    ) refl
+
+pub spelling_is_read : (choice : Choice) (pdu : PduValue) → Fits pdu → IsChoice choice pdu → reading (spelling choice pdu) ≡ Ok pdu
+spelling_is_read choice pdu fits is_choice =
+    let header = header_fits pdu fits in
+    spelling_is_answered choice pdu header (fields_fit pdu.body fits.body) is_choice
+    ∙ rw (names_fit pdu.body fits.body, header_again choice pdu header is_choice) refl
 
 pub spelled_is_read : (octets : List ℕ) (pdu : PduValue) → Spells octets pdu → reading octets ≡ Ok pdu
 spelled_is_read octets pdu spells = ap reading spells.spelled ∙ spelling_is_read spells.choice pdu spells.fits spells.is_choice
+
+pub nameless_is_read : (octets : List ℕ) → SpellsNameless octets → reading octets ≡ Err NoFileName
+nameless_is_read octets s =
+    let pdu : PduValue = record { header = s.header; body = bodies.Metadata s.metadata } in
+    ap reading s.spelled ∙ spelling_is_answered s.choice pdu s.header_fits s.metadata_fits s.is_choice ∙ rw (lacking_is s.metadata s.nameless) refl
 
 -- ---- the written spelling
 

@@ -137,6 +137,14 @@ empty_location_read : reading (0x24 ∷ 0x00 ∷ 0x0F ∷ 0x00 ∷ 0x01 ∷ 0x05
 unfolding reading opening_at opening_fault header_of body_of number_at lv_at tlv_at location_tlv_at eof_at items_to_end items_within location_in number_of
 empty_location_read = refl
 
+-- a fault location in as many octets as the header's IDs have
+abbrev wide_cancel_pdu : PduValue
+wide_cancel_pdu = record { header = wide_pdu.header; body = cancel_pdu.body }
+
+wide_cancel_written : written wide_cancel_pdu ≡ (0x24 ∷ 0x00 ∷ 0x0E ∷ 0x13 ∷ 0x00 ∷ 0x01 ∷ 0x00 ∷ 0x00 ∷ 0x00 ∷ 0x05 ∷ 0x00 ∷ 0x02 ∷ 0x04 ∷ 0xF0 ∷ 0x61 ∷ 0x62 ∷ 0x63 ∷ 0x00 ∷ 0x00 ∷ 0x00 ∷ 0x00 ∷ 0x03 ∷ 0x06 ∷ 0x02 ∷ 0x00 ∷ 0x02 ∷ [])
+unfolding written spelling digits width_from
+wide_cancel_written = refl
+
 -- a fault location that needs more octets than the header's IDs have
 abbrev far_pdu : PduValue
 far_pdu = record { header = header; body = bodies.Eof (record { condition = 15; checksum = 0; size = 3; location = Some (record { 0 = 0x10203 }) }) }

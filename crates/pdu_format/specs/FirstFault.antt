@@ -1,7 +1,13 @@
--- Which fault a datagram has, by the octets at their places: the first that applies.
-use Rattle.std.specs.Prelude.{ℕ, ◌+◌, ◌*◌, ◌/◌, Bool, false, ◌&&◌, ◌||◌, not, List, [], ◌∷◌, length, drop, Option, Some, None, is_none, nat_lt, ◌==◌, if◌then◌else◌}
+-- Which fault a datagram has: the first that applies. The first six are told by the octets at their
+-- places; the others by what the datagram spells.
+use Rattle.std.specs.Prelude.{◌≡◌, ℕ, ◌+◌, ◌*◌, ◌/◌, Bool, true, false, ◌⊎◌, ◌&&◌, ◌||◌, not, List, [], ◌∷◌, length, drop, Option, Some, None, is_none, nat_lt, ◌==◌, if◌then◌else◌}
 use Rattle.pdu_format.specs.declared.fault.DecodeFault.{DecodeFault}
-use Rattle.pdu_format.specs.declared.fault.DecodeFault.TheVariants.{TooShort, BadVersion, CrcPresent, LargeFile, LengthMismatch}
+use Rattle.pdu_format.specs.declared.fault.DecodeFault.TheVariants.{TooShort, BadVersion, CrcPresent, LargeFile, LengthMismatch, UnknownDirective, FieldCut, NoFileName, NoMemory}
+use Rattle.pdu_format.specs.declared.bodies.Metadata as metadata_type
+use Rattle.pdu_format.specs.declared.pdu.Header.{Header}
+use Rattle.pdu_format.specs.declared.pdu.Body.TheVariants as bodies
+use Rattle.pdu_format.specs.Pdu.{PduValue}
+use Rattle.pdu_format.specs.Spelling.{Choice, size_octets, spelling, HeaderFits, MetadataFieldsFit, IsChoice, Spells}
 use Rattle.pdu_format.specs.Directive.{directive_with_code}
 use Rattle.pdu_format.specs.Opening.{entity_octets, sequence_octets, version, is_file_data, has_crc, is_large}
 use Rattle.pdu_format.specs.Reading.{acknowledged_with_code}
@@ -38,3 +44,39 @@ has_unknown_code (code ∷ fields) = is_none (directive_with_code code) || ((cod
 abbrev pub is_unknown_directive : List ℕ → Bool
 is_unknown_directive (first ∷ high ∷ low ∷ lengths ∷ rest) = not (is_file_data first) && has_unknown_code (drop (ids_octets lengths) rest)
 is_unknown_directive octets = false
+
+-- the octets spell Metadata that leaves a name out
+pub record SpellsNameless (octets : List ℕ) : Type 0 where
+  pub header : Header
+  pub metadata : metadata_type.Metadata
+  pub choice : Choice
+  pub header_fits : HeaderFits header
+  pub metadata_fits : MetadataFieldsFit size_octets metadata
+  pub nameless : (metadata.source_name ≡ []) ⊎ (metadata.destination_name ≡ [])
+  pub is_choice : IsChoice choice (record { header = header; body = bodies.Metadata metadata })
+  pub spelled : octets ≡ spelling choice (record { header = header; body = bodies.Metadata metadata })
+
+-- a header and a directive code without a fault, but fields that spell neither a PDU nor Metadata
+-- that leaves a name out
+pub record IsCut (octets : List ℕ) : Type 0 where
+  pub header : header_fault octets ≡ None
+  pub known : is_unknown_directive octets ≡ false
+  pub no_pdu : (pdu : PduValue) → Spells octets pdu → ⊥
+  pub not_nameless : SpellsNameless octets → ⊥
+
+-- a header without a fault, and a directive code without a meaning
+pub record IsUnknown (octets : List ℕ) : Type 0 where
+  pub header : header_fault octets ≡ None
+  pub unknown : is_unknown_directive octets ≡ true
+
+-- the first fault of a datagram
+abbrev pub IsFirstFault : List ℕ → DecodeFault → Type 0
+IsFirstFault octets TooShort = header_fault octets ≡ Some TooShort
+IsFirstFault octets BadVersion = header_fault octets ≡ Some BadVersion
+IsFirstFault octets CrcPresent = header_fault octets ≡ Some CrcPresent
+IsFirstFault octets LargeFile = header_fault octets ≡ Some LargeFile
+IsFirstFault octets LengthMismatch = header_fault octets ≡ Some LengthMismatch
+IsFirstFault octets UnknownDirective = IsUnknown octets
+IsFirstFault octets FieldCut = IsCut octets
+IsFirstFault octets NoFileName = SpellsNameless octets
+IsFirstFault octets NoMemory = ⊥

@@ -299,6 +299,14 @@ pub record MetadataFits (width : ℕ) (m : metadata_type.Metadata) : Type 0 wher
   pub destination_name : IsName m.destination_name
   pub messages : AllByRecursion IsMessage m.messages
 
+-- the same, but that a name may be empty
+pub record MetadataFieldsFit (width : ℕ) (m : metadata_type.Metadata) : Type 0 where
+  pub checksum_type : m.checksum_type < 16
+  pub size : m.size < 256 ^ width
+  pub source_name : length m.source_name < 256
+  pub destination_name : length m.destination_name < 256
+  pub messages : AllByRecursion IsMessage m.messages
+
 -- every offset of a NAK fits its field
 pub record NakFits (width : ℕ) (n : nak_type.Nak) : Type 0 where
   pub start : n.start < 256 ^ width
