@@ -19,3 +19,6 @@ pub use pdu_format::{
     Ack, Acknowledged, Body, DecodeFault, Direction, Eof, FileData, Finished, Header, KeepAlive,
     Metadata, Nak, Pdu, Prompt, SegmentRequest, SegmentRequests, TransactionStatus,
 };
+
+#[cfg(test)]
+mod tests;
