@@ -152,8 +152,7 @@ goes_through side room word place d begun within enough =
     let more : take (place + 1) word ≡ take place word ++ get_or word place d ∷ [] = take_more word place d within in
     let all : IsBegunOf side (take (place + 1) word ++ drop (place + 1) word) =
     subst (IsBegunOf side) (sym (take-append-drop (place + 1) word)) begun in
-    let short : length (take place word) ≡ place = length-take-le place word (omega arith) in
-    (
+    let short : length (take place word) ≡ place = length-take-le place word (omega arith) in (
       subst (IsBegunOf side) more (MayFollowOf-front side [] (take (place + 1) word) (drop (place + 1) word) all),
       λ segment. omega (arith, count_by-le-length is_segment (take place word), short),
     )
