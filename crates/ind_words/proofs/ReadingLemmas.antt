@@ -1,7 +1,9 @@
 -- What a reader knows of the indications that it has taken.
-use Rattle.std.proofs.Common.{◌≡◌, ℕ, ◌+◌, ◌<◌, ◌≤◌, ◌↔◌, Bool, true, false, ◌||◌, List, [], ◌∷◌, ◌++◌, Option, IsTrue, refl, ap, sym, ◌∙◌, arith}
+use Rattle.std.proofs.Common.{◌≡◌, ℕ, ◌+◌, ◌<◌, ◌≤◌, ◌↔◌, Bool, true, false, ◌||◌, List, [], ◌∷◌, ◌++◌, Option, IsTrue, length, get_or, take, drop, refl, ap, sym, ◌∙◌, arith, subst}
 use Rattle.std.specs.List.{list_any, count_by}
 use Rattle.std.proofs.lemmas.Bool.{true≢false, false≢true}
+use Rattle.std.proofs.lemmas.List.{take_more, take-append-drop, length-take-le}
+use Rattle.std.proofs.lemmas.List.Sums.{count_by-le-length}
 use Rattle.cfdp_types.specs.declared.limits.TheConstants.{FILE_OCTETS}
 use Rattle.ind_words.specs.declared.indication.Indication.{Indication}
 use Rattle.ind_words.specs.declared.indication.Indication.TheVariants as told
@@ -13,7 +15,7 @@ use Rattle.ind_words.specs.Marks.{marks_of}
 use Rattle.ind_words.specs.Offsets.{Kept, IsFree, IsInitial, covers, room_left}
 use Rattle.ind_words.specs.Reading.{HasRoom, MayGoOn, Knows, HasAdded, StandsAfter}
 use Rattle.ind_words.specs.Words.{IsNext, IsNextOf, IsBegunOf, IsWordOf, IsFilled, is_end, is_segment, tells_of, told_onto}
-use Rattle.ind_words.proofs.WordLemmas.{told_onto-append, list_any-told_onto, count_by-told_onto, MayFollowOf-append, MayFollowOf-rest}
+use Rattle.ind_words.proofs.WordLemmas.{told_onto-append, list_any-told_onto, count_by-told_onto, MayFollowOf-append, MayFollowOf-front, MayFollowOf-rest}
 
 -- what isn't a segment
 pub is_segment_other : (next : Indication) → ((offset length : ℕ) → next ≡ told.FileSegmentRecv offset length → ⊥) → is_segment next ≡ false
@@ -142,3 +144,15 @@ ends_word reader side room word stands =
     let ended : reader.marks.ended ≡ list_any is_end word =
     ap (λ (m : Marks). m.ended) stands.known.marks ∙ list_any-told_onto is_end [] word ∙ or_nothing (list_any is_end word) in
     (λ is. (stands.begun, sym ended ∙ is), λ is. ended ∙ is.1)
+
+-- through the beginning of a word a reader with enough room goes on to its end
+pub goes_through : (side : Side) (room : ℕ) (word : List Indication) (place : ℕ) (d : Indication) → IsBegunOf side word
+    → place < length word → length word ≤ room → MayGoOn side room (take place word) (get_or word place d)
+goes_through side room word place d begun within enough =
+    let more : take (place + 1) word ≡ take place word ++ get_or word place d ∷ [] = take_more word place d within in
+    let all : IsBegunOf side (take (place + 1) word ++ drop (place + 1) word) =
+    subst (IsBegunOf side) (sym (take-append-drop (place + 1) word)) begun in
+    let short : length (take place word) ≡ place = length-take-le place word (omega arith) in (
+      subst (IsBegunOf side) more (MayFollowOf-front side [] (take (place + 1) word) (drop (place + 1) word) all),
+      λ segment. omega (arith, count_by-le-length is_segment (take place word), short),
+    )

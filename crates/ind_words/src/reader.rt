@@ -9,7 +9,7 @@ use std::alloc::{AllocError, Global};
 pub struct NotAWord;
 
 /// Reads the indications of one transaction, at its sender or at its receiver, in their order, and
-/// takes those that keep a beginning of a word. Only `with_room` takes memory.
+/// takes those that keep a beginning of a word.
 #[derive(Debug, Drop)]
 pub struct WordReader {
     side: Side,
@@ -28,7 +28,7 @@ impl WordReader {
     ghost use Rattle.ind_words.specs.Reading.{StandsAfter, Knows, MayGoOn, HasRoom, HasAdded};
     ghost use Rattle.ind_words.specs.Words.{IsNextOf, IsNext, IsWordOf, is_end};
 
-    /// A reader that has room for no segment.
+    /// A reader that has room for no segment. Takes no memory.
     pub fn new(side: Side) -> WordReader
         ensures { StandsAfter result side 0 [] }
     {
@@ -43,7 +43,9 @@ impl WordReader {
         Ok(WordReader::of(side, Some(segments)))
     }
 
-    /// Takes an indication, where it may come next and there is room for its segment.
+    /// Takes an indication, where it may come next and there is room for its segment. Takes no
+    /// memory; a segment costs a search by halves among the runs of those before it, and a move of
+    /// the runs above it.
     pub fn next(&mut self, indication: &Indication) -> Result<(), NotAWord>
         ensures exact { (side : Side) (room : ℕ) (word : List Indication) → StandsAfter self.old side room word
             → (IsOk result ↔ MayGoOn side room word indication.now) }
