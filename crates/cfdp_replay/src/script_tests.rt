@@ -145,6 +145,53 @@ fn datagrams_that_are_refused(rt: HostRuntime) -> Result<(), Fail> {
 }
 
 #[test]
+fn kinds_without_a_place(rt: HostRuntime) -> Result<(), Fail> {
+    check(
+        &rt,
+        &[
+            // a Prompt where nothing was opened, and then in class 2 and in class 1
+            "pdu 240002000105020900\n",
+            METADATA,
+            "pdu 200002000105020900\n",
+            "pdu 240002000105020900\n",
+            // ACK of Finished; ACK of EOF and Keep Alive under the other direction
+            "pdu 24000300010502065102\n",
+            "pdu 24000300010502064001\n",
+            "pdu 240005000105020c00000003\n",
+            // Keep Alive to a sender here, and to one elsewhere
+            "pdu 2c0005000205020c00000003\n",
+            "pdu 2c0005000105020c00000003\n",
+            // an ACK of a NAK, and a NAK with four octets left
+            "pdu 28000300010502066001\n",
+            "pdu 28000d0001050208000000000000000300000000\n",
+            // segment metadata is dropped
+            "pdu 34000a0801050202aabb00000000616263\n",
+            "take alice\ntake alice\ntake alice\n",
+        ],
+        "refused 1 NoTransaction\nok\nrefused 4 ModeMismatch\nrefused 8 WrongState\n\
+         refused 8 WrongState\nrefused 22 WrongDirection\nrefused 22 WrongDirection\n\
+         refused 1 NoTransaction\nrefused 21 NotForUs\n\
+         refused 20 DecodeFault 6\nrefused 20 DecodeFault 7\nok\n\
+         alice 1 5 Metadata-Recv 1 3 61 62\nalice 1 5 File-Segment-Recv 0 3\nnone\n",
+        Ok(()),
+    )
+}
+
+#[test]
+fn longer_numbers_and_messages(rt: HostRuntime) -> Result<(), Fail> {
+    check(
+        &rt,
+        &[
+            // IDs of two octets, a sequence number of four, and two messages round another option
+            "pdu 24001313000100000005000207000000000301610162020268690500020121\n",
+            "take alice\n",
+        ],
+        "ok\nalice 1 5 Metadata-Recv 1 3 61 62 6869 21\n",
+        Ok(()),
+    )
+}
+
+#[test]
 fn a_full_queue(rt: HostRuntime) -> Result<(), Fail> {
     let octet = |offset: u32| format!(in rt.alloc(); "pdu 340005000105020000000{offset}61\n");
     let mut script = String::new(rt.alloc());

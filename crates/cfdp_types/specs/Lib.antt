@@ -3,3 +3,4 @@ pub mod ChecksumType
 pub mod Handlers
 pub mod Params
 pub mod Put
+pub mod Steps

@@ -52,6 +52,15 @@ impl Messages {
         Ok(Messages { items })
     }
 
+    /// No message, with room for so many.
+    pub fn with_capacity(alloc: Global, count: usize) -> Result<Messages, AllocError>
+        ensures { IfOk result (λ messages. messages ≡ []) }
+    {
+        Ok(Messages {
+            items: Vec::with_capacity(alloc, count)?,
+        })
+    }
+
     pub fn as_slice(&self) -> &[Octets]
         ensures { result.now ≡ self.now }
     {

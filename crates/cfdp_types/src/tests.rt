@@ -44,6 +44,7 @@ fn octets_and_messages(rt: HostRuntime) -> Result<(), Fail> {
     let name = Octets::from_slice(alloc, b"abc")?;
     assert_eq!(rt; name.as_slice(), b"abc".as_slice());
     assert_eq!(rt; Octets::new(alloc).as_slice().len(), 0);
+    assert_eq!(rt; Messages::with_capacity(alloc, 3)?.as_slice().len(), 0);
     assert_eq!(rt; name.clone()?, name);
     assert_eq!(rt; name.copy()?, name);
     assert_ne!(rt; name, Octets::from_vec(vec![in alloc; 97, 98, 100]?));

@@ -2,6 +2,9 @@
 use Rattle.std.specs.Prelude.{ℕ, Bool, true, false, not, ◌==◌, Option, Some, None}
 use Rattle.cfdp_types.specs.declared.names.Class.{Class}
 use Rattle.cfdp_types.specs.declared.names.Class.TheVariants.{One, Two}
+use Rattle.cfdp_types.specs.declared.names.TimerKind.{TimerKind}
+use Rattle.cfdp_types.specs.Steps.{is_kind, is_stamp}
+use Rattle.pdu_format.specs.declared.pdu.Body.{Body}
 use Rattle.pdu_codec.specs.declared.event.What.{What}
 use Rattle.pdu_codec.specs.declared.event.What.TheVariants as what
 
@@ -24,3 +27,23 @@ abbrev pub needs_room : What → Bool
 needs_room (what.Stored stamp kept) = false
 needs_room what.Abandon = false
 needs_room _ = true
+
+-- the expiration of a timer of this kind
+abbrev pub is_expiration : TimerKind → What → Bool
+is_expiration kind (what.Timer expired stamp) = is_kind expired kind
+is_expiration kind _ = false
+
+-- the body of the PDU that an event is
+abbrev pub body_of_event : What → Option Body
+body_of_event (what.Pdu pdu) = Some pdu.body
+body_of_event _ = None
+
+-- StaleTimer: a timer that does not run, or was armed again since
+abbrev pub is_stale_timer : (TimerKind → Option ℕ) → What → Bool
+is_stale_timer armed (what.Timer kind stamp) = not (is_stamp (armed kind) stamp)
+is_stale_timer armed _ = false
+
+-- a PDU that came
+abbrev pub is_pdu : What → Bool
+is_pdu (what.Pdu pdu) = true
+is_pdu _ = false

@@ -203,8 +203,14 @@ fn put_ack(out: &mut Vec<u8>, ack: &Ack)
     requires { HasRoom out.old (spelling.ack (spelling.acknowledged_subtype ack.now.of) 0 ack.now) }
     ensures { Writes out.old out.new (spelling.ack (spelling.acknowledged_subtype ack.now.of) 0 ack.now) }
 {
-    put_octet(out, 16 * acknowledged_code(ack.of) + acknowledged_subtype(ack.of));
-    put_octet(out, 16 * ack.condition.code() + transaction_status_bits(ack.status));
+    put_octet(
+        out,
+        16 * acknowledged_code(ack.of) + acknowledged_subtype(ack.of),
+    );
+    put_octet(
+        out,
+        16 * ack.condition.code() + transaction_status_bits(ack.status),
+    );
 }
 
 fn put_metadata(out: &mut Vec<u8>, metadata: &Metadata)
@@ -212,7 +218,10 @@ fn put_metadata(out: &mut Vec<u8>, metadata: &Metadata)
     requires room { HasRoom out.old (spelling.metadata spelling.size_octets 0 0 (map message_tlv metadata.now.messages) metadata.now) }
     ensures { Writes out.old out.new (spelling.metadata spelling.size_octets 0 0 (map message_tlv metadata.now.messages) metadata.now) }
 {
-    put_octet(out, 64 * u8::from(metadata.closure) + metadata.checksum_type.number());
+    put_octet(
+        out,
+        64 * u8::from(metadata.closure) + metadata.checksum_type.number(),
+    );
     put_number(out, 4, u64::from(metadata.size));
     put_lv(out, metadata.source_name.as_slice());
     put_lv(out, metadata.destination_name.as_slice());
@@ -292,10 +301,16 @@ fn put_header(out: &mut Vec<u8>, header: &Header, type_bit: u8, size: u16)
     requires room { HasRoom out.old (header_of type_bit size header.now) }
     ensures { Writes out.old out.new (header_of type_bit size header.now) }
 {
-    let first = 32 + 16 * type_bit + 8 * direction_bit(header.direction) + 4 * mode_bit(header.class);
+    let first = 32
+        + 16 * type_bit
+        + 8 * direction_bit(header.direction)
+        + 4 * mode_bit(header.class);
     put_octet(out, first);
     put_number(out, 2, u64::from(size));
-    put_octet(out, 16 * (header.entity_octets - 1) + (header.sequence_octets - 1));
+    put_octet(
+        out,
+        16 * (header.entity_octets - 1) + (header.sequence_octets - 1),
+    );
     put_ids(out, header);
 }
 

@@ -53,7 +53,11 @@ pub fn location_tlv_at(octets: &[u8]) -> Option<(TlvParts<'_>, &[u8])>
     ensures shorter { IfSome result (λ x. length x.1.now < length octets.now) }
 {
     let (tlv, rest) = tlv_at(octets)?;
-    if may_locate(tlv) { Some((tlv, rest)) } else { None }
+    if may_locate(tlv) {
+        Some((tlv, rest))
+    } else {
+        None
+    }
 }
 
 // The fault location, where one optional field more was read.
@@ -108,11 +112,24 @@ fn add_message(alloc: Global, messages: &mut Messages, tlv: TlvParts<'_>) -> Res
     Ok(())
 }
 
+// How many messages to the user there are, so that their list is made at once.
+fn message_count(octets: &[u8]) -> usize {
+    let mut count = 0;
+    let mut rest = octets;
+    while let Some((tlv, behind)) = tlv_at(rest) {
+        if tlv.kind == MESSAGE {
+            count += 1;
+        }
+        rest = behind;
+    }
+    count
+}
+
 /// The messages to the user among optional fields.
 pub fn messages_at(alloc: Global, octets: &[u8]) -> Result<Messages, AllocError>
     ensures { IfOk result (λ messages. messages ≡ messages_at octets.now) }
 {
-    let mut messages = Messages::new(alloc);
+    let mut messages = Messages::with_capacity(alloc, message_count(octets))?;
     let mut rest = octets;
     while let Some((tlv, behind)) = tlv_at(rest) {
         add_message(alloc, &mut messages, tlv)?;

@@ -36,14 +36,16 @@ fn check(
     body: &Body,
     written: &[u8],
 ) -> Result<(), Fail> {
-    let pdu = decode(alloc, octets)
-        .ok()
-        .ok_or("the octets are a PDU")?;
+    let pdu = decode(alloc, octets).ok().ok_or("the octets are a PDU")?;
     assert_eq!(rt; *pdu.header(), header_of(head), "in {octets:?}");
     assert_eq!(rt; pdu.body(), body, "in {octets:?}");
     let mut out = Vec::from_slice(alloc, b"front")?;
     encode(&pdu, &mut out)?;
-    assert_eq!(rt; &out.as_slice()[..5], b"front".as_slice(), "before {octets:?}");
+    assert_eq!(rt;
+        &out.as_slice()[..5],
+        b"front".as_slice(),
+        "before {octets:?}"
+    );
     assert_eq!(rt; &out.as_slice()[5..], written, "for {octets:?}");
     Ok(())
 }

@@ -1,3 +1,7 @@
+pub mod Reception
+pub mod Refusals
+pub mod Answers
+pub mod ReceptionRows
 pub mod Log
 pub mod Table
 pub mod Examine

@@ -1,7 +1,8 @@
 //! EOF: every length and condition, and optional fields.
 
 use super::{Head, check};
-use crate::{Body, Direction::*, Eof};
+use crate::Direction::*;
+use crate::{Body, Eof};
 use cfdp_types::Class::*;
 use cfdp_types::{Condition, EntityId};
 use std::test::*;
@@ -78,7 +79,15 @@ const ROWS: &[EofRow] = &[
         written: b"\x24\x00\x0a\x42\xff\x00\x00\x00\x01\x0a\x0b\x0c\x00\x00\x00\x00\x02\x04\x00\x01\x02\x03\x08\x00\x00\x01\x93",
     },
     EofRow {
-        head: (TowardReceiver, Two, 6, 7, 281474976710655, 281474976710663, 0),
+        head: (
+            TowardReceiver,
+            Two,
+            6,
+            7,
+            281474976710655,
+            281474976710663,
+            0,
+        ),
         condition: 0,
         checksum: 0x0204060d,
         size: 503,
@@ -87,7 +96,15 @@ const ROWS: &[EofRow] = &[
         written: b"\x20\x00\x0a\x56\xff\xff\xff\xff\xff\xff\x01\x00\x00\x00\x00\x00\x07\x00\x00\x00\x00\x00\x00\x04\x00\x02\x04\x06\x0d\x00\x00\x01\xf7",
     },
     EofRow {
-        head: (TowardReceiver, One, 7, 6, 283686952306183, 6618611909121, 1976943448883713),
+        head: (
+            TowardReceiver,
+            One,
+            7,
+            6,
+            283686952306183,
+            6618611909121,
+            1976943448883713,
+        ),
         condition: 0,
         checksum: 0x00000006,
         size: 603,
@@ -96,7 +113,15 @@ const ROWS: &[EofRow] = &[
         written: b"\x24\x00\x0a\x65\x01\x02\x03\x04\x05\x06\x07\x06\x05\x04\x03\x02\x01\x07\x06\x05\x04\x03\x02\x01\x04\x00\x00\x00\x00\x06\x00\x00\x02\x5b",
     },
     EofRow {
-        head: (TowardReceiver, Two, 8, 8, 18446744073709551615, 9223372036854775809, 72623859790382856),
+        head: (
+            TowardReceiver,
+            Two,
+            8,
+            8,
+            18446744073709551615,
+            9223372036854775809,
+            72623859790382856,
+        ),
         condition: 0,
         checksum: 0x0102030b,
         size: 703,

@@ -1,9 +1,12 @@
 //! Finished: every outcome, and optional fields.
 
 use super::{Head, check};
-use crate::{Body, Direction::*, Finished};
+use crate::Direction::*;
+use crate::{Body, Finished};
 use cfdp_types::Class::*;
-use cfdp_types::{Condition, Delivery, Delivery::*, EntityId, FileStatus, FileStatus::*};
+use cfdp_types::Delivery::*;
+use cfdp_types::FileStatus::*;
+use cfdp_types::{Condition, Delivery, EntityId, FileStatus};
 use std::test::*;
 
 #[derive(Clone, Copy)]
@@ -87,7 +90,15 @@ const ROWS: &[FinishedRow] = &[
         written: b"\x28\x00\x02\x56\xff\xff\xff\xff\xff\xff\x01\x00\x00\x00\x00\x00\x07\x00\x00\x00\x00\x00\x00\x05\x05",
     },
     FinishedRow {
-        head: (TowardSender, One, 7, 6, 283686952306183, 6618611909121, 1976943448883713),
+        head: (
+            TowardSender,
+            One,
+            7,
+            6,
+            283686952306183,
+            6618611909121,
+            1976943448883713,
+        ),
         condition: 0,
         delivery: Incomplete,
         status: Retained,
@@ -96,7 +107,15 @@ const ROWS: &[FinishedRow] = &[
         written: b"\x2c\x00\x02\x65\x01\x02\x03\x04\x05\x06\x07\x06\x05\x04\x03\x02\x01\x07\x06\x05\x04\x03\x02\x01\x05\x06",
     },
     FinishedRow {
-        head: (TowardSender, Two, 8, 8, 18446744073709551615, 9223372036854775809, 72623859790382856),
+        head: (
+            TowardSender,
+            Two,
+            8,
+            8,
+            18446744073709551615,
+            9223372036854775809,
+            72623859790382856,
+        ),
         condition: 0,
         delivery: Incomplete,
         status: Unreported,

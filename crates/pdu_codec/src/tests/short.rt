@@ -1,9 +1,11 @@
 //! The short directives: ACK, NAK, Prompt and Keep Alive.
 
 use super::{Head, check};
+use crate::Direction::*;
+use crate::TransactionStatus::*;
 use crate::{
-    Ack, Acknowledged, Body, Direction::*, KeepAlive, Nak, Prompt, SegmentRequest,
-    SegmentRequests, TransactionStatus, TransactionStatus::*,
+    Ack, Acknowledged, Body, KeepAlive, Nak, Prompt, SegmentRequest, SegmentRequests,
+    TransactionStatus,
 };
 use cfdp_types::Class::*;
 use cfdp_types::Condition;
@@ -81,7 +83,14 @@ fn naks(rt: HostRuntime) -> Result<(), Fail> {
 #[test]
 fn prompts(rt: HostRuntime) -> Result<(), Fail> {
     for row in PROMPTS {
-        check(&rt, rt.alloc(), row.octets, row.head, &Body::Prompt(row.prompt), row.written)?;
+        check(
+            &rt,
+            rt.alloc(),
+            row.octets,
+            row.head,
+            &Body::Prompt(row.prompt),
+            row.written,
+        )?;
     }
     Ok(())
 }
@@ -139,7 +148,15 @@ const ACKS: &[AckRow] = &[
         written: b"\x24\x00\x03\x42\xff\x00\x00\x00\x01\x0a\x0b\x0c\x00\x00\x00\x00\x02\x06\x51\x00",
     },
     AckRow {
-        head: (TowardReceiver, Two, 6, 7, 281474976710655, 281474976710663, 0),
+        head: (
+            TowardReceiver,
+            Two,
+            6,
+            7,
+            281474976710655,
+            281474976710663,
+            0,
+        ),
         of: Acknowledged::Finished,
         condition: 3,
         status: Active,
@@ -147,7 +164,15 @@ const ACKS: &[AckRow] = &[
         written: b"\x20\x00\x03\x56\xff\xff\xff\xff\xff\xff\x01\x00\x00\x00\x00\x00\x07\x00\x00\x00\x00\x00\x00\x06\x51\x31",
     },
     AckRow {
-        head: (TowardReceiver, One, 7, 6, 283686952306183, 6618611909121, 1976943448883713),
+        head: (
+            TowardReceiver,
+            One,
+            7,
+            6,
+            283686952306183,
+            6618611909121,
+            1976943448883713,
+        ),
         of: Acknowledged::Finished,
         condition: 6,
         status: Terminated,
@@ -155,7 +180,15 @@ const ACKS: &[AckRow] = &[
         written: b"\x24\x00\x03\x65\x01\x02\x03\x04\x05\x06\x07\x06\x05\x04\x03\x02\x01\x07\x06\x05\x04\x03\x02\x01\x06\x51\x62",
     },
     AckRow {
-        head: (TowardReceiver, Two, 8, 8, 18446744073709551615, 9223372036854775809, 72623859790382856),
+        head: (
+            TowardReceiver,
+            Two,
+            8,
+            8,
+            18446744073709551615,
+            9223372036854775809,
+            72623859790382856,
+        ),
         of: Acknowledged::Finished,
         condition: 9,
         status: Unrecognized,
@@ -214,7 +247,15 @@ const NAKS: &[NakRow] = &[
         written: b"\x28\x00\x19\x33\x01\x02\x03\x04\xff\xfe\xfd\xfc\x80\x00\x00\x01\x08\x00\x00\x00\x01\xff\xff\xff\xff\x00\x00\x00\x01\x00\x00\x00\x02\x00\x00\x00\x03\x00\x00\x00\x04",
     },
     NakRow {
-        head: (TowardSender, Two, 8, 8, 18446744073709551615, 9223372036854775809, 72623859790382856),
+        head: (
+            TowardSender,
+            Two,
+            8,
+            8,
+            18446744073709551615,
+            9223372036854775809,
+            72623859790382856,
+        ),
         start: 0,
         end: 130,
         requests: &[(0, 1), (2, 3), (4, 5), (6, 7), (8, 9)],
@@ -251,7 +292,15 @@ const PROMPTS: &[PromptRow] = &[
         written: b"\x20\x00\x02\x33\x01\x02\x03\x04\xff\xfe\xfd\xfc\x80\x00\x00\x01\x09\x00",
     },
     PromptRow {
-        head: (TowardReceiver, Two, 8, 8, 18446744073709551615, 9223372036854775809, 72623859790382856),
+        head: (
+            TowardReceiver,
+            Two,
+            8,
+            8,
+            18446744073709551615,
+            9223372036854775809,
+            72623859790382856,
+        ),
         prompt: Prompt::KeepAlive,
         octets: b"\x20\x00\x02\x77\xff\xff\xff\xff\xff\xff\xff\xff\x80\x00\x00\x00\x00\x00\x00\x01\x01\x02\x03\x04\x05\x06\x07\x08\x09\x81",
         written: b"\x20\x00\x02\x77\xff\xff\xff\xff\xff\xff\xff\xff\x80\x00\x00\x00\x00\x00\x00\x01\x01\x02\x03\x04\x05\x06\x07\x08\x09\x80",
@@ -272,7 +321,15 @@ const KEEP_ALIVES: &[KeepAliveRow] = &[
         written: b"\x28\x00\x05\x11\x01\x01\x02\x03\x03\x02\x0c\x00\x00\x00\x00",
     },
     KeepAliveRow {
-        head: (TowardSender, Two, 8, 8, 18446744073709551615, 9223372036854775809, 72623859790382856),
+        head: (
+            TowardSender,
+            Two,
+            8,
+            8,
+            18446744073709551615,
+            9223372036854775809,
+            72623859790382856,
+        ),
         progress: 4294967295,
         octets: b"\x28\x00\x05\x77\xff\xff\xff\xff\xff\xff\xff\xff\x80\x00\x00\x00\x00\x00\x00\x01\x01\x02\x03\x04\x05\x06\x07\x08\x0c\xff\xff\xff\xff",
         written: b"\x28\x00\x05\x77\xff\xff\xff\xff\xff\xff\xff\xff\x80\x00\x00\x00\x00\x00\x00\x01\x01\x02\x03\x04\x05\x06\x07\x08\x0c\xff\xff\xff\xff",
