@@ -1,9 +1,9 @@
 -- What holds of octets and PDUs.
 use Rattle.std.specs.Prelude.{◌≡◌, Ok}
 use Rattle.pdu_format.specs.Pdu.{PduValue}
-use Rattle.pdu_format.specs.Spelling.{Fits, written}
+use Rattle.pdu_format.specs.Spelling.{Fits, Spells, written}
 use Rattle.pdu_format.specs.Reading.{reading}
 
--- what is written for a PDU is read as that PDU
+-- what is written for a PDU spells it, and is read as that PDU
 abbrev pub ReadsWhatIsWritten : Type 0
-ReadsWhatIsWritten = (pdu : PduValue) → Fits pdu → reading (written pdu) ≡ Ok pdu
+ReadsWhatIsWritten = (pdu : PduValue) → Fits pdu → Spells (written pdu) pdu × (reading (written pdu) ≡ Ok pdu)

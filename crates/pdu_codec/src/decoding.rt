@@ -1,10 +1,11 @@
 //! From the octets of a datagram to a PDU.
 
-ghost use Rattle.std.specs.Prelude.{◌≡◌, IsOk, IfOk};
+ghost use Rattle.std.specs.Prelude.{◌≡◌, ◌⊎◌, IsOk, IfOk, IfErr};
 ghost use Rattle.std.specs.Option.{option_map};
 ghost use Rattle.pdu_format.specs.Pdu.{PduValue};
 ghost use Rattle.pdu_format.specs.Spelling.{Spells};
 ghost use Rattle.pdu_format.specs.Reading.{Gives, Answers, whole_body, acknowledged_with_code, ack_of, fields_of, directive_of, body_of, reading, number_at, IsUnlessMemory, IsFound};
+ghost use Rattle.pdu_format.specs.FirstFault.{IsFirstFault};
 ghost use Rattle.pdu_codec.specs.Parts.{body_of_parts};
 
 use crate::fields::octet_at;
@@ -111,8 +112,10 @@ pub fn decode(alloc: Global, octets: &[u8]) -> Result<Pdu, DecodeFault>
     // What is spelled so is found, unless memory runs out.
     ensures only { (pdu : PduValue) → Spells octets.now pdu → IsFound result pdu }
 
-    // Which fault it is: the first. Memory can run out only where nothing else is wrong.
+    // What is answered is what the octets read as; and a fault is the first, by the places of the
+    // octets, unless memory runs out, which it can only where nothing else is wrong.
     ensures exact { IsUnlessMemory result (reading octets.now) }
+    ensures first { IfErr result (λ fault. (fault ≡ DecodeFault.NoMemory) ⊎ IsFirstFault octets.now fault) }
     ensures memory { result ≡ Err DecodeFault.NoMemory → IsOk (reading octets.now) }
 {
     read(alloc, octets)

@@ -63,7 +63,7 @@ fn field_size(entity_octets: u8, body: &Body) -> usize
         Body::Nak(nak) => 9 + 8 * nak.requests.as_slice().len(),
         Body::Prompt(_) => 2,
         Body::KeepAlive(_) => 5,
-        Body::FileData(data) => 4 + data.octets.as_slice().len(),
+        Body::FileData(part) => 4 + part.octets.as_slice().len(),
     }
 }
 
@@ -247,12 +247,12 @@ fn put_prompt(out: &mut Vec<u8>, prompt: Prompt)
     }
 }
 
-fn put_file_data(out: &mut Vec<u8>, data: &FileData)
-    requires { HasRoom out.old (spelling.file_data spelling.size_octets data.now) }
-    ensures { Writes out.old out.new (spelling.file_data spelling.size_octets data.now) }
+fn put_file_data(out: &mut Vec<u8>, part: &FileData)
+    requires { HasRoom out.old (spelling.file_data spelling.size_octets part.now) }
+    ensures { Writes out.old out.new (spelling.file_data spelling.size_octets part.now) }
 {
-    put_number(out, 4, u64::from(data.offset));
-    put_octets(out, data.octets.as_slice());
+    put_number(out, 4, u64::from(part.offset));
+    put_octets(out, part.octets.as_slice());
 }
 
 // The data field: a directive's code and its fields, or a part of a file.
@@ -290,7 +290,7 @@ fn put_field(out: &mut Vec<u8>, entity_octets: u8, body: &Body)
             put_octet(out, 12);
             put_number(out, 4, u64::from(keep_alive.progress));
         }
-        Body::FileData(data) => put_file_data(out, data),
+        Body::FileData(part) => put_file_data(out, part),
     }
 }
 

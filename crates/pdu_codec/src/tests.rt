@@ -72,7 +72,20 @@ fn fronts(rt: HostRuntime) {
 
 #[test]
 fn names(rt: HostRuntime) {
-    assert_eq!(rt; DecodeFault::NoMemory.number(), 9);
+    let faults = [
+        DecodeFault::TooShort,
+        DecodeFault::BadVersion,
+        DecodeFault::CrcPresent,
+        DecodeFault::LargeFile,
+        DecodeFault::LengthMismatch,
+        DecodeFault::UnknownDirective,
+        DecodeFault::FieldCut,
+        DecodeFault::NoFileName,
+        DecodeFault::NoMemory,
+    ];
+    for (fault, number) in faults.iter().zip(1u8..) {
+        assert_eq!(rt; fault.number(), number);
+    }
     assert_eq!(rt; Refusal::QueueFull.number(), 13);
     assert_eq!(rt; Refusal::StaleStored.name(), "StaleStored");
 }

@@ -12,3 +12,4 @@ pub mod MemoryLaws
 pub mod FaultLaws
 pub mod FitLaws
 pub mod Rows
+pub mod ValueRows

@@ -17,9 +17,11 @@ pub enum DecodeFault {
     LargeFile = 4,
     /// The datagram is not exactly the header and the data field.
     LengthMismatch = 5,
-    /// The directive code is not one of those that the entity takes.
+    /// The directive code is not one of those that the entity takes, or an ACK is of another
+    /// directive than EOF and Finished.
     UnknownDirective = 6,
-    /// A field goes past the end, or octets are left where no field stands.
+    /// A field goes past the end, octets are left where no field stands, a directive has no code, or
+    /// an entity ID in an option of EOF or Finished has no octet or more than eight.
     FieldCut = 7,
     /// A file name is empty.
     NoFileName = 8,

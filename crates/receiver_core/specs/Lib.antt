@@ -1,6 +1,7 @@
 pub mod Reception
 pub mod Refusals
 pub mod Answers
+pub mod LegalReceptions
 pub mod ReceptionRows
 pub mod Log
 pub mod Table

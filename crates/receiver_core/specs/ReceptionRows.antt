@@ -33,6 +33,7 @@ use Rattle.ind_words.specs.declared.indication.Phase.TheVariants as phase
 use Rattle.gap_list.specs.Runs.{runs_of, runs_from}
 use Rattle.receiver_core.specs.Reception.{Reception, Answer, Entry, State, initial, step, state_of, issued}
 use Rattle.receiver_core.specs.Answers.{seen, accepted_at, answer_at}
+use Rattle.receiver_core.specs.LegalReceptions.{log_of}
 
 -- ---- a reference: all handlers cancel, two expirations of each timer, a second each
 
@@ -118,12 +119,8 @@ some_octets n = digits n 0
 -- ---- logs
 
 -- the log of these events in turn, each answered by the table
-abbrev pub log_of : Reception → List Entry → List What → List Entry
-log_of r front [] = front
-log_of r front (event ∷ events) = log_of r (record { event = event; answer = accepted_at r (state_of front) event } ∷ front) events
-
 abbrev pub after : Reception → List What → List Entry
-after r events = log_of r [] events
+after r events = log_of r events
 
 -- what the last event is answered
 abbrev pub last : Reception → List What → What → Result Answer Refusal

@@ -1,3 +1,5 @@
 pub mod Sending
 pub mod Refusals
 pub mod Answers
+pub mod LegalSendings
+pub mod SendingRows

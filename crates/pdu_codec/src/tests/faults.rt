@@ -19,6 +19,7 @@ fn faults(rt: HostRuntime) {
 }
 
 const ROWS: &[(&[u8], DecodeFault)] = &[
+    (b"\x07\x00\x00\x00", TooShort),
     (b"", TooShort),
     (b"\x24", TooShort),
     (b"\x24\x00", TooShort),

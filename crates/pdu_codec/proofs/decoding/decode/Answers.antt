@@ -1,8 +1,31 @@
-use Rattle.std.proofs.Common.{arith}
+use Rattle.std.proofs.Common.{◌≡◌, ℕ, List, inl, inr, ◌⊎◌, Result, Ok, Err, sym, arith}
+use Rattle.std.specs.Prelude.{IfErr}
+use Rattle.pdu_format.specs.declared.fault.DecodeFault.{DecodeFault}
+use Rattle.pdu_format.specs.declared.fault.DecodeFault.TheVariants.{NoMemory}
+use Rattle.pdu_format.specs.Pdu.{PduValue}
+use Rattle.pdu_format.specs.Reading.{reading, IsUnlessMemory}
+use Rattle.pdu_format.specs.FirstFault.{IsFirstFault}
+use Rattle.pdu_format.proofs.FaultLaws.{read_fault_is_first}
 use Rattle.pdu_format.proofs.Numbers.{IsOctets, IsOctets-at_each}
 use Rattle.pdu_format.proofs.MemoryLaws.{memory_last}
 use Rattle.pdu_format.proofs.ReadingLaws.{is_found, is_only}
 use Rattle.pdu_codec.proofs.decoding.decode.Goals as goal
+
+abbrev err : DecodeFault → Result PduValue DecodeFault
+err fault = Err fault
+
+fault_of : (a b : DecodeFault) → (err a) ≡ (err b) → a ≡ b
+fault_of a b e = cc
+
+is_first : (octets : List ℕ) (result : Result PduValue DecodeFault) → IsOctets octets → IsUnlessMemory result (reading octets) → IfErr result (λ fault. (fault ≡ NoMemory) ⊎ IsFirstFault octets fault)
+is_first octets (Ok pdu) h answer = tt
+is_first octets (Err fault) h (inl same) = inr (read_fault_is_first octets fault h (sym same))
+is_first octets (Err fault) h (inr memory) = inl (fault_of fault NoMemory memory.0)
+
+pub returns-clause-first : goal.returns-clause-first
+returns-clause-first c =
+    let h : IsOctets c.args.octets.now = IsOctets-at_each c.args.octets.now (λ i. omega (arith, c.type_inv.octets i)) in
+    is_first c.args.octets.now c.read.result h c.read.ensures
 
 pub returns-clause-found : goal.returns-clause-found
 returns-clause-found c =

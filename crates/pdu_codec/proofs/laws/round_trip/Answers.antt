@@ -1,5 +1,5 @@
-use Rattle.pdu_format.proofs.ReadingLaws.{written_is_read}
+use Rattle.pdu_format.proofs.ReadingLaws.{written_is_spelled, written_is_read}
 use Rattle.pdu_codec.proofs.laws.round_trip.Goals as goal
 
 pub returns : goal.returns
-returns c = written_is_read
+returns c pdu fits = (written_is_spelled pdu fits, written_is_read pdu fits)
