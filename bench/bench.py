@@ -2,8 +2,9 @@
 
 usage: bench.py PROGRAM
 
-The scripts are made here: one reception of a large file in segments of 256 and of 1,400 octets, and
-many small receptions one after another, each at one size and at eight times that size.
+The scripts are made here: one reception of a large file in segments of 256 and of 1,400 octets, many
+small receptions one after another, and datagrams of every kind, each at one size and at eight times
+that size.
 """
 
 import os
@@ -15,6 +16,7 @@ import time
 
 LARGE = 512 * 1024
 SMALL = 10_000
+MIXED = 200_000
 
 
 def checksum(octets):
@@ -58,9 +60,41 @@ def small(count):
     return lines
 
 
+# Data fields of every kind of PDU, with the first octet of the fixed header: EOF with and without a
+# fault location, Finished, ACK, Metadata with messages among other options, NAK, Prompt, Keep Alive,
+# File Data with and without segment metadata.
+FIELDS = [
+    (0x20, "04006162630000000003"),
+    (0x20, "04f06162630000000003060102"),
+    (0x28, "0502"),
+    (0x28, "054401036162630601020601ff"),
+    (0x20, "065102"),
+    (0x24, "07000000000301610162"),
+    (0x24, "070f0000000301610162020268690500020121"),
+    (0x28, "080000000000000003" + "0000000000000001" * 20),
+    (0x20, "0900"),
+    (0x28, "0c00000003"),
+    (0x34, "00000000" + "5a" * 256),
+    (0x34, "02aabb00000010616263"),
+]
+
+
+def mixed(count):
+    """Datagrams of every kind, with IDs and sequence numbers of 1 to 8 octets."""
+    for number in range(count):
+        first, field = FIELDS[number % len(FIELDS)]
+        entity, sequence = 1 + number % 8, 1 + number // 8 % 8
+        metadata = 8 if field.startswith("02aabb") else 0
+        lengths = 16 * (entity - 1) + (sequence - 1) + metadata
+        ids = (1).to_bytes(entity, "big") + bytes(sequence) + (2).to_bytes(entity, "big")
+        header = bytes([first]) + (len(field) // 2).to_bytes(2, "big") + bytes([lengths]) + ids
+        yield "pdu " + header.hex() + field
+
+
 def make(kind, size, segment):
     """Prints a script: it runs in a process of its own, so that the measuring one stays small."""
-    lines = large(size, segment) if kind == "large" else small(size)
+    kinds = {"large": lambda: large(size, segment), "small": lambda: small(size), "mixed": lambda: mixed(size)}
+    lines = kinds[kind]()
     sys.stdout.write("\n".join(lines) + "\n")
 
 
@@ -110,6 +144,7 @@ def main():
     for segment in (256, 1400):
         compare(program, "large", LARGE, segment, lambda size: f"{size:,} octets by {segment}")
     compare(program, "small", SMALL // 8, 256, lambda count: f"{count:,} receptions")
+    compare(program, "mixed", MIXED // 8, 256, lambda count: f"{count:,} datagrams")
 
 
 if __name__ == "__main__":
