@@ -28,7 +28,8 @@ use Rattle.cfdp_replay.specs.declared.reply.Reply.{Reply}
 use Rattle.cfdp_replay.specs.Queue.{bundles_of, is_refused_by}
 use Rattle.cfdp_replay.specs.Session.{Session, fresh, given_by, given_for, given, held, answer_for, running_answer, is_same_key, opens, stepped, step_of, routed, delivered, route_refusal, key_of, taken_by, stored_step, is_known, answer_to, Answers}
 use Rattle.cfdp_replay.specs.Run.{PlaysLine, Plays}
-use Rattle.cfdp_replay.specs.Laws.{told_in, IsSound, TellsTruth, PlaysSoundly, PlaysTruly}
+use Rattle.ind_words.specs.LaneLists.{told_in}
+use Rattle.cfdp_replay.specs.Laws.{IsSound, TellsTruth, PlaysSoundly, PlaysTruly}
 use Rattle.cfdp_replay.proofs.SessionFacts.{is_same_key-true}
 
 -- a sound session has no log before a transaction is opened

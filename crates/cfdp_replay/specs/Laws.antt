@@ -1,20 +1,14 @@
 -- What holds of every session of a script.
 use Rattle.std.specs.Prelude.{◌≡◌, ℕ, List, [], Contains}
-use Rattle.std.specs.List.{flat_map}
 use Rattle.cfdp_types.specs.declared.names.Delivery.TheVariants.{Complete}
 use Rattle.cfdp_types.specs.declared.names.FileStatus.{FileStatus}
+use Rattle.ind_words.specs.LaneLists.{told_in}
 use Rattle.ind_words.specs.Words.{IsBegun}
-use Rattle.ind_words.specs.declared.bundle.Bundle.{Bundle}
-use Rattle.ind_words.specs.declared.indication.Indication.{Indication}
 use Rattle.ind_words.specs.declared.indication.Indication.TheVariants as told
 use Rattle.receiver_core.specs.Log.{state_of, issued}
 use Rattle.receiver_core.specs.Laws.{IsLegal, IsGood}
 use Rattle.cfdp_replay.specs.Session.{Session, fresh, given}
 use Rattle.cfdp_replay.specs.Run.{Plays}
-
--- all indications of some bundles, in order
-abbrev pub told_in : List Bundle → List Indication
-told_in bundles = flat_map (λ bundle. bundle.inds) bundles
 
 -- the session's log is that of accepted events, and the user's bundles hold all that it told, each once and in order
 pub record IsSound (session : Session) : Type 0 where

@@ -1,8 +1,9 @@
 -- Worked rows: what the definitions give, computed.
 use Rattle.std.proofs.Common.{◌≡◌, ℕ, Bool, true, false, List, [], ◌∷◌, map, replicate, Some, None, refl, arith}
-use Rattle.cfdp_types.specs.Handlers.{FaultTableValue, IsFaultTable, act, handler_in, is_allowed, with_handler}
+use Rattle.cfdp_types.specs.Handlers.{IsFaultTable, act, handler_in, is_allowed, with_handler}
 use Rattle.cfdp_types.specs.Params.{IsParams, ParamsValue, table_for, timer_length}
 use Rattle.cfdp_types.specs.Put.{put_fault}
+use Rattle.cfdp_types.specs.Reference.{all_cancel}
 use Rattle.cfdp_types.specs.declared.names.Handler.{Handler}
 use Rattle.cfdp_types.specs.declared.names.Handler.TheVariants.{Cancel, Suspend, Ignore, Abandon}
 use Rattle.cfdp_types.specs.declared.names.Role.{Role}
@@ -47,7 +48,7 @@ rows_of_class_one = refl
 rows_of_class_two : map (row RecvTwo) codes ≡ rows all_four
 rows_of_class_two = refl
 
--- of two pairs for one condition the later counts
+-- where a condition is named twice, the last pair decides
 abbrev pairs : List (ℕ × Handler)
 pairs = (7, Suspend) ∷ (1, Ignore) ∷ (7, Abandon) ∷ []
 
@@ -86,54 +87,39 @@ five_messages = refl
 four_messages : put_fault (octets 1) (octets 1) (replicate 4 (octets 255)) ≡ None
 four_messages = refl
 
--- parameters as a configuration gives them
-abbrev cancelling : Role → FaultTableValue
-cancelling role = record {
-  role = role;
-  handlers = record {
-    positive_ack_limit = Cancel;
-    filestore_rejection = Cancel;
-    file_checksum_failure = Cancel;
-    file_size_error = Cancel;
-    nak_limit = Cancel;
-    inactivity = Cancel;
-    check_limit = Cancel;
-    unsupported_checksum_type = Cancel;
-  };
-}
-
-abbrev pub reference : ParamsValue
-reference = record {
+-- parameters whose timers and tables differ
+abbrev pub sample : ParamsValue
+sample = record {
   local = record { 0 = 2 };
   lengths = record { entity_octets = 1; sequence_octets = 1 };
   segment_octets = 256;
   timers = record { ack = 1000; nak = 1001; check = 1002; inactivity = 1003 };
   limits = record { ack = 2; nak = 2; check = 2 };
   tables = record {
-    send = cancelling Send;
-    receive_one = cancelling RecvOne;
-    receive_two = with_handler (cancelling RecvTwo) 7 Suspend;
+    send = all_cancel Send;
+    receive_one = all_cancel RecvOne;
+    receive_two = with_handler (all_cancel RecvTwo) 7 Suspend;
   };
 }
 
-lengths_of_timers : map (timer_length reference.timers) (Ack ∷ Nak ∷ Check ∷ Inactivity ∷ []) ≡ 1000 ∷ 1001 ∷ 1002 ∷ 1003 ∷ []
+lengths_of_timers : map (timer_length sample.timers) (Ack ∷ Nak ∷ Check ∷ Inactivity ∷ []) ≡ 1000 ∷ 1001 ∷ 1002 ∷ 1003 ∷ []
 lengths_of_timers = refl
 
-suspends_at_nak_limit : handler_in (table_for reference.tables RecvTwo) 7 ≡ Suspend
+suspends_at_nak_limit : handler_in (table_for sample.tables RecvTwo) 7 ≡ Suspend
 suspends_at_nak_limit = refl
 
-cancels_in_class_one : handler_in (table_for reference.tables RecvOne) 7 ≡ Cancel
+cancels_in_class_one : handler_in (table_for sample.tables RecvOne) 7 ≡ Cancel
 cancels_in_class_one = refl
 
-cancelling_is_table : (role : Role) → IsFaultTable (cancelling role)
-cancelling_is_table role c h = Prim.grind arith
+all_cancel_is_table : (role : Role) → IsFaultTable (all_cancel role)
+all_cancel_is_table role c h = Prim.grind arith
 
-suspending_is_table : IsFaultTable (with_handler (cancelling RecvTwo) 7 Suspend)
+suspending_is_table : IsFaultTable (with_handler (all_cancel RecvTwo) 7 Suspend)
 suspending_is_table c h = Prim.grind arith
 
 -- they keep their ranges
-pub reference_is_params : IsParams reference
-reference_is_params = record {
+pub sample_is_params : IsParams sample
+sample_is_params = record {
   lengths = record { entity = record { least = omega arith; most = omega arith }; sequence = record { least = omega arith; most = omega arith } };
   segment = record { least = omega arith; most = omega arith };
   timers = record {
@@ -148,8 +134,8 @@ reference_is_params = record {
     check = record { least = omega arith; most = omega arith };
   };
   tables = record {
-    send = record { role_is = refl; handlers = cancelling_is_table Send };
-    receive_one = record { role_is = refl; handlers = cancelling_is_table RecvOne };
+    send = record { role_is = refl; handlers = all_cancel_is_table Send };
+    receive_one = record { role_is = refl; handlers = all_cancel_is_table RecvOne };
     receive_two = record { role_is = refl; handlers = suspending_is_table };
   };
 }

@@ -4,3 +4,4 @@ pub mod Handlers
 pub mod Params
 pub mod Put
 pub mod Steps
+pub mod Reference

@@ -39,6 +39,7 @@ pub record IsTimerLength (length : ℕ) : Type 0 where
   pub least : 1 ≤ length
   pub most : length ≤ TIMER_MILLISECONDS
 
+-- each timer has such a length
 pub record AreTimerLengths (timers : TimerLengths) : Type 0 where
   pub ack : IsTimerLength timers.ack
   pub nak : IsTimerLength timers.nak
@@ -50,6 +51,7 @@ pub record IsExpirationLimit (limit : ℕ) : Type 0 where
   pub least : 1 ≤ limit
   pub most : limit ≤ EXPIRATIONS
 
+-- each timer with a limit has such a one
 pub record AreExpirationLimits (limits : ExpirationLimits) : Type 0 where
   pub ack : IsExpirationLimit limits.ack
   pub nak : IsExpirationLimit limits.nak
@@ -60,10 +62,12 @@ pub record IsIdLength (octets : ℕ) : Type 0 where
   pub least : 1 ≤ octets
   pub most : octets ≤ ID_OCTETS
 
+-- both numbers of a header have such lengths
 pub record AreHeaderLengths (lengths : HeaderLengths) : Type 0 where
   pub entity : IsIdLength lengths.entity_octets
   pub sequence : IsIdLength lengths.sequence_octets
 
+-- the octets of the file in one File Data that is sent
 pub record IsSegmentLength (octets : ℕ) : Type 0 where
   pub least : SEGMENT_OCTETS_LEAST ≤ octets
   pub most : octets ≤ SEGMENT_OCTETS_MOST
@@ -73,6 +77,7 @@ pub record IsTableFor (role : Role) (table : FaultTableValue) : Type 0 where
   pub role_is : table.role ≡ role
   pub handlers : IsFaultTable table
 
+-- each role has its own table
 pub record AreFaultTables (tables : FaultTables) : Type 0 where
   pub send : IsTableFor Send tables.send
   pub receive_one : IsTableFor RecvOne tables.receive_one

@@ -32,6 +32,7 @@ pub record IsPut (put : PutValue) : Type 0 where
   pub destination_name : IsName put.destination_name
   pub messages : AreMessages put.messages
 
+-- more octets than these
 abbrev pub is_longer : ℕ → List ℕ → Bool
 is_longer most octets = nat_lt most (length octets)
 

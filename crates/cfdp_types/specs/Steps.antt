@@ -1,18 +1,20 @@
 -- What a step does with the timers of its transaction, at both ends.
 use Rattle.std.specs.Prelude.{ℕ, Bool, false, ◌==◌, if◌then◌else◌, List, [], ◌∷◌, ◌++◌, Option, Some, None}
+use Rattle.std.specs.List.{list_any}
 use Rattle.cfdp_types.specs.declared.key.TxnKey.{TxnKey}
 use Rattle.cfdp_types.specs.declared.names.TimerKind.{TimerKind}
 use Rattle.cfdp_types.specs.declared.names.TimerKind.TheVariants.{Ack, Nak, Check, Inactivity}
 use Rattle.cfdp_types.specs.declared.timer_op.TimerOp.{TimerOp}
 use Rattle.cfdp_types.specs.declared.timer_op.TimerOp.TheVariants as op
 
--- of two kinds, whether they are the same
+-- the place of a kind among the four
 abbrev pub kind_number : TimerKind → ℕ
 kind_number Ack = 0
 kind_number Nak = 1
 kind_number Check = 2
 kind_number Inactivity = 3
 
+-- two kinds are the same
 abbrev pub is_kind : TimerKind → TimerKind → Bool
 is_kind kind other = kind_number kind == kind_number other
 
@@ -62,3 +64,7 @@ newer_or (Some new) older = Some new
 abbrev pub is_stamp : Option ℕ → ℕ → Bool
 is_stamp None stamp = false
 is_stamp (Some kept) stamp = kept == stamp
+
+-- a kind is among these
+abbrev pub has_kind : List TimerKind → TimerKind → Bool
+has_kind kinds kind = list_any (is_kind kind) kinds

@@ -1,3 +1,4 @@
 pub mod RunLemmas
 pub mod GapLemmas
 pub mod SetLemmas
+pub mod RunRows

@@ -61,7 +61,7 @@ ends-runs_of set limit place default within =
     omega arith
 
 -- rising runs have no offset below where they begin
-below_rising : (low : ℕ) (runs : List Run) (offset : ℕ) → IsRisingFrom low runs → offset < low → in_runs runs offset ≡ false
+pub below_rising : (low : ℕ) (runs : List Run) (offset : ℕ) → IsRisingFrom low runs → offset < low → in_runs runs offset ≡ false
 below_rising low [] offset rising below = refl
 below_rising low (run ∷ runs) offset rising below =
     rw (lt-leb run.start offset (omega arith))

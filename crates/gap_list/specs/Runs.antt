@@ -81,3 +81,11 @@ new_runs_over_all = refl
 missing_runs_cut : missing_runs two_runs 6 ≡ record { start = 4; end = 6 } ∷ []
 unfolding runs_of runs_from
 missing_runs_cut = refl
+
+-- a run over two parts adds what lies between them and what lies above
+abbrev pub two_parts : ℕ → Bool
+two_parts = in_runs (record { start = 0; end = 2 } ∷ record { start = 4; end = 6 } ∷ [])
+
+new_runs_between_and_above : new_runs two_parts 0 8 ≡ record { start = 2; end = 4 } ∷ record { start = 6; end = 8 } ∷ []
+unfolding runs_of runs_from
+new_runs_between_and_above = refl

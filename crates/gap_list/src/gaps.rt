@@ -26,8 +26,8 @@ impl Gaps {
         }
     }
 
-    /// Adds the offsets from `start` to `end` - 1, and answers the maximal runs of those that were
-    /// new, rising.
+    /// Adds the offsets from `start` to `end` - 1. The answer is what of them was not there before, as
+    /// maximal runs from the lowest up.
     pub fn cover(&mut self, start: u32, end: u32) -> Result<Vec<Run>, AllocError>
         requires { start ≤ end }
         ensures added { OnOk result

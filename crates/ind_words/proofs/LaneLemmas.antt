@@ -1,5 +1,5 @@
 -- Laws of lane lists.
-use Rattle.std.proofs.Common.{◌≡◌, ℕ, ◌<◌, ◌≤◌, ◌+◌, ◌-◌, Bool, true, false, ◌||◌, cond, eqb, All, List, [], ◌∷◌, ◌++◌, length, length-append, suc, refl, ap, sym, ◌∙◌, arith, subst, ⊎_elim}
+use Rattle.std.proofs.Common.{◌≡◌, ℕ, ◌<◌, ◌≤◌, ◌+◌, ◌-◌, Bool, true, false, ◌||◌, ◌==◌, not, cond, eqb, All, List, [], ◌∷◌, ◌++◌, length, length-append, suc, refl, ap, sym, ◌∙◌, arith, subst, ⊎_elim}
 use Rattle.std.specs.List.Sorted.{IsNonDecreasingBy}
 use Rattle.std.proofs.lemmas.Bool.{cases_eq, eq-eqb, ne_eqb, eqb-true, or_left, or_cases, false≢true, true≢false}
 use Rattle.std.proofs.lemmas.List.{append-nil, get_or_append_left, get_or-append-add}
@@ -7,12 +7,11 @@ use Rattle.std.proofs.lemmas.List.Concat.{flat_map-append}
 use Rattle.std.proofs.lemmas.List.Elements.{All-nil, All-cons, All-head, All-tail, All-push, All-weaker, filter-append}
 use Rattle.std.proofs.lemmas.List.Folds.{list_any-append}
 use Rattle.std.proofs.lemmas.List.Sorted.{IsNonDecreasingBy-push, IsNonDecreasingBy-short}
+use Rattle.std.proofs.Math.Bool.{or-false}
 use Rattle.cfdp_types.specs.declared.key.EntityId.{EntityId}
 use Rattle.ind_words.specs.declared.bundle.Bundle.{Bundle}
 use Rattle.ind_words.specs.declared.indication.Indication.{Indication}
-use Rattle.ind_words.specs.declared.side.Side.{Side}
-use Rattle.ind_words.specs.LaneLists.{number_of, of_lane, of_number, told_in, told_of, has_number, IsLaneList}
-use Rattle.ind_words.specs.Words.{IsBegunOf, IsWordOf}
+use Rattle.ind_words.specs.LaneLists.{number_of, of_lane, of_number, told_in, told_of, has_number, tells, side_by, IsBegunGroup, IsWordGroup, IsLaneList}
 use Rattle.ind_words.proofs.WordLemmas.{MayFollowOf-front, word_is_over}
 
 -- a filter by lane and one by number, over lists one after the other
@@ -56,10 +55,6 @@ told_of-other number xs bundle other =
     told_of-append number xs (bundle ∷ [])
     ∙ ap (λ (b : Bool). told_of number xs ++ told_in (cond b (bundle ∷ []) [])) (ne_eqb (number_of bundle) number other)
     ∙ append-nil (told_of number xs)
-
-or_nothing : (a : Bool) → (a || false) ≡ a
-or_nothing true = refl
-or_nothing false = refl
 
 or_both_false : (a b : Bool) → (a || b) ≡ false → (a ≡ false) × (b ≡ false)
 or_both_false true b e = absurd (true≢false e)
@@ -125,9 +120,15 @@ rising_front xs ys rising i j d le within =
     rw (get_or_append_left xs ys d i (omega (arith, le, within)), get_or_append_left xs ys d j within)
     at (rising i j d le (omega (arith, within, length-append xs ys)))
 
+-- the beginning of what a transaction has told is one
+pub group_front : (xs ys : List Indication) → IsBegunGroup (xs ++ ys) → IsBegunGroup xs
+group_front [] ys begun = tt
+group_front (x ∷ xs) ys begun = MayFollowOf-front (side_by x) [] (x ∷ xs) ys begun
+
 -- no bundle is a lane list
-pub IsLaneList-nil : (side : Side) (user lane : ℕ) (source : EntityId) → IsLaneList side user lane source []
-IsLaneList-nil side user lane source = record {
+pub IsLaneList-nil : (user lane : ℕ) (source : EntityId) → IsLaneList user lane source []
+IsLaneList-nil user lane source = record {
+  told = All-nil (λ bundle. tells bundle ≡ true);
   users = All-nil (λ bundle. bundle.user ≡ user);
   lanes = All-nil (λ bundle. bundle.lane ≡ lane);
   sources = All-nil (λ bundle. bundle.key.source ≡ source);
@@ -137,14 +138,15 @@ IsLaneList-nil side user lane source = record {
 }
 
 -- the beginning of a lane list is a lane list
-pub IsLaneList-front : (side : Side) (user lane : ℕ) (source : EntityId) (xs ys : List Bundle)
-    → IsLaneList side user lane source (xs ++ ys) → IsLaneList side user lane source xs
-IsLaneList-front side user lane source xs ys all = record {
+pub IsLaneList-front : (user lane : ℕ) (source : EntityId) (xs ys : List Bundle)
+    → IsLaneList user lane source (xs ++ ys) → IsLaneList user lane source xs
+IsLaneList-front user lane source xs ys all = record {
+  told = All-front (λ bundle. tells bundle ≡ true) xs ys all.told;
   users = All-front (λ bundle. bundle.user ≡ user) xs ys all.users;
   lanes = All-front (λ bundle. bundle.lane ≡ lane) xs ys all.lanes;
   sources = All-front (λ bundle. bundle.key.source ≡ source) xs ys all.sources;
   rising = rising_front xs ys all.rising;
-  begun = λ number. MayFollowOf-front side [] (told_of number xs) (told_of number ys) (rw (told_of-append number xs ys) at (all.begun number));
+  begun = λ number. group_front (told_of number xs) (told_of number ys) (rw (told_of-append number xs ys) at (all.begun number));
   ended = λ number higher less has has'.
       let none : told_of number ys ≡ [] =
       told_of-none number ys (has_number-above number higher ys less (rising_after higher xs ys all.rising has')) in
@@ -156,21 +158,22 @@ IsLaneList-front side user lane source xs ys all = record {
 }
 
 -- one bundle more: of no lower number than the others, the indications of its number begun, those of lower numbers words
-pub IsLaneList-more : (side : Side) (user lane : ℕ) (source : EntityId) (bundles : List Bundle) (bundle : Bundle)
-    → IsLaneList side user lane source bundles
+pub IsLaneList-more : (user lane : ℕ) (source : EntityId) (bundles : List Bundle) (bundle : Bundle)
+    → IsLaneList user lane source bundles → tells bundle ≡ true
     → bundle.user ≡ user → bundle.lane ≡ lane → bundle.key.source ≡ source
     → All (λ other. number_of other ≤ number_of bundle) bundles
-    → IsBegunOf side (told_of (number_of bundle) bundles ++ bundle.inds)
-    → ((number : ℕ) → number < number_of bundle → has_number number bundles ≡ true → IsWordOf side (told_of number bundles))
-    → IsLaneList side user lane source (bundles ++ bundle ∷ [])
-IsLaneList-more side user lane source bundles bundle all of_user of_lane of_source highest begun words = record {
+    → IsBegunGroup (told_of (number_of bundle) bundles ++ bundle.inds)
+    → ((number : ℕ) → number < number_of bundle → has_number number bundles ≡ true → IsWordGroup (told_of number bundles))
+    → IsLaneList user lane source (bundles ++ bundle ∷ [])
+IsLaneList-more user lane source bundles bundle all some of_user of_lane of_source highest begun words = record {
+  told = All-push (λ bundle. tells bundle ≡ true) bundles bundle all.told some;
   users = All-push (λ bundle. bundle.user ≡ user) bundles bundle all.users of_user;
   lanes = All-push (λ bundle. bundle.lane ≡ lane) bundles bundle all.lanes of_lane;
   sources = All-push (λ bundle. bundle.key.source ≡ source) bundles bundle all.sources of_source;
   rising = IsNonDecreasingBy-push number_of bundles bundle all.rising (λ d filled. highest (length bundles - 1) d (omega arith));
   begun = λ number. ⊎_elim
       (λ (this : number_of bundle ≡ number).
-      rw (told_of-more number bundles bundle this) (subst (λ n. IsBegunOf side (told_of n bundles ++ bundle.inds)) this begun))
+      rw (told_of-more number bundles bundle this) (subst (λ n. IsBegunGroup (told_of n bundles ++ bundle.inds)) this begun))
       (λ (other : number_of bundle ≡ number → ⊥). rw (told_of-other number bundles bundle other) (all.begun number))
       (cases_eq (number_of bundle) number);
   ended = λ number higher less has has'.
@@ -179,57 +182,79 @@ IsLaneList-more side user lane source bundles bundle all of_user of_lane of_sour
       let below : number < number_of bundle = omega (arith, less, has_number-bound higher (number_of bundle) (bundles ++ bundle ∷ []) top has') in
       let other : number_of bundle ≡ number → ⊥ = λ e. omega (arith, below, e) in
       let before : has_number number bundles ≡ true =
-      sym (or_nothing (has_number number bundles)) ∙ ap (λ (b : Bool). has_number number bundles || (b || false)) (sym (ne_eqb (number_of bundle) number other))
+      sym (or-false (has_number number bundles)) ∙ ap (λ (b : Bool). has_number number bundles || (b || false)) (sym (ne_eqb (number_of bundle) number other))
       ∙ sym (has_number-append number bundles (bundle ∷ [])) ∙ has in
       rw (told_of-other number bundles bundle other) (words number below before);
 }
 
 -- one bundle more of the last number
-pub IsLaneList-same : (side : Side) (user lane : ℕ) (source : EntityId) (bundles : List Bundle) (bundle : Bundle)
-    → IsLaneList side user lane source bundles
+pub IsLaneList-same : (user lane : ℕ) (source : EntityId) (bundles : List Bundle) (bundle : Bundle)
+    → IsLaneList user lane source bundles → tells bundle ≡ true
     → bundle.user ≡ user → bundle.lane ≡ lane → bundle.key.source ≡ source
     → All (λ other. number_of other ≤ number_of bundle) bundles → has_number (number_of bundle) bundles ≡ true
-    → IsBegunOf side (told_of (number_of bundle) bundles ++ bundle.inds)
-    → IsLaneList side user lane source (bundles ++ bundle ∷ [])
-IsLaneList-same side user lane source bundles bundle all of_user of_lane of_source highest has begun =
-    IsLaneList-more side user lane source bundles bundle all of_user of_lane of_source highest begun
+    → IsBegunGroup (told_of (number_of bundle) bundles ++ bundle.inds)
+    → IsLaneList user lane source (bundles ++ bundle ∷ [])
+IsLaneList-same user lane source bundles bundle all some of_user of_lane of_source highest has begun =
+    IsLaneList-more user lane source bundles bundle all some of_user of_lane of_source highest begun
     (λ number less has'. all.ended number (number_of bundle) less has' has)
 
 -- one bundle more of a higher number, where the indications of the last one are a word
-pub IsLaneList-next : (side : Side) (user lane : ℕ) (source : EntityId) (bundles : List Bundle) (bundle : Bundle) (last : ℕ)
-    → IsLaneList side user lane source bundles
+pub IsLaneList-next : (user lane : ℕ) (source : EntityId) (bundles : List Bundle) (bundle : Bundle) (last : ℕ)
+    → IsLaneList user lane source bundles → tells bundle ≡ true
     → bundle.user ≡ user → bundle.lane ≡ lane → bundle.key.source ≡ source
     → All (λ other. number_of other ≤ last) bundles → last < number_of bundle
-    → (has_number last bundles ≡ true) × IsWordOf side (told_of last bundles)
-    → IsBegunOf side bundle.inds
-    → IsLaneList side user lane source (bundles ++ bundle ∷ [])
-IsLaneList-next side user lane source bundles bundle last all of_user of_lane of_source below higher ended begun =
+    → (has_number last bundles ≡ true) × IsWordGroup (told_of last bundles)
+    → IsBegunGroup bundle.inds
+    → IsLaneList user lane source (bundles ++ bundle ∷ [])
+IsLaneList-next user lane source bundles bundle last all some of_user of_lane of_source below higher ended begun =
     let highest : All (λ other. number_of other ≤ number_of bundle) bundles =
     All-weaker (λ (other : Bundle). number_of other ≤ last) (λ (other : Bundle). number_of other ≤ number_of bundle)
     (λ (other : Bundle) (le : number_of other ≤ last). omega (arith, le, higher)) bundles below in
     let none : told_of (number_of bundle) bundles ≡ [] = told_of-none (number_of bundle) bundles (has_number-below last (number_of bundle) bundles higher below) in
-    IsLaneList-more side user lane source bundles bundle all of_user of_lane of_source highest
-    (subst (λ l. IsBegunOf side (l ++ bundle.inds)) (sym none) begun)
+    IsLaneList-more user lane source bundles bundle all some of_user of_lane of_source highest
+    (subst (λ l. IsBegunGroup (l ++ bundle.inds)) (sym none) begun)
     (λ number less has. ⊎_elim
-    (λ (this : number ≡ last). subst (λ n. IsWordOf side (told_of n bundles)) (sym this) ended.1)
+    (λ (this : number ≡ last). subst (λ n. IsWordGroup (told_of n bundles)) (sym this) ended.1)
     (λ (other : number ≡ last → ⊥).
     let le : number ≤ last = has_number-bound number last bundles below has in
     all.ended number last (omega (arith, le, other)) has ended.0)
     (cases_eq number last))
 
--- after the end of a number's word no bundle tells anything of it
-over_rest : (side : Side) (word rest : List Indication) → IsWordOf side word → IsBegunOf side (word ++ rest) → rest ≡ []
-over_rest side word [] is begun = refl
-over_rest side word (next ∷ rest) is begun = absurd (word_is_over side word next rest is begun)
+-- after the end of a number's word no bundle has that number
+over_rest : (word rest : List Indication) → IsWordGroup word → IsBegunGroup (word ++ rest) → rest ≡ []
+over_rest word [] is begun = refl
+over_rest [] (next ∷ rest) is begun = absurd (false≢true is.1)
+over_rest (x ∷ xs) (next ∷ rest) is begun = absurd (word_is_over (side_by x) (x ∷ xs) next rest is begun)
 
-pub told_of-over : (side : Side) (user lane : ℕ) (source : EntityId) (number : ℕ) (xs ys : List Bundle)
-    → IsLaneList side user lane source (xs ++ ys) → IsWordOf side (told_of number xs) → told_of number ys ≡ []
-told_of-over side user lane source number xs ys all is =
-    over_rest side (told_of number xs) (told_of number ys) is (rw (told_of-append number xs ys) at (all.begun number))
+-- bundles that tell something, and nothing of a number, do not have it
+some_after : (xs ys : List Indication) → not (length xs == 0) ≡ true → xs ++ ys ≡ [] → ⊥
+some_after [] ys some e = false≢true some
+some_after (x ∷ xs) ys some e = let long = ap length e in absurd cc
+
+silent_test : (test : Bool) (x : Bundle) (of_rest : List Bundle) (rest : Bool) → tells x ≡ true → told_in (cond test (x ∷ of_rest) of_rest) ≡ []
+    → (told_in of_rest ≡ [] → rest ≡ false) → (test || rest) ≡ false
+silent_test true x of_rest rest some silent later = absurd (some_after x.inds (told_in of_rest) some silent)
+silent_test false x of_rest rest some silent later = later silent
+
+has_number-silent : (number : ℕ) (xs : List Bundle) → All (λ bundle. tells bundle ≡ true) xs → told_of number xs ≡ [] → has_number number xs ≡ false
+has_number-silent number [] told silent = refl
+has_number-silent number (x ∷ xs) told silent =
+    silent_test (eqb (number_of x) number) x (of_number number xs) (has_number number xs) (All-head (λ (bundle : Bundle). tells bundle ≡ true) x xs told) silent
+    (λ later. has_number-silent number xs (All-tail (λ (bundle : Bundle). tells bundle ≡ true) x xs told) later)
+
+All-rest : (P : Bundle → Type 0) (xs ys : List Bundle) → All P (xs ++ ys) → All P ys
+All-rest P [] ys all = all
+All-rest P (x ∷ xs) ys all = All-rest P xs ys (All-tail P x (xs ++ ys) all)
+
+pub told_of-over : (user lane : ℕ) (source : EntityId) (number : ℕ) (xs ys : List Bundle)
+    → IsLaneList user lane source (xs ++ ys) → IsWordGroup (told_of number xs) → has_number number ys ≡ false
+told_of-over user lane source number xs ys all is =
+    has_number-silent number ys (All-rest (λ bundle. tells bundle ≡ true) xs ys all.told)
+    (over_rest (told_of number xs) (told_of number ys) is (rw (told_of-append number xs ys) at (all.begun number)))
 
 -- what was taken from a queue of several lanes is a lane list of each, where with what is left it is one
-pub IsLaneList-taken : (side : Side) (user lane : ℕ) (source : EntityId) (taken held : List Bundle)
-    → IsLaneList side user lane source (of_lane lane (taken ++ held)) → IsLaneList side user lane source (of_lane lane taken)
-IsLaneList-taken side user lane source taken held all =
-    IsLaneList-front side user lane source (of_lane lane taken) (of_lane lane held)
-    (subst (IsLaneList side user lane source) (of_lane-append lane taken held) all)
+pub IsLaneList-taken : (user lane : ℕ) (source : EntityId) (taken held : List Bundle)
+    → IsLaneList user lane source (of_lane lane (taken ++ held)) → IsLaneList user lane source (of_lane lane taken)
+IsLaneList-taken user lane source taken held all =
+    IsLaneList-front user lane source (of_lane lane taken) (of_lane lane held)
+    (subst (IsLaneList user lane source) (of_lane-append lane taken held) all)

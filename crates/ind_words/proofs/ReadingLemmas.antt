@@ -4,6 +4,7 @@ use Rattle.std.specs.List.{list_any, count_by}
 use Rattle.std.proofs.lemmas.Bool.{true≢false, false≢true}
 use Rattle.std.proofs.lemmas.List.{take_more, take-append-drop, length-take-le}
 use Rattle.std.proofs.lemmas.List.Sums.{count_by-le-length}
+use Rattle.std.proofs.Math.Bool.{or-false}
 use Rattle.cfdp_types.specs.declared.limits.TheConstants.{FILE_OCTETS}
 use Rattle.ind_words.specs.declared.indication.Indication.{Indication}
 use Rattle.ind_words.specs.declared.indication.Indication.TheVariants as told
@@ -133,16 +134,12 @@ stands_more old new side room word next stands more may = record {
   known = rw (told_onto-append [] word (next ∷ [])) (more stands.known);
 }
 
-or_nothing : (a : Bool) → (a || false) ≡ a
-or_nothing true = refl
-or_nothing false = refl
-
 -- the end of what a reader has taken
 pub ends_word : (reader : WordReader) (side : Side) (room : ℕ) (word : List Indication) → StandsAfter reader side room word
     → IsTrue reader.marks.ended ↔ IsWordOf side word
 ends_word reader side room word stands =
     let ended : reader.marks.ended ≡ list_any is_end word =
-    ap (λ (m : Marks). m.ended) stands.known.marks ∙ list_any-told_onto is_end [] word ∙ or_nothing (list_any is_end word) in
+    ap (λ (m : Marks). m.ended) stands.known.marks ∙ list_any-told_onto is_end [] word ∙ or-false (list_any is_end word) in
     (λ is. (stands.begun, sym ended ∙ is), λ is. ended ∙ is.1)
 
 -- through the beginning of a word a reader with enough room goes on to its end

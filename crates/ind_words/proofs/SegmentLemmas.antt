@@ -10,6 +10,8 @@ use Rattle.std.proofs.lemmas.List.Edits.{get_or-remove_below}
 use Rattle.std.proofs.lemmas.List.Sorted.{IsPartitionedBy-leb}
 use Rattle.std.proofs.lemmas.List.Elements.{All-head, All-tail}
 use Rattle.std.proofs.lemmas.List.Folds.{list_any-append}
+use Rattle.std.proofs.Math.Bool.{or-false}
+use Rattle.gap_list.proofs.SetLemmas.{below_rising}
 use Rattle.cfdp_types.specs.declared.limits.TheConstants.{FILE_OCTETS}
 use Rattle.gap_list.specs.declared.run.Run.{Run}
 use Rattle.gap_list.specs.Runs.{is_within, in_runs, SameSet, with_range, IsRisingFrom}
@@ -37,13 +39,6 @@ beyond_ends low offset [] le ends = le
 beyond_ends low offset (x ∷ xs) le ends =
     let first : x.end ≤ offset = All-head (λ (run : Run). run.end ≤ offset) x xs ends in
     beyond_ends (x.end + 1) offset xs (omega arith) (All-tail (λ (run : Run). run.end ≤ offset) x xs ends)
-
--- rising runs have no offset below where they begin
-pub below_rising : (low : ℕ) (runs : List Run) (offset : ℕ) → IsRisingFrom low runs → offset < low → in_runs runs offset ≡ false
-below_rising low [] offset rising below = refl
-below_rising low (run ∷ runs) offset rising below =
-    rw (lt-leb run.start offset (omega arith))
-    (below_rising (run.end + 1) runs offset rising.2 (omega arith))
 
 -- runs that end at or below an offset don't have it
 pub past_ends : (start offset : ℕ) (runs : List Run) → start ≤ offset → All (λ run. run.end ≤ start) runs → in_runs runs offset ≡ false
@@ -91,13 +86,9 @@ or_true : (a : Bool) → (a || true) ≡ true
 or_true true = refl
 or_true false = refl
 
-or_false : (a : Bool) → (a || false) ≡ a
-or_false true = refl
-or_false false = refl
-
 or_third : (a b c d : Bool) → (a || ((d || b) || c)) ≡ ((a || (b || c)) || d)
 or_third a b c true = or_true a ∙ sym (or_true (a || (b || c)))
-or_third a b c false = sym (or_false (a || (b || c)))
+or_third a b c false = sym (or-false (a || (b || c)))
 
 -- runs with the offsets from start to end - 1
 pub record IsJoined (old new : List Run) (start end : ℕ) : Type 0 where
@@ -149,7 +140,7 @@ or_gap : (a b c d e : Bool) → (a || ((b || (e || c)) || d)) ≡ ((a || (b || (
 or_gap true b c d e = refl
 or_gap false true c d e = refl
 or_gap false false c d true = sym (or_true (c || d))
-or_gap false false c d false = sym (or_false (c || d))
+or_gap false false c d false = sym (or-false (c || d))
 
 -- two runs joined
 joined-both : (xs ys : List Run) (run next : Run) → IsRisingFrom 0 (xs ++ run ∷ next ∷ ys)
@@ -208,7 +199,7 @@ rising_lower low (run ∷ runs) rising = (omega arith, rising.1, rising.2)
 -- what the test of one run says
 within_one : (run : Run) (i : ℕ) → in_runs (run ∷ []) i ≡ true → (run.start ≤ i) × (i < run.end)
 within_one run i has =
-    let inside : is_within run.start run.end i ≡ true = rw (or_false (is_within run.start run.end i)) at has in
+    let inside : is_within run.start run.end i ≡ true = rw (or-false (is_within run.start run.end i)) at has in
     let parts = and_parts (nat_le run.start i) (nat_lt i run.end) inside in
     (leb-true run.start i parts.0, ltb-true i run.end parts.1)
 

@@ -1,10 +1,11 @@
 -- Words, told one after the other.
-use Rattle.std.proofs.Common.{◌≡◌, Bool, true, false, ◌||◌, List, [], ◌∷◌, ◌++◌, refl, sym, ◌∙◌, arith, ◌+◌, cond, ℕ, IsTrue}
+use Rattle.std.proofs.Common.{◌≡◌, Bool, true, false, ◌||◌, List, [], ◌∷◌, ◌++◌, refl, sym, ◌∙◌, arith, ◌+◌, cond, ℕ, IsTrue, ◌↔◌, append-nil}
 use Rattle.std.specs.List.{list_any, count_by}
 use Rattle.std.proofs.lemmas.Bool.{true≢false, false≢true, or_left, or_right}
 use Rattle.std.proofs.lemmas.List.Folds.{list_any-append}
 use Rattle.cfdp_types.specs.declared.condition.Condition.{Condition}
 use Rattle.std.proofs.lemmas.List.Sums.{sum_by-cons}
+use Rattle.std.proofs.Math.Bool.{or-false}
 use Rattle.ind_words.specs.declared.indication.Indication.{Indication}
 use Rattle.ind_words.specs.declared.indication.Indication.TheVariants as told
 use Rattle.ind_words.specs.declared.side.Side.{Side}
@@ -15,10 +16,6 @@ pub use Rattle.ind_words.specs.Words.{told_onto}
 pub told_onto-append : (before xs ys : List Indication) → told_onto before (xs ++ ys) ≡ told_onto (told_onto before xs) ys
 told_onto-append before [] ys = refl
 told_onto-append before (x ∷ xs) ys = told_onto-append (x ∷ before) xs ys
-
-or_nothing : (a : Bool) → (a || false) ≡ a
-or_nothing true = refl
-or_nothing false = refl
 
 or_moves : (a b c : Bool) → ((a || b) || c) ≡ (b || (a || c))
 or_moves true true c = refl
@@ -71,7 +68,7 @@ pub word_is_over : (side : Side) (word : List Indication) (next : Indication) (r
     → IsWordOf side word → IsBegunOf side (word ++ next ∷ rest) → ⊥
 word_is_over side word next rest is begun =
     let none : list_any is_end (told_onto [] word) ≡ false = (MayFollowOf-rest side [] word (next ∷ rest) begun).0 in
-    true≢false (sym (list_any-told_onto is_end [] word ∙ or_nothing (list_any is_end word) ∙ is.1) ∙ none)
+    true≢false (sym (list_any-told_onto is_end [] word ∙ or-false (list_any is_end word) ∙ is.1) ∙ none)
 
 -- the first that a sender tells is Transaction
 pub opens_sender : (next : Indication) (rest : List Indication) → IsBegunOf Sender (next ∷ rest) → IsTrue (is_transaction next)
@@ -99,7 +96,7 @@ MayEnd-sender next rest begun = or_left (is_transaction next) (list_any is_trans
 IsNextOf-abandoned : (side : Side) (word : List Indication) (condition : Condition) (progress : ℕ)
     → MayEnd side word → IsNextOf side (told_onto [] word) (told.Abandoned condition progress)
 IsNextOf-abandoned Sender word condition progress may =
-    list_any-told_onto is_transaction [] word ∙ or_nothing (list_any is_transaction word) ∙ may
+    list_any-told_onto is_transaction [] word ∙ or-false (list_any is_transaction word) ∙ may
 IsNextOf-abandoned Receiver word condition progress may = tt
 
 -- a beginning of a word without an end becomes a word by Abandoned
@@ -108,9 +105,24 @@ pub abandoned_word : (side : Side) (word : List Indication) (condition : Conditi
     → IsWordOf side (word ++ told.Abandoned condition progress ∷ [])
 abandoned_word side word condition progress begun goes may = (
   MayFollowOf-append side [] word (told.Abandoned condition progress ∷ []) begun (
-    list_any-told_onto is_end [] word ∙ or_nothing (list_any is_end word) ∙ goes,
+    list_any-told_onto is_end [] word ∙ or-false (list_any is_end word) ∙ goes,
     IsNextOf-abandoned side word condition progress may,
     tt,
   ),
   list_any-append is_end word (told.Abandoned condition progress ∷ []) ∙ or_right (list_any is_end word) true refl,
+)
+
+-- what is begun can be ended
+begun_goes_on : (side : Side) (word : List Indication) (condition : Condition) (b : Bool) → list_any is_end word ≡ b → IsBegunOf side word
+    → (rest : List Indication) × IsWordOf side (word ++ rest)
+begun_goes_on side word condition true over begun = ([], rw (append-nil word) (begun, over))
+begun_goes_on Receiver word condition false goes begun = (told.Abandoned condition 0 ∷ [], abandoned_word Receiver word condition 0 begun goes tt)
+begun_goes_on Sender [] condition false goes begun = (told.Transaction ∷ told.Abandoned condition 0 ∷ [], ((refl, refl, (refl, refl, tt)), refl))
+begun_goes_on Sender (x ∷ xs) condition false goes begun = (told.Abandoned condition 0 ∷ [], abandoned_word Sender (x ∷ xs) condition 0 begun goes (MayEnd-sender x xs begun))
+
+-- a beginning of a word is what stands before the rest of one
+pub begun_is_front : (side : Side) (word : List Indication) (condition : Condition) → IsBegunOf side word ↔ ((rest : List Indication) × IsWordOf side (word ++ rest))
+begun_is_front side word condition = (
+  λ begun. begun_goes_on side word condition (list_any is_end word) refl begun,
+  λ whole. MayFollowOf-front side [] word whole.0 whole.1.0,
 )

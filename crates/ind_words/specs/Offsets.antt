@@ -13,6 +13,7 @@ abbrev pub room_left : Option Kept → ℕ
 room_left None = 0
 room_left (Some kept) = kept.left
 
+-- whether an offset was told of
 abbrev pub covers : Option Kept → ℕ → Bool
 covers None i = false
 covers (Some kept) i = in_runs kept.runs i

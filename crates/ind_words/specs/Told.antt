@@ -10,10 +10,12 @@ paused_after paused (told.Suspended code ∷ later) = paused_after true later
 paused_after paused (told.Resumed progress ∷ later) = paused_after false later
 paused_after paused (_ ∷ later) = paused_after paused later
 
+-- it goes on
 abbrev pub is_resumed : Indication → Bool
 is_resumed (told.Resumed progress) = true
 is_resumed _ = false
 
+-- a fault was ignored
 abbrev pub is_fault : Indication → Bool
 is_fault (told.Fault code progress) = true
 is_fault _ = false

@@ -18,22 +18,27 @@ is_end (told.TransactionFinished c d s) = true
 is_end (told.Abandoned c p) = true
 is_end _ = false
 
+-- a sender has begun
 abbrev pub is_transaction : Indication → Bool
 is_transaction told.Transaction = true
 is_transaction _ = false
 
+-- a sender has sent its EOF
 abbrev pub is_eof_sent : Indication → Bool
 is_eof_sent told.EofSent = true
 is_eof_sent _ = false
 
+-- the Metadata came
 abbrev pub is_metadata : Indication → Bool
 is_metadata (told.MetadataRecv a b c d e) = true
 is_metadata _ = false
 
+-- the EOF came
 abbrev pub is_eof : Indication → Bool
 is_eof told.EofRecv = true
 is_eof _ = false
 
+-- octets of the file came
 abbrev pub is_segment : Indication → Bool
 is_segment (told.FileSegmentRecv offset length) = true
 is_segment _ = false

@@ -54,7 +54,7 @@ fn suspended() -> Indication {
 
 fn abandoned(progress: u32) -> Indication {
     Indication::Abandoned {
-        condition: Condition::FILE_SIZE_ERROR,
+        condition: Condition::INACTIVITY,
         progress,
     }
 }
@@ -84,7 +84,13 @@ fn receiver_with_room_for_three_segments(rt: HostRuntime) -> Result<(), Fail> {
         Indication::Transaction,
         Indication::EofSent,
         Indication::EofRecv,
+        metadata(rt.alloc())?,
         finished(Delivery::Incomplete),
+        finished(Delivery::Complete),
+        Indication::Fault {
+            condition: Condition::NAK_LIMIT,
+            progress: 12,
+        },
         segment(12, 1),
         suspended(),
         Indication::Resumed { progress: 12 },

@@ -1,5 +1,5 @@
 -- Octets written one behind the other.
-use Rattle.std.proofs.Common.{◌≡◌, ℕ, zero, suc, ◌+◌, ◌-◌, ◌*◌, ◌^◌, ◌/◌, ◌%◌, ◌<◌, ◌≤◌, Bool, false, List, [], ◌∷◌, ◌++◌, length, Option, Some, refl, ap, sym, subst, ◌∙◌, append_assoc, append-nil, mod-lt, arith}
+use Rattle.std.proofs.Common.{◌≡◌, ℕ, zero, suc, ◌+◌, ◌-◌, ◌*◌, ◌^◌, ◌/◌, ◌%◌, ◌<◌, ◌≤◌, List, [], ◌∷◌, ◌++◌, length, Option, Some, refl, ap, sym, subst, ◌∙◌, append_assoc, append-nil, mod-lt, arith}
 use Rattle.std.proofs.lemmas.List.{length-append}
 use Rattle.std.specs.Prelude.{Vec, vec_len, vec_capacity}
 use Rattle.std.specs.List.{flat_map}
@@ -7,15 +7,15 @@ use Rattle.std.proofs.lemmas.Bool.{le-ltb}
 use Rattle.std.proofs.Math.Nat.{pow-le-pow_right}
 use Rattle.cfdp_types.specs.declared.key.EntityId.{EntityId}
 use Rattle.pdu_format.specs.Numbers.{digits}
-use Rattle.pdu_format.specs.Tlvs.{width_from, location_octets, location_tlvs}
-use Rattle.pdu_format.specs.Spelling.{size_octets, tlv, request, ids, type_bit, data_field, plain_choice, lengths_octet, spelling, written, Fits}
+use Rattle.pdu_format.specs.Tlvs.{width_from, octets_for, location_tlvs}
+use Rattle.pdu_format.specs.Spelling.{size_octets, tlv, ids, type_bit, data_field, plain_choice, lengths_octet, spelling, written, Fits}
 use Rattle.pdu_format.specs.Pdu.{PduValue}
 use Rattle.pdu_format.specs.declared.bodies.Nak as nak_type
-use Rattle.pdu_format.specs.declared.requests.SegmentRequest.{SegmentRequest}
 use Rattle.pdu_format.specs.declared.pdu.Header.{Header}
 use Rattle.pdu_format.specs.declared.pdu.Body.{Body}
 use Rattle.pdu_format.specs.declared.pdu.Body.TheVariants as bodies
 use Rattle.pdu_format.proofs.Numbers.{length-digits, pow_256_pos}
+use Rattle.pdu_format.proofs.FitLaws.{length-requests}
 use Rattle.pdu_codec.specs.Writing.{HasRoom, Writes, field_of, header_of, text_of, FieldFits}
 
 pub room_first : {Z : Type 0} (v : Vec ℕ Z) (a b : List ℕ) → HasRoom v (a ++ b) → HasRoom v a
@@ -76,20 +76,20 @@ pub width_goes_on : (width n : ℕ) → width < 8 → 256 ^ width ≤ n → widt
 unfolding width_from
 width_goes_on width n short above = let more : 8 - width ≡ suc (8 - (width + 1)) = omega (arith, short) in rw (more, le-ltb n (256 ^ width) above) refl
 
-pub location_text : (entity_octets n width : ℕ) → width ≡ location_octets entity_octets n
+pub location_text : (entity_octets n width : ℕ) → width ≡ octets_for entity_octets n
     → flat_map tlv (location_tlvs entity_octets (Some (record { 0 = n }))) ≡ digits 1 6 ++ (digits 1 width ++ digits width n)
 location_text entity_octets n width is = rw (is, append-nil, length-digits) refl
 
-pub room_for_location : {Z : Type 0} (v : Vec ℕ Z) (entity_octets n width : ℕ) (location : Option EntityId) → location ≡ Some (record { 0 = n }) → width ≡ location_octets entity_octets n
+pub room_for_location : {Z : Type 0} (v : Vec ℕ Z) (entity_octets n width : ℕ) (location : Option EntityId) → location ≡ Some (record { 0 = n }) → width ≡ octets_for entity_octets n
     → HasRoom v (flat_map tlv (location_tlvs entity_octets location)) → HasRoom v (digits 1 6 ++ (digits 1 width ++ digits width n))
 room_for_location v entity_octets n width location there is room = subst (HasRoom v) (ap (λ l. flat_map tlv (location_tlvs entity_octets l)) there ∙ location_text entity_octets n width is) room
 
-pub location_written : {Z : Type 0} (u v : Vec ℕ Z) (entity_octets n width : ℕ) (location : Option EntityId) → location ≡ Some (record { 0 = n }) → width ≡ location_octets entity_octets n
+pub location_written : {Z : Type 0} (u v : Vec ℕ Z) (entity_octets n width : ℕ) (location : Option EntityId) → location ≡ Some (record { 0 = n }) → width ≡ octets_for entity_octets n
     → Writes u v (digits 1 6 ++ (digits 1 width ++ digits width n)) → Writes u v (flat_map tlv (location_tlvs entity_octets location))
 location_written u v entity_octets n width location there is done =
     subst (Writes u v) (sym (ap (λ l. flat_map tlv (location_tlvs entity_octets l)) there ∙ location_text entity_octets n width is)) done
 
-pub location_length : (entity_octets n width : ℕ) (location : Option EntityId) → location ≡ Some (record { 0 = n }) → width ≡ location_octets entity_octets n
+pub location_length : (entity_octets n width : ℕ) (location : Option EntityId) → location ≡ Some (record { 0 = n }) → width ≡ octets_for entity_octets n
     → 2 + width ≡ length (flat_map tlv (location_tlvs entity_octets location))
 location_length entity_octets n width location there is =
     let text = ap length (ap (λ l. flat_map tlv (location_tlvs entity_octets l)) there ∙ location_text entity_octets n width is) in
@@ -107,11 +107,6 @@ ids_length header =
       length-digits header.sequence_octets header.sequence,
       length-digits header.entity_octets header.destination.0,
     )
-
-length-requests : (requests : List SegmentRequest) → length (flat_map (request size_octets) requests) ≡ 8 * length requests
-unfolding digits
-length-requests [] = refl
-length-requests (r ∷ requests) = omega (arith, length-requests requests)
 
 pub nak_length : (entity_octets : ℕ) (n : nak_type.Nak) → 9 + 8 * length n.requests ≡ length (field_of entity_octets (bodies.Nak n))
 unfolding digits
@@ -149,7 +144,7 @@ written_is pdu = rw (field_is_plain pdu, lengths_plain pdu) refl
 
 pub fits_field : (pdu : PduValue) → Fits pdu → FieldFits pdu.header.entity_octets pdu.body
 fits_field pdu fits = record {
-  entity_octets_fit = fits.entity_octets;
+  entity_octets_fit = fits.header.entity_octets;
   body_fits = fits.body;
   short = rw (sym (field_is_plain pdu)) fits.data_field;
 }

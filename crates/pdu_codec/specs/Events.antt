@@ -1,10 +1,15 @@
 -- What the two ends of a transaction ask of an event.
-use Rattle.std.specs.Prelude.{ℕ, Bool, true, false, not, ◌==◌, Option, Some, None}
+use Rattle.std.specs.Prelude.{ℕ, Bool, true, false, not, if◌then◌else◌, Option, Some, None}
 use Rattle.cfdp_types.specs.declared.names.Class.{Class}
 use Rattle.cfdp_types.specs.declared.names.Class.TheVariants.{One, Two}
 use Rattle.cfdp_types.specs.declared.names.TimerKind.{TimerKind}
 use Rattle.cfdp_types.specs.Steps.{is_kind, is_stamp}
+use Rattle.pdu_format.specs.Pdu.{PduValue}
 use Rattle.pdu_format.specs.declared.pdu.Body.{Body}
+use Rattle.pdu_format.specs.declared.pdu.Body.TheVariants as body
+use Rattle.pdu_format.specs.declared.pdu.Direction.TheVariants.{TowardReceiver, TowardSender}
+use Rattle.pdu_format.specs.declared.bodies.Acknowledged.TheVariants as acknowledged
+use Rattle.pdu_format.specs.declared.bodies.TransactionStatus.TheVariants.{Terminated}
 use Rattle.pdu_codec.specs.declared.event.What.{What}
 use Rattle.pdu_codec.specs.declared.event.What.TheVariants as what
 
@@ -13,6 +18,7 @@ abbrev pub is_two : Class → Bool
 is_two One = false
 is_two Two = true
 
+-- two classes are the same
 abbrev pub is_same_class : Class → Class → Bool
 is_same_class One class = not (is_two class)
 is_same_class Two class = is_two class
@@ -47,3 +53,19 @@ is_stale_timer armed _ = false
 abbrev pub is_pdu : What → Bool
 is_pdu (what.Pdu pdu) = true
 is_pdu _ = false
+
+-- to a PDU of a transaction that is over or was never there: class 2 acknowledges an EOF and a Finished all
+-- the same, with their condition code and in their lengths, and says that the transaction is terminated
+abbrev pub echo_of : PduValue → Option PduValue
+echo_of pdu = if is_two pdu.header.class then echoed pdu.body else None
+  where
+    echoed : Body → Option PduValue
+    echoed (body.Eof e) = Some (record {
+      header = record (pdu.header) { direction = TowardSender };
+      body = body.Ack (record { of = acknowledged.Eof; condition = e.condition; status = Terminated });
+    })
+    echoed (body.Finished f) = Some (record {
+      header = record (pdu.header) { direction = TowardReceiver };
+      body = body.Ack (record { of = acknowledged.Finished; condition = f.condition; status = Terminated });
+    })
+    echoed _ = None

@@ -1,6 +1,5 @@
 -- What parts that are borrowed from a datagram stand for.
 use Rattle.std.specs.Prelude.{ℕ, zero, suc, ◌/◌, ◌%◌, ◌==◌, List, [], ◌∷◌, length, Option, Some, None}
-use Rattle.cfdp_types.specs.declared.key.EntityId.{EntityId}
 use Rattle.pdu_format.specs.declared.pdu.Body.{Body}
 use Rattle.pdu_format.specs.declared.pdu.Body.TheVariants as bodies
 use Rattle.pdu_format.specs.declared.requests.SegmentRequest.{SegmentRequest}
@@ -53,8 +52,3 @@ body_of_parts (parts.Nak n) = bodies.Nak (record { start = n.start; end = n.end;
 body_of_parts (parts.Prompt p) = bodies.Prompt p
 body_of_parts (parts.KeepAlive k) = bodies.KeepAlive k
 body_of_parts (parts.FileData f) = bodies.FileData (record { offset = f.offset; octets = f.octets.now })
-
--- what was found first
-abbrev pub first_of : Option EntityId → Option EntityId → Option EntityId
-first_of None later = later
-first_of (Some found) later = Some found

@@ -1,5 +1,5 @@
 -- The numbers and names of the refusals of events.
-use Rattle.std.specs.Prelude.{ℕ, List, codes}
+use Rattle.std.specs.Prelude.{ℕ, List, codes, Option, Some, None, Result, Ok, Err}
 use Rattle.pdu_codec.specs.declared.event.Refusal.{Refusal}
 use Rattle.pdu_codec.specs.declared.event.Refusal.TheVariants.{NoTransaction, OldTransaction, LaneBusy, ModeMismatch, StaleTimer, StaleStored, Storing, WrongState, SeqExhausted, TooLarge, JournalFull, NoMemory, QueueFull}
 
@@ -34,3 +34,8 @@ refusal_name TooLarge = codes "TooLarge"
 refusal_name JournalFull = codes "JournalFull"
 refusal_name NoMemory = codes "NoMemory"
 refusal_name QueueFull = codes "QueueFull"
+
+-- an answer, or why there is none
+abbrev pub unless_refused : {A : Type 0} → Option Refusal → A → Result A Refusal
+unless_refused None answer = Ok answer
+unless_refused (Some why) answer = Err why

@@ -7,7 +7,8 @@ ghost use Rattle.pdu_format.specs.Items.{items_to_end};
 ghost use Rattle.pdu_format.specs.Spelling.{size_octets};
 ghost use Rattle.pdu_format.specs.Tlvs.{location_in, messages_in, may_locate};
 ghost use Rattle.pdu_format.specs.Reading.{Gives, tlv_at, location_tlv_at, request_at};
-ghost use Rattle.pdu_codec.specs.Parts.{tlv_of_parts, first_of, messages_at, requests_at};
+ghost use Rattle.cfdp_types.specs.Steps.{older_or};
+ghost use Rattle.pdu_codec.specs.Parts.{tlv_of_parts, messages_at, requests_at};
 
 use crate::fields::{lv_at, number_of, octet_at, word_at};
 use cfdp_types::{EntityId, Messages, Octets};
@@ -15,10 +16,10 @@ use pdu_format::{SegmentRequest, SegmentRequests};
 use std::alloc::{AllocError, Global};
 
 /// The type of a message to the user.
-const MESSAGE: u8 = 2;
+pub const MESSAGE: u8 = 2;
 
 /// The type of an entity ID.
-const ENTITY_ID: u8 = 6;
+pub const ENTITY_ID: u8 = 6;
 
 /// An optional field, borrowed from the datagram.
 #[derive(Clone, Copy)]
@@ -64,7 +65,7 @@ pub fn location_tlv_at(octets: &[u8]) -> Option<(TlvParts<'_>, &[u8])>
 #[tactic(auto, unfolding(pdu_format::specs::Tlvs::location_in))]
 fn with_field(location: Option<EntityId>, tlv: TlvParts<'_>) -> Option<EntityId>
     requires { IsTrue (may_locate (tlv_of_parts tlv)) }
-    ensures { result ≡ first_of location (location_in (tlv_of_parts tlv.entry ∷ [])) }
+    ensures { result ≡ older_or location (location_in (tlv_of_parts tlv.entry ∷ [])) }
 {
     if location.is_none() && tlv.kind == ENTITY_ID {
         Some(EntityId(number_of(tlv.value)))
@@ -112,14 +113,23 @@ fn add_message(alloc: Global, messages: &mut Messages, tlv: TlvParts<'_>) -> Res
     Ok(())
 }
 
+// How many messages to the user an optional field holds: one or none.
+#[tactic(auto, unfolding(pdu_format::specs::Tlvs::messages_in))]
+fn messages_held(tlv: TlvParts<'_>) -> usize
+    ensures value { result ≡ length (messages_in (tlv_of_parts tlv.entry ∷ [])) }
+    ensures below { result < 2 }
+{
+    if tlv.kind == MESSAGE { 1 } else { 0 }
+}
+
 // How many messages to the user there are, so that their list is made at once.
-fn message_count(octets: &[u8]) -> usize {
+fn message_count(octets: &[u8]) -> usize
+    ensures { result ≡ length (messages_at octets.now) }
+{
     let mut count = 0;
     let mut rest = octets;
     while let Some((tlv, behind)) = tlv_at(rest) {
-        if tlv.kind == MESSAGE {
-            count += 1;
-        }
+        count += messages_held(tlv);
         rest = behind;
     }
     count

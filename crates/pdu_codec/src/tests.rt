@@ -107,3 +107,31 @@ fn what_is_written_is_read(rt: HostRuntime) -> Result<(), Fail> {
     assert_eq!(rt; again.body(), pdu.body());
     Ok(())
 }
+
+// Memory may run out anywhere here, and is there again at the next call: to be run with each
+// allocation refused in turn.
+#[test]
+fn memory(rt: HostRuntime) -> Result<(), Fail> {
+    let alloc = rt.alloc();
+    // METADATA with closure, and the messages "hi" and "x" behind an option of another type
+    let octets = b"\x24\x00\x13\x00\x01\x05\x02\x07\x40\x00\x00\x00\x03\x01\x61\x01\x62\
+        \x05\x00\x02\x02\x68\x69\x02\x01\x78";
+    let written = b"\x24\x00\x11\x00\x01\x05\x02\x07\x40\x00\x00\x00\x03\x01\x61\x01\x62\
+        \x02\x02\x68\x69\x02\x01\x78";
+    let pdu = match decode(alloc, octets) {
+        Ok(pdu) => pdu,
+        Err(fault) => {
+            assert_eq!(rt; fault, DecodeFault::NoMemory);
+            decode(alloc, octets).ok().ok_or("there is memory again")?
+        }
+    };
+    let mut out = Vec::from_slice(alloc, b"front")?;
+    if encode(&pdu, &mut out).is_err() {
+        assert_eq!(rt; out.as_slice(), b"front".as_slice());
+        encode(&pdu, &mut out)?;
+    }
+    let mut expected = Vec::from_slice(alloc, b"front")?;
+    expected.extend_from_slice(written)?;
+    assert_eq!(rt; out.as_slice(), expected.as_slice());
+    Ok(())
+}

@@ -3,18 +3,13 @@
 ghost use Rattle.std.specs.Prelude.{◌≡◌, ◌<◌, ◌≤◌, ◌+◌, ◌^◌, [], ◌∷◌, map, length};
 ghost use Rattle.std.specs.List.{flat_map, AllByRecursion};
 ghost use Rattle.pdu_format.specs.Numbers.{digits};
-ghost use Rattle.pdu_format.specs.Tlvs.{message_tlv, location_tlvs, location_octets};
+ghost use Rattle.pdu_format.specs.Tlvs.{message_tlv, location_tlvs, octets_for};
 ghost use Rattle.pdu_format.specs.Spelling.{size_octets, lv, tlv, request, IsIdLength, IsLocation, IsMessage};
 ghost use Rattle.pdu_codec.specs.Writing.{HasRoom, Writes};
 
+use crate::options::{ENTITY_ID, MESSAGE};
 use cfdp_types::{EntityId, Messages};
 use pdu_format::{SegmentRequest, SegmentRequests};
-
-/// The type of a message to the user.
-const MESSAGE: u8 = 2;
-
-/// The type of an entity ID.
-const ENTITY_ID: u8 = 6;
 
 /// A number of one octet.
 #[tactic(auto, unfolding(pdu_format::specs::Numbers::digits))]
@@ -77,7 +72,7 @@ pub fn put_tlv(out: &mut Vec<u8>, kind: u8, value: &[u8])
 pub fn location_octets(entity_octets: u8, id: EntityId) -> u8
     requires length { IsIdLength entity_octets }
     requires fits { id.0 < 256 ^ 8 }
-    ensures value { result ≡ location_octets entity_octets id.0 }
+    ensures value { result ≡ octets_for entity_octets id.0 }
     ensures most { result ≤ 8 }
     ensures holds { id.0 < 256 ^ result }
 {

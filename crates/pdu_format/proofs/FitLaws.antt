@@ -14,28 +14,14 @@ use Rattle.pdu_format.specs.declared.requests.SegmentRequest.{SegmentRequest}
 use Rattle.pdu_format.specs.declared.pdu.Header.{Header}
 use Rattle.pdu_format.specs.declared.pdu.Body.TheVariants as bodies
 use Rattle.pdu_format.specs.Numbers.{digits}
-use Rattle.pdu_format.specs.Pdu.{PduValue}
 use Rattle.pdu_format.specs.Tlvs.{message_tlv}
 use Rattle.pdu_format.specs.Spelling.{size_octets, lv, tlv, request, Fits, EofFits, FinishedFits, AckFits, MetadataFits, NakFits, KeepAliveFits, FileDataFits, HeaderFits}
 use Rattle.pdu_format.proofs.TlvLaws.{location_short}
 
-pub header_fits : (pdu : PduValue) → Fits pdu → HeaderFits pdu.header
-header_fits pdu fits = record {
-  entity_octets = fits.entity_octets;
-  sequence_octets = fits.sequence_octets;
-  source = fits.source;
-  sequence = fits.sequence;
-  destination = fits.destination;
-}
-
 pub eof_fits : (header : Header) (e : eof_type.Eof) → HeaderFits header → EofFits size_octets e → Fits (record { header = header; body = bodies.Eof e })
 unfolding digits
 eof_fits header e h fits = record {
-  entity_octets = h.entity_octets;
-  sequence_octets = h.sequence_octets;
-  source = h.source;
-  sequence = h.sequence;
-  destination = h.destination;
+  header = h;
   body = fits;
   data_field = omega (arith, location_short header.entity_octets e.location h.entity_octets fits.location);
 }
@@ -43,11 +29,7 @@ eof_fits header e h fits = record {
 pub finished_fits : (header : Header) (f : finished_type.Finished) → HeaderFits header → FinishedFits f → Fits (record { header = header; body = bodies.Finished f })
 unfolding digits
 finished_fits header f h fits = record {
-  entity_octets = h.entity_octets;
-  sequence_octets = h.sequence_octets;
-  source = h.source;
-  sequence = h.sequence;
-  destination = h.destination;
+  header = h;
   body = fits;
   data_field = omega (arith, location_short header.entity_octets f.location h.entity_octets fits.location);
 }
@@ -55,11 +37,7 @@ finished_fits header f h fits = record {
 pub ack_fits : (header : Header) (a : ack_type.Ack) → HeaderFits header → AckFits a → Fits (record { header = header; body = bodies.Ack a })
 unfolding digits
 ack_fits header a h fits = record {
-  entity_octets = h.entity_octets;
-  sequence_octets = h.sequence_octets;
-  source = h.source;
-  sequence = h.sequence;
-  destination = h.destination;
+  header = h;
   body = fits;
   data_field = omega arith;
 }
@@ -79,16 +57,12 @@ unfolding digits
 metadata_fits header m h fits short =
     let text : List ℕ = flat_map tlv (map message_tlv m.messages) in
     record {
-      entity_octets = h.entity_octets;
-      sequence_octets = h.sequence_octets;
-      source = h.source;
-      sequence = h.sequence;
-      destination = h.destination;
+      header = h;
       body = fits;
       data_field = omega (arith, length-append m.source_name (lv m.destination_name ++ text), length-append m.destination_name text, length-messages m.messages, fits.source_name.most, fits.destination_name.most, short);
     }
 
-length-requests : (requests : List SegmentRequest) → length (flat_map (request size_octets) requests) ≡ 8 * length requests
+pub length-requests : (requests : List SegmentRequest) → length (flat_map (request size_octets) requests) ≡ 8 * length requests
 unfolding digits
 length-requests [] = refl
 length-requests (r ∷ requests) = omega (arith, length-requests requests)
@@ -96,11 +70,7 @@ length-requests (r ∷ requests) = omega (arith, length-requests requests)
 pub nak_fits : (header : Header) (n : nak_type.Nak) → HeaderFits header → NakFits size_octets n → length n.requests ≤ 8190 → Fits (record { header = header; body = bodies.Nak n })
 unfolding digits
 nak_fits header n h fits short = record {
-  entity_octets = h.entity_octets;
-  sequence_octets = h.sequence_octets;
-  source = h.source;
-  sequence = h.sequence;
-  destination = h.destination;
+  header = h;
   body = fits;
   data_field = omega (arith, length-requests n.requests, short);
 }
@@ -108,11 +78,7 @@ nak_fits header n h fits short = record {
 pub prompt_fits : (header : Header) (p : Prompt) → HeaderFits header → Fits (record { header = header; body = bodies.Prompt p })
 unfolding digits
 prompt_fits header p h = record {
-  entity_octets = h.entity_octets;
-  sequence_octets = h.sequence_octets;
-  source = h.source;
-  sequence = h.sequence;
-  destination = h.destination;
+  header = h;
   body = tt;
   data_field = omega arith;
 }
@@ -120,11 +86,7 @@ prompt_fits header p h = record {
 pub keep_alive_fits : (header : Header) (k : keep_alive_type.KeepAlive) → HeaderFits header → KeepAliveFits size_octets k → Fits (record { header = header; body = bodies.KeepAlive k })
 unfolding digits
 keep_alive_fits header k h fits = record {
-  entity_octets = h.entity_octets;
-  sequence_octets = h.sequence_octets;
-  source = h.source;
-  sequence = h.sequence;
-  destination = h.destination;
+  header = h;
   body = fits;
   data_field = omega arith;
 }
@@ -132,11 +94,7 @@ keep_alive_fits header k h fits = record {
 pub file_data_fits : (header : Header) (f : file_data_type.FileData) → HeaderFits header → FileDataFits size_octets f → length f.octets ≤ 65531 → Fits (record { header = header; body = bodies.FileData f })
 unfolding digits
 file_data_fits header f h fits short = record {
-  entity_octets = h.entity_octets;
-  sequence_octets = h.sequence_octets;
-  source = h.source;
-  sequence = h.sequence;
-  destination = h.destination;
+  header = h;
   body = fits;
   data_field = omega (arith, short);
 }

@@ -29,7 +29,6 @@ use Rattle.pdu_format.proofs.TlvLaws.{plain_locates, plain_tells, location_short
 use Rattle.pdu_format.proofs.HeaderLaws.{opening_text, OpeningFits, TakesOpening, opening_takes, opening_again, opening_of, kind_again, OpeningFits-opening_of, spelling-is, header_again, no_fault_again, HasNoFault, HasNoFault-from_none, first_octet-is, lengths_octet-is, lengths_of}
 use Rattle.pdu_format.proofs.BodyLaws.{FieldsFit, answer_of, IsAll, IsReadAs, whole_read, IsSpelled, eof_is_spelled, finished_is_spelled, ack_is_read, metadata_is_spelled, nak_is_spelled, prompt_is_spelled, keep_alive_is_spelled, file_data_is_spelled}
 use Rattle.pdu_format.proofs.NameLaws.{fields_and_names, fields_fit, names_fit, lacking, lacking_is}
-use Rattle.pdu_format.proofs.FitLaws.{header_fits}
 use Rattle.pdu_format.proofs.BodyAgainLaws.{eof_again, finished_again, ack_again, metadata_again, nak_again, prompt_again, keep_alive_again, file_data_again}
 
 -- ---- a data field that is read is spelled so
@@ -173,17 +172,6 @@ choice_whole o field body fits sound r = record {
   data_field = field_short o field body fits sound r;
 }
 
-pub fits_of : (pdu : PduValue) → HeaderFits pdu.header → BodyFits size_octets pdu.body → length (data_field size_octets (plain_choice pdu) pdu.body) < 2 ^ 16 → Fits pdu
-fits_of pdu header body short = record {
-  entity_octets = header.entity_octets;
-  sequence_octets = header.sequence_octets;
-  source = header.source;
-  sequence = header.sequence;
-  destination = header.destination;
-  body = body;
-  data_field = short;
-}
-
 -- a datagram without a fault in its header
 record IsDatagram (octets : List ℕ) (o : Opening) (field : List ℕ) : Type 0 where
   pub taken : TakesOpening octets o field
@@ -196,7 +184,11 @@ whole_spelled octets o field body d r named =
     record {
       choice = r.choice;
       is_choice = choice_whole o field body d.taken.fits d.sound r;
-      fits = fits_of (pdu_of o body) header fits (plain_short (header_of o) body r.choice header.entity_octets fits r.is_choice (field_short o field body d.taken.fits d.sound r));
+      fits = record {
+        header = header;
+        body = fits;
+        data_field = plain_short (header_of o) body r.choice header.entity_octets fits r.is_choice (field_short o field body d.taken.fits d.sound r);
+      };
       spelled = d.taken.takes.parts ∙ spelled_whole o field body d.sound r;
     }
 
@@ -327,9 +319,8 @@ spelling_is_answered choice pdu header fits is_choice =
 
 pub spelling_is_read : (choice : Choice) (pdu : PduValue) → Fits pdu → IsChoice choice pdu → reading (spelling choice pdu) ≡ Ok pdu
 spelling_is_read choice pdu fits is_choice =
-    let header = header_fits pdu fits in
-    spelling_is_answered choice pdu header (fields_fit pdu.body fits.body) is_choice
-    ∙ rw (names_fit pdu.body fits.body, header_again choice pdu header is_choice) refl
+    spelling_is_answered choice pdu fits.header (fields_fit pdu.body fits.body) is_choice
+    ∙ rw (names_fit pdu.body fits.body, header_again choice pdu fits.header is_choice) refl
 
 pub spelled_is_read : (octets : List ℕ) (pdu : PduValue) → Spells octets pdu → reading octets ≡ Ok pdu
 spelled_is_read octets pdu spells = ap reading spells.spelled ∙ spelling_is_read spells.choice pdu spells.fits spells.is_choice
@@ -382,7 +373,7 @@ plain_is_body_choice pdu fits = record {
   spare = spare_free pdu.body;
   reserved = omega arith;
   subtype = plain_subtype-below pdu.body;
-  tlvs = plain_keeps pdu.header.entity_octets pdu.body fits.entity_octets fits.body;
+  tlvs = plain_keeps pdu.header.entity_octets pdu.body fits.header.entity_octets fits.body;
 }
 
 pub plain_is_choice : (pdu : PduValue) → Fits pdu → IsChoice (plain_choice pdu) pdu

@@ -6,7 +6,7 @@ use Rattle.std.proofs.lemmas.Bool.{ltb-true, lt-ltb, and_parts}
 use Rattle.std.proofs.lemmas.List.{length-append}
 use Rattle.cfdp_types.specs.declared.key.EntityId.{EntityId}
 use Rattle.pdu_format.specs.Numbers.{number_of, digits}
-use Rattle.pdu_format.specs.Tlvs.{Tlv, message_kind, entity_id_kind, messages_in, location_in, may_locate, message_tlv, width_from, location_octets, location_tlvs}
+use Rattle.pdu_format.specs.Tlvs.{Tlv, message_kind, entity_id_kind, messages_in, location_in, may_locate, message_tlv, width_from, octets_for, location_tlvs}
 use Rattle.pdu_format.specs.Spelling.{lv, tlv, IsIdLength, IsMessage, IsLocation, IsTlv, IsLocationTlv, Locates, Tells}
 use Rattle.pdu_format.proofs.Numbers.{number_of-below, number_of-digits, length-digits}
 use Rattle.pdu_format.proofs.FieldLaws.{IsTlvRead, IsLocationTlvRead}
@@ -84,8 +84,8 @@ width_from-is (suc more) width n =
     width_step (ltb n (256 ^ width)) width (width + suc more) n (width_from more (width + 1) n) refl (omega arith) (λ is. shifted)
 
 -- the octets of an entity ID in a TLV are 1 to 8, and hold it
-pub location_octets-is : (entity_octets n : ℕ) → IsIdLength entity_octets → n < 256 ^ 8 → IsIdLength (location_octets entity_octets n) × (n < 256 ^ location_octets entity_octets n)
-location_octets-is entity_octets n is lt =
+pub octets_for-is : (entity_octets n : ℕ) → IsIdLength entity_octets → n < 256 ^ 8 → IsIdLength (octets_for entity_octets n) × (n < 256 ^ octets_for entity_octets n)
+octets_for-is entity_octets n is lt =
     let w = width_from-is (8 - entity_octets) entity_octets n in
     let most : entity_octets + (8 - entity_octets) ≡ 8 = omega (arith, is.most) in (
       record { least = omega (arith, is.least, w.at_least); most = omega (arith, w.at_most, most) },
@@ -96,8 +96,8 @@ pub plain_locates : (entity_octets : ℕ) (location : Option EntityId) → IsIdL
 unfolding location_in
 plain_locates entity_octets None is fits = record { each = tt; kept = refl }
 plain_locates entity_octets (Some id) is fits =
-    let width = location_octets entity_octets id.0 in
-    let w = location_octets-is entity_octets id.0 is fits in
+    let width = octets_for entity_octets id.0 in
+    let w = octets_for-is entity_octets id.0 is fits in
     let long : length (digits width id.0) ≡ width = length-digits width id.0 in
     let tests : (ltb 0 (length (digits width id.0)) && ltb (length (digits width id.0)) 9) ≡ true =
     rw (lt-ltb 0 (length (digits width id.0)) (omega (arith, long, w.0.least)), lt-ltb (length (digits width id.0)) 9 (omega (arith, long, w.0.most))) refl in
@@ -121,9 +121,9 @@ plain_tells (message ∷ messages) h =
 pub location_short : (entity_octets : ℕ) (location : Option EntityId) → IsIdLength entity_octets → IsLocation location → length (flat_map tlv (location_tlvs entity_octets location)) ≤ 10
 location_short entity_octets None is fits = omega arith
 location_short entity_octets (Some id) is fits =
-    let width = location_octets entity_octets id.0 in
+    let width = octets_for entity_octets id.0 in
     let t : Tlv = record { kind = entity_id_kind; value = digits width id.0 } in
-    let w = location_octets-is entity_octets id.0 is fits in
+    let w = octets_for-is entity_octets id.0 is fits in
     omega (arith, length-append (tlv t) [], length-tlv t, length-digits width id.0, w.0.most)
 
 told_step : (b : Bool) (t : Tlv) (others : List (List ℕ)) (rest : ℕ) → length (flat_map tlv (map message_tlv others)) ≤ rest → length (flat_map tlv (map message_tlv (cond b (t.value ∷ others) others))) ≤ length (tlv t) + rest

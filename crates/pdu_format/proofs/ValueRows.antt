@@ -1,10 +1,9 @@
 -- The direction of every kind of PDU, every number of a fault, and every value of a few bits: as the formats
 -- have them.
-use Rattle.std.proofs.Common.{◌≡◌, ℕ, true, false, List, [], ◌∷◌, map, refl}
+use Rattle.std.proofs.Common.{◌≡◌, true, false, [], ◌∷◌, map, refl}
 use Rattle.cfdp_types.specs.declared.names.Delivery.TheVariants.{Complete, Incomplete}
 use Rattle.cfdp_types.specs.declared.names.FileStatus.TheVariants.{Discarded, Rejected, Retained, Unreported}
 use Rattle.pdu_format.specs.declared.bodies.Acknowledged.TheVariants as acknowledged
-use Rattle.pdu_format.specs.declared.bodies.TransactionStatus.{TransactionStatus}
 use Rattle.pdu_format.specs.declared.bodies.TransactionStatus.TheVariants.{Undefined, Active, Terminated, Unrecognized}
 use Rattle.pdu_format.specs.declared.bodies.Prompt.{Prompt}
 use Rattle.pdu_format.specs.declared.bodies.Prompt.TheVariants as prompts

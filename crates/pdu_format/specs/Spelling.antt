@@ -342,11 +342,7 @@ pub record HeaderFits (header : Header) : Type 0 where
 
 -- every number fits its field, and the written data field its length
 pub record Fits (pdu : PduValue) : Type 0 where
-  pub entity_octets : IsIdLength pdu.header.entity_octets
-  pub sequence_octets : IsIdLength pdu.header.sequence_octets
-  pub source : pdu.header.source.0 < 256 ^ pdu.header.entity_octets
-  pub sequence : pdu.header.sequence < 256 ^ pdu.header.sequence_octets
-  pub destination : pdu.header.destination.0 < 256 ^ pdu.header.entity_octets
+  pub header : HeaderFits pdu.header
   pub body : BodyFits size_octets pdu.body
   pub data_field : length (data_field size_octets (plain_choice pdu) pdu.body) < 2 ^ 16
 

@@ -44,11 +44,11 @@ unfoldable pub width_from : ℕ → ℕ → ℕ → ℕ
 width_from zero width n = width
 width_from (suc more) width n = if nat_lt n (256 ^ width) then width else width_from more (width + 1) n
 
--- the octets of an entity ID in a TLV: as many as the header's IDs have, or as hold it, at most 8
-abbrev pub location_octets : ℕ → ℕ → ℕ
-location_octets entity_octets n = width_from (8 - entity_octets) entity_octets n
+-- as many octets as these, or the fewest that hold a number where that is more, at most 8
+abbrev pub octets_for : ℕ → ℕ → ℕ
+octets_for octets n = width_from (8 - octets) octets n
 
 -- the TLV of a fault location, where there is one
 abbrev pub location_tlvs : ℕ → Option EntityId → List Tlv
 location_tlvs entity_octets None = []
-location_tlvs entity_octets (Some id) = record { kind = entity_id_kind; value = digits (location_octets entity_octets id.0) id.0 } ∷ []
+location_tlvs entity_octets (Some id) = record { kind = entity_id_kind; value = digits (octets_for entity_octets id.0) id.0 } ∷ []

@@ -20,7 +20,7 @@ pub enum DecodeFault {
     /// The directive code is not one of those that the entity takes, or an ACK is of another
     /// directive than EOF and Finished.
     UnknownDirective = 6,
-    /// A field goes past the end, octets are left where no field stands, a directive has no code, or
+    /// The data field ends within a field or goes on behind the last one, a directive has no code, or
     /// an entity ID in an option of EOF or Finished has no octet or more than eight.
     FieldCut = 7,
     /// A file name is empty.

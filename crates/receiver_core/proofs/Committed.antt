@@ -14,12 +14,15 @@ use Rattle.receiver_core.specs.declared.answer.Answer.{Answer}
 use Rattle.receiver_core.specs.declared.plan.Change.TheVariants as change
 use Rattle.receiver_core.specs.declared.plan.Plan.{Plan}
 use Rattle.receiver_core.specs.declared.reception.ReceiverCore.{ReceiverCore}
-use Rattle.receiver_core.specs.Log.{Entry, State, step, state_of, older_or}
-use Rattle.receiver_core.specs.Table.{refusal_at, accepted_at, answer_at, unless_refused, stored_answer}
+use Rattle.cfdp_types.specs.Steps.{older_or}
+use Rattle.receiver_core.specs.Log.{Entry, State, step, state_of}
+use Rattle.pdu_codec.specs.Refusal.{unless_refused}
+use Rattle.receiver_core.specs.Table.{refusal_at, accepted_at, answer_at, stored_answer}
 use Rattle.receiver_core.specs.Examine.{added, metadata_with, eof_with}
 use Rattle.receiver_core.specs.Core.{shown, StandsAfter, IsPlanOf, body_change}
 use Rattle.receiver_core.proofs.States.{same_state}
-use Rattle.receiver_core.proofs.Parts.{received_parts, progress_parts, metadata_parts, eof_parts, older_or-none}
+use Rattle.cfdp_types.proofs.StepLemmas.{older_or-none}
+use Rattle.receiver_core.proofs.Parts.{received_parts, progress_parts, metadata_parts, eof_parts}
 use Rattle.receiver_core.proofs.Planned.{not_refused}
 
 accepted_parts : (why : Option Refusal) (answer given : Answer) → unless_refused why answer ≡ Ok given → (why ≡ None) × (given ≡ answer)

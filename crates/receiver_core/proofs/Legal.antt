@@ -4,6 +4,7 @@ use Rattle.std.specs.Prelude.{is_some}
 use Rattle.std.specs.List.{list_any}
 use Rattle.std.proofs.lemmas.Bool.{cases_lt, eqb-true, ltb-false, ltb-true, le-ltb}
 use Rattle.std.proofs.lemmas.List.Folds.{list_any-append, list_any-from_Any}
+use Rattle.std.proofs.Math.Bool.{or-false}
 use Rattle.cfdp_types.specs.declared.names.Delivery.TheVariants.{Complete, Incomplete}
 use Rattle.cfdp_types.specs.declared.names.FileStatus.TheVariants.{Discarded}
 use Rattle.pdu_format.specs.Pdu.{PduValue}
@@ -332,12 +333,8 @@ holds (entry ∷ front) legal =
       fits = rw told_onto-append goes.fits;
     }
 
-or_same : (b : Bool) → (b || false) ≡ b
-or_same true = refl
-or_same false = refl
-
 told_test : (test : Indication → Bool) (log : List Entry) → list_any test (told_by log) ≡ list_any test (issued log)
-told_test test log = list_any-told_onto test [] (issued log) ∙ or_same (list_any test (issued log))
+told_test test log = list_any-told_onto test [] (issued log) ∙ or-false (list_any test (issued log))
 
 pub tells_words : TellsWords
 tells_words log legal =

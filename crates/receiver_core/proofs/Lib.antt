@@ -5,3 +5,9 @@ pub mod Planned
 pub mod Committed
 pub mod Telling
 pub mod Legal
+pub mod ReceptionSteps
+pub mod ReceptionFacts
+pub mod ReceptionLate
+pub mod ReceptionTelling
+pub mod ReceptionEvents
+pub mod ReceptionLegal

@@ -11,7 +11,9 @@ use Rattle.pdu_format.specs.declared.bodies.Metadata.{Metadata}
 use Rattle.pdu_format.specs.declared.bodies.Eof.{Eof}
 use Rattle.receiver_core.specs.declared.plan.Change.{Change}
 use Rattle.receiver_core.specs.declared.plan.Change.TheVariants as change
-use Rattle.receiver_core.specs.Log.{State, older_or, body_octet, body_extent, body_metadata, body_eof}
+use Rattle.cfdp_types.specs.Steps.{older_or}
+use Rattle.cfdp_types.proofs.StepLemmas.{older_or-none}
+use Rattle.receiver_core.specs.Log.{State, body_octet, body_extent, body_metadata, body_eof}
 use Rattle.receiver_core.specs.Table.{is_out_of_place}
 use Rattle.receiver_core.specs.Examine.{added, metadata_with, eof_with, type_with}
 use Rattle.receiver_core.specs.Core.{body_change}
@@ -44,10 +46,6 @@ not_false false e = cc
 -- file data that is taken begins where the file so far ends
 pub in_order : (state : State) (d : FileData) → is_out_of_place state (body.FileData d) ≡ false → d.offset ≡ state.progress
 in_order state d e = eqb-true d.offset state.progress (not_false (eqb d.offset state.progress) e)
-
-pub older_or-none : {A : Type 0} (o : Option A) → older_or o None ≡ o
-older_or-none None = refl
-older_or-none (Some x) = refl
 
 slice_get-append-nil : (xs : List ℕ) (i : ℕ) → older_or (slice_get xs i) None ≡ slice_get (xs ++ []) i
 slice_get-append-nil [] i = refl

@@ -4,6 +4,7 @@ use Rattle.std.specs.Prelude.{is_some, slice_get}
 use Rattle.std.specs.List.{list_any}
 use Rattle.std.proofs.lemmas.Bool.{cases_lt, cases_Bool, eqb-true, eqb-false, le-leb, ltb-false, lt-ltb, le-ltb}
 use Rattle.std.proofs.lemmas.Option.{slice_get-get_or, slice_get_past}
+use Rattle.std.proofs.Math.Bool.{or-false}
 use Rattle.cfdp_types.specs.declared.limits.TheConstants.{FILE_OCTETS}
 use Rattle.pdu_format.specs.declared.pdu.Header.{Header}
 use Rattle.pdu_format.specs.declared.pdu.Body.{Body}
@@ -15,9 +16,11 @@ use Rattle.ind_words.specs.declared.indication.Indication.{Indication}
 use Rattle.ind_words.specs.declared.indication.Indication.TheVariants as told
 use Rattle.ind_words.specs.Words.{is_end, is_metadata, is_eof, tells_of, IsNext, IsNew, MayFollow}
 use Rattle.ind_words.proofs.WordLemmas.{told_onto}
-use Rattle.receiver_core.specs.Log.{State, older_or, body_octet, body_extent, body_metadata, body_eof}
+use Rattle.cfdp_types.specs.Steps.{older_or}
+use Rattle.receiver_core.specs.Log.{State, body_octet, body_extent, body_metadata, body_eof}
 use Rattle.receiver_core.specs.Table.{is_out_of_place, is_too_large, told_of, cancel_code}
-use Rattle.receiver_core.proofs.Parts.{in_order, older_or-none}
+use Rattle.cfdp_types.proofs.StepLemmas.{older_or-none}
+use Rattle.receiver_core.proofs.Parts.{in_order}
 
 -- what was told, newest first, fits what was received
 pub record Tells (metadata : Option Metadata) (eof : Option Eof) (received : ℕ → Option ℕ) (progress : ℕ) (before : List Indication) : Type 0 where
@@ -90,10 +93,6 @@ data_reached received progress octets i before =
           ])
     ]
 
-or_false : (b : Bool) → (b || false) ≡ b
-or_false true = refl
-or_false false = refl
-
 or_true : (b : Bool) → (b || true) ≡ true
 or_true true = refl
 or_true false = refl
@@ -102,7 +101,7 @@ told_data : (progress len i : ℕ) → ((leb progress i && ltb i (progress + len
 told_data progress len i =
     elim (cases_lt i progress) [
       | inl here ↦ rw (lt-ltb i progress here, or_true) (sym (lt-ltb i (progress + len) (omega arith)))
-      | inr past ↦ rw (le-ltb i progress past, le-leb progress i past) (or_false (ltb i (progress + len)))
+      | inr past ↦ rw (le-ltb i progress past, le-leb progress i past) (or-false (ltb i (progress + len)))
     ]
 
 pub data_told : (progress : ℕ) (octets : List ℕ) (before : List Indication) (i : ℕ) → list_any (tells_of i) before ≡ ltb i progress →

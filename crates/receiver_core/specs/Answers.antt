@@ -1,9 +1,9 @@
 -- What a reception answers to the events that it takes, in both classes.
-use Rattle.std.specs.Prelude.{ℕ, zero, suc, ◌+◌, ◌-◌, Bool, true, false, not, ◌||◌, ◌&&◌, nat_lt, ◌==◌, is_some, unwrap_or, if◌then◌else◌, List, [], ◌∷◌, ◌++◌, length, map, take, Option, Some, None, Result, Ok, Err}
+use Rattle.std.specs.Prelude.{ℕ, zero, suc, ◌+◌, ◌-◌, Bool, true, false, not, ◌||◌, ◌&&◌, nat_lt, ◌==◌, is_some, unwrap_or, if◌then◌else◌, List, [], ◌∷◌, ◌++◌, length, map, take, Option, Some, None, Result}
 use Rattle.std.specs.List.{list_any}
 use Rattle.cfdp_types.specs.Condition as condition
 use Rattle.cfdp_types.specs.ChecksumType as checksum
-use Rattle.cfdp_types.specs.Steps.{Effect, arms, keeps, stops, is_kind, operations}
+use Rattle.cfdp_types.specs.Steps.{Effect, arms, keeps, stops, is_kind, has_kind, older_or, operations}
 use Rattle.cfdp_types.specs.Handlers.{handler_in}
 use Rattle.cfdp_types.specs.Params.{table_for, timer_length}
 use Rattle.cfdp_types.specs.declared.key.EntityId.{EntityId}
@@ -24,13 +24,13 @@ use Rattle.gap_list.specs.Runs.{missing_runs}
 use Rattle.gap_list.specs.declared.run.Run.{Run}
 use Rattle.pdu_codec.specs.declared.event.What.{What}
 use Rattle.pdu_codec.specs.declared.event.What.TheVariants as what
+use Rattle.pdu_codec.specs.Refusal.{unless_refused}
 use Rattle.pdu_codec.specs.declared.event.Refusal.{Refusal}
 use Rattle.pdu_format.specs.Pdu.{PduValue}
 use Rattle.pdu_format.specs.declared.pdu.Direction.TheVariants.{TowardSender}
 use Rattle.pdu_format.specs.declared.pdu.Body.{Body}
 use Rattle.pdu_format.specs.declared.pdu.Body.TheVariants as body
 use Rattle.pdu_format.specs.declared.bodies.Acknowledged.TheVariants as acknowledged
-use Rattle.pdu_format.specs.declared.bodies.TransactionStatus.{TransactionStatus}
 use Rattle.pdu_format.specs.declared.bodies.TransactionStatus.TheVariants as status
 use Rattle.pdu_format.specs.declared.bodies.Prompt.TheVariants as prompt
 use Rattle.pdu_format.specs.declared.requests.SegmentRequest.{SegmentRequest}
@@ -72,19 +72,15 @@ nothing = record { inds = []; ack = None; nak = false; keep_alive = false; finis
 abbrev pub tells : List Indication → Row
 tells inds = record nothing { inds = inds }
 
--- the first of two, and what it leaves out of the second; the first one's indications come first
-abbrev pub either : {A : Type 0} → Option A → Option A → Option A
-either (Some x) other = Some x
-either None other = other
-
+-- one row and then another: the first one's indications come first, and of two ACKs or Finished PDUs its own counts
 infixr 10 ◌and_then◌
 abbrev pub ◌and_then◌ : Row → Row → Row
 row and_then next = record {
   inds = row.inds ++ next.inds;
-  ack = either row.ack next.ack;
+  ack = older_or row.ack next.ack;
   nak = row.nak || next.nak;
   keep_alive = row.keep_alive || next.keep_alive;
-  finished = either row.finished next.finished;
+  finished = older_or row.finished next.finished;
   deposit = row.deposit || next.deposit;
   arms = row.arms ++ next.arms;
 }
@@ -96,6 +92,7 @@ abbrev pub role_of : Class → Role
 role_of One = RecvOne
 role_of Two = RecvTwo
 
+-- the handler of a condition, by the table of the transaction's class
 abbrev pub handler_of : Reception → ℕ → Handler
 handler_of reception code = handler_in (table_for reception.params.tables (role_of reception.opening.class)) code
 
@@ -194,6 +191,7 @@ examines reception state =
 
 -- ---- what is answered to PDUs; `front` is the state before the event, `now` the state with it
 
+-- what the user is told of a run of new octets
 abbrev pub segment_told : Run → Indication
 segment_told run = told.FileSegmentRecv run.start (run.end - run.start)
 
@@ -234,6 +232,7 @@ ends_as_finished state = by_finished state.finished
     by_finished None = nothing
     by_finished (Some f) = tells (told.TransactionFinished f.condition f.delivery f.status ∷ [])
 
+-- what is answered to a PDU, by its kind
 abbrev pub on_body : Reception → State → State → Body → Row
 on_body reception front now (body.Metadata m) = on_metadata reception front now m
 on_body reception front now (body.FileData d) = on_file_data reception front now d
@@ -268,6 +267,7 @@ on_ack_timer reception front =
     if is_below front Ack reception.params.limits.ack then record nothing { finished = front.finished; arms = Ack ∷ [] }
     else ends_as_finished front
 
+-- what is answered to an expiration, by its timer
 abbrev pub on_timer : Reception → State → State → TimerKind → Row
 on_timer reception front now Nak = on_nak_timer reception front now
 on_timer reception front now Check = on_check_timer reception front now
@@ -294,6 +294,7 @@ abbrev pub on_resume : Reception → State → Row
 on_resume reception now =
     record (tells (told.Resumed now.progress ∷ [])) { arms = Inactivity ∷ [] } and_then examines reception (record now { paused = false })
 
+-- what is answered to an event, by its kind
 abbrev pub row_of : Reception → State → State → What → Row
 row_of reception front now (what.Pdu pdu) = on_body reception front now pdu.body
 row_of reception front now (what.Timer kind stamp) = on_timer reception front now kind
@@ -307,6 +308,7 @@ row_of reception front now what.Pump = nothing
 
 -- ---- the PDUs of a row
 
+-- a PDU of this transaction, toward the sender
 abbrev pub pdu_to_sender : Reception → Body → PduValue
 pdu_to_sender reception body = record { header = record reception.opening { direction = TowardSender }; body = body }
 
@@ -314,6 +316,7 @@ pdu_to_sender reception body = record { header = record reception.opening { dire
 abbrev pub ack_of : Bool → ℕ → Body
 ack_of ended code = body.Ack (record { of = acknowledged.Eof; condition = code; status = if ended then status.Terminated else status.Active })
 
+-- the segment request for a run
 abbrev pub request_of : Run → SegmentRequest
 request_of run = record { start = run.start; end = run.end }
 
@@ -343,10 +346,12 @@ nak_of state =
     body.Nak (record { start = 0; end = last_end (take NAK_REQUESTS (requests_of state)); requests = take NAK_REQUESTS (requests_of state) })
     else body.Nak (record { start = 0; end = scope_of state; requests = requests_of state })
 
+-- the body that is made of a value, where there is one
 abbrev pub if_there : {A : Type 0} → (A → Body) → Option A → List Body
 if_there make None = []
 if_there make (Some x) = make x ∷ []
 
+-- the body, where it is to be sent
 abbrev pub if_so : Bool → Body → List Body
 if_so true body = body ∷ []
 if_so false body = []
@@ -370,22 +375,19 @@ is_sign_of_life (what.Pdu pdu) = not (asks_for_nak pdu.body)
     asks_for_nak _ = false
 is_sign_of_life _ = false
 
--- the row arms the timer
-abbrev pub is_armed_by : Row → TimerKind → Bool
-is_armed_by row kind = list_any (is_kind kind) row.arms
-
 -- after the step: none runs where the transaction has ended, is suspended or asks the file store; only Ack
 -- in the closing phase
 abbrev pub effect_of : Row → State → What → TimerKind → Effect
 effect_of row after event kind =
     if after.ended || is_storing after || is_suspended after then stops
     else if is_closing after && not (is_kind Ack kind) then stops
-    else if is_armed_by row kind then arms
+    else if has_kind row.arms kind then arms
     else if is_kind Inactivity kind && is_sign_of_life event then arms
     else keeps
 
 -- ---- the whole answer
 
+-- the answer that says nothing
 abbrev pub quiet : Answer
 quiet = record { inds = []; pdus = []; timers = []; deposit = None }
 
@@ -410,15 +412,12 @@ timed reception front event row answer = record answer {
       front.armed;
 }
 
+-- the answer to an event that is accepted
 abbrev pub accepted_at : Reception → State → What → Answer
 accepted_at reception front event =
     let row = row_of reception front (seen front event) event in
     timed reception front event row (untimed reception front (seen front event) row)
 
 -- the answer to an event, or why it is refused
-abbrev pub unless_refused : Option Refusal → Answer → Result Answer Refusal
-unless_refused None answer = Ok answer
-unless_refused (Some why) answer = Err why
-
 unfoldable pub answer_at : Reception → State → What → Result Answer Refusal
 answer_at reception front event = unless_refused (refusal_at reception front event) (accepted_at reception front event)

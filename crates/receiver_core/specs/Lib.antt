@@ -2,7 +2,15 @@ pub mod Reception
 pub mod Refusals
 pub mod Answers
 pub mod LegalReceptions
+pub mod Images
 pub mod ReceptionRows
+pub mod FileRows
+pub mod RefusalRows
+pub mod FaultRows
+pub mod NakRows
+pub mod UserRows
+pub mod TimerRows
+pub mod ReceptionLaws
 pub mod Log
 pub mod Table
 pub mod Examine

@@ -2,6 +2,7 @@
 use Rattle.std.specs.Prelude.{ℕ, ◌+◌, ◌-◌, max, Bool, false, ◌||◌, nat_le, ◌==◌, if◌then◌else◌, List, [], ◌∷◌, ◌++◌, length, slice_get, Option, Some, None}
 use Rattle.std.specs.List.{list_any}
 use Rattle.cfdp_types.specs.Condition.{no_error}
+use Rattle.cfdp_types.specs.Steps.{older_or}
 use Rattle.pdu_codec.specs.declared.event.What.{What}
 use Rattle.pdu_codec.specs.declared.event.What.TheVariants as what
 use Rattle.pdu_format.specs.declared.pdu.Body.{Body}
@@ -35,11 +36,6 @@ pub record State : Type 0 where
   pub waiting : Option ℕ
   -- whether the user was told an end
   pub ended : Bool
-
--- what came first counts
-abbrev pub older_or : {A : Type 0} → Option A → Option A → Option A
-older_or None newer = newer
-older_or (Some old) newer = Some old
 
 -- the Metadata, the EOF without an error and the File Data that an event brings
 abbrev pub body_metadata : Body → Option Metadata

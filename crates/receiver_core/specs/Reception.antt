@@ -1,16 +1,14 @@
 -- The receiving end of a transaction in both classes: what a log of its events and answers gives.
 -- The code is still proved against the narrower Log and Table; it widens to these.
-use Rattle.std.specs.Prelude.{ℕ, ◌+◌, ◌-◌, max, Bool, true, false, not, ◌||◌, ◌&&◌, nat_le, ◌==◌, is_some, if◌then◌else◌, List, [], ◌∷◌, ◌++◌, length, slice_get, Option, Some, None}
+use Rattle.std.specs.Prelude.{ℕ, ◌+◌, ◌-◌, max, Bool, false, not, ◌||◌, ◌&&◌, nat_le, ◌==◌, is_some, if◌then◌else◌, List, [], ◌∷◌, ◌++◌, length, slice_get, Option, Some, None}
 use Rattle.std.specs.List.{list_any}
 use Rattle.cfdp_types.specs.Condition as condition
 use Rattle.cfdp_types.specs.Steps.{armed_after, is_kind, older_or, newer_or}
 use Rattle.cfdp_types.specs.Params.{ParamsValue}
 use Rattle.cfdp_types.specs.declared.key.TxnKey.{TxnKey}
 use Rattle.cfdp_types.specs.declared.key.Deposit.{Deposit}
-use Rattle.cfdp_types.specs.declared.names.Class.{Class}
-use Rattle.cfdp_types.specs.declared.names.Class.TheVariants.{One, Two}
 use Rattle.cfdp_types.specs.declared.names.TimerKind.{TimerKind}
-use Rattle.cfdp_types.specs.declared.names.TimerKind.TheVariants.{Ack, Nak, Check, Inactivity}
+use Rattle.cfdp_types.specs.declared.names.TimerKind.TheVariants.{Nak}
 use Rattle.cfdp_types.specs.declared.timer_op.TimerOp.{TimerOp}
 use Rattle.gap_list.specs.Runs.{new_runs}
 use Rattle.gap_list.specs.declared.run.Run.{Run}
@@ -25,7 +23,6 @@ use Rattle.pdu_format.specs.declared.bodies.Eof.{Eof}
 use Rattle.pdu_format.specs.declared.bodies.FileData.{FileData}
 use Rattle.pdu_format.specs.declared.bodies.Finished.{Finished}
 use Rattle.ind_words.specs.declared.indication.Indication.{Indication}
-use Rattle.ind_words.specs.declared.indication.Indication.TheVariants as told
 use Rattle.ind_words.specs.Words.{is_end}
 use Rattle.ind_words.specs.Told.{paused_after, is_resumed, is_fault}
 use Rattle.pdu_codec.specs.Events.{body_of_event, is_expiration}
@@ -85,6 +82,7 @@ is_closing state = is_some state.finished && not state.ended
 abbrev pub is_storing : State → Bool
 is_storing state = is_some state.waiting
 
+-- Suspended was told last of the two, and neither was a Finished PDU sent nor an end told
 abbrev pub is_suspended : State → Bool
 is_suspended state = state.paused && not (is_some state.finished) && not state.ended
 
@@ -100,6 +98,7 @@ abbrev pub eof_of : Option Body → Option Eof
 eof_of (Some (body.Eof e)) = if e.condition == condition.no_error then Some e else None
 eof_of _ = None
 
+-- the part of the file that an event brings
 abbrev pub file_data_of : Option Body → Option FileData
 file_data_of (Some (body.FileData d)) = Some d
 file_data_of _ = None
@@ -116,6 +115,7 @@ extent_of (Some d) = if length d.octets == 0 then 0 else d.offset + length d.oct
 
 -- ---- what an answer says
 
+-- the Finished that a body is
 abbrev pub finished_in : Body → Option Finished
 finished_in (body.Finished f) = Some f
 finished_in _ = None
@@ -127,6 +127,7 @@ finished_among (pdu ∷ later) = newer_or (finished_among later) (finished_in pd
 
 -- ---- received octets
 
+-- an octet was received at the offset
 abbrev pub is_received : State → ℕ → Bool
 is_received state i = is_some (state.received i)
 
@@ -149,6 +150,7 @@ begins_again state entry kind =
     || (is_expiration kind entry.event && list_any is_fault entry.answer.inds)
     || (is_kind Nak kind && brings_more state (body_of_event entry.event))
 
+-- the expirations of a timer once an entry is counted
 abbrev pub tries_after : State → Entry → TimerKind → ℕ
 tries_after state entry kind =
     if begins_again state entry kind then 0

@@ -1,66 +1,49 @@
--- Worked receptions of both classes, computed: what the table answers to events in turn.
-use Rattle.std.specs.Prelude.{◌≡◌, ℕ, true, false, List, [], ◌∷◌, map, Option, Some, None, Result, Ok, Err, refl}
-use Rattle.cfdp_types.specs.Handlers.{FaultTableValue, with_handler}
+-- Worked receptions of both classes, computed: whole transactions, with what makes their logs legal, and the
+-- words that the rows of the other files share.
+use Rattle.std.specs.Prelude.{◌≡◌, ℕ, zero, suc, ◌+◌, ◌-◌, ◌<◌, ◌≤◌, nat_le, Bool, true, false, if◌then◌else◌, is_some, List, [], ◌∷◌, map, Option, Some, None, IsSome, Result, Ok, Err, refl, ◌++◌}
+use Rattle.std.specs.List.{slice_get}
+use Rattle.std.proofs.Common.{ap, sym, ◌∙◌, arith}
+use Rattle.std.proofs.lemmas.Bool.{true≢false, false≢true}
+use Rattle.std.proofs.lemmas.Option.{slice_get_past}
+use Rattle.cfdp_types.specs.Handlers.{with_handler}
 use Rattle.cfdp_types.specs.Params.{ParamsValue}
+use Rattle.cfdp_types.specs.Steps.{older_or}
+use Rattle.cfdp_types.specs.Reference.{all_cancel, reference}
 use Rattle.cfdp_types.specs.declared.key.Deposit.{Deposit}
-use Rattle.cfdp_types.specs.declared.fault_table.Handlers.{Handlers}
 use Rattle.cfdp_types.specs.declared.names.Class.{Class}
 use Rattle.cfdp_types.specs.declared.names.Class.TheVariants.{One, Two}
 use Rattle.cfdp_types.specs.declared.names.Delivery.TheVariants.{Complete, Incomplete}
 use Rattle.cfdp_types.specs.declared.names.FileStatus.TheVariants.{Discarded, Rejected, Retained}
 use Rattle.cfdp_types.specs.declared.names.Handler.{Handler}
-use Rattle.cfdp_types.specs.declared.names.Handler.TheVariants.{Cancel, Suspend, Ignore, Abandon}
-use Rattle.cfdp_types.specs.declared.names.Role.{Role}
-use Rattle.cfdp_types.specs.declared.names.Role.TheVariants.{Send, RecvOne, RecvTwo}
-use Rattle.cfdp_types.specs.declared.names.TimerKind.TheVariants.{Ack, Nak, Check, Inactivity}
+use Rattle.cfdp_types.specs.declared.names.Handler.TheVariants.{Ignore}
+use Rattle.cfdp_types.specs.declared.names.Role.TheVariants.{RecvOne, RecvTwo}
+use Rattle.cfdp_types.specs.declared.names.TimerKind.TheVariants.{Ack, Nak, Check}
+use Rattle.cfdp_types.specs.declared.timer_op.TimerOp.{TimerOp}
+use Rattle.pdu_codec.specs.Events.{echo_of}
 use Rattle.pdu_codec.specs.declared.event.What.{What}
 use Rattle.pdu_codec.specs.declared.event.What.TheVariants as what
 use Rattle.pdu_codec.specs.declared.event.Refusal.{Refusal}
-use Rattle.pdu_codec.specs.declared.event.Refusal.TheVariants as refusal
 use Rattle.pdu_format.specs.Numbers.{digits}
-use Rattle.pdu_format.specs.Spelling.{spelling, written}
-use Rattle.pdu_format.specs.Tlvs.{width_from}
+use Rattle.pdu_format.specs.Pdu.{PduValue}
+use Rattle.pdu_format.specs.Spelling.{written}
 use Rattle.pdu_format.specs.declared.pdu.Direction.TheVariants.{TowardReceiver}
 use Rattle.pdu_format.specs.declared.pdu.Header.{Header}
 use Rattle.pdu_format.specs.declared.pdu.Body.{Body}
 use Rattle.pdu_format.specs.declared.pdu.Body.TheVariants as body
+use Rattle.pdu_format.specs.declared.bodies.Metadata.{Metadata}
+use Rattle.pdu_format.specs.declared.bodies.Eof.{Eof}
 use Rattle.pdu_format.specs.declared.bodies.Acknowledged.TheVariants as acknowledged
 use Rattle.pdu_format.specs.declared.bodies.TransactionStatus.TheVariants.{Terminated}
+use Rattle.pdu_format.specs.declared.bodies.Prompt.{Prompt}
 use Rattle.pdu_format.specs.declared.bodies.Prompt.TheVariants as prompt
 use Rattle.ind_words.specs.declared.indication.Indication.{Indication}
 use Rattle.ind_words.specs.declared.indication.Indication.TheVariants as told
-use Rattle.ind_words.specs.declared.indication.Phase.TheVariants as phase
 use Rattle.gap_list.specs.Runs.{runs_of, runs_from}
-use Rattle.receiver_core.specs.Reception.{Reception, Answer, Entry, State, initial, step, state_of, issued}
-use Rattle.receiver_core.specs.Answers.{seen, accepted_at, answer_at}
-use Rattle.receiver_core.specs.LegalReceptions.{log_of}
+use Rattle.receiver_core.specs.Reception.{Reception, Answer, Entry, State, initial, step, state_of, issued, octet_at, is_closing, is_suspended}
+use Rattle.receiver_core.specs.Answers.{quiet, answer_at}
+use Rattle.receiver_core.specs.LegalReceptions.{log_of, IsLegal, IsGood}
 
--- ---- a reference: all handlers cancel, two expirations of each timer, a second each
-
-abbrev pub all_cancel : Role → FaultTableValue
-all_cancel role = record {
-  role = role;
-  handlers = record {
-    positive_ack_limit = Cancel;
-    filestore_rejection = Cancel;
-    file_checksum_failure = Cancel;
-    file_size_error = Cancel;
-    nak_limit = Cancel;
-    inactivity = Cancel;
-    check_limit = Cancel;
-    unsupported_checksum_type = Cancel;
-  };
-}
-
-abbrev pub reference : ParamsValue
-reference = record {
-  local = record { 0 = 2 };
-  lengths = record { entity_octets = 1; sequence_octets = 1 };
-  segment_octets = 256;
-  timers = record { ack = 1000; nak = 1000; check = 1000; inactivity = 1000 };
-  limits = record { ack = 2; nak = 2; check = 2 };
-  tables = record { send = all_cancel Send; receive_one = all_cancel RecvOne; receive_two = all_cancel RecvTwo };
-}
+-- ---- the transaction
 
 -- from entity 1 to entity 2, sequence number 5
 abbrev pub header : Class → Header
@@ -74,47 +57,102 @@ header class = record {
   destination = record { 0 = 2 };
 }
 
+-- with the reference parameters
 abbrev pub reception : Class → Reception
 reception class = record { key = record { source = record { 0 = 1 }; seq = 5 }; params = reference; opening = header class }
 
+-- in class 1
+abbrev pub class_one : Reception
+class_one = reception One
+
+-- in class 2
+abbrev pub class_two : Reception
+class_two = reception Two
+
+-- the reference with another handler of a class 1 receiver for a condition
+abbrev pub one_with : ℕ → Handler → Reception
+one_with code handler =
+    record class_one { params = record reference { tables = record (reference.tables) { receive_one = with_handler (all_cancel RecvOne) code handler } } }
+
+-- the reference with another handler of a class 2 receiver for a condition
+abbrev pub two_with : ℕ → Handler → Reception
+two_with code handler =
+    record class_two { params = record reference { tables = record (reference.tables) { receive_two = with_handler (all_cancel RecvTwo) code handler } } }
+
+-- the reference with limits and timer lengths that all differ
+abbrev pub unequal : ParamsValue
+unequal = record reference {
+  timers = record { ack = 1000; nak = 1001; check = 1002; inactivity = 1003 };
+  limits = record { ack = 2; nak = 3; check = 4 };
+}
+
+-- with these in class 1
+abbrev pub unequal_one : Reception
+unequal_one = record class_one { params = unequal }
+
+-- with these in class 2
+abbrev pub unequal_two : Reception
+unequal_two = record class_two { params = unequal }
+
 -- ---- events
 
+-- a PDU of the transaction
 abbrev pub pdu : Class → Body → What
 pdu class b = what.Pdu (record { header = header class; body = b })
 
--- the file "a", to be kept as "b"
-abbrev pub metadata_of : Class → ℕ → ℕ → What
-metadata_of class kind size = pdu class (body.Metadata (record {
-  closure = false;
-  checksum_type = kind;
-  size = size;
-  source_name = 97 ∷ [];
-  destination_name = 98 ∷ [];
-  messages = [];
-}))
+-- of the file "a", to be kept as "b": a type of checksum and a size
+abbrev pub metadata_value : ℕ → ℕ → Metadata
+metadata_value kind size =
+    record { closure = false; checksum_type = kind; size = size; source_name = 97 ∷ []; destination_name = 98 ∷ []; messages = [] }
 
+-- such Metadata that came
+abbrev pub metadata_of : Class → ℕ → ℕ → What
+metadata_of class kind size = pdu class (body.Metadata (metadata_value kind size))
+
+-- octets of the file from an offset on
 abbrev pub file_data : Class → ℕ → List ℕ → What
 file_data class offset octets = pdu class (body.FileData (record { offset = offset; octets = octets }))
 
-abbrev pub eof_of : Class → ℕ → ℕ → ℕ → What
-eof_of class condition checksum size = pdu class (body.Eof (record { condition = condition; checksum = checksum; size = size; location = None }))
+-- a condition, a checksum and a size
+abbrev pub eof_value : ℕ → ℕ → ℕ → Eof
+eof_value condition checksum size = record { condition = condition; checksum = checksum; size = size; location = None }
 
--- "abc", its Metadata, its octets and its EOF
+-- such an EOF that came
+abbrev pub eof_of : Class → ℕ → ℕ → ℕ → What
+eof_of class condition checksum size = pdu class (body.Eof (eof_value condition checksum size))
+
+-- the file "abc"
 abbrev pub abc : List ℕ
 abc = 97 ∷ 98 ∷ 99 ∷ []
 
-abbrev pub M : Class → What
-M class = metadata_of class 0 3
+-- its Metadata
+abbrev pub metadata : Class → What
+metadata class = metadata_of class 0 3
 
-abbrev pub F : Class → What
-F class = file_data class 0 abc
+-- its octets, in one part
+abbrev pub part : Class → What
+part class = file_data class 0 abc
 
-abbrev pub E : Class → What
-E class = eof_of class 0 0x6162_6300 3
+-- its EOF
+abbrev pub eof : Class → What
+eof class = eof_of class 0 0x6162_6300 3
+
+-- a Prompt
+abbrev pub prompted : Prompt → What
+prompted p = pdu Two (body.Prompt p)
+
+-- the ACK of a Finished PDU with this condition
+abbrev pub finished_acknowledged : ℕ → What
+finished_acknowledged code = pdu Two (body.Ack (record { of = acknowledged.Finished; condition = code; status = Terminated }))
 
 -- so many octets of no meaning
 abbrev pub some_octets : ℕ → List ℕ
 some_octets n = digits n 0
+
+-- so many parts of one octet, at every second offset from one on
+abbrev pub every_second : ℕ → ℕ → List What
+every_second zero offset = []
+every_second (suc count) offset = file_data Two offset (0 ∷ []) ∷ every_second count (offset + 2)
 
 -- ---- logs
 
@@ -126,210 +164,310 @@ after r events = log_of r events
 abbrev pub last : Reception → List What → What → Result Answer Refusal
 last r events event = answer_at r (state_of (after r events)) event
 
--- what is told, sent and handed out
-abbrev pub tells : Result Answer Refusal → List Indication
-tells (Ok answer) = answer.inds
-tells (Err why) = []
+-- ---- what an answer shows: None where the event is refused
 
-abbrev pub sends : Result Answer Refusal → List (List ℕ)
-sends (Ok answer) = map written answer.pdus
-sends (Err why) = []
+-- what the user is told
+abbrev pub tells : Result Answer Refusal → Option (List Indication)
+tells (Ok answer) = Some answer.inds
+tells (Err why) = None
 
-abbrev pub hands_out : Result Answer Refusal → List ℕ
-hands_out (Ok answer) = stamp_of answer.deposit
+-- the PDUs that are sent, as octets
+abbrev pub sends : Result Answer Refusal → Option (List (List ℕ))
+sends (Ok answer) = Some (map written answer.pdus)
+sends (Err why) = None
+
+-- the stamp of the file that is handed out
+abbrev pub hands_out : Result Answer Refusal → Option (List ℕ)
+hands_out (Ok answer) = Some (stamp_of answer.deposit)
   where
     stamp_of : Option Deposit → List ℕ
     stamp_of None = []
     stamp_of (Some deposit) = deposit.stamp ∷ []
-hands_out (Err why) = []
+hands_out (Err why) = None
 
-abbrev pub class_one : Reception
-class_one = reception One
+-- what is said to the timers
+abbrev pub operates : Result Answer Refusal → Option (List TimerOp)
+operates (Ok answer) = Some answer.timers
+operates (Err why) = None
 
-abbrev pub class_two : Reception
-class_two = reception Two
+-- the echo of a PDU of a transaction that is over; None where the event is no PDU
+abbrev pub echoes : What → Option (List (List ℕ))
+echoes (what.Pdu pdu) = Some (spelled (echo_of pdu))
+  where
+    spelled : Option PduValue → List (List ℕ)
+    spelled None = []
+    spelled (Some echo) = written echo ∷ []
+echoes _ = None
 
--- ---- class 1
+-- ---- class 1: whole transactions, with all that the user is told
 
--- a whole reception
-pub one_complete : issued (after class_one (M One ∷ F One ∷ E One ∷ what.Stored 2 true ∷ []))
+-- the file comes and is kept
+abbrev pub complete_one : List What
+complete_one = metadata One ∷ part One ∷ eof One ∷ what.Stored 2 true ∷ []
+
+pub complete_one_told : issued (after class_one complete_one)
     ≡ told.MetadataRecv (record { 0 = 1 }) 3 (97 ∷ []) (98 ∷ []) [] ∷ told.FileSegmentRecv 0 3 ∷ told.EofRecv ∷ told.TransactionFinished 0 Complete Retained ∷ []
-unfolding initial step state_of seen runs_of runs_from
-one_complete = refl
+unfolding initial step state_of runs_of runs_from
+complete_one_told = refl
 
--- the user is told of new octets alone: of the gap between two parts, and of what lies on both sides of one
-pub gap_told : tells (last class_one (file_data One 0 (some_octets 4) ∷ file_data One 8 (some_octets 4) ∷ []) (file_data One 2 (some_octets 8))) ≡ told.FileSegmentRecv 4 4 ∷ []
-unfolding initial step state_of seen answer_at runs_of runs_from digits
-gap_told = refl
+pub complete_one_legal : IsLegal class_one (after class_one complete_one)
+unfolding initial step state_of answer_at runs_of runs_from
+complete_one_legal = (refl, tt, refl, (refl, tt, refl, (refl, tt, refl, (refl, (tt, refl, refl, refl), refl, tt))))
 
-pub two_gaps_told : tells (last class_one (file_data One 0 (some_octets 2) ∷ file_data One 4 (some_octets 2) ∷ []) (file_data One 0 (some_octets 8)))
-    ≡ told.FileSegmentRecv 2 2 ∷ told.FileSegmentRecv 6 2 ∷ []
-unfolding initial step state_of seen answer_at runs_of runs_from digits
-two_gaps_told = refl
+-- an empty file: nothing of it is told, and it is kept
+abbrev pub empty_one : List What
+empty_one = metadata_of One 0 0 ∷ eof_of One 0 0 0 ∷ what.Stored 1 true ∷ []
 
--- more octets than the EOF says
-pub beyond_the_size : tells (last class_one (file_data One 0 (some_octets 5) ∷ []) (E One)) ≡ told.EofRecv ∷ told.TransactionFinished 6 Incomplete Discarded ∷ []
-unfolding initial step state_of seen answer_at runs_of runs_from digits
-beyond_the_size = refl
+pub empty_one_told : issued (after class_one empty_one)
+    ≡ told.MetadataRecv (record { 0 = 1 }) 0 (97 ∷ []) (98 ∷ []) [] ∷ told.EofRecv ∷ told.TransactionFinished 0 Complete Retained ∷ []
+unfolding initial step state_of runs_of runs_from
+empty_one_told = refl
 
--- a checksum that differs
-pub other_checksum : tells (last class_one (M One ∷ F One ∷ []) (eof_of One 0 0x6162_6301 3)) ≡ told.EofRecv ∷ told.TransactionFinished 5 Incomplete Discarded ∷ []
-unfolding initial step state_of seen answer_at runs_of runs_from
-other_checksum = refl
+pub empty_one_legal : IsLegal class_one (after class_one empty_one)
+unfolding initial step state_of answer_at runs_of runs_from
+empty_one_legal = (refl, tt, refl, (refl, tt, refl, (refl, (tt, refl, refl, refl), refl, tt)))
 
--- a type of checksum that is not computed here
-pub other_type : tells (last class_one [] (metadata_of One 1 3))
-    ≡ told.MetadataRecv (record { 0 = 1 }) 3 (97 ∷ []) (98 ∷ []) [] ∷ told.TransactionFinished 11 Incomplete Discarded ∷ []
-unfolding initial step state_of seen answer_at
-other_type = refl
+-- the file store does not keep the file
+abbrev pub rejected_one : List What
+rejected_one = metadata One ∷ part One ∷ eof One ∷ what.Stored 2 false ∷ []
 
--- File Data without octets tells nothing
-pub no_octets : tells (last class_one [] (file_data One 0 [])) ≡ []
-unfolding initial step state_of seen answer_at runs_of runs_from
-no_octets = refl
+pub rejected_one_told : issued (after class_one rejected_one)
+    ≡ told.MetadataRecv (record { 0 = 1 }) 3 (97 ∷ []) (98 ∷ []) [] ∷ told.FileSegmentRecv 0 3 ∷ told.EofRecv ∷ told.TransactionFinished 4 Incomplete Rejected ∷ []
+unfolding initial step state_of runs_of runs_from
+rejected_one_told = refl
 
-pub reported : tells (last class_one (M One ∷ F One ∷ []) what.Report) ≡ told.Report phase.Active 3 ∷ []
-unfolding initial step state_of seen answer_at runs_of runs_from
-reported = refl
+pub rejected_one_legal : IsLegal class_one (after class_one rejected_one)
+unfolding initial step state_of answer_at runs_of runs_from
+rejected_one_legal = (refl, tt, refl, (refl, tt, refl, (refl, tt, refl, (refl, (tt, refl, refl, refl), refl, tt))))
 
--- class 1 is not suspended
-pub one_never_suspends : last class_one (M One ∷ F One ∷ []) what.Suspend ≡ Err refusal.WrongState
-unfolding initial step state_of seen answer_at runs_of runs_from
-one_never_suspends = refl
-
--- ---- the same with other handlers
-
--- as the reference, with another handler of a receiver for a condition
-abbrev pub one_with : ℕ → Handler → Reception
-one_with code handler =
-    record class_one { params = record reference { tables = record (reference.tables) { receive_one = with_handler (all_cancel RecvOne) code handler } } }
-
-abbrev pub two_with : ℕ → Handler → Reception
-two_with code handler =
-    record class_two { params = record reference { tables = record (reference.tables) { receive_two = with_handler (all_cancel RecvTwo) code handler } } }
-
--- a fault that is ignored is told at the limit, and its count begins again
+-- a receiver that ignores the fault of the check limit
 abbrev pub check_ignored : Reception
 check_ignored = one_with 10 Ignore
 
-pub below_the_check_limit : tells (last check_ignored (E One ∷ []) (what.Timer Check 0)) ≡ []
-unfolding initial step state_of seen answer_at runs_of runs_from
-below_the_check_limit = refl
+-- the file does not come: each second expiration is the fault
+abbrev pub checked_in_vain : List What
+checked_in_vain = eof One ∷ what.Timer Check 0 ∷ what.Timer Check 1 ∷ what.Timer Check 2 ∷ what.Timer Check 3 ∷ []
 
-pub at_the_check_limit : tells (last check_ignored (E One ∷ what.Timer Check 0 ∷ []) (what.Timer Check 1)) ≡ told.Fault 10 0 ∷ []
-unfolding initial step state_of seen answer_at runs_of runs_from
-at_the_check_limit = refl
+pub checked_in_vain_told : issued (after check_ignored checked_in_vain) ≡ told.EofRecv ∷ told.Fault 10 0 ∷ told.Fault 10 0 ∷ []
+unfolding initial step state_of runs_of runs_from
+checked_in_vain_told = refl
 
-pub counted_again : tells (last check_ignored (E One ∷ what.Timer Check 0 ∷ what.Timer Check 1 ∷ []) (what.Timer Check 2)) ≡ []
-unfolding initial step state_of seen answer_at runs_of runs_from
-counted_again = refl
+pub checked_in_vain_legal : IsLegal check_ignored (after check_ignored checked_in_vain)
+unfolding initial step state_of answer_at runs_of runs_from
+checked_in_vain_legal = (refl, tt, refl, (refl, tt, refl, (refl, tt, refl, (refl, tt, refl, (refl, (tt, refl, refl, refl), refl, tt)))))
 
-pub inactivity_abandons : tells (last (one_with 8 Abandon) (M One ∷ []) (what.Timer Inactivity 0)) ≡ told.Abandoned 8 0 ∷ []
-unfolding initial step state_of seen answer_at runs_of runs_from
-inactivity_abandons = refl
+-- ---- class 2: whole transactions
 
--- ---- class 2
+-- the file comes and is kept, and the Finished PDU is acknowledged
+abbrev pub complete_two : List What
+complete_two = metadata Two ∷ part Two ∷ eof Two ∷ what.Stored 2 true ∷ finished_acknowledged 0 ∷ []
 
--- without Metadata the EOF is acknowledged, and the Metadata alone is asked for
-pub metadata_asked_for : sends (last class_two (F Two ∷ []) (E Two)) ≡ digits 10 0x28000300010502064001 ∷ digits 24 0x280011000105020800000000000000030000000000000000 ∷ []
-unfolding initial step state_of seen answer_at runs_of runs_from written spelling digits
-metadata_asked_for = refl
+pub complete_two_told : issued (after class_two complete_two)
+    ≡ told.MetadataRecv (record { 0 = 1 }) 3 (97 ∷ []) (98 ∷ []) [] ∷ told.FileSegmentRecv 0 3 ∷ told.EofRecv ∷ told.TransactionFinished 0 Complete Retained ∷ []
+unfolding initial step state_of runs_of runs_from
+complete_two_told = refl
 
-pub metadata_came : hands_out (last class_two (F Two ∷ E Two ∷ []) (M Two)) ≡ 2 ∷ []
-unfolding initial step state_of seen answer_at runs_of runs_from
-metadata_came = refl
+pub complete_two_legal : IsLegal class_two (after class_two complete_two)
+unfolding initial step state_of answer_at runs_of runs_from
+complete_two_legal = (refl, tt, refl, (refl, tt, refl, (refl, tt, refl, (refl, tt, refl, (refl, (tt, refl, refl, refl), refl, tt)))))
 
-pub nothing_sent_then : sends (last class_two (F Two ∷ E Two ∷ []) (M Two)) ≡ []
-unfolding initial step state_of seen answer_at runs_of runs_from
-nothing_sent_then = refl
+-- the Metadata comes last
+abbrev pub metadata_last_two : List What
+metadata_last_two = part Two ∷ eof Two ∷ metadata Two ∷ what.Stored 2 true ∷ finished_acknowledged 0 ∷ []
 
--- a whole reception: the Finished PDU is sent again until it is acknowledged or the limit is reached
+pub metadata_last_two_told : issued (after class_two metadata_last_two)
+    ≡ told.FileSegmentRecv 0 3 ∷ told.EofRecv ∷ told.MetadataRecv (record { 0 = 1 }) 3 (97 ∷ []) (98 ∷ []) [] ∷ told.TransactionFinished 0 Complete Retained ∷ []
+unfolding initial step state_of runs_of runs_from
+metadata_last_two_told = refl
 
-pub eof_acknowledged : sends (last class_two (M Two ∷ F Two ∷ []) (E Two)) ≡ digits 10 0x28000300010502064001 ∷ []
-unfolding initial step state_of seen answer_at runs_of runs_from written spelling digits
-eof_acknowledged = refl
+pub metadata_last_two_legal : IsLegal class_two (after class_two metadata_last_two)
+unfolding initial step state_of answer_at runs_of runs_from
+metadata_last_two_legal = (refl, tt, refl, (refl, tt, refl, (refl, tt, refl, (refl, tt, refl, (refl, (tt, refl, refl, refl), refl, tt)))))
 
-pub stored_so_finished : sends (last class_two (M Two ∷ F Two ∷ E Two ∷ []) (what.Stored 2 true)) ≡ digits 9 0x280002000105020502 ∷ []
-unfolding initial step state_of seen answer_at runs_of runs_from written spelling digits
-stored_so_finished = refl
+-- no ACK of the Finished PDU comes
+abbrev pub finished_in_vain : List What
+finished_in_vain = metadata Two ∷ part Two ∷ eof Two ∷ what.Stored 2 true ∷ what.Timer Ack 3 ∷ what.Timer Ack 4 ∷ []
 
-pub finished_again : sends (last class_two (M Two ∷ F Two ∷ E Two ∷ what.Stored 2 true ∷ []) (what.Timer Ack 3)) ≡ digits 9 0x280002000105020502 ∷ []
-unfolding initial step state_of seen answer_at runs_of runs_from written spelling digits
-finished_again = refl
+pub finished_in_vain_told : issued (after class_two finished_in_vain)
+    ≡ told.MetadataRecv (record { 0 = 1 }) 3 (97 ∷ []) (98 ∷ []) [] ∷ told.FileSegmentRecv 0 3 ∷ told.EofRecv ∷ told.TransactionFinished 0 Complete Retained ∷ []
+unfolding initial step state_of runs_of runs_from
+finished_in_vain_told = refl
 
-pub finished_in_vain : tells (last class_two (M Two ∷ F Two ∷ E Two ∷ what.Stored 2 true ∷ what.Timer Ack 3 ∷ []) (what.Timer Ack 4)) ≡ told.TransactionFinished 0 Complete Retained ∷ []
-unfolding initial step state_of seen answer_at runs_of runs_from
-finished_in_vain = refl
+pub finished_in_vain_legal : IsLegal class_two (after class_two finished_in_vain)
+unfolding initial step state_of answer_at runs_of runs_from
+finished_in_vain_legal = (refl, tt, refl, (refl, tt, refl, (refl, tt, refl, (refl, tt, refl, (refl, tt, refl, (refl, (tt, refl, refl, refl), refl, tt))))))
 
--- the NAK is sent again until the limit, and then the reception is closed
+-- then it is over
+pub over_in_the_end : (state_of (after class_two finished_in_vain)).ended ≡ true
+unfolding initial step state_of runs_of runs_from
+over_in_the_end = refl
 
-pub other_stamp : last class_two (F Two ∷ E Two ∷ []) (what.Timer Nak 0) ≡ Err refusal.StaleTimer
-unfolding initial step state_of seen answer_at runs_of runs_from
-other_stamp = refl
+pub not_closing_in_the_end : is_closing (state_of (after class_two finished_in_vain)) ≡ false
+unfolding initial step state_of runs_of runs_from
+not_closing_in_the_end = refl
 
-pub nak_again : sends (last class_two (F Two ∷ E Two ∷ []) (what.Timer Nak 1)) ≡ digits 24 0x280011000105020800000000000000030000000000000000 ∷ []
-unfolding initial step state_of seen answer_at runs_of runs_from written spelling digits
-nak_again = refl
+-- no Metadata comes: at the limit of NAKs the reception ends
+abbrev pub asked_in_vain : List What
+asked_in_vain = part Two ∷ eof Two ∷ what.Timer Nak 1 ∷ what.Timer Nak 2 ∷ what.Timer Ack 3 ∷ what.Timer Ack 4 ∷ []
 
-pub armed_anew : last class_two (F Two ∷ E Two ∷ what.Timer Nak 1 ∷ []) (what.Timer Nak 1) ≡ Err refusal.StaleTimer
-unfolding initial step state_of seen answer_at runs_of runs_from
-armed_anew = refl
+pub asked_in_vain_told : issued (after class_two asked_in_vain)
+    ≡ told.FileSegmentRecv 0 3 ∷ told.EofRecv ∷ told.TransactionFinished 7 Incomplete Discarded ∷ []
+unfolding initial step state_of runs_of runs_from
+asked_in_vain_told = refl
 
-pub nak_limit_reached : sends (last class_two (F Two ∷ E Two ∷ what.Timer Nak 1 ∷ []) (what.Timer Nak 2)) ≡ digits 12 0x280005000105020574060102 ∷ []
-unfolding initial step state_of seen answer_at runs_of runs_from written spelling digits width_from
-nak_limit_reached = refl
+pub asked_in_vain_legal : IsLegal class_two (after class_two asked_in_vain)
+unfolding initial step state_of answer_at runs_of runs_from
+asked_in_vain_legal = (refl, tt, refl, (refl, tt, refl, (refl, tt, refl, (refl, tt, refl, (refl, tt, refl, (refl, (tt, refl, refl, refl), refl, tt))))))
 
-pub closing_reported : tells (last class_two (F Two ∷ E Two ∷ what.Timer Nak 1 ∷ what.Timer Nak 2 ∷ []) what.Report) ≡ told.Report phase.Closing 3 ∷ []
-unfolding initial step state_of seen answer_at runs_of runs_from
-closing_reported = refl
+-- the file comes while the reception is suspended
+abbrev pub suspended_and_resumed : List What
+suspended_and_resumed = metadata Two ∷ eof Two ∷ what.Suspend ∷ part Two ∷ what.Resume ∷ what.Stored 4 true ∷ finished_acknowledged 0 ∷ []
 
--- with handler Suspend it is suspended instead, and nothing is sent
-pub nak_limit_suspends : tells (last (two_with 7 Suspend) (F Two ∷ E Two ∷ what.Timer Nak 1 ∷ []) (what.Timer Nak 2)) ≡ told.Suspended 7 ∷ []
-unfolding initial step state_of seen answer_at runs_of runs_from
-nak_limit_suspends = refl
+pub suspended_and_resumed_told : issued (after class_two suspended_and_resumed)
+    ≡ told.MetadataRecv (record { 0 = 1 }) 3 (97 ∷ []) (98 ∷ []) [] ∷ told.EofRecv ∷ told.Suspended 14 ∷ told.FileSegmentRecv 0 3
+    ∷ told.Resumed 3 ∷ told.TransactionFinished 0 Complete Retained ∷ []
+unfolding initial step state_of runs_of runs_from
+suspended_and_resumed_told = refl
 
-pub nothing_sent_suspending : sends (last (two_with 7 Suspend) (F Two ∷ E Two ∷ what.Timer Nak 1 ∷ []) (what.Timer Nak 2)) ≡ []
-unfolding initial step state_of seen answer_at runs_of runs_from
-nothing_sent_suspending = refl
+pub suspended_and_resumed_legal : IsLegal class_two (after class_two suspended_and_resumed)
+unfolding initial step state_of answer_at runs_of runs_from
+suspended_and_resumed_legal = (refl, tt, refl, (refl, tt, refl, (refl, tt, refl, (refl, tt, refl, (refl, tt, refl, (refl, tt, refl, (refl, (tt, refl, refl, refl), refl, tt)))))))
 
--- what comes while the reception is suspended is looked at when it is resumed
-pub rest_asked_for : sends (last class_two (M Two ∷ []) (E Two)) ≡ digits 10 0x28000300010502064001 ∷ digits 24 0x280011000105020800000000000000030000000000000003 ∷ []
-unfolding initial step state_of seen answer_at runs_of runs_from written spelling digits
-rest_asked_for = refl
+-- an EOF with an error comes first and ends it
+abbrev pub cancelled_by_sender : List What
+cancelled_by_sender = eof_of Two 15 0 0 ∷ []
 
-pub quiet_while_suspended : sends (last class_two (M Two ∷ E Two ∷ what.Suspend ∷ []) (F Two)) ≡ []
-unfolding initial step state_of seen answer_at runs_of runs_from
-quiet_while_suspended = refl
+pub cancelled_by_sender_told : issued (after class_two cancelled_by_sender) ≡ told.TransactionFinished 15 Incomplete Discarded ∷ []
+unfolding initial step state_of runs_of runs_from
+cancelled_by_sender_told = refl
 
-pub handed_out_on_resume : hands_out (last class_two (M Two ∷ E Two ∷ what.Suspend ∷ F Two ∷ []) what.Resume) ≡ 4 ∷ []
-unfolding initial step state_of seen answer_at runs_of runs_from
-handed_out_on_resume = refl
+pub cancelled_by_sender_legal : IsLegal class_two (after class_two cancelled_by_sender)
+unfolding initial step state_of answer_at runs_of runs_from
+cancelled_by_sender_legal = (refl, (tt, refl, refl, refl), refl, tt)
 
-pub suspended_and_resumed : issued (after class_two (M Two ∷ E Two ∷ what.Suspend ∷ F Two ∷ what.Resume ∷ []))
-    ≡ told.MetadataRecv (record { 0 = 1 }) 3 (97 ∷ []) (98 ∷ []) [] ∷ told.EofRecv ∷ told.Suspended 14 ∷ told.FileSegmentRecv 0 3 ∷ told.Resumed 3 ∷ []
-unfolding initial step state_of seen runs_of runs_from
-suspended_and_resumed = refl
+-- the user cancels: an EOF is still acknowledged, and the ACK ends it
+abbrev pub cancelled_by_user : List What
+cancelled_by_user = metadata Two ∷ what.Cancel ∷ eof Two ∷ finished_acknowledged 15 ∷ []
 
--- an EOF with an error as the first PDU: its ACK says that the transaction is over
-pub cancelled_at_once : sends (last class_two [] (eof_of Two 15 0 0)) ≡ digits 10 0x280003000105020640f2 ∷ []
-unfolding initial step state_of seen answer_at runs_of runs_from written spelling digits
-cancelled_at_once = refl
+pub cancelled_by_user_told : issued (after class_two cancelled_by_user)
+    ≡ told.MetadataRecv (record { 0 = 1 }) 3 (97 ∷ []) (98 ∷ []) [] ∷ told.TransactionFinished 15 Incomplete Discarded ∷ []
+unfolding initial step state_of runs_of runs_from
+cancelled_by_user_told = refl
 
-pub cancelled_told : tells (last class_two [] (eof_of Two 15 0 0)) ≡ told.TransactionFinished 15 Incomplete Discarded ∷ []
-unfolding initial step state_of seen answer_at runs_of runs_from
-cancelled_told = refl
+pub cancelled_by_user_legal : IsLegal class_two (after class_two cancelled_by_user)
+unfolding initial step state_of answer_at runs_of runs_from
+cancelled_by_user_legal = (refl, tt, refl, (refl, tt, refl, (refl, tt, refl, (refl, (tt, refl, refl, refl), refl, tt))))
 
--- the acknowledged Finished ends it
-pub finished_acknowledged : tells (last class_two (M Two ∷ F Two ∷ E Two ∷ what.Stored 2 true ∷ []) (pdu Two (body.Ack (record { of = acknowledged.Finished; condition = 0; status = Terminated }))))
-    ≡ told.TransactionFinished 0 Complete Retained ∷ []
-unfolding initial step state_of seen answer_at runs_of runs_from
-finished_acknowledged = refl
+-- while it closes, an EOF with an error is not kept
+pub cancelling_eof_not_kept : (state_of (after class_two (metadata Two ∷ what.Cancel ∷ eof_of Two 15 0 0 ∷ []))).eof ≡ None
+unfolding initial step state_of runs_of runs_from
+cancelling_eof_not_kept = refl
 
--- Prompts
-pub nak_prompted : sends (last class_two (M Two ∷ F Two ∷ []) (pdu Two (body.Prompt prompt.Nak))) ≡ digits 16 0x28000900010502080000000000000003 ∷ []
-unfolding initial step state_of seen answer_at runs_of runs_from written spelling digits
-nak_prompted = refl
+-- abandoned while it was suspended, it is suspended no more
+pub not_suspended_in_the_end : is_suspended (state_of (after class_two (metadata Two ∷ what.Suspend ∷ what.Abandon ∷ []))) ≡ false
+unfolding initial step state_of runs_of runs_from
+not_suspended_in_the_end = refl
 
-pub keep_alive_prompted : sends (last class_two (M Two ∷ F Two ∷ []) (pdu Two (body.Prompt prompt.KeepAlive))) ≡ digits 12 0x280005000105020c00000003 ∷ []
-unfolding initial step state_of seen answer_at runs_of runs_from written spelling digits
-keep_alive_prompted = refl
+-- ---- logs that are not legal
+
+-- an event after an end
+pub not_after_an_end : IsLegal class_one (after class_one (metadata One ∷ what.Cancel ∷ what.Report ∷ [])) → ⊥
+unfolding initial step state_of answer_at runs_of runs_from
+not_after_an_end legal = true≢false legal.0
+
+-- a first event that opens nothing
+pub not_opened_by_report : IsLegal class_one (after class_one (what.Report ∷ [])) → ⊥
+unfolding initial step state_of answer_at runs_of runs_from
+not_opened_by_report legal = legal.1
+
+pub not_opened_by_prompt : IsLegal class_two (after class_two (prompted prompt.KeepAlive ∷ [])) → ⊥
+unfolding initial step state_of answer_at runs_of runs_from
+not_opened_by_prompt legal = legal.1.0
+
+-- Metadata of another transaction
+abbrev pub of_another : What
+of_another = what.Pdu (record { header = record (header Two) { sequence = 6 }; body = body.Metadata (metadata_value 0 3) })
+
+pub not_opened_by_another : IsLegal class_two (after class_two (of_another ∷ [])) → ⊥
+unfolding initial step state_of answer_at runs_of runs_from
+not_opened_by_another legal = let e : suc 5 ≡ 5 = legal.1.3 in absurd cc
+
+-- Metadata with a number in another length
+abbrev pub of_another_length : What
+of_another_length = what.Pdu (record { header = record (header Two) { sequence_octets = 2 }; body = body.Metadata (metadata_value 0 3) })
+
+pub not_opened_by_another_length : IsLegal class_two (after class_two (of_another_length ∷ [])) → ⊥
+unfolding initial step state_of answer_at runs_of runs_from
+not_opened_by_another_length legal = let e : suc 1 ≡ 1 = ap (λ (h : Header). h.sequence_octets) legal.1.1 in absurd cc
+
+-- an event that is refused
+pub not_refused : IsLegal class_one (after class_one (metadata One ∷ what.Suspend ∷ [])) → ⊥
+unfolding initial step state_of answer_at runs_of runs_from
+not_refused legal = let e : None ≡ Some (told.Suspended 14 ∷ []) = ap tells legal.2 in absurd cc
+
+-- an answer that is not the table's
+pub not_another_answer : IsLegal class_one (record { event = metadata One; answer = quiet } ∷ []) → ⊥
+unfolding initial step state_of answer_at runs_of runs_from
+not_another_answer legal = let e : tells (last class_one [] (metadata One)) ≡ Some [] = ap tells legal.2 in absurd cc
+
+-- ---- when the file is good
+
+-- a reception's state once the EOF of "abc" came behind these events, and was answered
+abbrev pub with_eof : List What → State
+with_eof events = state_of (after class_one (events ++ eof One ∷ []))
+
+-- the file is good once it is whole
+pub all_below : (i : ℕ) → i < 3 → IsSome ((with_eof (metadata One ∷ part One ∷ [])).received i)
+unfolding initial step state_of
+all_below zero below = refl
+all_below (suc zero) below = refl
+all_below (suc (suc zero)) below = refl
+all_below (suc (suc (suc i))) below = absurd (omega arith)
+
+same_either_way : (b : Bool) (o : Option ℕ) → (if b then o else o) ≡ o
+same_either_way true o = refl
+same_either_way false o = refl
+
+octet_above : (i : ℕ) → 3 ≤ i → octet_at (Some (record { offset = 0; octets = abc })) i ≡ None
+octet_above i above =
+    let minus : i - 0 ≡ i = omega arith in
+    let past : slice_get abc i ≡ None = slice_get_past abc i above in
+    rw (minus, past) (same_either_way (nat_le 0 i) None)
+
+pub none_above : (i : ℕ) → IsSome ((with_eof (metadata One ∷ part One ∷ [])).received i) → i < 3
+unfolding initial step state_of
+none_above zero there = omega arith
+none_above (suc zero) there = omega arith
+none_above (suc (suc zero)) there = omega arith
+none_above (suc (suc (suc i))) there =
+    absurd (false≢true (sym (ap (λ o. is_some (older_or o None)) (octet_above (suc (suc (suc i))) (omega arith))) ∙ there))
+
+pub whole_is_good : IsGood (with_eof (metadata One ∷ part One ∷ []))
+unfolding initial step state_of
+whole_is_good = record {
+  metadata = metadata_value 0 3;
+  eof = eof_value 0 0x6162_6300 3;
+  metadata_came = refl;
+  eof_came = refl;
+  modular = refl;
+  none_missing = all_below;
+  none_beyond = none_above;
+  agrees = refl;
+}
+
+-- the size of an EOF, 0 if there is none
+abbrev pub size_of : Option Eof → ℕ
+size_of None = 0
+size_of (Some e) = e.size
+
+-- it is not with an octet missing, nor with one beyond the size
+pub one_missing_is_not_good : IsGood (with_eof (metadata One ∷ file_data One 0 (97 ∷ 98 ∷ []) ∷ [])) → ⊥
+unfolding initial step state_of
+one_missing_is_not_good good =
+    let size : 3 ≡ good.eof.size = ap size_of good.eof_came in false≢true (good.none_missing 2 (omega arith))
+
+pub one_beyond_is_not_good : IsGood (with_eof (metadata One ∷ part One ∷ file_data One 3 (0 ∷ []) ∷ [])) → ⊥
+unfolding initial step state_of
+one_beyond_is_not_good good =
+    let below : 3 < good.eof.size = good.none_beyond 3 refl in
+    let size : 3 ≡ good.eof.size = ap size_of good.eof_came in absurd (omega arith)

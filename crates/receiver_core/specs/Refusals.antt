@@ -1,9 +1,7 @@
 -- Which events a reception refuses, and why: the first reason that applies, in the order of their numbers.
-use Rattle.std.specs.Prelude.{ℕ, ◌+◌, ◌-◌, Bool, true, false, not, ◌||◌, ◌&&◌, nat_le, nat_lt, ◌==◌, if◌then◌else◌, length, Option, Some, None}
+use Rattle.std.specs.Prelude.{◌+◌, ◌-◌, Bool, true, false, not, ◌||◌, ◌&&◌, nat_le, nat_lt, ◌==◌, if◌then◌else◌, length, Option, Some, None}
 use Rattle.cfdp_types.specs.Condition as condition
 use Rattle.cfdp_types.specs.declared.limits.TheConstants.{FILE_OCTETS, JOURNAL_ENTRIES, JOURNAL_ENTRIES_KEPT}
-use Rattle.cfdp_types.specs.declared.names.Class.{Class}
-use Rattle.cfdp_types.specs.declared.names.Class.TheVariants.{One, Two}
 use Rattle.pdu_codec.specs.declared.event.What.{What}
 use Rattle.pdu_codec.specs.declared.event.What.TheVariants as what
 use Rattle.pdu_codec.specs.declared.event.Refusal.{Refusal}
@@ -55,6 +53,7 @@ is_body_too_large (body.FileData d) = nat_lt FILE_OCTETS (d.offset + length d.oc
 is_body_too_large (body.Eof e) = e.condition == condition.no_error && nat_lt FILE_OCTETS e.size
 is_body_too_large _ = false
 
+-- an event whose body is too large
 abbrev pub is_too_large : What → Bool
 is_too_large (what.Pdu pdu) = is_body_too_large pdu.body
 is_too_large _ = false

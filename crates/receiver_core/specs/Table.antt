@@ -1,5 +1,5 @@
 -- What the receiving end answers: class 1, every fault cancels, file data in order, no timers.
-use Rattle.std.specs.Prelude.{ℕ, zero, suc, ◌+◌, ◌-◌, Bool, true, false, not, ◌&&◌, nat_le, nat_lt, ◌==◌, is_some, unwrap_or, if◌then◌else◌, List, [], ◌∷◌, ◌++◌, length, Option, Some, None, Result, Ok, Err}
+use Rattle.std.specs.Prelude.{ℕ, zero, suc, ◌+◌, ◌-◌, Bool, true, false, not, ◌&&◌, nat_le, nat_lt, ◌==◌, is_some, unwrap_or, if◌then◌else◌, List, [], ◌∷◌, ◌++◌, length, Option, Some, None, Result}
 use Rattle.cfdp_types.specs.Condition as condition
 use Rattle.cfdp_types.specs.ChecksumType as checksum
 use Rattle.cfdp_types.specs.declared.limits.TheConstants.{FILE_OCTETS, JOURNAL_ENTRIES, JOURNAL_ENTRIES_KEPT}
@@ -11,6 +11,7 @@ use Rattle.cfdp_types.specs.declared.names.FileStatus.TheVariants.{Discarded, Re
 use Rattle.pdu_format.specs.Pdu.{PduValue}
 use Rattle.pdu_codec.specs.declared.event.What.{What}
 use Rattle.pdu_codec.specs.declared.event.What.TheVariants as what
+use Rattle.pdu_codec.specs.Refusal.{unless_refused}
 use Rattle.pdu_codec.specs.declared.event.Refusal.{Refusal}
 use Rattle.pdu_codec.specs.declared.event.Refusal.TheVariants as refusal
 use Rattle.pdu_format.specs.declared.pdu.Header.{Header}
@@ -164,9 +165,5 @@ accepted_at state (what.Stored stamp kept) = stored_answer kept
 accepted_at state _ = quiet
 
 -- the answer to an event, or why it is refused
-abbrev pub unless_refused : Option Refusal → Answer → Result Answer Refusal
-unless_refused None answer = Ok answer
-unless_refused (Some why) answer = Err why
-
 unfoldable pub answer_at : State → What → Result Answer Refusal
 answer_at state event = unless_refused (refusal_at state event) (accepted_at state event)

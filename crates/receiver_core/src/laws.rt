@@ -1,6 +1,7 @@
 //! What holds of every reception, over its definitions alone.
 
 ghost use Rattle.receiver_core.specs.Laws.{TellsWords, CompletesGood};
+ghost use Rattle.receiver_core.specs.ReceptionLaws.{TellsWholeWords, CompletesWholeGood};
 
 /// What a reception tells its user is a beginning of a receiver's word, and a word once the
 /// reception has ended.
@@ -12,4 +13,15 @@ pub fn words()
 /// EOF's size was received and none above it, and the modular checksum agrees.
 pub fn complete()
     ensures { CompletesGood }
+{}
+
+/// The same as [`words`] of a reception of either class, with any parameters: also where it is
+/// suspended and resumed, where timers expire, where the user asks and where faults have handlers.
+pub fn whole_words()
+    ensures { TellsWholeWords }
+{}
+
+/// The same as [`complete`] of a reception of either class, with any parameters.
+pub fn whole_complete()
+    ensures { CompletesWholeGood }
 {}

@@ -1,5 +1,5 @@
 -- What a sender answers to the events that it takes, in both classes.
-use Rattle.std.specs.Prelude.{ℕ, ◌+◌, ◌-◌, ◌^◌, min, max, Bool, true, false, not, ◌||◌, ◌&&◌, nat_lt, ◌==◌, is_some, if◌then◌else◌, List, [], ◌∷◌, ◌++◌, length, map, take, drop, Option, Some, None, Result, Ok, Err}
+use Rattle.std.specs.Prelude.{ℕ, ◌+◌, ◌-◌, min, max, Bool, false, not, ◌||◌, ◌&&◌, nat_lt, is_some, if◌then◌else◌, List, [], ◌∷◌, ◌++◌, length, map, take, drop, Option, Some, None, Result}
 use Rattle.std.specs.List.{list_any}
 use Rattle.cfdp_types.specs.Condition as condition
 use Rattle.cfdp_types.specs.ChecksumType as checksum
@@ -15,12 +15,11 @@ use Rattle.cfdp_types.specs.declared.names.Handler.TheVariants as handler
 use Rattle.cfdp_types.specs.declared.names.TimerKind.{TimerKind}
 use Rattle.cfdp_types.specs.declared.names.TimerKind.TheVariants.{Ack, Nak, Check, Inactivity}
 use Rattle.gap_list.specs.declared.run.Run.{Run}
-use Rattle.pdu_codec.specs.declared.event.What.{What}
 use Rattle.pdu_codec.specs.declared.event.What.TheVariants as what
+use Rattle.pdu_codec.specs.Refusal.{unless_refused}
 use Rattle.pdu_codec.specs.declared.event.Refusal.{Refusal}
-use Rattle.pdu_codec.specs.Events.{is_two, is_pdu}
-use Rattle.pdu_format.specs.Pdu.{PduValue}
-use Rattle.pdu_format.specs.Tlvs.{width_from}
+use Rattle.pdu_codec.specs.Events.{is_pdu}
+pub use Rattle.pdu_format.specs.Tlvs.{octets_for}
 use Rattle.pdu_format.specs.declared.pdu.Direction.TheVariants.{TowardReceiver}
 use Rattle.pdu_format.specs.declared.pdu.Header.{Header}
 use Rattle.pdu_format.specs.declared.pdu.Body.{Body}
@@ -46,24 +45,24 @@ pub record Row : Type 0 where
   pub bodies : List Body
   pub arms : List TimerKind
 
+-- nothing
 abbrev pub nothing : Row
 nothing = record { inds = []; bodies = []; arms = [] }
 
+-- the user is told this
 abbrev pub tells : Indication → Row
 tells indication = record nothing { inds = indication ∷ [] }
 
+-- this is sent
 abbrev pub sends : Body → Row
 sends b = record nothing { bodies = b ∷ [] }
 
+-- one row and then another, in this order
 infixr 10 ◌and_then◌
 abbrev pub ◌and_then◌ : Row → Row → Row
 row and_then next = record { inds = row.inds ++ next.inds; bodies = row.bodies ++ next.bodies; arms = row.arms ++ next.arms }
 
 -- ---- what is sent
-
--- the least number of octets, from this one on, that holds a number
-abbrev pub octets_for : ℕ → ℕ → ℕ
-octets_for least n = width_from (8 - least) least n
 
 -- of every PDU of the transaction: the lengths that are set, or the fewest that hold the numbers
 abbrev pub header_of : Sending → Header
@@ -77,6 +76,7 @@ header_of sending = record {
   destination = sending.request.destination;
 }
 
+-- the Metadata of the file: no closure is asked for, and the checksum is modular
 abbrev pub metadata_of : Sending → Body
 metadata_of sending = body.Metadata (record {
   closure = false;
@@ -105,6 +105,7 @@ cancel_eof sending state code = record {
   location = Some sending.params.local;
 }
 
+-- the ACK of a Finished PDU, with its condition
 abbrev pub ack_of : Finished → Body
 ack_of f = body.Ack (record { of = acknowledged.Finished; condition = f.condition; status = Terminated })
 
@@ -157,6 +158,7 @@ on_pump sending front = if front.metadata_remains then sends (metadata_of sendin
 abbrev pub on_ack : State → ack_type.Ack → Row
 on_ack front a = if is_closing front then ends_unreported a.condition else nothing
 
+-- what is answered to a PDU: to NAK and Keep Alive nothing
 abbrev pub on_body : State → Body → Row
 on_body front (body.Ack a) = on_ack front a
 on_body front (body.Finished f) = sends (ack_of f) and_then tells (told.TransactionFinished f.condition f.delivery f.status)
@@ -164,10 +166,12 @@ on_body front _ = nothing
 
 -- ---- what is answered to timers
 
+-- the last EOF that was sent, once more
 abbrev pub last_eof : Option Eof → List Body
 last_eof None = []
 last_eof (Some e) = body.Eof e ∷ []
 
+-- the condition of the last EOF that was sent
 abbrev pub condition_of : Option Eof → ℕ
 condition_of None = condition.no_error
 condition_of (Some e) = e.condition
@@ -179,6 +183,7 @@ on_ack_timer sending front now =
     else if is_closing front then ends_unreported (condition_of front.eof)
     else faults sending now Ack condition.positive_ack_limit
 
+-- what is answered to an expiration, by its timer; a sender has no Nak and no Check
 abbrev pub on_timer : Sending → State → State → TimerKind → Row
 on_timer sending front now Ack = on_ack_timer sending front now
 on_timer sending front now Inactivity = faults sending now Inactivity condition.inactivity
@@ -195,6 +200,7 @@ phase_of state = if is_closing state then phase.Closing else if is_suspended sta
 abbrev pub waiting_timer : State → List TimerKind
 waiting_timer state = if not (is_some state.eof) then [] else if state.acknowledged then Inactivity ∷ [] else Ack ∷ []
 
+-- what is answered to an event, by its kind
 abbrev pub row_of : Sending → State → State → Event → Row
 row_of sending front now put = tells told.Transaction
 row_of sending front now (happens what.Pump) = on_pump sending front
@@ -209,6 +215,7 @@ row_of sending front now (happens (what.Stored stamp kept)) = nothing
 
 -- ---- the timers of a row
 
+-- the row arms the timer
 abbrev pub is_armed_by : Row → TimerKind → Bool
 is_armed_by row kind = list_any (is_kind kind) row.arms
 
@@ -230,6 +237,7 @@ effect_of row after event kind =
 
 -- ---- the whole answer
 
+-- the answer that says nothing
 abbrev pub quiet : Answer
 quiet = record { inds = []; pdus = []; timers = [] }
 
@@ -249,15 +257,12 @@ timed sending front event row answer = record answer {
       front.armed;
 }
 
+-- the answer to an event that is accepted
 abbrev pub accepted_at : Sending → State → Event → Answer
 accepted_at sending front event =
     let row = row_of sending front (seen sending front event) event in
     timed sending front event row (untimed sending row)
 
 -- the answer to an event, or why it is refused
-abbrev pub unless_refused : Option Refusal → Answer → Result Answer Refusal
-unless_refused None answer = Ok answer
-unless_refused (Some why) answer = Err why
-
 unfoldable pub answer_at : Sending → State → Event → Result Answer Refusal
 answer_at sending front event = unless_refused (refusal_at sending front event) (accepted_at sending front event)

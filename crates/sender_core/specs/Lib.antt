@@ -3,3 +3,11 @@ pub mod Refusals
 pub mod Answers
 pub mod LegalSendings
 pub mod SendingRows
+pub mod SendingPduRows
+pub mod SendingRefusalRows
+pub mod SendingTimerRows
+pub mod SendingLaws
+pub mod Remaining
+pub mod Timers
+pub mod Standing
+pub mod Core

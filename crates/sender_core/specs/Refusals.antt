@@ -1,6 +1,5 @@
 -- Which events a sender refuses, and why: the first reason that applies, in the order of their numbers.
 use Rattle.std.specs.Prelude.{ℕ, ◌-◌, Bool, true, false, not, ◌||◌, ◌&&◌, nat_le, nat_lt, ◌==◌, is_some, if◌then◌else◌, List, length, Option, Some, None}
-use Rattle.cfdp_types.specs.Condition as condition
 use Rattle.cfdp_types.specs.declared.limits.TheConstants.{FILE_OCTETS, JOURNAL_ENTRIES, JOURNAL_ENTRIES_KEPT}
 use Rattle.gap_list.specs.Runs.{runs_of}
 use Rattle.gap_list.specs.declared.run.Run.{Run}
@@ -55,9 +54,11 @@ is_misplaced sending state what.Suspend = is_suspended state || is_closing state
 is_misplaced sending state what.Cancel = is_closing state
 is_misplaced sending state _ = false
 
+-- JournalFull: the last entries are kept for Abandon
 abbrev pub is_full : State → Bool
 is_full state = nat_le (JOURNAL_ENTRIES - JOURNAL_ENTRIES_KEPT) state.place
 
+-- why an event behind the Put is refused, if it is
 abbrev pub refusal_of : Sending → State → What → Option Refusal
 refusal_of sending state event =
     if is_of_other_class sending.request.class event then Some refusal.ModeMismatch

@@ -1,5 +1,5 @@
 -- The sending end of a transaction in both classes: what a log of its events and answers gives.
-use Rattle.std.specs.Prelude.{ℕ, ◌+◌, max, Bool, true, false, not, ◌||◌, ◌&&◌, nat_le, nat_lt, ◌==◌, is_some, if◌then◌else◌, List, [], ◌∷◌, ◌++◌, length, Option, Some, None}
+use Rattle.std.specs.Prelude.{ℕ, ◌+◌, max, Bool, true, false, not, ◌||◌, ◌&&◌, nat_lt, ◌==◌, if◌then◌else◌, List, [], ◌∷◌, ◌++◌, length, Option, Some, None}
 use Rattle.std.specs.List.{list_any}
 use Rattle.cfdp_types.specs.Condition as condition
 use Rattle.cfdp_types.specs.Steps.{armed_after, is_kind, newer_or}
@@ -79,11 +79,13 @@ is_cancel (Some e) = not (e.condition == condition.no_error)
 abbrev pub is_closing : State → Bool
 is_closing state = is_cancel state.eof && not state.ended
 
+-- Suspended was told last of the two, and neither was an EOF with an error sent nor an end told
 abbrev pub is_suspended : State → Bool
 is_suspended state = state.paused && not (is_cancel state.eof) && not state.ended
 
 -- ---- what an answer sends
 
+-- the EOF that a body is
 abbrev pub eof_in : Body → Option Eof
 eof_in (body.Eof e) = Some e
 eof_in _ = None
@@ -93,10 +95,12 @@ abbrev pub eof_among : List PduValue → Option Eof
 eof_among [] = None
 eof_among (pdu ∷ later) = newer_or (eof_among later) (eof_in pdu.body)
 
+-- a body that is Metadata
 abbrev pub is_metadata_body : Body → Bool
 is_metadata_body (body.Metadata m) = true
 is_metadata_body _ = false
 
+-- a PDU that is Metadata
 abbrev pub is_metadata : PduValue → Bool
 is_metadata pdu = is_metadata_body pdu.body
 
@@ -105,14 +109,16 @@ abbrev pub body_covers : ℕ → Body → Bool
 body_covers i (body.FileData d) = is_within d.offset (d.offset + length d.octets) i
 body_covers i _ = false
 
+-- a PDU with that octet
 abbrev pub covers : ℕ → PduValue → Bool
 covers i pdu = body_covers i pdu.body
 
--- one more than the greatest offset sent in PDUs, 0 if none
+-- one more than the greatest offset that a body holds, 0 if none
 abbrev pub body_extent : Body → ℕ
 body_extent (body.FileData d) = if length d.octets == 0 then 0 else d.offset + length d.octets
 body_extent _ = 0
 
+-- one more than the greatest offset sent in PDUs, 0 if none
 abbrev pub extent_of : List PduValue → ℕ
 extent_of [] = 0
 extent_of (pdu ∷ later) = max (body_extent pdu.body) (extent_of later)
@@ -124,6 +130,7 @@ abbrev pub body_requests : Body → List SegmentRequest
 body_requests (body.Nak n) = n.requests
 body_requests _ = []
 
+-- the segment requests of an event: none, unless it is a NAK
 abbrev pub requests_of : Event → List SegmentRequest
 requests_of put = []
 requests_of (happens (what.Pdu pdu)) = body_requests pdu.body
@@ -142,11 +149,13 @@ abbrev pub body_acknowledges : Body → Bool
 body_acknowledges (body.Ack a) = ack_is_toward_sender a.of && a.condition == condition.no_error
 body_acknowledges _ = false
 
+-- an event that is such an ACK
 abbrev pub acknowledges_eof : Event → Bool
 acknowledges_eof put = false
 acknowledges_eof (happens (what.Pdu pdu)) = body_acknowledges pdu.body
 acknowledges_eof (happens _) = false
 
+-- the event is an expiration of the timer
 abbrev pub is_expired : TimerKind → Event → Bool
 is_expired kind put = false
 is_expired kind (happens event) = is_expiration kind event
@@ -167,6 +176,7 @@ begins_again state entry kind =
     || (is_expired kind entry.event && list_any is_fault entry.answer.inds)
     || (is_kind Ack kind && begins_phase state.eof (eof_among entry.answer.pdus))
 
+-- the expirations of a timer once an entry is counted
 abbrev pub tries_after : State → Entry → TimerKind → ℕ
 tries_after state entry kind =
     if begins_again state entry kind then 0

@@ -1,60 +1,35 @@
--- Worked transactions of a sender in both classes, computed: what the table answers to events in turn.
-use Rattle.std.specs.Prelude.{◌≡◌, ℕ, true, false, List, [], ◌∷◌, map, Option, Some, None, Result, Ok, Err, refl}
-use Rattle.cfdp_types.specs.Handlers.{FaultTableValue}
-use Rattle.cfdp_types.specs.Params.{ParamsValue}
+-- Worked transactions of a sender in both classes, computed: whole transactions, with what makes their logs
+-- legal, and the words that the rows of the other files share.
+use Rattle.std.specs.Prelude.{◌≡◌, false, ℕ, List, [], ◌∷◌, ◌++◌, map, Option, Some, None, Result, Ok, Err, refl}
+use Rattle.std.proofs.Common.{ap}
+use Rattle.std.proofs.lemmas.Bool.{true≢false}
+use Rattle.cfdp_types.specs.Handlers.{with_handler}
+use Rattle.cfdp_types.specs.Reference.{all_cancel, reference}
 use Rattle.cfdp_types.specs.declared.names.Class.{Class}
 use Rattle.cfdp_types.specs.declared.names.Class.TheVariants.{One, Two}
 use Rattle.cfdp_types.specs.declared.names.Delivery.TheVariants.{Complete, Incomplete}
 use Rattle.cfdp_types.specs.declared.names.FileStatus.TheVariants.{Retained, Unreported}
-use Rattle.cfdp_types.specs.declared.names.Handler.TheVariants.{Cancel}
-use Rattle.cfdp_types.specs.declared.names.Role.{Role}
-use Rattle.cfdp_types.specs.declared.names.Role.TheVariants.{Send, RecvOne, RecvTwo}
+use Rattle.cfdp_types.specs.declared.names.Handler.{Handler}
+use Rattle.cfdp_types.specs.declared.names.Role.TheVariants.{Send}
 use Rattle.cfdp_types.specs.declared.names.TimerKind.TheVariants.{Ack}
+use Rattle.cfdp_types.specs.declared.timer_op.TimerOp.{TimerOp}
 use Rattle.pdu_codec.specs.declared.event.What.TheVariants as what
 use Rattle.pdu_codec.specs.declared.event.Refusal.{Refusal}
-use Rattle.pdu_codec.specs.declared.event.Refusal.TheVariants as refusal
-use Rattle.pdu_format.specs.Numbers.{digits}
-use Rattle.pdu_format.specs.Spelling.{spelling, written}
-use Rattle.pdu_format.specs.Tlvs.{width_from}
+use Rattle.pdu_format.specs.Spelling.{written}
 use Rattle.pdu_format.specs.declared.pdu.Direction.TheVariants.{TowardSender}
-use Rattle.pdu_format.specs.declared.pdu.Header.{Header}
 use Rattle.pdu_format.specs.declared.pdu.Body.{Body}
 use Rattle.pdu_format.specs.declared.pdu.Body.TheVariants as body
 use Rattle.pdu_format.specs.declared.bodies.Acknowledged.TheVariants as acknowledged
 use Rattle.pdu_format.specs.declared.bodies.TransactionStatus.TheVariants.{Active}
+use Rattle.pdu_format.specs.declared.requests.SegmentRequest.{SegmentRequest}
 use Rattle.ind_words.specs.declared.indication.Indication.{Indication}
 use Rattle.ind_words.specs.declared.indication.Indication.TheVariants as told
 use Rattle.gap_list.specs.Runs.{runs_of, runs_from}
-use Rattle.sender_core.specs.Sending.{Sending, Event, put, happens, Answer, Entry, State, initial, step, state_of, issued}
-use Rattle.sender_core.specs.Answers.{seen, accepted_at, answer_at}
-use Rattle.sender_core.specs.LegalSendings.{log_of}
+use Rattle.sender_core.specs.Sending.{Sending, Event, put, happens, Answer, Entry, initial, step, state_of, issued}
+use Rattle.sender_core.specs.Answers.{quiet, answer_at}
+use Rattle.sender_core.specs.LegalSendings.{log_of, IsLegal}
 
--- ---- a reference: all handlers cancel, two expirations of each timer, a second each
-
-abbrev pub all_cancel : Role → FaultTableValue
-all_cancel role = record {
-  role = role;
-  handlers = record {
-    positive_ack_limit = Cancel;
-    filestore_rejection = Cancel;
-    file_checksum_failure = Cancel;
-    file_size_error = Cancel;
-    nak_limit = Cancel;
-    inactivity = Cancel;
-    check_limit = Cancel;
-    unsupported_checksum_type = Cancel;
-  };
-}
-
-abbrev pub reference : ParamsValue
-reference = record {
-  local = record { 0 = 2 };
-  lengths = record { entity_octets = 1; sequence_octets = 1 };
-  segment_octets = 256;
-  timers = record { ack = 1000; nak = 1000; check = 1000; inactivity = 1000 };
-  limits = record { ack = 2; nak = 2; check = 2 };
-  tables = record { send = all_cancel Send; receive_one = all_cancel RecvOne; receive_two = all_cancel RecvTwo };
-}
+-- ---- the transaction
 
 -- "a" from entity 2, to be kept as "b" at entity 1
 abbrev pub sending : Class → ℕ → List ℕ → Sending
@@ -71,26 +46,53 @@ sending class seq file = record {
   };
 }
 
+-- the file "abc"
 abbrev pub abc : List ℕ
 abc = 97 ∷ 98 ∷ 99 ∷ []
 
+-- that file in class 1
 abbrev pub one : Sending
 one = sending One 4 abc
 
+-- that file in class 2
 abbrev pub two : Sending
 two = sending Two 4 abc
 
+-- the reference with another handler of a sender for a condition
+abbrev pub two_with : ℕ → Handler → Sending
+two_with code handler =
+    record two { params = record reference { tables = record (reference.tables) { send = with_handler (all_cancel Send) code handler } } }
+
+-- the reference with limits and timer lengths that all differ
+abbrev pub unequal_two : Sending
+unequal_two = record two {
+  params = record reference {
+    timers = record { ack = 1000; nak = 1001; check = 1002; inactivity = 1003 };
+    limits = record { ack = 2; nak = 3; check = 4 };
+  };
+}
+
+-- five octets, in parts of two
+abbrev pub small_parts : Sending
+small_parts =
+    record two { params = record reference { segment_octets = 2 }; request = record (two.request) { file = 97 ∷ 98 ∷ 99 ∷ 100 ∷ 101 ∷ [] } }
+
 -- ---- events
 
+-- there is room to send one PDU
 abbrev pub pump : Event
 pump = happens what.Pump
 
--- a PDU of the receiver, in class 2
-abbrev pub pdu : Body → Event
-pdu b = happens (what.Pdu (record {
+-- the user asks for a report
+abbrev pub report : Event
+report = happens what.Report
+
+-- a PDU of the receiver
+abbrev pub pdu_in : Class → Body → Event
+pdu_in class b = happens (what.Pdu (record {
   header = record {
     direction = TowardSender;
-    class = Two;
+    class = class;
     entity_octets = 1;
     sequence_octets = 1;
     source = record { 0 = 2 };
@@ -100,8 +102,33 @@ pdu b = happens (what.Pdu (record {
   body = b;
 }))
 
+-- one of class 2
+abbrev pub pdu : Body → Event
+pdu b = pdu_in Two b
+
+-- the ACK of an EOF with this condition
 abbrev pub eof_acknowledged : ℕ → Event
 eof_acknowledged code = pdu (body.Ack (record { of = acknowledged.Eof; condition = code; status = Active }))
+
+-- a NAK of these requests
+abbrev pub asks : List SegmentRequest → Event
+asks requests = pdu (body.Nak (record { start = 0; end = 3; requests = requests }))
+
+-- a NAK of the octet in the middle
+abbrev pub nak : Event
+nak = asks (record { start = 1; end = 2 } ∷ [])
+
+-- the Finished PDU of a file that is kept
+abbrev pub finished : Event
+finished = pdu (body.Finished (record { condition = 0; delivery = Complete; status = Retained; location = None }))
+
+-- the Put, with all sent
+abbrev pub sent_all : List Event
+sent_all = put ∷ pump ∷ pump ∷ pump ∷ []
+
+-- the same, and the EOF acknowledged
+abbrev pub acknowledged_all : List Event
+acknowledged_all = sent_all ++ eof_acknowledged 0 ∷ []
 
 -- ---- logs
 
@@ -113,116 +140,146 @@ after s events = log_of s events
 abbrev pub last : Sending → List Event → Event → Result Answer Refusal
 last s events event = answer_at s (state_of s (after s events)) event
 
--- what is told and sent
-abbrev pub tells : Result Answer Refusal → List Indication
-tells (Ok answer) = answer.inds
-tells (Err why) = []
+-- ---- what an answer shows: None where the event is refused
 
-abbrev pub sends : Result Answer Refusal → List (List ℕ)
-sends (Ok answer) = map written answer.pdus
-sends (Err why) = []
+-- what the user is told
+abbrev pub tells : Result Answer Refusal → Option (List Indication)
+tells (Ok answer) = Some answer.inds
+tells (Err why) = None
 
--- ---- class 1: Metadata, the file, and the EOF, which ends it
+-- the PDUs that are sent, as octets
+abbrev pub sends : Result Answer Refusal → Option (List (List ℕ))
+sends (Ok answer) = Some (map written answer.pdus)
+sends (Err why) = None
 
-pub metadata_first : sends (last one (put ∷ []) pump) ≡ digits 17 0x24000a000204010700000000030161_0162 ∷ []
-unfolding initial step state_of seen answer_at runs_of runs_from written spelling digits width_from
-metadata_first = refl
+-- what is said to the timers
+abbrev pub operates : Result Answer Refusal → Option (List TimerOp)
+operates (Ok answer) = Some answer.timers
+operates (Err why) = None
 
-pub file_data_next : sends (last one (put ∷ pump ∷ []) pump) ≡ digits 14 0x3400070002040100000000616263 ∷ []
-unfolding initial step state_of seen answer_at runs_of runs_from written spelling digits width_from
-file_data_next = refl
+-- ---- whole transactions, with all that the user is told
 
-pub eof_last : sends (last one (put ∷ pump ∷ pump ∷ []) pump) ≡ digits 17 0x24000a0002040104006162630000000003 ∷ []
-unfolding initial step state_of seen answer_at runs_of runs_from written spelling digits width_from
-eof_last = refl
+-- class 1: Metadata, the file, and the EOF, which ends it
+abbrev pub whole_in_one : List Event
+whole_in_one = put ∷ pump ∷ pump ∷ pump ∷ []
 
-pub one_told : issued (after one (put ∷ pump ∷ pump ∷ pump ∷ [])) ≡ told.Transaction ∷ told.EofSent ∷ told.TransactionFinished 0 Incomplete Unreported ∷ []
-unfolding initial step state_of seen runs_of runs_from
-one_told = refl
+pub whole_in_one_told : issued (after one whole_in_one)
+    ≡ told.Transaction ∷ told.EofSent ∷ told.TransactionFinished 0 Incomplete Unreported ∷ []
+unfolding initial step state_of runs_of runs_from
+whole_in_one_told = refl
 
--- an empty file, cancelled before anything was sent
-pub cancelled_at_once : sends (last (sending One 252 []) (put ∷ []) (happens what.Cancel)) ≡ digits 20 0x24000d0002fc0104f00000000000000000060102 ∷ []
-unfolding initial step state_of seen answer_at runs_of runs_from written spelling digits width_from
-cancelled_at_once = refl
+pub whole_in_one_legal : IsLegal one (after one whole_in_one)
+unfolding initial step state_of answer_at runs_of runs_from
+whole_in_one_legal = (refl, tt, refl, (refl, tt, refl, (refl, tt, refl, (refl, tt, refl, tt))))
 
-pub cancelled_told : tells (last (sending One 252 []) (put ∷ []) (happens what.Cancel)) ≡ told.TransactionFinished 15 Incomplete Unreported ∷ []
-unfolding initial step state_of seen answer_at runs_of runs_from
-cancelled_told = refl
+-- class 1: the user cancels
+abbrev pub cancelled_in_one : List Event
+cancelled_in_one = put ∷ pump ∷ happens what.Cancel ∷ []
 
--- ---- class 2
+pub cancelled_in_one_told : issued (after one cancelled_in_one) ≡ told.Transaction ∷ told.TransactionFinished 15 Incomplete Unreported ∷ []
+unfolding initial step state_of runs_of runs_from
+cancelled_in_one_told = refl
 
--- cancelled: the EOF of what was sent, again until it is acknowledged or the limit is reached
-pub cancel_sent : sends (last two (put ∷ pump ∷ pump ∷ []) (happens what.Cancel)) ≡ digits 20 0x20000d0002040104f06162630000000003060102 ∷ []
-unfolding initial step state_of seen answer_at runs_of runs_from written spelling digits width_from
-cancel_sent = refl
+pub cancelled_in_one_legal : IsLegal one (after one cancelled_in_one)
+unfolding initial step state_of answer_at runs_of runs_from
+cancelled_in_one_legal = (refl, tt, refl, (refl, tt, refl, (refl, tt, refl, tt)))
 
-pub cancel_sent_again : sends (last two (put ∷ pump ∷ pump ∷ happens what.Cancel ∷ []) (happens (what.Timer Ack 3))) ≡ digits 20 0x20000d0002040104f06162630000000003060102 ∷ []
-unfolding initial step state_of seen answer_at runs_of runs_from written spelling digits width_from
-cancel_sent_again = refl
+-- class 2, with one octet asked for again
+abbrev pub whole_in_two : List Event
+whole_in_two = put ∷ pump ∷ pump ∷ pump ∷ nak ∷ pump ∷ eof_acknowledged 0 ∷ finished ∷ []
 
-pub cancel_in_vain : tells (last two (put ∷ pump ∷ pump ∷ happens what.Cancel ∷ happens (what.Timer Ack 3) ∷ []) (happens (what.Timer Ack 4)))
-    ≡ told.TransactionFinished 15 Incomplete Unreported ∷ []
-unfolding initial step state_of seen answer_at runs_of runs_from
-cancel_in_vain = refl
-
--- suspended before anything was sent
-pub suspended : tells (last two (put ∷ []) (happens what.Suspend)) ≡ told.Suspended 14 ∷ []
-unfolding initial step state_of seen answer_at runs_of runs_from
-suspended = refl
-
-pub nothing_sent_suspended : last two (put ∷ happens what.Suspend ∷ []) pump ≡ Err refusal.WrongState
-unfolding initial step state_of seen answer_at runs_of runs_from
-nothing_sent_suspended = refl
-
-pub resumed : tells (last two (put ∷ happens what.Suspend ∷ []) (happens what.Resume)) ≡ told.Resumed 0 ∷ []
-unfolding initial step state_of seen answer_at runs_of runs_from
-resumed = refl
-
-pub metadata_after_all : sends (last two (put ∷ happens what.Suspend ∷ happens what.Resume ∷ []) pump) ≡ digits 17 0x20000a0002040107000000000301610162 ∷ []
-unfolding initial step state_of seen answer_at runs_of runs_from written spelling digits width_from
-metadata_after_all = refl
-
--- a whole transaction, with one octet asked for again
-abbrev pub nak : Event
-nak = pdu (body.Nak (record { start = 0; end = 3; requests = record { start = 1; end = 2 } ∷ [] }))
-
-pub eof_of_two : sends (last two (put ∷ pump ∷ pump ∷ []) pump) ≡ digits 17 0x20000a0002040104006162630000000003 ∷ []
-unfolding initial step state_of seen answer_at runs_of runs_from written spelling digits width_from
-eof_of_two = refl
-
-pub nothing_remains : last two (put ∷ pump ∷ pump ∷ pump ∷ []) pump ≡ Err refusal.WrongState
-unfolding initial step state_of seen answer_at runs_of runs_from
-nothing_remains = refl
-
-pub sent_again : sends (last two (put ∷ pump ∷ pump ∷ pump ∷ nak ∷ []) pump) ≡ digits 12 0x300005000204010000000162 ∷ []
-unfolding initial step state_of seen answer_at runs_of runs_from written spelling digits width_from
-sent_again = refl
-
-pub acknowledged_quietly : last two (put ∷ pump ∷ pump ∷ pump ∷ nak ∷ pump ∷ []) (eof_acknowledged 1) ≡ Err refusal.WrongState
-unfolding initial step state_of seen answer_at runs_of runs_from
-acknowledged_quietly = refl
-
-abbrev pub finished : Event
-finished = pdu (body.Finished (record { condition = 0; delivery = Complete; status = Retained; location = None }))
-
-pub finished_acknowledged : sends (last two (put ∷ pump ∷ pump ∷ pump ∷ nak ∷ pump ∷ eof_acknowledged 0 ∷ []) finished) ≡ digits 10 0x20000300020401065102 ∷ []
-unfolding initial step state_of seen answer_at runs_of runs_from written spelling digits width_from
-finished_acknowledged = refl
-
-pub two_told : issued (after two (put ∷ pump ∷ pump ∷ pump ∷ nak ∷ pump ∷ eof_acknowledged 0 ∷ finished ∷ []))
+pub whole_in_two_told : issued (after two whole_in_two)
     ≡ told.Transaction ∷ told.EofSent ∷ told.TransactionFinished 0 Complete Retained ∷ []
-unfolding initial step state_of seen runs_of runs_from
-two_told = refl
+unfolding initial step state_of runs_of runs_from
+whole_in_two_told = refl
 
--- ---- a journal that is full but for its last entries
+pub whole_in_two_legal : IsLegal two (after two whole_in_two)
+unfolding initial step state_of answer_at runs_of runs_from
+whole_in_two_legal = (refl, tt, refl, (refl, tt, refl, (refl, tt, refl, (refl, tt, refl, (refl, tt, refl, (refl, tt, refl, (refl, tt, refl, (refl, tt, refl, tt))))))))
 
-abbrev pub full : State
-full = record (state_of two (after two (put ∷ []))) { place = 65534 }
+-- class 2: the user cancels, and no ACK comes
+abbrev pub cancelled_in_vain : List Event
+cancelled_in_vain = put ∷ pump ∷ pump ∷ happens what.Cancel ∷ happens (what.Timer Ack 3) ∷ happens (what.Timer Ack 4) ∷ []
 
-pub full_for_pump : answer_at two full pump ≡ Err refusal.JournalFull
-unfolding initial step state_of seen answer_at runs_of runs_from
-full_for_pump = refl
+pub cancelled_in_vain_told : issued (after two cancelled_in_vain)
+    ≡ told.Transaction ∷ told.TransactionFinished 15 Incomplete Unreported ∷ []
+unfolding initial step state_of runs_of runs_from
+cancelled_in_vain_told = refl
 
-pub room_for_abandon : tells (answer_at two full (happens what.Abandon)) ≡ told.Abandoned 15 0 ∷ []
-unfolding initial step state_of seen answer_at runs_of runs_from
-room_for_abandon = refl
+pub cancelled_in_vain_legal : IsLegal two (after two cancelled_in_vain)
+unfolding initial step state_of answer_at runs_of runs_from
+cancelled_in_vain_legal = (refl, tt, refl, (refl, tt, refl, (refl, tt, refl, (refl, tt, refl, (refl, tt, refl, (refl, tt, refl, tt))))))
+
+-- class 2: the user cancels, and the ACK comes
+abbrev pub cancel_acknowledged : List Event
+cancel_acknowledged = put ∷ pump ∷ happens what.Cancel ∷ eof_acknowledged 15 ∷ []
+
+pub cancel_acknowledged_told : issued (after two cancel_acknowledged)
+    ≡ told.Transaction ∷ told.TransactionFinished 15 Incomplete Unreported ∷ []
+unfolding initial step state_of runs_of runs_from
+cancel_acknowledged_told = refl
+
+pub cancel_acknowledged_legal : IsLegal two (after two cancel_acknowledged)
+unfolding initial step state_of answer_at runs_of runs_from
+cancel_acknowledged_legal = (refl, tt, refl, (refl, tt, refl, (refl, tt, refl, (refl, tt, refl, tt))))
+
+-- class 2: no ACK comes, neither of the EOF nor of the one that cancels
+abbrev pub unacknowledged_in_vain : List Event
+unacknowledged_in_vain = put ∷ pump ∷ pump ∷ pump ∷ happens (what.Timer Ack 3) ∷ happens (what.Timer Ack 4) ∷ happens (what.Timer Ack 5) ∷ happens (what.Timer Ack 6) ∷ []
+
+pub unacknowledged_in_vain_told : issued (after two unacknowledged_in_vain)
+    ≡ told.Transaction ∷ told.EofSent ∷ told.TransactionFinished 1 Incomplete Unreported ∷ []
+unfolding initial step state_of runs_of runs_from
+unacknowledged_in_vain_told = refl
+
+pub unacknowledged_in_vain_legal : IsLegal two (after two unacknowledged_in_vain)
+unfolding initial step state_of answer_at runs_of runs_from
+unacknowledged_in_vain_legal = (refl, tt, refl, (refl, tt, refl, (refl, tt, refl, (refl, tt, refl, (refl, tt, refl, (refl, tt, refl, (refl, tt, refl, (refl, tt, refl, tt))))))))
+
+-- class 2: suspended before anything was sent
+abbrev pub suspended_and_resumed : List Event
+suspended_and_resumed = put ∷ happens what.Suspend ∷ happens what.Resume ∷ pump ∷ pump ∷ pump ∷ eof_acknowledged 0 ∷ finished ∷ []
+
+pub suspended_and_resumed_told : issued (after two suspended_and_resumed)
+    ≡ told.Transaction ∷ told.Suspended 14 ∷ told.Resumed 0 ∷ told.EofSent ∷ told.TransactionFinished 0 Complete Retained ∷ []
+unfolding initial step state_of runs_of runs_from
+suspended_and_resumed_told = refl
+
+pub suspended_and_resumed_legal : IsLegal two (after two suspended_and_resumed)
+unfolding initial step state_of answer_at runs_of runs_from
+suspended_and_resumed_legal = (refl, tt, refl, (refl, tt, refl, (refl, tt, refl, (refl, tt, refl, (refl, tt, refl, (refl, tt, refl, (refl, tt, refl, (refl, tt, refl, tt))))))))
+
+-- what is asked for beyond the size does not remain, and an EOF that cancels is none that was acknowledged
+pub beyond_the_size_remains_not : (state_of two (after two (sent_all ++ asks (record { start = 2; end = 9 } ∷ []) ∷ []))).remains 5 ≡ false
+unfolding initial step state_of runs_of runs_from
+beyond_the_size_remains_not = refl
+
+pub cancelled_not_acknowledged : (state_of two (after two cancel_acknowledged)).acknowledged ≡ false
+unfolding initial step state_of runs_of runs_from
+cancelled_not_acknowledged = refl
+
+-- ---- logs that are not legal
+
+-- an event after an end
+pub not_after_an_end : IsLegal one (after one (put ∷ happens what.Cancel ∷ report ∷ [])) → ⊥
+unfolding initial step state_of answer_at runs_of runs_from
+not_after_an_end legal = true≢false legal.0
+
+-- a first event that is no Put, and a Put that is not the first
+pub not_without_put : IsLegal one (after one (report ∷ [])) → ⊥
+unfolding initial step state_of answer_at runs_of runs_from
+not_without_put legal = legal.1
+
+pub not_put_twice : IsLegal one (after one (put ∷ put ∷ [])) → ⊥
+unfolding initial step state_of answer_at runs_of runs_from
+not_put_twice legal = legal.1
+
+-- an event that is refused
+pub not_refused : IsLegal one (after one (put ∷ happens what.Resume ∷ [])) → ⊥
+unfolding initial step state_of answer_at runs_of runs_from
+not_refused legal = let e : None ≡ Some (told.Resumed 0 ∷ []) = ap tells legal.2 in absurd cc
+
+-- an answer that is not the table's
+pub not_another_answer : IsLegal one (record { event = put; answer = quiet } ∷ []) → ⊥
+unfolding initial step state_of answer_at runs_of runs_from
+not_another_answer legal = let e : Some (told.Transaction ∷ []) ≡ Some [] = ap tells legal.2 in absurd cc

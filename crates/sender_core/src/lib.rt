@@ -1,2 +1,26 @@
-//! The sending end of a transaction: so far what it answers, as definitions. The code comes later.
+//! The sending end of a transaction, in both classes: what it answers, what holds of every sender, and
+//! the code, which plans an event and then carries it out.
 #![tactic(auto)]
+
+pub mod laws;
+mod left;
+mod lists;
+mod opening;
+mod pdus;
+mod plan;
+mod planning;
+mod refusals;
+mod remaining;
+mod row;
+mod rows;
+mod sender;
+mod standing;
+mod steps;
+mod timers;
+
+pub use lists::{Answer, Pdus, TimerOps};
+pub use plan::Plan;
+pub use sender::SenderCore;
+
+#[cfg(test)]
+mod tests;

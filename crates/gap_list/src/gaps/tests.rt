@@ -19,6 +19,17 @@ fn runs_that_overlap(rt: HostRuntime) -> Result<(), Fail> {
 }
 
 #[test]
+fn run_over_two_parts(rt: HostRuntime) -> Result<(), Fail> {
+    let mut gaps = Gaps::new(rt.alloc());
+    let _ = gaps.cover(0, 2)?;
+    let _ = gaps.cover(4, 6)?;
+    let new = [Run { start: 2, end: 4 }, Run { start: 6, end: 8 }];
+    assert_eq!(rt; gaps.cover(0, 8)?.as_slice(), new.as_slice());
+    assert!(rt; gaps.is_full(8) && gaps.extent() == 8);
+    Ok(())
+}
+
+#[test]
 fn single_octets(rt: HostRuntime) -> Result<(), Fail> {
     let mut gaps = Gaps::new(rt.alloc());
     for offset in 0..65 {
@@ -50,12 +61,26 @@ fn nothing(rt: HostRuntime) -> Result<(), Fail> {
     Ok(())
 }
 
+// Where the first try is refused memory, nothing has changed and the second goes well.
 #[test]
 fn refused_memory(rt: HostRuntime) -> Result<(), Fail> {
     let mut gaps = Gaps::new(rt.alloc());
     for offset in 0..4 {
-        let _ = gaps.cover(2 * offset, 2 * offset + 1)?;
+        let extent = gaps.extent();
+        if gaps.cover(2 * offset, 2 * offset + 1).is_err() {
+            assert!(rt; gaps.extent() == extent && !gaps.is_full(2 * offset + 1));
+            let _ = gaps.cover(2 * offset, 2 * offset + 1)?;
+        }
     }
+    let copied = match gaps.copy() {
+        Ok(copied) => copied,
+        Err(_) => gaps.copy()?,
+    };
+    let missing = match copied.missing(9) {
+        Ok(missing) => missing,
+        Err(_) => copied.missing(9)?,
+    };
+    assert_eq!(rt; missing.len(), 4);
     if gaps.cover(0, 9).is_err() {
         assert!(rt; gaps.extent() == 7 && gaps.is_full(1) && !gaps.is_full(2));
         assert_eq!(rt; gaps.cover(0, 9)?.len(), 4);

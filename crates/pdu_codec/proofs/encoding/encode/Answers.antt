@@ -1,4 +1,3 @@
-use Rattle.std.proofs.Common.{arith}
 use Rattle.pdu_codec.proofs.WriteLaws.{room_for_pdu, encoded}
 use Rattle.pdu_codec.proofs.encoding.encode.Goals as goal
 

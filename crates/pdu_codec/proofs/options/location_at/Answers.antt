@@ -1,11 +1,5 @@
-use Rattle.std.proofs.Common.{sym, ap, ◌∙◌, arith}
-use Rattle.std.specs.Option.{option_map}
-use Rattle.pdu_format.specs.Tlvs.{location_in}
-use Rattle.pdu_format.specs.Reading.{location_tlv_at}
-use Rattle.pdu_format.proofs.FieldLaws.{location_tlv_behind}
-use Rattle.pdu_format.proofs.ItemLaws.{items_to_end-none}
-use Rattle.pdu_codec.specs.Parts.{first_of}
-use Rattle.pdu_codec.proofs.ItemLaws.{is_more, none_left}
+use Rattle.std.proofs.Common.{◌∙◌}
+use Rattle.pdu_codec.proofs.ItemLaws.{is_more}
 use Rattle.pdu_codec.proofs.FieldLaws.{located_step, located_none, located_all}
 use Rattle.pdu_codec.proofs.options.location_at.Goals as goal
 

@@ -1,8 +1,8 @@
 use Rattle.std.proofs.Common.{drop, map}
 use Rattle.std.specs.List.{flat_map}
 use Rattle.pdu_format.specs.Tlvs.{message_tlv}
-use Rattle.pdu_format.specs.Spelling.{tlv, IsMessage}
-use Rattle.pdu_codec.specs.Writing.{HasRoom, WritesWith}
+use Rattle.pdu_format.specs.Spelling.{tlv}
+use Rattle.pdu_codec.specs.Writing.{WritesWith}
 use Rattle.pdu_codec.proofs.writing.put_messages.Given as goal
 
 abbrev pub invariant-loop-message : goal.invariant-loop-message

@@ -1,0 +1,131 @@
+-- A sender that is opened stands before its Put, and plans it.
+use Rattle.std.proofs.Common.{◌≡◌, ℕ, ◌<◌, ◌≤◌, Bool, true, false, ◌&&◌, ◌||◌, nat_lt, List, [], ◌∷◌, length, None, Ok, eqb, refl, sym, ap, ◌∙◌, arith, inl, inr}
+use Rattle.std.proofs.lemmas.Bool.{cases_Bool, ltb-true, le-ltb, lt-ltb}
+use Rattle.std.specs.Prelude.{IsOk, Err}
+use Rattle.cfdp_types.specs.declared.timer_op.TimerOp.{TimerOp}
+use Rattle.gap_list.specs.declared.run.Run.{Run}
+use Rattle.ind_words.specs.declared.indication.Indication.{Indication}
+use Rattle.pdu_format.specs.Pdu.{PduValue}
+use Rattle.pdu_codec.specs.declared.event.Refusal.TheVariants as refusal
+use Rattle.sender_core.specs.Core.{IsPlanOf, left_of, plan_answer, sending_of, shown}
+use Rattle.sender_core.specs.declared.plan.Left.TheVariants as left
+use Rattle.sender_core.specs.declared.plan.Plan.{Plan}
+use Rattle.sender_core.specs.declared.sender.SenderCore.{SenderCore}
+use Rattle.std.proofs.lemmas.Bool.Decides.{nat_tests}
+use Rattle.cfdp_types.specs.declared.names.TimerKind.{TimerKind}
+use Rattle.cfdp_types.specs.declared.names.TimerKind.TheVariants.{Ack, Nak, Check, Inactivity}
+use Rattle.gap_list.specs.Runs.{in_runs}
+use Rattle.ind_words.specs.declared.indication.Indication.TheVariants as told
+use Rattle.sender_core.specs.Sending.{Sending, State, Answer, put, initial, step, state_of}
+use Rattle.sender_core.specs.Answers.{answer_at}
+use Rattle.sender_core.specs.Remaining.{whole}
+use Rattle.sender_core.specs.Standing.{state_from, first, IsInside}
+use Rattle.sender_core.specs.declared.standing.Standing.{Standing}
+use Rattle.sender_core.proofs.PlanLemmas.{same_state}
+
+pub whole_has : (size i : ℕ) → in_runs (whole size) i ≡ nat_lt i size
+whole_has size i =
+    elim (cases_Bool (eqb size 0)) [
+      | inl none ↦ rw none (grind (arith, nat_tests, none))
+      | inr some ↦ rw some (grind (arith, nat_tests))
+    ]
+
+pub whole_inside : (size : ℕ) → IsInside size (in_runs (whole size))
+whole_inside size i has = ltb-true i size (sym (whole_has size i) ∙ has)
+
+none_runs : (kind : TimerKind) → (state_from (first 0) (λ i. false)).armed kind ≡ None
+none_runs Ack = refl
+none_runs Nak = refl
+none_runs Check = refl
+none_runs Inactivity = refl
+
+none_expired : (kind : TimerKind) → (state_from (first 0) (λ i. false)).tries kind ≡ 0
+none_expired Ack = refl
+none_expired Nak = refl
+none_expired Check = refl
+none_expired Inactivity = refl
+
+pub opened : (sending : Sending) → state_from (first 0) (in_runs (whole (length sending.request.file))) ≡ initial sending
+unfolding initial
+opened sending =
+    same_state (state_from (first 0) (in_runs (whole (length sending.request.file)))) _ refl refl (λ i. whole_has (length sending.request.file) i) refl refl refl refl none_runs none_expired refl
+
+still : (set below : Bool) → set ≡ ((set && true) || (below && false))
+still true below = refl
+still false true = refl
+still false false = refl
+
+put_tries : (sending : Sending) (remains : ℕ → Bool) (kind : TimerKind)
+    → (state_from (first 1) remains).tries kind ≡ (step sending (state_from (first 0) remains) (record { event = put; answer = record { inds = told.Transaction ∷ []; pdus = []; timers = [] } })).tries kind
+unfolding step
+put_tries sending remains Ack = refl
+put_tries sending remains Nak = refl
+put_tries sending remains Check = refl
+put_tries sending remains Inactivity = refl
+
+pub put_follows : (sending : Sending) (remains : ℕ → Bool)
+    → state_from (first 1) remains ≡ step sending (state_from (first 0) remains) (record { event = put; answer = record { inds = told.Transaction ∷ []; pdus = []; timers = [] } })
+unfolding step
+put_follows sending remains =
+    same_state (state_from (first 1) remains) _ refl refl (λ i. still (remains i) (nat_lt i (length sending.request.file))) refl refl refl refl (λ kind. refl)
+    (put_tries sending remains) refl
+
+pub put_answered : (sending : Sending) (remains : ℕ → Bool) → length sending.request.file ≤ 4194304
+    → answer_at sending (state_from (first 0) remains) put ≡ Ok (record { inds = told.Transaction ∷ []; pdus = []; timers = [] })
+unfolding answer_at step
+put_answered sending remains small = rw (le-ltb 4194304 (length sending.request.file) small) refl
+
+pub opens : (sending : Sending) (standing : Standing) (runs : List Run) (size : ℕ) → standing ≡ first 0 → runs ≡ whole size → size ≡ length sending.request.file
+    → state_from standing (in_runs runs) ≡ state_of sending []
+unfolding state_of
+opens sending standing runs size stands are is =
+    ap (λ s. state_from s (in_runs runs)) stands
+    ∙ ap (λ r. state_from (first 0) (in_runs r)) (are ∙ ap whole is)
+    ∙ opened sending
+
+pub next_is : (standing : Standing) → standing ≡ first 0 → record standing { place = 1 } ≡ first 1
+next_is standing is = ap (λ (s : Standing). record s { place = 1 }) is
+
+made_answer : List Indication → List PduValue → List TimerOp → Answer
+made_answer inds pdus timers = record { inds = inds; pdus = pdus; timers = timers }
+
+same_answer : (inds inds' : List Indication) (pdus pdus' : List PduValue) (timers timers' : List TimerOp) → inds ≡ inds' → pdus ≡ pdus' → timers ≡ timers'
+    → made_answer inds pdus timers ≡ made_answer inds' pdus' timers'
+same_answer inds inds' pdus pdus' timers timers' a b c = cc
+
+answer_is : (plan : Plan) → plan.answer.inds ≡ told.Transaction ∷ [] → plan.answer.pdus ≡ [] → plan.answer.timers ≡ []
+    → plan_answer plan ≡ record { inds = told.Transaction ∷ []; pdus = []; timers = [] }
+unfolding made_answer
+answer_is plan a b c = same_answer plan.answer.inds (told.Transaction ∷ []) plan.answer.pdus [] plan.answer.timers [] a b c
+
+pub put_plan : (core : SenderCore) (plan : Plan) → core.standing ≡ first 0 → plan.next ≡ first 1 → plan.left ≡ left.Same
+    → plan.answer.inds ≡ told.Transaction ∷ [] → plan.answer.pdus ≡ [] → plan.answer.timers ≡ []
+    → plan.answer.deposit ≡ None → IsPlanOf core plan put
+put_plan core plan stands next is_left inds pdus timers nothing =
+    let s : Sending = sending_of core in
+    let remains : ℕ → Bool = in_runs core.remaining in
+    let empty : Answer = record { inds = told.Transaction ∷ []; pdus = []; timers = [] } in
+    let answer : plan_answer plan ≡ empty = answer_is plan inds pdus timers in
+    record {
+      accepted = ap (λ st. answer_at s (state_from st remains) put) stands ∙ put_answered s remains core.small ∙ ap Ok (sym answer);
+      follows = ap (λ n. state_from n (left_of core.remaining plan.left)) next
+          ∙ ap (λ l. state_from (first 1) (left_of core.remaining l)) is_left
+          ∙ put_follows s remains
+          ∙ ap (λ st. step s (state_from st remains) (record { event = put; answer = empty })) (sym stands)
+          ∙ ap (λ a. step s (shown core) (record { event = put; answer = a })) (sym answer);
+      nothing = nothing;
+      inside = λ i has. core.inside i (ap (λ l. left_of core.remaining l i) (sym is_left) ∙ has);
+      sound = λ runs. rw next (record {
+        few = record { place = omega arith; ack = omega arith; nak = omega arith; check = omega arith; inactivity = omega arith };
+        goes_on = λ e. omega arith;
+        progress = omega arith;
+      });
+    }
+
+pub put_refused : (sending : Sending) (state : State) → 4194304 < length sending.request.file → answer_at sending state put ≡ Err refusal.TooLarge
+unfolding answer_at
+put_refused sending state large = rw (lt-ltb 4194304 (length sending.request.file) large) refl
+
+pub put_taken : (sending : Sending) (state : State) → length sending.request.file ≤ 4194304 → IsOk (answer_at sending state put)
+unfolding answer_at
+put_taken sending state small = rw (le-ltb 4194304 (length sending.request.file) small) refl

@@ -1,0 +1,286 @@
+-- A plan holds the table's answer, and what follows it.
+use Rattle.std.proofs.Common.{◌≡◌, ◌⊎◌, ℕ, ◌+◌, ◌<◌, ◌≤◌, Bool, true, false, not, ◌&&◌, ◌||◌, nat_lt, if◌then◌else◌, List, length, Option, Some, None, Ok, Err, Result, refl, sym, ap, subst, ◌∙◌, arith, inl, inr}
+use Rattle.std.proofs.Math.Path.{fun_ext}
+use Rattle.std.proofs.lemmas.Bool.{leb-false, ltb-true}
+use Rattle.std.specs.Prelude.{IsOk, IfOk, IfErr}
+use Rattle.gap_list.specs.Runs.{in_runs}
+use Rattle.std.specs.List.{list_any}
+use Rattle.std.specs.Option.{option_to_list}
+use Rattle.cfdp_types.specs.Condition as condition
+use Rattle.cfdp_types.specs.Handlers.{handler_in}
+use Rattle.cfdp_types.specs.Params.{timer_length}
+use Rattle.cfdp_types.specs.Steps.{Effect, arms, keeps, stops, armed_after, operations, newer_or}
+use Rattle.cfdp_types.proofs.StepLemmas.{armed_by, armed_after-operations}
+use Rattle.cfdp_types.specs.declared.condition.Condition.{Condition}
+use Rattle.cfdp_types.specs.declared.names.Class.{Class}
+use Rattle.cfdp_types.specs.declared.names.Class.TheVariants.{One, Two}
+use Rattle.cfdp_types.specs.declared.names.Handler.{Handler}
+use Rattle.cfdp_types.specs.declared.names.Handler.TheVariants as handler
+use Rattle.cfdp_types.specs.declared.names.TimerKind.{TimerKind}
+use Rattle.cfdp_types.specs.declared.names.TimerKind.TheVariants.{Ack, Nak, Check, Inactivity}
+use Rattle.cfdp_types.specs.declared.timer_op.TimerOp.{TimerOp}
+use Rattle.ind_words.specs.Words.{is_end}
+use Rattle.ind_words.specs.Told.{paused_after}
+use Rattle.ind_words.specs.declared.indication.Indication.{Indication}
+use Rattle.pdu_codec.specs.declared.event.What.{What}
+use Rattle.pdu_codec.specs.declared.event.What.TheVariants as what
+use Rattle.pdu_codec.specs.declared.event.Refusal.{Refusal}
+use Rattle.pdu_codec.specs.declared.event.Refusal.TheVariants as refusal
+use Rattle.pdu_codec.specs.Events.{is_of_other_class, is_stale_timer, needs_room}
+use Rattle.pdu_format.specs.Pdu.{PduValue}
+use Rattle.pdu_format.specs.declared.bodies.Eof.{Eof}
+use Rattle.sender_core.specs.Sending.{Sending, State, Event, happens, Answer, Entry, step, state_of, covers, asks_for, requests_of, eof_among, extent_of}
+use Rattle.sender_core.specs.Refusals.{refusal_of, is_stale_store, is_misplaced, is_full}
+use Rattle.sender_core.specs.Answers.{Row, cancels, faults, row_of, seen, untimed, timed, accepted_at, answer_at, effect_of}
+use Rattle.sender_core.specs.Standing.{state_from, nowhere, AreFew, IsSound, IsInside}
+use Rattle.sender_core.specs.Timers.{stamp_of, stamp_by}
+use Rattle.sender_core.specs.Core.{shown, sending_of, sent, IsRow, IsNext, IsPlanned, IsPlanOf, IsWhy, StandsAfter, effect_by, arming, left_of, remains_after, plan_answer}
+use Rattle.sender_core.specs.declared.plan.Left.{Left}
+use Rattle.sender_core.specs.declared.plan.Plan.{Plan}
+use Rattle.sender_core.specs.declared.row.Row as row_type
+use Rattle.sender_core.specs.declared.sender.SenderCore.{SenderCore}
+
+-- ---- the event is seen before it is answered
+
+cancels_same : (sending : Sending) (a b : State) (code : Condition) (class : Class) → sending.request.class ≡ class → a.progress ≡ b.progress → cancels sending a code ≡ cancels sending b code
+cancels_same sending a b code One is e = rw (is, e) refl
+cancels_same sending a b code Two is e = rw (is, e) refl
+
+faults_same : (sending : Sending) (a b : State) (kind : TimerKind) (code : Condition) (h : Handler) → handler_in sending.params.tables.send code ≡ h → a.progress ≡ b.progress
+    → faults sending a kind code ≡ faults sending b kind code
+faults_same sending a b kind code handler.Cancel is e = rw is (cancels_same sending a b code sending.request.class refl e)
+faults_same sending a b kind code handler.Suspend is e = rw is refl
+faults_same sending a b kind code handler.Ignore is e = rw (is, e) refl
+faults_same sending a b kind code handler.Abandon is e = rw (is, e) refl
+
+row_same : (sending : Sending) (front a b : State) (event : What) → a.progress ≡ b.progress → a.eof ≡ b.eof → a.paused ≡ b.paused → a.ended ≡ b.ended
+    → row_of sending front a (happens event) ≡ row_of sending front b (happens event)
+row_same sending front a b what.Pump p e s d = refl
+row_same sending front a b (what.Pdu pdu) p e s d = refl
+row_same sending front a b (what.Timer Ack stamp) p e s d = rw (faults_same sending a b Ack condition.positive_ack_limit _ refl p) refl
+row_same sending front a b (what.Timer Inactivity stamp) p e s d = faults_same sending a b Inactivity condition.inactivity _ refl p
+row_same sending front a b (what.Timer Nak stamp) p e s d = refl
+row_same sending front a b (what.Timer Check stamp) p e s d = refl
+row_same sending front a b what.Cancel p e s d = cancels_same sending a b condition.cancel_request _ refl p
+row_same sending front a b what.Suspend p e s d = refl
+row_same sending front a b what.Resume p e s d = rw p refl
+row_same sending front a b what.Report p e s d = rw (p, e, s, d) refl
+row_same sending front a b what.Abandon p e s d = rw p refl
+row_same sending front a b (what.Stored stamp kept) p e s d = refl
+
+or_false : (b : Bool) → (b || false) ≡ b
+or_false true = refl
+or_false false = refl
+
+seen_row : (sending : Sending) (state : State) (event : What) → row_of sending state (seen sending state (happens event)) (happens event) ≡ row_of sending state state (happens event)
+unfolding step
+seen_row sending state event = row_same sending state (seen sending state (happens event)) state event (omega arith) refl refl (or_false state.ended)
+
+-- ---- the answer
+
+effect_same : (r s : Row) (a b : State) (event : Event) (kind : TimerKind) → r.arms ≡ s.arms → a.ended ≡ b.ended → a.paused ≡ b.paused → a.eof ≡ b.eof → a.acknowledged ≡ b.acknowledged
+    → effect_of r a event kind ≡ effect_of s b event kind
+effect_same r s a b event kind x d p e k = rw (x, d, p, e, k) refl
+
+made_answer : List Indication → List PduValue → List TimerOp → Answer
+made_answer inds pdus timers = record { inds = inds; pdus = pdus; timers = timers }
+
+same_answer : (inds inds' : List Indication) (pdus pdus' : List PduValue) (timers timers' : List TimerOp) → inds ≡ inds' → pdus ≡ pdus' → timers ≡ timers'
+    → made_answer inds pdus timers ≡ made_answer inds' pdus' timers'
+same_answer inds inds' pdus pdus' timers timers' a b c = cc
+
+effects_are : (core : SenderCore) (event : What) (row : row_type.Row) (wanted : Row) (plan : Plan) → IsRow (sending_of core) row wanted → IsNext core.standing event row plan.next
+    → effect_of wanted (step (sending_of core) (shown core) (record { event = happens event; answer = untimed (sending_of core) wanted })) (happens event) ≡ effect_by plan.next event row
+unfolding step
+effects_are core event row wanted plan is next =
+    fun_ext (λ kind. effect_same wanted (arming row.arms) (step (sending_of core) (shown core) (record { event = happens event; answer = untimed (sending_of core) wanted })) (state_from plan.next nowhere) (happens event) kind (sym is.arms)
+    (ap (λ inds. core.standing.ended || list_any is_end inds) (sym is.inds) ∙ sym next.ended)
+    (ap (λ inds. paused_after core.standing.paused inds) (sym is.inds) ∙ sym next.paused)
+    (ap (λ pdus. newer_or (eof_among pdus) core.standing.eof) (sym is.pdus) ∙ sym next.eof)
+    (sym next.acknowledged))
+
+pub accepted_is : (core : SenderCore) (event : What) (row : row_type.Row) (left : Left) (plan : Plan)
+    → IsRow (sending_of core) row (row_of (sending_of core) (shown core) (shown core) (happens event)) → IsPlanned core event row left plan
+    → accepted_at (sending_of core) (shown core) (happens event) ≡ plan_answer plan
+unfolding made_answer
+accepted_is core event row left plan is planned =
+    let s : Sending = sending_of core in
+    let f : State = shown core in
+    let wanted : Row = row_of s f f (happens event) in
+    ap (λ (r : Row). timed s f (happens event) r (untimed s r)) (seen_row s f event)
+    ∙ same_answer wanted.inds plan.answer.inds (sent s wanted) plan.answer.pdus _ plan.answer.timers
+    (sym (planned.inds ∙ is.inds)) (sym (planned.pdus ∙ is.pdus))
+    (ap (λ e. operations s.key (timer_length s.params.timers) f.place e f.armed) (effects_are core event row wanted plan is planned.next) ∙ sym planned.timers)
+
+-- ---- the state that follows
+
+made : ℕ → Bool → (ℕ → Bool) → ℕ → Option Eof → Bool → Bool → (TimerKind → Option ℕ) → (TimerKind → ℕ) → Bool → State
+made place metadata remains progress eof acknowledged paused armed tries ended = record {
+  place = place;
+  metadata_remains = metadata;
+  remains = remains;
+  progress = progress;
+  eof = eof;
+  acknowledged = acknowledged;
+  paused = paused;
+  armed = armed;
+  tries = tries;
+  ended = ended;
+}
+
+same_made : (a b : State) → a.place ≡ b.place → a.metadata_remains ≡ b.metadata_remains → a.remains ≡ b.remains → a.progress ≡ b.progress → a.eof ≡ b.eof
+    → a.acknowledged ≡ b.acknowledged → a.paused ≡ b.paused → a.armed ≡ b.armed → a.tries ≡ b.tries → a.ended ≡ b.ended
+    → made a.place a.metadata_remains a.remains a.progress a.eof a.acknowledged a.paused a.armed a.tries a.ended
+    ≡ made b.place b.metadata_remains b.remains b.progress b.eof b.acknowledged b.paused b.armed b.tries b.ended
+same_made a b x1 x2 x3 x4 x5 x6 x7 x8 x9 x10 = cc
+
+-- states whose parts are the same
+pub same_state : (a b : State) → a.place ≡ b.place → a.metadata_remains ≡ b.metadata_remains → ((i : ℕ) → a.remains i ≡ b.remains i) → a.progress ≡ b.progress → a.eof ≡ b.eof
+    → a.acknowledged ≡ b.acknowledged → a.paused ≡ b.paused → ((kind : TimerKind) → a.armed kind ≡ b.armed kind) → ((kind : TimerKind) → a.tries kind ≡ b.tries kind) → a.ended ≡ b.ended → a ≡ b
+unfolding made
+same_state a b x1 x2 x3 x4 x5 x6 x7 x8 x9 x10 = same_made a b x1 x2 (fun_ext x3) x4 x5 x6 x7 (fun_ext x8) (fun_ext x9) x10
+
+stamp_is : (place : ℕ) (effect : Effect) (before : Option ℕ) → stamp_by place effect before ≡ armed_by place effect before
+stamp_is place arms before = refl
+stamp_is place keeps before = refl
+stamp_is place stops before = refl
+
+pub follows : (core : SenderCore) (event : What) (row : row_type.Row) (left : Left) (plan : Plan)
+    → IsRow (sending_of core) row (row_of (sending_of core) (shown core) (shown core) (happens event)) → IsPlanned core event row left plan
+    → ((i : ℕ) → left_of core.remaining left i ≡ remains_after (sending_of core) (shown core) event i)
+    → state_from plan.next (left_of core.remaining plan.left) ≡ step (sending_of core) (shown core) (record { event = happens event; answer = plan_answer plan })
+unfolding step
+follows core event row left plan is planned remains =
+    let s : Sending = sending_of core in
+    let f : State = shown core in
+    let next = planned.next in
+    let pdus : option_to_list row.pdu ≡ plan.answer.pdus = sym planned.pdus in
+    let inds : row.inds ≡ plan.answer.inds = sym planned.inds in
+    same_state (state_from plan.next (left_of core.remaining plan.left)) _
+    next.place
+    (rw pdus at next.metadata)
+    (λ i. ap (λ l. left_of core.remaining l i) planned.left_is ∙ remains i
+    ∙ ap (λ p. (f.remains i && not (list_any (covers i) p)) || (nat_lt i (length s.request.file) && list_any (asks_for i) (requests_of (happens event)))) (sym (planned.pdus ∙ is.pdus)))
+    (rw pdus at next.progress) (rw pdus at next.eof) next.acknowledged (rw inds at next.paused)
+    (λ kind. planned.armed kind ∙ stamp_is core.standing.place (effect_by plan.next event row kind) (stamp_of core.standing.armed kind)
+    ∙ sym (armed_after-operations core.key (timer_length core.params.timers) core.standing.place (effect_by plan.next event row) (stamp_of core.standing.armed) kind)
+    ∙ ap (λ t. armed_after core.standing.place (stamp_of core.standing.armed kind) t kind) (sym planned.timers))
+    (λ kind. rw (pdus, inds) at (next.tries kind))
+    (rw inds at next.ended)
+
+-- ---- what the code can hold
+
+counted : (again expired : Bool) (t place : ℕ) → t ≤ place → (if again then 0 else if expired then t + 1 else t) ≤ place + 1
+counted true expired t place le = omega arith
+counted false true t place le = omega (arith, le)
+counted false false t place le = omega (arith, le)
+
+refused_not : {A : Type 0} (a b c d e : Bool) (v w x y z : A) → (if a then Some v else if b then Some w else if c then Some x else if d then Some y else if e then Some z else None) ≡ None
+    → (c ≡ false) × (e ≡ false)
+refused_not true b c d e v w x y z h = absurd cc
+refused_not false true c d e v w x y z h = absurd cc
+refused_not false false true d e v w x y z h = absurd cc
+refused_not false false false true e v w x y z h = absurd cc
+refused_not false false false false true v w x y z h = absurd cc
+refused_not false false false false false v w x y z h = (refl, refl)
+
+-- a transaction that goes on has room in its journal
+room : (sending : Sending) (front : State) (event : What) (row : row_type.Row) (b : Bool) → refusal_of sending front event ≡ None
+    → IsRow sending row (row_of sending front front (happens event)) → (b || list_any is_end row.inds) ≡ false → needs_room event ≡ true → front.place + 1 ≤ 65534
+room sending front event row b taken is goes_on needs =
+    let full : (is_full front && needs_room event) ≡ false = (refused_not (is_of_other_class sending.request.class event) (is_stale_timer front.armed event) (is_stale_store event) (is_misplaced sending front event) (is_full front && needs_room event) refusal.ModeMismatch refusal.StaleTimer refusal.StaleStored refusal.WrongState refusal.JournalFull taken).1 in
+    let open_ : (is_full front && true) ≡ false = rw needs at full in
+    let below : front.place < 65534 = leb-false 65534 front.place (sym (and_true (is_full front)) ∙ open_) in
+    omega arith
+  where
+    and_true : (b : Bool) → (b && true) ≡ b
+    and_true true = refl
+    and_true false = refl
+
+ends_true : (b : Bool) → (b || true) ≡ true
+ends_true true = refl
+ends_true false = refl
+
+goes_on : (sending : Sending) (front : State) (event : What) (row : row_type.Row) (b : Bool) → refusal_of sending front event ≡ None
+    → IsRow sending row (row_of sending front front (happens event)) → (b || list_any is_end row.inds) ≡ false → front.place + 1 ≤ 65534
+goes_on sending front (what.Pdu pdu) row b taken is e = room sending front (what.Pdu pdu) row b taken is e refl
+goes_on sending front (what.Timer kind stamp) row b taken is e = room sending front (what.Timer kind stamp) row b taken is e refl
+goes_on sending front what.Pump row b taken is e = room sending front what.Pump row b taken is e refl
+goes_on sending front what.Cancel row b taken is e = room sending front what.Cancel row b taken is e refl
+goes_on sending front what.Suspend row b taken is e = room sending front what.Suspend row b taken is e refl
+goes_on sending front what.Resume row b taken is e = room sending front what.Resume row b taken is e refl
+goes_on sending front what.Report row b taken is e = room sending front what.Report row b taken is e refl
+goes_on sending front what.Abandon row b taken is e =
+    let ends : (b || true) ≡ false = rw is.inds at e in
+    let yes : (b || true) ≡ true = ends_true b in absurd cc
+goes_on sending front (what.Stored stamp kept) row b taken is e = let stale = (refused_not (is_of_other_class sending.request.class (what.Stored stamp kept)) (is_stale_timer front.armed (what.Stored stamp kept)) (is_stale_store (what.Stored stamp kept)) (is_misplaced sending front (what.Stored stamp kept)) (is_full front && needs_room (what.Stored stamp kept)) refusal.ModeMismatch refusal.StaleTimer refusal.StaleStored refusal.WrongState refusal.JournalFull taken).0 in absurd cc
+
+pub sound_after : (core : SenderCore) (event : What) (row : row_type.Row) (left : Left) (plan : Plan) → refusal_of (sending_of core) (shown core) event ≡ None
+    → IsRow (sending_of core) row (row_of (sending_of core) (shown core) (shown core) (happens event)) → IsPlanned core event row left plan
+    → extent_of (option_to_list row.pdu) ≤ length core.request.file → core.standing.ended ≡ false → IsSound (length core.request.file) plan.next
+sound_after core event row left plan taken is planned inside runs =
+    let next = planned.next in
+    let old : AreFew core.standing = core.sound.few in
+    let few : core.standing.place ≤ 65534 = core.sound.goes_on runs in
+    let place : plan.next.place ≡ core.standing.place + 1 = next.place in
+    record {
+      few = record {
+        place = omega (arith, place, few);
+        ack = rw (next.tries Ack, place) (counted _ _ core.standing.tries.ack core.standing.place old.ack);
+        nak = rw (next.tries Nak, place) (counted _ _ core.standing.tries.nak core.standing.place old.nak);
+        check = rw (next.tries Check, place) (counted _ _ core.standing.tries.check core.standing.place old.check);
+        inactivity = rw (next.tries Inactivity, place) (counted _ _ core.standing.tries.inactivity core.standing.place old.inactivity);
+      };
+      goes_on = λ e. rw place (goes_on (sending_of core) (shown core) event row core.standing.ended taken is (sym next.ended ∙ e));
+      progress = omega (arith, next.progress, inside, core.sound.progress);
+    }
+
+inside_after : (state_has lt covered asked : Bool) → ((state_has && covered) || (lt && asked)) ≡ true → (state_has ≡ true) ⊎ (lt ≡ true)
+inside_after true lt covered asked e = inl refl
+inside_after false true covered asked e = inr refl
+inside_after false false covered asked e = absurd cc
+
+pub still_inside : (core : SenderCore) (event : What) (left : Left) → ((i : ℕ) → left_of core.remaining left i ≡ remains_after (sending_of core) (shown core) event i)
+    → IsInside (length core.request.file) (left_of core.remaining left)
+still_inside core event left is i has =
+    elim (inside_after (in_runs core.remaining i) (nat_lt i (length core.request.file)) _ _ (sym (is i) ∙ has)) [
+      | inl kept ↦ core.inside i kept
+      | inr below ↦ ltb-true i (length core.request.file) below
+    ]
+
+pub is_plan : (core : SenderCore) (event : What) (row : row_type.Row) (left : Left) (plan : Plan) → refusal_of (sending_of core) (shown core) event ≡ None
+    → IsRow (sending_of core) row (row_of (sending_of core) (shown core) (shown core) (happens event)) → IsPlanned core event row left plan
+    → ((i : ℕ) → left_of core.remaining left i ≡ remains_after (sending_of core) (shown core) event i)
+    → extent_of (option_to_list row.pdu) ≤ length core.request.file → IsPlanOf core plan (happens event)
+unfolding answer_at
+is_plan core event row left plan taken is planned remains inside = record {
+  accepted = rw taken (ap Ok (accepted_is core event row left plan is planned));
+  follows = follows core event row left plan is planned remains;
+  nothing = planned.nothing;
+  inside = λ i has. still_inside core event left remains i (ap (λ l. left_of core.remaining l i) (sym planned.left_is) ∙ has);
+  sound = sound_after core event row left plan taken is planned inside;
+}
+
+pub refused_is : (sending : Sending) (state : State) (event : What) (why : Refusal) → refusal_of sending state event ≡ Some why → answer_at sending state (happens event) ≡ Err why
+unfolding answer_at
+refused_is sending state event why is = rw is refl
+
+pub answered_is : (sending : Sending) (state : State) (event : What) → refusal_of sending state event ≡ None → IsOk (answer_at sending state (happens event))
+unfolding answer_at
+answered_is sending state event taken = rw taken refl
+
+-- ---- over a log that the core stands after
+
+pub accepted_over : (core : SenderCore) (event : What) (result : Result Plan Refusal) (log : List Entry) → StandsAfter core log
+    → IfOk result (λ plan. IsPlanOf core plan (happens event))
+    → IfOk result (λ plan. answer_at (sending_of core) (state_of (sending_of core) log) (happens event) ≡ Ok (plan_answer plan))
+accepted_over core event (Ok plan) log stood planned =
+    subst (λ state. answer_at (sending_of core) state (happens event) ≡ Ok (plan_answer plan)) stood planned.accepted
+accepted_over core event (Err why) log stood planned = tt
+
+pub refused_over : (core : SenderCore) (event : What) (result : Result Plan Refusal) (log : List Entry) → StandsAfter core log
+    → IfErr result (λ why. IsWhy (answer_at (sending_of core) (shown core) (happens event)) why)
+    → IfErr result (λ why. IsWhy (answer_at (sending_of core) (state_of (sending_of core) log) (happens event)) why)
+refused_over core event (Ok plan) log stood planned = tt
+refused_over core event (Err why) log stood planned =
+    subst (λ state. IsWhy (answer_at (sending_of core) state (happens event)) why) stood planned

@@ -1,0 +1,35 @@
+use crate::lists::Answer;
+use crate::remaining::Remaining;
+use crate::standing::Standing;
+
+/// What an event makes of the offsets that are still to be sent.
+#[derive(Debug, Drop)]
+pub(crate) enum Left {
+    /// They are the same.
+    Same,
+    /// So many of the first offsets of the lowest run are sent.
+    Without(u32),
+    /// More are asked for.
+    Anew(Remaining),
+}
+
+/// An event that is accepted, with its answer and all memory that it takes. It can be carried out
+/// in the state that it was made in.
+#[derive(Debug, Drop)]
+pub struct Plan {
+    pub(crate) next: Standing,
+    pub(crate) left: Left,
+    pub(crate) answer: Answer,
+}
+
+impl Plan {
+    ghost use Rattle.std.specs.Prelude.{◌≡◌};
+    ghost use Rattle.sender_core.specs.Core.{plan_answer, answer_value};
+
+    /// What the event will be answered.
+    pub fn answer(&self) -> &Answer
+        ensures { answer_value result.now ≡ plan_answer self.now }
+    {
+        &self.answer
+    }
+}

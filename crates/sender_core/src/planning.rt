@@ -1,0 +1,99 @@
+//! How an event is planned.
+ghost use Rattle.std.specs.Prelude.{◌≡◌, IfOk};
+ghost use Rattle.std.specs.Option.{option_to_list};
+
+use crate::lists::{Answer, Pdus, TimerOps};
+use crate::plan::{Left, Plan};
+use crate::row::Row;
+use crate::sender::SenderCore;
+use crate::standing::Standing;
+use crate::steps::{changes, next};
+use crate::timers::{Changes, Clock, operations};
+use pdu_codec::{Pdu, Refusal, What};
+use std::alloc::{AllocError, Global};
+
+impl SenderCore {
+    ghost use Rattle.std.specs.Prelude.{◌≡◌, ◌≤◌, IfOk, IfErr, List, Ok};
+    ghost use Rattle.std.specs.Option.{option_to_list};
+    ghost use Rattle.cfdp_types.specs.declared.limits.TheConstants.{FILE_OCTETS};
+    ghost use Rattle.cfdp_types.specs.Steps as steps;
+    ghost use Rattle.cfdp_types.specs.Params.{timer_length};
+    ghost use Rattle.sender_core.specs.Sending.{Entry, happens, extent_of, state_of};
+    ghost use Rattle.sender_core.specs.Answers.{answer_at};
+    ghost use Rattle.sender_core.specs.Timers.{effects, stamp_of};
+    ghost use Rattle.sender_core.specs.Core.{shown, sending_of, plan_answer, StandsAfter, IsPlanned, IsPlanOf, IsWhy};
+
+    // The operations that tell what a step does with the timers.
+    fn timer_ops(&self, changes: Changes) -> Result<TimerOps, AllocError>
+        ensures { IfOk result (λ ops. ops ≡ steps.operations self.now.key (timer_length self.now.params.timers) self.now.standing.place (effects changes) (stamp_of self.now.standing.armed)) }
+    {
+        let clock = Clock {
+            key: self.key,
+            lengths: self.params.timers(),
+            place: self.standing.place,
+        };
+        operations(self.alloc, &clock, changes, &self.standing.armed)
+    }
+
+    // The plan of an event that is answered by a row, and leaves so much to be sent.
+    fn planned(&self, event: &What, row: Row, left: Left) -> Result<Plan, AllocError>
+        requires { extent_of (option_to_list row.pdu) ≤ FILE_OCTETS }
+        ensures { IfOk result (λ plan. IsPlanned self.now event.now row left plan) }
+    {
+        let next = next(&self.standing, event, &row);
+        let changes = changes(&next, event, row.arms);
+        let timers = self.timer_ops(changes)?;
+        let pdus = listed(self.alloc, row.pdu)?;
+        let armed = self.standing.armed.after(changes, self.standing.place);
+        Ok(Plan {
+            next: Standing { armed, ..next },
+            left,
+            answer: Answer {
+                inds: row.inds,
+                pdus,
+                timers,
+                deposit: None,
+            },
+        })
+    }
+
+    // Plans an event in the present state.
+    fn plan_now(&self, event: &What) -> Result<Plan, Refusal>
+        ensures planned { IfOk result (λ plan. IsPlanOf self.now plan (happens event.now)) }
+        ensures refused { IfErr result (λ why. IsWhy (answer_at (sending_of self.now) (shown self.now) (happens event.now)) why) }
+    {
+        if let Some(refusal) = self.refusal_of(event) {
+            return Err(refusal);
+        }
+        let row = self.row_of(event)?;
+        let left = self.left(event)?;
+        let plan = self.planned(event, row, left)?;
+        Ok(plan)
+    }
+
+    /// Plans an event in the present state, which stays as it is: the plan holds all memory that the
+    /// event takes.
+    pub fn plan(&self, event: &What) -> Result<Plan, Refusal>
+        ensures planned { IfOk result (λ plan. IsPlanOf self.now plan (happens event.now)) }
+        ensures accepted { (log : List Entry) → StandsAfter self.now log
+            → IfOk result (λ plan. answer_at (sending_of self.now) (state_of (sending_of self.now) log) (happens event.now) ≡ Ok (plan_answer plan)) }
+        ensures refused { (log : List Entry) → StandsAfter self.now log
+            → IfErr result (λ why. IsWhy (answer_at (sending_of self.now) (state_of (sending_of self.now) log) (happens event.now)) why) }
+    {
+        self.plan_now(event)
+    }
+}
+
+// The PDU, if there is one.
+fn listed(alloc: Global, pdu: Option<Pdu>) -> Result<Pdus, AllocError>
+    ensures { IfOk result (λ pdus. pdus ≡ option_to_list pdu) }
+{
+    let mut pdus = Pdus::new(alloc);
+    match pdu {
+        None => Ok(pdus),
+        Some(pdu) => {
+            pdus.push(pdu)?;
+            Ok(pdus)
+        }
+    }
+}

@@ -1,0 +1,143 @@
+//! Which events a sender refuses, and why.
+ghost use Rattle.std.specs.Prelude.{◌≡◌};
+ghost use Rattle.pdu_codec.specs.Events.{is_of_other_class, needs_room};
+ghost use Rattle.sender_core.specs.Refusals.{is_last_eof};
+
+use crate::sender::SenderCore;
+use cfdp_types::limits::{JOURNAL_ENTRIES, JOURNAL_ENTRIES_KEPT};
+use cfdp_types::{Class, Condition, TimerKind};
+use pdu_codec::{Body, Eof, Pdu, Refusal, What};
+
+impl SenderCore {
+    ghost use Rattle.std.specs.Prelude.{◌≡◌, not, nat_lt, length};
+    ghost use Rattle.cfdp_types.specs.Steps.{is_stamp};
+    ghost use Rattle.sender_core.specs.Core.{shown, sending_of};
+    ghost use Rattle.sender_core.specs.Refusals.{runs_to_send, has_more_to_send, has_no_place, is_pdu_misplaced, is_misplaced, is_full, refusal_of};
+    ghost use Rattle.sender_core.specs.Timers.{stamp_of};
+    ghost use Rattle.pdu_codec.specs.Events.{is_stale_timer};
+
+    // Whether octets of the file are to be sent.
+    fn has_octets(&self) -> bool
+        ensures { result ≡ nat_lt 0 (length (runs_to_send (sending_of self.now) (shown self.now))) }
+    {
+        match self.remaining.first() {
+            None => false,
+            Some(_) => true,
+        }
+    }
+
+    // Metadata, octets of the file, or the EOF.
+    fn has_more_to_send(&self) -> bool
+        ensures { result ≡ has_more_to_send (sending_of self.now) (shown self.now) }
+    {
+        self.standing.metadata_remains || self.has_octets() || self.standing.eof.is_none()
+    }
+
+    // An ACK of another EOF than the last that was sent; NAK and Keep Alive in the closing phase.
+    fn has_no_place(&self, body: &Body) -> bool
+        ensures { result ≡ has_no_place (shown self.now) body.now }
+    {
+        match body {
+            Body::Ack(ack) => !is_last_eof(self.standing.eof, ack.condition),
+            Body::Nak(_) | Body::KeepAlive(_) => self.standing.is_closing(),
+            _ => false,
+        }
+    }
+
+    fn is_pdu_misplaced(&self, pdu: &Pdu) -> bool
+        ensures { result ≡ is_pdu_misplaced (sending_of self.now) (shown self.now) pdu.now.body }
+    {
+        self.request.class() != Class::Two
+            || !pdu.is_toward_sender()
+            || self.has_no_place(pdu.body())
+    }
+
+    fn is_misplaced(&self, event: &What) -> bool
+        ensures { result ≡ is_misplaced (sending_of self.now) (shown self.now) event.now }
+    {
+        match event {
+            What::Pdu(pdu) => self.is_pdu_misplaced(pdu),
+            What::Pump => {
+                self.standing.is_suspended()
+                    || self.standing.is_closing()
+                    || !self.has_more_to_send()
+            }
+            What::Resume => !self.standing.is_suspended(),
+            What::Suspend => self.standing.is_suspended() || self.standing.is_closing(),
+            What::Cancel => self.standing.is_closing(),
+            What::Report | What::Abandon | What::Timer(_, _) | What::Stored(_, _) => false,
+        }
+    }
+
+    // Whether the timer of a kind does not run with this stamp.
+    fn is_stale(&self, kind: TimerKind, stamp: u32) -> bool
+        ensures { result ≡ not (is_stamp (stamp_of self.now.standing.armed kind) stamp) }
+    {
+        match self.standing.armed.of(kind) {
+            None => true,
+            Some(kept) => kept != stamp,
+        }
+    }
+
+    // Whether a timer expired that does not run, or was armed again since.
+    fn is_stale_timer(&self, event: &What) -> bool
+        ensures { result ≡ is_stale_timer (stamp_of self.now.standing.armed) event.now }
+    {
+        match event {
+            What::Timer(kind, stamp) => self.is_stale(*kind, *stamp),
+            _ => false,
+        }
+    }
+
+    fn is_full(&self) -> bool
+        ensures { result ≡ is_full (shown self.now) }
+    {
+        self.standing.place >= JOURNAL_ENTRIES - JOURNAL_ENTRIES_KEPT
+    }
+
+    /// Why an event is refused in the present state, if it is.
+    pub(crate) fn refusal_of(&self, event: &What) -> Option<Refusal>
+        ensures { result ≡ refusal_of (sending_of self.now) (shown self.now) event.now }
+    {
+        if is_of_other_class(self.request.class(), event) {
+            Some(Refusal::ModeMismatch)
+        } else if self.is_stale_timer(event) {
+            Some(Refusal::StaleTimer)
+        } else if matches!(event, What::Stored(_, _)) {
+            Some(Refusal::StaleStored)
+        } else if self.is_misplaced(event) {
+            Some(Refusal::WrongState)
+        } else if self.is_full() && needs_room(event) {
+            Some(Refusal::JournalFull)
+        } else {
+            None
+        }
+    }
+}
+
+// A PDU whose mode is not the transaction's class.
+fn is_of_other_class(class: Class, event: &What) -> bool
+    ensures { result ≡ is_of_other_class class event.now }
+{
+    match event {
+        What::Pdu(pdu) => pdu.header().class != class,
+        _ => false,
+    }
+}
+
+// Abandon is taken although the journal is full.
+fn needs_room(event: &What) -> bool
+    ensures { result ≡ needs_room event.now }
+{
+    !matches!(event, What::Stored(_, _) | What::Abandon)
+}
+
+// Whether the last EOF that was sent has this condition.
+fn is_last_eof(last: Option<Eof>, condition: Condition) -> bool
+    ensures { result ≡ is_last_eof last condition }
+{
+    match last {
+        None => false,
+        Some(eof) => eof.condition == condition,
+    }
+}

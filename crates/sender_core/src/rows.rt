@@ -1,0 +1,312 @@
+//! What a sender answers, row by row.
+ghost use Rattle.std.specs.Prelude.{◌≡◌, IfOk};
+
+use crate::pdus;
+use crate::row::Row;
+use crate::sender::SenderCore;
+use cfdp_types::{Class, Condition, Delivery, FileStatus, Handler, TimerKind};
+use gap_list::Run;
+use ind_words::{Indication, Indications};
+use modular_sum::sum_of;
+use pdu_codec::{Ack, Body, Eof, Finished, What};
+use std::alloc::AllocError;
+
+impl SenderCore {
+    ghost use Rattle.sender_core.specs.Refusals.{runs_to_send};
+    ghost use Rattle.cfdp_types.specs.declared.limits.TheConstants.{SEGMENT_OCTETS_MOST};
+    ghost use Rattle.std.specs.Prelude.{◌≡◌, ◌≤◌, IfOk, ◌-◌, min, [], ◌∷◌, None, Some};
+    ghost use Rattle.pdu_codec.specs.declared.event.What.TheVariants as what;
+    ghost use Rattle.pdu_format.specs.declared.pdu.Body.TheVariants as body;
+    ghost use Rattle.ind_words.specs.declared.indication.Indication.TheVariants as told;
+    ghost use Rattle.sender_core.specs.Sending.{happens};
+    ghost use Rattle.std.specs.Option.{option_to_list};
+    ghost use Rattle.sender_core.specs.Core.{shown, sending_of, IsRow, eof_again};
+    ghost use Rattle.sender_core.specs.Answers.{cancel_eof, whole_eof, cancels, faults, sends_eof, sends_next, on_pump, on_ack, on_body, on_ack_timer, on_timer, waiting_timer, row_of, ends_unreported};
+
+    // Nothing is known of the file at the receiver.
+    fn ends_unreported(&self, condition: Condition) -> Result<Row, AllocError>
+        ensures { IfOk result (λ row. IsRow (sending_of self.now) row (ends_unreported condition)) }
+    {
+        Row::telling(self.alloc, unreported(condition))
+    }
+
+    // The EOF of the whole file.
+    fn whole_eof(&self) -> Eof
+        ensures { result ≡ whole_eof (sending_of self.now) }
+    {
+        let file = self.request.file().as_slice();
+        Eof {
+            condition: Condition::NO_ERROR,
+            checksum: sum_of(file),
+            size: file.len() as u32,
+            location: None,
+        }
+    }
+
+    // The EOF that cancels.
+    fn cancel_eof(&self, condition: Condition) -> Eof
+        ensures { result ≡ cancel_eof (sending_of self.now) (shown self.now) condition }
+    {
+        let progress = self.standing.progress;
+        let sent = &self.request.file().as_slice()[..progress as usize];
+        Eof {
+            condition,
+            checksum: sum_of(sent),
+            size: progress,
+            location: Some(self.params.local()),
+        }
+    }
+
+    // The transaction is cancelled.
+    fn cancels(&self, condition: Condition) -> Result<Row, AllocError>
+        ensures { IfOk result (λ row. IsRow (sending_of self.now) row (cancels (sending_of self.now) (shown self.now) condition)) }
+    {
+        let pdu = pdus::eof(self.header, self.cancel_eof(condition));
+        let mut inds = Indications::new(self.alloc);
+        match self.request.class() {
+            Class::One => {
+                inds.push(unreported(condition))?;
+                Ok(Row {
+                    inds,
+                    pdu: Some(pdu),
+                    arms: None,
+                })
+            }
+            Class::Two => Ok(Row {
+                inds,
+                pdu: Some(pdu),
+                arms: Some(TimerKind::Ack),
+            }),
+        }
+    }
+
+    // A fault, by its handler.
+    fn faults(&self, kind: TimerKind, condition: Condition) -> Result<Row, AllocError>
+        ensures { IfOk result (λ row. IsRow (sending_of self.now) row (faults (sending_of self.now) (shown self.now) kind condition)) }
+    {
+        let progress = self.standing.progress;
+        match self.params.tables().send.action(condition) {
+            Handler::Cancel => self.cancels(condition),
+            Handler::Suspend => Row::telling(self.alloc, Indication::Suspended { condition }),
+            Handler::Ignore => {
+                let told = Indication::Fault {
+                    condition,
+                    progress,
+                };
+                let mut row = Row::telling(self.alloc, told)?;
+                row.arms = Some(kind);
+                Ok(row)
+            }
+            Handler::Abandon => {
+                let told = Indication::Abandoned {
+                    condition,
+                    progress,
+                };
+                Row::telling(self.alloc, told)
+            }
+        }
+    }
+
+    // The EOF, where all else was sent.
+    fn sends_eof(&self) -> Result<Row, AllocError>
+        ensures { IfOk result (λ row. IsRow (sending_of self.now) row (sends_eof (sending_of self.now))) }
+    {
+        let pdu = pdus::eof(self.header, self.whole_eof());
+        let mut inds = Indications::new(self.alloc);
+        inds.push(Indication::EofSent)?;
+        match self.request.class() {
+            Class::One => {
+                inds.push(unreported(Condition::NO_ERROR))?;
+                Ok(Row {
+                    inds,
+                    pdu: Some(pdu),
+                    arms: None,
+                })
+            }
+            Class::Two => Ok(Row {
+                inds,
+                pdu: Some(pdu),
+                arms: Some(TimerKind::Ack),
+            }),
+        }
+    }
+
+    // What to send of the lowest run: as many octets as a part may hold.
+    pub(crate) fn part_of(&self, run: Run) -> u32
+        ensures part { result ≡ min self.now.params.segment_octets (run.end - run.start) }
+        ensures most { result ≤ SEGMENT_OCTETS_MOST }
+    {
+        u32::from(self.params.segment_octets()).min(run.end.saturating_sub(run.start))
+    }
+
+    // What remains of the file, and then the EOF.
+    fn sends_next(&self) -> Result<Row, AllocError>
+        ensures runs { runs_to_send (sending_of self.now) (shown self.now) ≡ self.now.remaining }
+        ensures row { IfOk result (λ row. IsRow (sending_of self.now) row (sends_next (sending_of self.now) self.now.remaining)) }
+    {
+        match self.remaining.first() {
+            None => self.sends_eof(),
+            Some(run) => {
+                let pdu = pdus::file_data(
+                    self.alloc,
+                    self.header,
+                    self.request.file().as_slice(),
+                    run.start,
+                    self.part_of(run),
+                )?;
+                Ok(Row::sending(self.alloc, pdu))
+            }
+        }
+    }
+
+    // The Metadata first.
+    fn on_pump(&self) -> Result<Row, AllocError>
+        ensures { IfOk result (λ row. IsRow (sending_of self.now) row (on_pump (sending_of self.now) (shown self.now))) }
+    {
+        if self.standing.metadata_remains {
+            let pdu = pdus::metadata(self.header, &self.request)?;
+            Ok(Row::sending(self.alloc, pdu))
+        } else {
+            self.sends_next()
+        }
+    }
+
+    // An ACK of an EOF that cancels ends the transaction.
+    fn on_ack(&self, ack: Ack) -> Result<Row, AllocError>
+        ensures { IfOk result (λ row. IsRow (sending_of self.now) row (on_ack (shown self.now) ack)) }
+    {
+        if self.standing.is_closing() {
+            self.ends_unreported(ack.condition)
+        } else {
+            Ok(Row::nothing(self.alloc))
+        }
+    }
+
+    fn on_body(&self, body: &Body) -> Result<Row, AllocError>
+        ensures { IfOk result (λ row. IsRow (sending_of self.now) row (on_body (shown self.now) body.now)) }
+    {
+        match body {
+            Body::Ack(ack) => self.on_ack(*ack),
+            Body::Finished(finished) => self.on_finished(*finished),
+            _ => Ok(Row::nothing(self.alloc)),
+        }
+    }
+
+    // The receiver says how it went, and is told that this came.
+    fn on_finished(&self, finished: Finished) -> Result<Row, AllocError>
+        ensures { IfOk result (λ row. IsRow (sending_of self.now) row (on_body (shown self.now) (body.Finished finished))) }
+    {
+        let told = Indication::TransactionFinished {
+            condition: finished.condition,
+            delivery: finished.delivery,
+            status: finished.status,
+        };
+        let mut row = Row::telling(self.alloc, told)?;
+        row.pdu = Some(pdus::ack(self.header, finished.condition));
+        Ok(row)
+    }
+
+    // Ack: the EOF once more; at the limit a fault, or in the closing phase the end.
+    fn on_ack_timer(&self) -> Result<Row, AllocError>
+        ensures { IfOk result (λ row. IsRow (sending_of self.now) row (on_ack_timer (sending_of self.now) (shown self.now) (shown self.now))) }
+    {
+        if self.standing.tries.ack + 1 < u32::from(self.params.limits().ack) {
+            Ok(self.sends_eof_again())
+        } else if self.standing.is_closing() {
+            self.ends_unreported(self.standing.condition())
+        } else {
+            self.faults(TimerKind::Ack, Condition::POSITIVE_ACK_LIMIT)
+        }
+    }
+
+    fn sends_eof_again(&self) -> Row
+        ensures { IsRow (sending_of self.now) result (eof_again (shown self.now)) }
+    {
+        Row {
+            inds: Indications::new(self.alloc),
+            pdu: match self.standing.eof {
+                None => None,
+                Some(eof) => Some(pdus::eof(self.header, eof)),
+            },
+            arms: Some(TimerKind::Ack),
+        }
+    }
+
+    fn on_timer(&self, kind: TimerKind) -> Result<Row, AllocError>
+        ensures { IfOk result (λ row. IsRow (sending_of self.now) row (on_timer (sending_of self.now) (shown self.now) (shown self.now) kind)) }
+    {
+        match kind {
+            TimerKind::Ack => self.on_ack_timer(),
+            TimerKind::Inactivity => self.faults(TimerKind::Inactivity, Condition::INACTIVITY),
+            TimerKind::Nak | TimerKind::Check => Ok(Row::nothing(self.alloc)),
+        }
+    }
+
+    // The timer that runs once the EOF was sent.
+    fn waiting_timer(&self) -> Option<TimerKind>
+        ensures { option_to_list result ≡ waiting_timer (shown self.now) }
+    {
+        if self.standing.eof.is_none() {
+            None
+        } else if self.standing.acknowledged {
+            Some(TimerKind::Inactivity)
+        } else {
+            Some(TimerKind::Ack)
+        }
+    }
+
+    fn on_resume(&self) -> Result<Row, AllocError>
+        ensures { IfOk result (λ row. IsRow (sending_of self.now) row (row_of (sending_of self.now) (shown self.now) (shown self.now) (happens what.Resume))) }
+    {
+        let progress = self.standing.progress;
+        let mut row = Row::telling(self.alloc, Indication::Resumed { progress })?;
+        row.arms = self.waiting_timer();
+        Ok(row)
+    }
+
+    /// The row of an event, in the present state.
+    pub(crate) fn row_of(&self, event: &What) -> Result<Row, AllocError>
+        ensures { IfOk result (λ row. IsRow (sending_of self.now) row (row_of (sending_of self.now) (shown self.now) (shown self.now) (happens event.now))) }
+    {
+        let progress = self.standing.progress;
+        match event {
+            What::Pump => self.on_pump(),
+            What::Pdu(pdu) => self.on_body(pdu.body()),
+            What::Timer(kind, _) => self.on_timer(*kind),
+            What::Cancel => self.cancels(Condition::CANCEL_REQUEST),
+            What::Suspend => {
+                let condition = Condition::SUSPEND_REQUEST;
+                Row::telling(self.alloc, Indication::Suspended { condition })
+            }
+            What::Resume => self.on_resume(),
+            What::Report => {
+                let phase = self.standing.phase();
+                Row::telling(self.alloc, Indication::Report { phase, progress })
+            }
+            What::Abandon => {
+                let condition = Condition::CANCEL_REQUEST;
+                let told = Indication::Abandoned {
+                    condition,
+                    progress,
+                };
+                Row::telling(self.alloc, told)
+            }
+            What::Stored(_, _) => Ok(Row::nothing(self.alloc)),
+        }
+    }
+}
+
+ghost use Rattle.ind_words.specs.declared.indication.Indication.TheVariants as told;
+ghost use Rattle.cfdp_types.specs.declared.names.Delivery.TheVariants.{Incomplete};
+ghost use Rattle.cfdp_types.specs.declared.names.FileStatus.TheVariants.{Unreported};
+
+// The end is told, and not what became of the file.
+fn unreported(condition: Condition) -> Indication
+    ensures { result ≡ told.TransactionFinished condition Incomplete Unreported }
+{
+    Indication::TransactionFinished {
+        condition,
+        delivery: Delivery::Incomplete,
+        status: FileStatus::Unreported,
+    }
+}

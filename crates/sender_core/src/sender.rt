@@ -1,0 +1,64 @@
+ghost use Rattle.std.specs.Prelude.{◌≡◌, ◌≤◌, length};
+ghost use Rattle.cfdp_types.specs.declared.limits.TheConstants.{FILE_OCTETS};
+ghost use Rattle.pdu_format.specs.Spelling.{HeaderFits};
+ghost use Rattle.gap_list.specs.Runs.{in_runs};
+ghost use Rattle.sender_core.specs.Answers.{header_of};
+ghost use Rattle.sender_core.specs.Standing.{IsSound, IsInside};
+
+use crate::left::leave;
+use crate::lists::Answer;
+use crate::plan::Plan;
+use crate::remaining::Remaining;
+use crate::standing::Standing;
+use cfdp_types::{Params, PutRequest, TxnKey};
+use pdu_codec::Header;
+use std::alloc::Global;
+
+/// The sending end of one transaction, in either class.
+#[derive(Debug, Drop)]
+pub struct SenderCore {
+    pub(crate) alloc: Global,
+    pub(crate) key: TxnKey,
+    pub(crate) params: Params,
+    pub(crate) request: PutRequest,
+    // of every PDU
+    pub(crate) header: Header,
+    pub(crate) remaining: Remaining,
+    pub(crate) standing: Standing,
+    ghost headed: { header ≡ header_of (record { key = key; params = params; request = request }) },
+    ghost fits: { HeaderFits header },
+    ghost small: { length request.file ≤ FILE_OCTETS },
+    ghost inside: { IsInside (length request.file) (in_runs remaining) },
+    ghost sound: { IsSound (length request.file) standing },
+}
+
+impl SenderCore {
+    ghost use Rattle.std.specs.Prelude.{◌≡◌, ◌<◌, ◌∷◌, [], None, false, List, IfOk, IfErr, length};
+    ghost use Rattle.cfdp_types.specs.declared.limits.TheConstants.{FILE_OCTETS};
+    ghost use Rattle.pdu_codec.specs.declared.event.Refusal.TheVariants as refusal;
+    ghost use Rattle.sender_core.specs.Sending.{Event, Entry};
+    ghost use Rattle.sender_core.specs.Core.{shown, sending_of, IsPlanOf, StandsAfter, plan_answer, answer_value};
+
+    /// Whether the user was told that the transaction is over: no event follows.
+    pub fn has_ended(&self) -> bool
+        ensures { result ≡ (shown self.now).ended }
+    {
+        self.standing.ended
+    }
+
+    /// Carries out a plan that was made in the present state, and hands out its answer.
+    pub fn commit(&mut self, plan: Plan) -> Answer
+        requires planned { (event : Event) × IsPlanOf self.old plan event }
+        requires runs { (shown self.old).ended ≡ false }
+        ensures answer { answer_value result ≡ plan_answer plan }
+        ensures nothing { result.deposit ≡ None }
+        ensures sending { sending_of self.new ≡ sending_of self.old }
+        ensures stands { (event : Event) (log : List Entry) → IsPlanOf self.old plan event → StandsAfter self.old log
+            → StandsAfter self.new (record { event = event; answer = plan_answer plan } ∷ log) }
+    {
+        let Plan { next, left, answer } = plan;
+        leave(&mut self.remaining, left);
+        self.standing = next;
+        answer
+    }
+}

@@ -1,0 +1,288 @@
+//! What follows an event.
+ghost use Rattle.std.specs.Prelude.{◌≡◌, List, [], ◌∷◌, MatchOption, ◌+◌, ◌≤◌, ◌||◌, ◌&&◌, not, if◌then◌else◌};
+ghost use Rattle.std.specs.Option.{option_to_list};
+ghost use Rattle.std.specs.List.{list_any};
+ghost use Rattle.cfdp_types.specs.declared.limits.TheConstants.{FILE_OCTETS, JOURNAL_ENTRIES};
+ghost use Rattle.cfdp_types.specs.declared.names.TimerKind.{TimerKind};
+ghost use Rattle.cfdp_types.specs.Steps.{is_kind};
+ghost use Rattle.pdu_codec.specs.Events.{is_expiration, is_pdu};
+ghost use Rattle.ind_words.specs.Told.{paused_after, is_resumed, is_fault};
+ghost use Rattle.sender_core.specs.Sending as sending_of_file;
+ghost use Rattle.ind_words.specs.declared.indication.Indication.{Indication};
+ghost use Rattle.sender_core.specs.Sending.{is_suspended, happens, begins_phase, eof_among, extent_of, acknowledges_eof, requests_of, asks_for_metadata, tries_after};
+ghost use Rattle.sender_core.specs.Answers.{effect_of};
+ghost use Rattle.sender_core.specs.Standing.{state_from, nowhere, AreFew};
+ghost use Rattle.sender_core.specs.Core.{IsNext, untimed_entry, arming};
+ghost use Rattle.sender_core.specs.Timers.{effects, effect_of_change, tries_of};
+
+use crate::row::Row;
+use crate::standing::Standing;
+use crate::timers::{Change, Changes, Tries};
+use cfdp_types::{Condition, TimerKind};
+use ind_words::Indication;
+use pdu_codec::{Acknowledged, Body, Eof, Pdu, SegmentRequest, What};
+
+// The EOF that is sent, if one is.
+fn eof_in(pdu: &Option<Pdu>) -> Option<Eof>
+    ensures { result ≡ eof_among (option_to_list pdu.now) }
+{
+    match pdu {
+        None => None,
+        Some(pdu) => match pdu.body() {
+            Body::Eof(eof) => Some(*eof),
+            _ => None,
+        },
+    }
+}
+
+// Whether Metadata is sent.
+fn is_metadata(pdu: &Option<Pdu>) -> bool
+    ensures { result ≡ list_any sending_of_file.is_metadata (option_to_list pdu.now) }
+{
+    match pdu {
+        None => false,
+        Some(pdu) => matches!(pdu.body(), Body::Metadata(_)),
+    }
+}
+
+// One more than the greatest offset that is sent, 0 if none is.
+fn extent_of(pdu: &Option<Pdu>) -> u32
+    requires { extent_of (option_to_list pdu.now) ≤ FILE_OCTETS }
+    ensures { result ≡ extent_of (option_to_list pdu.now) }
+{
+    match pdu {
+        None => 0,
+        Some(pdu) => match pdu.body() {
+            Body::FileData(data) => {
+                let count = data.octets.as_slice().len();
+                if count == 0 {
+                    0
+                } else {
+                    data.offset + count as u32
+                }
+            }
+            _ => 0,
+        },
+    }
+}
+
+// Whether the transaction is paused once one thing more is told.
+fn pauses(paused: bool, indication: &Indication) -> bool
+    ensures { (later : List Indication) → paused_after result later ≡ paused_after paused (indication.now ∷ later) }
+{
+    match indication {
+        Indication::Suspended { .. } => true,
+        Indication::Resumed { .. } => false,
+        _ => paused,
+    }
+}
+
+// Whether the user is told last that the transaction is suspended.
+fn paused_after(paused: bool, inds: &[Indication]) -> bool
+    ensures { result ≡ paused_after paused inds.now }
+{
+    let mut now = paused;
+    for indication in inds {
+        now = pauses(now, indication);
+    }
+    now
+}
+
+fn has_resumed(inds: &[Indication]) -> bool
+    ensures { result ≡ list_any is_resumed inds.now }
+{
+    inds.iter().any(|indication| matches!(indication, Indication::Resumed { .. }))
+}
+
+fn has_fault(inds: &[Indication]) -> bool
+    ensures { result ≡ list_any is_fault inds.now }
+{
+    inds.iter().any(|indication| matches!(indication, Indication::Fault { .. }))
+}
+
+// Whether an EOF is sent with another condition than the last one had.
+fn begins_phase(before: Option<Eof>, new: Option<Eof>) -> bool
+    ensures { result ≡ begins_phase before new }
+{
+    match new {
+        None => false,
+        Some(new) => match before {
+            None => true,
+            Some(old) => old.condition != new.condition,
+        },
+    }
+}
+
+/// The segment requests of a NAK.
+pub(crate) fn requests_of(event: &What) -> Option<&[SegmentRequest]>
+    ensures { MatchOption result (requests_of (happens event.now) ≡ []) (λ requests. requests.now ≡ requests_of (happens event.now)) }
+{
+    match event {
+        What::Pdu(pdu) => match pdu.body() {
+            Body::Nak(nak) => Some(nak.requests.as_slice()),
+            _ => None,
+        },
+        _ => None,
+    }
+}
+
+// Whether Metadata is asked for.
+fn asks_for_metadata(event: &What) -> bool
+    ensures { result ≡ list_any asks_for_metadata (requests_of (happens event.now)) }
+{
+    match requests_of(event) {
+        None => false,
+        Some(requests) => requests
+            .iter()
+            .any(|request| request.start == 0 && request.end == 0),
+    }
+}
+
+// Whether the EOF without an error is acknowledged.
+fn acknowledges(event: &What) -> bool
+    ensures { result ≡ acknowledges_eof (happens event.now) }
+{
+    match event {
+        What::Pdu(pdu) => match pdu.body() {
+            Body::Ack(ack) => ack.of == Acknowledged::Eof && ack.condition == Condition::NO_ERROR,
+            _ => false,
+        },
+        _ => false,
+    }
+}
+
+fn is_expired(kind: TimerKind, event: &What) -> bool
+    ensures { result ≡ is_expiration kind event.now }
+{
+    match event {
+        What::Timer(expired, _) => *expired == kind,
+        _ => false,
+    }
+}
+
+// An expiration more, or none where the count begins again.
+fn count(before: u32, expired: bool, again: bool) -> u32
+    requires { before ≤ JOURNAL_ENTRIES }
+    ensures { result ≡ (if again then 0 else if expired then before + 1 else before) }
+{
+    if again {
+        0
+    } else if expired {
+        before + 1
+    } else {
+        before
+    }
+}
+
+// Whether the count of a timer begins again.
+fn begins_again(resumed: bool, expired: bool, faulted: bool, phase: bool) -> bool
+    ensures { result ≡ (resumed || (expired && faulted) || phase) }
+{
+    resumed || (expired && faulted) || phase
+}
+
+// The expirations that are counted after an event that is answered by a row.
+fn tries_after(standing: &Standing, event: &What, row: &Row) -> Tries
+    requires { AreFew standing.now }
+    ensures { (kind : TimerKind) → tries_of result kind ≡ tries_after (state_from standing.now nowhere) (untimed_entry event.now row.now) kind }
+{
+    let resumed = has_resumed(row.inds.as_slice());
+    let faulted = has_fault(row.inds.as_slice());
+    let phase = begins_phase(standing.eof, eof_in(&row.pdu));
+    let ack = is_expired(TimerKind::Ack, event);
+    let nak = is_expired(TimerKind::Nak, event);
+    let check = is_expired(TimerKind::Check, event);
+    let inactivity = is_expired(TimerKind::Inactivity, event);
+    let tries = standing.tries;
+    Tries {
+        ack: count(tries.ack, ack, begins_again(resumed, ack, faulted, phase)),
+        nak: count(tries.nak, nak, begins_again(resumed, nak, faulted, false)),
+        check: count(
+            tries.check,
+            check,
+            begins_again(resumed, check, faulted, false),
+        ),
+        inactivity: count(
+            tries.inactivity,
+            inactivity,
+            begins_again(resumed, inactivity, faulted, false),
+        ),
+    }
+}
+
+/// Where a sender stands after an event that is answered by a row, but for its timers, which stay as
+/// they were.
+pub(crate) fn next(standing: &Standing, event: &What, row: &Row) -> Standing
+    requires few { AreFew standing.now }
+    requires inside { extent_of (option_to_list row.now.pdu) ≤ FILE_OCTETS }
+    ensures next { IsNext standing.now event.now row.now result }
+{
+    Standing {
+        place: standing.place + 1,
+        metadata_remains: (standing.metadata_remains && !is_metadata(&row.pdu))
+            || asks_for_metadata(event),
+        progress: standing.progress.max(extent_of(&row.pdu)),
+        eof: match eof_in(&row.pdu) {
+            None => standing.eof,
+            Some(eof) => Some(eof),
+        },
+        acknowledged: standing.acknowledged || acknowledges(event),
+        paused: paused_after(standing.paused, row.inds.as_slice()),
+        ended: standing.ended || row.inds.has_end(),
+        armed: standing.armed,
+        tries: tries_after(standing, event, row),
+    }
+}
+
+// Whether no timer runs from here on, or none as long as the transaction is suspended.
+fn is_over(next: &Standing) -> bool
+    ensures { result ≡ (next.now.ended || is_suspended (state_from next.now nowhere)) }
+{
+    next.ended || next.is_suspended()
+}
+
+// Whether the timer of a kind is the one that is armed.
+fn is_armed(arms: Option<TimerKind>, kind: TimerKind) -> bool
+    ensures { result ≡ list_any (is_kind kind) (option_to_list arms) }
+{
+    match arms {
+        None => false,
+        Some(armed) => armed == kind,
+    }
+}
+
+fn is_pdu(event: &What) -> bool
+    ensures { result ≡ is_pdu event.now }
+{
+    matches!(event, What::Pdu(_))
+}
+
+// What a step does with the timer of a kind, where it leads to a standing.
+fn change_of(next: &Standing, event: &What, arms: Option<TimerKind>, kind: TimerKind) -> Change
+    ensures { effect_of_change result ≡ effect_of (arming arms) (state_from next.now nowhere) (happens event.now) kind }
+{
+    let is_ack = kind == TimerKind::Ack;
+    if is_over(next) || (next.is_closing() && !is_ack) {
+        Change::Stops
+    } else if is_armed(arms, kind) {
+        Change::Arms
+    } else if is_ack && acknowledges(event) {
+        Change::Stops
+    } else if kind == TimerKind::Inactivity && is_pdu(event) && next.acknowledged {
+        Change::Arms
+    } else {
+        Change::Keeps
+    }
+}
+
+/// What a step does with each timer, where it leads to a standing.
+pub(crate) fn changes(next: &Standing, event: &What, arms: Option<TimerKind>) -> Changes
+    ensures { (kind : TimerKind) → effects result kind ≡ effect_of (arming arms) (state_from next.now nowhere) (happens event.now) kind }
+{
+    Changes {
+        ack: change_of(next, event, arms, TimerKind::Ack),
+        nak: change_of(next, event, arms, TimerKind::Nak),
+        check: change_of(next, event, arms, TimerKind::Check),
+        inactivity: change_of(next, event, arms, TimerKind::Inactivity),
+    }
+}
