@@ -21,6 +21,3 @@ pub use answer::Answer;
 pub use core_steps::{Pdus, TimerOps};
 pub use plan::Plan;
 pub use sender::SenderCore;
-
-#[cfg(test)]
-mod tests;
