@@ -13,8 +13,8 @@ pub mod TimerRows
 pub mod ReceptionLaws
 pub mod Log
 pub mod Table
-pub mod Examine
-pub mod Core
+pub mod NarrowExamine
+pub mod NarrowCore
 pub mod Laws
 pub mod Rows
 pub use Rattle.cfdp_types.specs.Condition

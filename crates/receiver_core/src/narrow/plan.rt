@@ -1,4 +1,4 @@
-use crate::answer::Answer;
+use crate::narrow::answer::Answer;
 use cfdp_types::Octets;
 use pdu_codec::{Eof, Metadata};
 
@@ -21,7 +21,7 @@ pub struct Plan {
 
 impl Plan {
     ghost use Rattle.std.specs.Prelude.{◌≡◌};
-    ghost use Rattle.receiver_core.specs.Core.{plan_answer};
+    ghost use Rattle.receiver_core.specs.NarrowCore.{plan_answer};
 
     /// What the event will be answered.
     pub fn answer(&self) -> &Answer

@@ -1,6 +1,6 @@
 use Rattle.std.proofs.Common.{◌+◌, sym, ap, ◌∙◌, refl}
 use Rattle.receiver_core.proofs.Committed.{Kept, stands_on, has_room}
-use Rattle.receiver_core.proofs.reception.ReceiverCore.commit.Goals as goal
+use Rattle.receiver_core.proofs.narrow.reception.ReceiverCore.commit.Goals as goal
 
 pub invariant_of-self : goal.invariant_of-self
 invariant_of-self c =

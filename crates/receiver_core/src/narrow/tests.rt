@@ -1,4 +1,4 @@
-use crate::{Answer, ReceiverCore};
+use crate::narrow::{Answer, ReceiverCore};
 use cfdp_types::{Condition, Delivery, FileStatus};
 use ind_words::Indication;
 use pdu_codec::{Refusal, What, decode};

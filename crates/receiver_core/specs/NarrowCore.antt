@@ -5,14 +5,14 @@ use Rattle.pdu_codec.specs.declared.event.What.{What}
 use Rattle.pdu_codec.specs.declared.event.What.TheVariants as what
 use Rattle.pdu_format.specs.declared.pdu.Body.{Body}
 use Rattle.pdu_format.specs.declared.pdu.Body.TheVariants as body
-use Rattle.receiver_core.specs.declared.plan.Change.{Change}
-use Rattle.receiver_core.specs.declared.plan.Change.TheVariants as change
-use Rattle.receiver_core.specs.declared.plan.Plan.{Plan}
-use Rattle.receiver_core.specs.declared.reception.ReceiverCore.{ReceiverCore}
-use Rattle.receiver_core.specs.declared.answer.Answer.{Answer}
+use Rattle.receiver_core.specs.declared.narrow.plan.Change.{Change}
+use Rattle.receiver_core.specs.declared.narrow.plan.Change.TheVariants as change
+use Rattle.receiver_core.specs.declared.narrow.plan.Plan.{Plan}
+use Rattle.receiver_core.specs.declared.narrow.reception.ReceiverCore.{ReceiverCore}
+use Rattle.receiver_core.specs.declared.narrow.answer.Answer.{Answer}
 use Rattle.receiver_core.specs.Log.{Entry, State, state_of}
 use Rattle.receiver_core.specs.Table.{answer_at}
-use Rattle.receiver_core.specs.Examine.{added, metadata_with, eof_with}
+use Rattle.receiver_core.specs.NarrowExamine.{added, metadata_with, eof_with}
 use Rattle.pdu_codec.specs.declared.event.Refusal.{Refusal}
 use Rattle.pdu_codec.specs.declared.event.Refusal.TheVariants as refusal
 

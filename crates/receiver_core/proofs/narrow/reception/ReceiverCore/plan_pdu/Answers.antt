@@ -1,9 +1,9 @@
 use Rattle.std.proofs.Common.{◌≡◌, sym, ◌∙◌, inl, rules, inr, None}
 use Rattle.std.proofs.lemmas.Result.{err_from_is_err_and}
 use Rattle.receiver_core.specs.Table.{pdu_refusal, pdu_answer, cancel_code}
-use Rattle.receiver_core.specs.Core.{shown, body_change}
+use Rattle.receiver_core.specs.NarrowCore.{shown, body_change}
 use Rattle.receiver_core.proofs.Planned.{planned, refused_pdu, answered_pdu}
-use Rattle.receiver_core.proofs.reception.ReceiverCore.plan_pdu.Goals as goal
+use Rattle.receiver_core.proofs.narrow.reception.ReceiverCore.plan_pdu.Goals as goal
 
 pub returns-in-Some-clause-err : goal.returns-in-Some-clause-err
 returns-in-Some-clause-err c = inl (refused_pdu _ _ _ (sym c.pdu_refusal.ensures ∙ c.in-Some.is))

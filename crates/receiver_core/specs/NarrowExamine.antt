@@ -5,10 +5,10 @@ use Rattle.cfdp_types.specs.Condition as condition
 use Rattle.cfdp_types.specs.ChecksumType as checksum
 use Rattle.pdu_format.specs.declared.bodies.Metadata.{Metadata}
 use Rattle.pdu_format.specs.declared.bodies.Eof.{Eof}
-use Rattle.receiver_core.specs.declared.examine.Finding.{Finding}
-use Rattle.receiver_core.specs.declared.examine.Finding.TheVariants.{Nothing, Faulty, Whole}
-use Rattle.receiver_core.specs.declared.plan.Change.{Change}
-use Rattle.receiver_core.specs.declared.plan.Change.TheVariants as change
+use Rattle.receiver_core.specs.declared.narrow.examine.Finding.{Finding}
+use Rattle.receiver_core.specs.declared.narrow.examine.Finding.TheVariants.{Nothing, Faulty, Whole}
+use Rattle.receiver_core.specs.declared.narrow.plan.Change.{Change}
+use Rattle.receiver_core.specs.declared.narrow.plan.Change.TheVariants as change
 use Rattle.modular_sum.specs.Sum.{sum}
 use Rattle.receiver_core.specs.Table.{is_beyond}
 

@@ -1,9 +1,9 @@
 use Rattle.std.proofs.Common.{◌≡◌, inl, true, false, rules, inr}
 use Rattle.std.proofs.lemmas.Result.{err_from_is_err_and}
 use Rattle.receiver_core.specs.Table.{is_waiting}
-use Rattle.receiver_core.specs.Core.{shown}
+use Rattle.receiver_core.specs.NarrowCore.{shown}
 use Rattle.receiver_core.proofs.Planned.{planned_stored, refused_stored, answered_stored}
-use Rattle.receiver_core.proofs.reception.ReceiverCore.plan_stored.Goals as goal
+use Rattle.receiver_core.proofs.narrow.reception.ReceiverCore.plan_stored.Goals as goal
 
 pub returns-then-not-waits_for-clause-err : goal.returns-then-not-waits_for-clause-err
 returns-then-not-waits_for-clause-err c =

@@ -1,5 +1,5 @@
 ghost use Rattle.std.specs.Prelude.{◌≡◌};
-ghost use Rattle.receiver_core.specs.Examine.{looked, is_unsupported_type};
+ghost use Rattle.receiver_core.specs.NarrowExamine.{looked, is_unsupported_type};
 
 use cfdp_types::{ChecksumType, Condition};
 use modular_sum::sum_of;

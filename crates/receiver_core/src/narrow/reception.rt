@@ -1,9 +1,9 @@
 ghost use Rattle.std.specs.Prelude.{◌≡◌, ◌-◌, ◌≤◌, false};
 ghost use Rattle.cfdp_types.specs.declared.limits.TheConstants.{JOURNAL_ENTRIES, JOURNAL_ENTRIES_KEPT};
 
-use crate::answer::Answer;
-use crate::examine::{Finding, look};
-use crate::plan::{Change, Plan};
+use crate::narrow::answer::Answer;
+use crate::narrow::examine::{Finding, look};
+use crate::narrow::plan::{Change, Plan};
 use cfdp_types::limits::{FILE_OCTETS, JOURNAL_ENTRIES, JOURNAL_ENTRIES_KEPT};
 use cfdp_types::{ChecksumType, Class, Condition, Delivery, FileStatus};
 use ind_words::{Indication, Indications};
@@ -27,8 +27,8 @@ impl ReceiverCore {
     ghost use Rattle.std.specs.Option.{option_map};
     ghost use Rattle.pdu_codec.specs.declared.event.What.TheVariants as what;
     ghost use Rattle.receiver_core.specs.Table.{pdu_refusal, request_refusal, is_out_of_place, is_too_large, is_waiting, told_of, found, pdu_answer, cancel_code, stored_answer, answer_at, is_too_large};
-    ghost use Rattle.receiver_core.specs.Examine.{looked, type_with, eof_with, added};
-    ghost use Rattle.receiver_core.specs.Core.{shown, StandsAfter, body_change, IsSame, IsSameButOctets, HasRoom, IsPlanOf, IsWhy, IsChangedBy, plan_answer};
+    ghost use Rattle.receiver_core.specs.NarrowExamine.{looked, type_with, eof_with, added};
+    ghost use Rattle.receiver_core.specs.NarrowCore.{shown, StandsAfter, body_change, IsSame, IsSameButOctets, HasRoom, IsPlanOf, IsWhy, IsChangedBy, plan_answer};
     ghost use Rattle.receiver_core.specs.Log.{Entry, state_of};
     ghost use Rattle.pdu_codec.specs.declared.event.What.{What};
 

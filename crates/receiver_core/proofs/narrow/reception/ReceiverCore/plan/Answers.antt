@@ -1,7 +1,7 @@
 use Rattle.std.proofs.Common.{inl}
 use Rattle.receiver_core.specs.Log.{state_of}
 use Rattle.receiver_core.proofs.Planned.{refused_timer, refused_request_so}
-use Rattle.receiver_core.proofs.reception.ReceiverCore.plan.Goals as goal
+use Rattle.receiver_core.proofs.narrow.reception.ReceiverCore.plan.Goals as goal
 
 pub returns-in-Timer-clause-refused : goal.returns-in-Timer-clause-refused
 returns-in-Timer-clause-refused c log stood = inl (refused_timer (state_of log) c.args.event.now c.in-Timer.field-0 c.in-Timer.field-1 c.in-Timer.is)

@@ -1,7 +1,7 @@
 use Rattle.std.proofs.Common.{refl}
 use Rattle.receiver_core.specs.Log.{state_of, initial}
 use Rattle.receiver_core.proofs.States.{same_state}
-use Rattle.receiver_core.proofs.reception.ReceiverCore.empty.Goals as goal
+use Rattle.receiver_core.proofs.narrow.reception.ReceiverCore.empty.Goals as goal
 
 pub returns-clause-stands : goal.returns-clause-stands
 unfolding state_of initial
