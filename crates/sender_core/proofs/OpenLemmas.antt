@@ -116,7 +116,7 @@ put_plan core plan stands next is_left inds pdus timers nothing =
       nothing = nothing;
       inside = λ i has. core.inside i (ap (λ l. left_of core.remaining l i) (sym is_left) ∙ has);
       sound = λ runs. rw next (record {
-        few = record { place = omega arith; ack = omega arith; nak = omega arith; check = omega arith; inactivity = omega arith };
+        few = record { place = omega arith; tries = record { ack = omega arith; nak = omega arith; check = omega arith; inactivity = omega arith } };
         goes_on = λ e. omega arith;
         progress = omega arith;
       });

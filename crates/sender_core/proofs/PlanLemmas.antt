@@ -33,7 +33,7 @@ use Rattle.sender_core.specs.Sending.{Sending, State, Event, happens, Answer, En
 use Rattle.sender_core.specs.Refusals.{refusal_of, is_stale_store, is_misplaced, is_full}
 use Rattle.sender_core.specs.Answers.{Row, cancels, faults, row_of, seen, untimed, timed, accepted_at, answer_at, effect_of}
 use Rattle.sender_core.specs.Standing.{state_from, nowhere, AreFew, IsSound, IsInside}
-use Rattle.sender_core.specs.Timers.{stamp_of, stamp_by}
+use Rattle.core_steps.specs.Timers.{stamp_of, stamp_by}
 use Rattle.sender_core.specs.Core.{shown, sending_of, sent, IsRow, IsNext, IsPlanned, IsPlanOf, IsWhy, StandsAfter, effect_by, arming, left_of, remains_after, plan_answer}
 use Rattle.sender_core.specs.declared.plan.Left.{Left}
 use Rattle.sender_core.specs.declared.plan.Plan.{Plan}
@@ -226,10 +226,12 @@ sound_after core event row left plan taken is planned inside runs =
     record {
       few = record {
         place = omega (arith, place, few);
-        ack = rw (next.tries Ack, place) (counted _ _ core.standing.tries.ack core.standing.place old.ack);
-        nak = rw (next.tries Nak, place) (counted _ _ core.standing.tries.nak core.standing.place old.nak);
-        check = rw (next.tries Check, place) (counted _ _ core.standing.tries.check core.standing.place old.check);
-        inactivity = rw (next.tries Inactivity, place) (counted _ _ core.standing.tries.inactivity core.standing.place old.inactivity);
+        tries = record {
+          ack = rw (next.tries Ack, place) (counted _ _ core.standing.tries.ack core.standing.place old.tries.ack);
+          nak = rw (next.tries Nak, place) (counted _ _ core.standing.tries.nak core.standing.place old.tries.nak);
+          check = rw (next.tries Check, place) (counted _ _ core.standing.tries.check core.standing.place old.tries.check);
+          inactivity = rw (next.tries Inactivity, place) (counted _ _ core.standing.tries.inactivity core.standing.place old.tries.inactivity);
+        };
       };
       goes_on = λ e. rw place (goes_on (sending_of core) (shown core) event row core.standing.ended taken is (sym next.ended ∙ e));
       progress = omega (arith, next.progress, inside, core.sound.progress);

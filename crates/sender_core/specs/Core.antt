@@ -10,7 +10,7 @@ use Rattle.ind_words.specs.Told.{paused_after}
 use Rattle.ind_words.specs.Words.{is_end}
 use Rattle.std.specs.List.{list_any}
 use Rattle.pdu_codec.specs.declared.event.What.{What}
-use Rattle.sender_core.specs.Timers.{tries_of, stamp_of, stamp_by}
+use Rattle.core_steps.specs.Timers.{tries_of, stamp_of, stamp_by}
 use Rattle.sender_core.specs.declared.standing.Standing.{Standing}
 use Rattle.cfdp_types.specs.Put.{PutValue}
 use Rattle.gap_list.specs.declared.run.Run.{Run}
@@ -24,7 +24,7 @@ use Rattle.sender_core.specs.Answers.{answer_at, header_of}
 use Rattle.sender_core.specs.Answers as table
 use Rattle.sender_core.specs.Remaining.{without_first}
 use Rattle.sender_core.specs.Standing.{state_from, nowhere, IsSound, IsInside}
-use Rattle.sender_core.specs.declared.lists.Answer as answer_type
+use Rattle.sender_core.specs.declared.answer.Answer as answer_type
 use Rattle.sender_core.specs.declared.plan.Left.{Left}
 use Rattle.sender_core.specs.declared.plan.Left.TheVariants as left
 use Rattle.sender_core.specs.declared.plan.Plan.{Plan}

@@ -8,6 +8,5 @@ pub mod SendingRefusalRows
 pub mod SendingTimerRows
 pub mod SendingLaws
 pub mod Remaining
-pub mod Timers
 pub mod Standing
 pub mod Core

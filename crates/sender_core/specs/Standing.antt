@@ -2,7 +2,7 @@
 use Rattle.std.specs.Prelude.{◌≡◌, ℕ, ◌-◌, ◌<◌, ◌≤◌, Bool, true, false, None}
 use Rattle.cfdp_types.specs.declared.limits.TheConstants.{JOURNAL_ENTRIES, JOURNAL_ENTRIES_KEPT}
 use Rattle.sender_core.specs.Sending.{State}
-use Rattle.sender_core.specs.Timers.{stamp_of, tries_of}
+use Rattle.core_steps.specs.Timers.{stamp_of, tries_of, AreUpTo}
 use Rattle.sender_core.specs.declared.standing.Standing.{Standing}
 
 -- what a sender stands at that has these offsets still to send
@@ -41,10 +41,7 @@ nowhere i = false
 -- numbers that can be counted up: no timer expired more often than there were events
 pub record AreFew (standing : Standing) : Type 0 where
   pub place : standing.place ≤ JOURNAL_ENTRIES
-  pub ack : standing.tries.ack ≤ standing.place
-  pub nak : standing.tries.nak ≤ standing.place
-  pub check : standing.tries.check ≤ standing.place
-  pub inactivity : standing.tries.inactivity ≤ standing.place
+  pub tries : AreUpTo standing.place standing.tries
 
 -- besides, the journal has room where the transaction goes on, and nothing was sent that is not in the file
 pub record IsSound (size : ℕ) (standing : Standing) : Type 0 where

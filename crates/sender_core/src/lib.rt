@@ -2,9 +2,9 @@
 //! the code, which plans an event and then carries it out.
 #![tactic(auto)]
 
+mod answer;
 pub mod laws;
 mod left;
-mod lists;
 mod opening;
 mod pdus;
 mod plan;
@@ -16,9 +16,9 @@ mod rows;
 mod sender;
 mod standing;
 mod steps;
-mod timers;
 
-pub use lists::{Answer, Pdus, TimerOps};
+pub use answer::Answer;
+pub use core_steps::{Pdus, TimerOps};
 pub use plan::Plan;
 pub use sender::SenderCore;
 

@@ -1,5 +1,5 @@
 //! How a sender is opened.
-use crate::lists::{Answer, Pdus, TimerOps};
+use crate::answer::Answer;
 use crate::pdus::header_of;
 use crate::plan::{Left, Plan};
 use crate::remaining::Remaining;
@@ -7,6 +7,7 @@ use crate::sender::SenderCore;
 use crate::standing::Standing;
 use cfdp_types::limits::FILE_OCTETS;
 use cfdp_types::{Params, PutRequest, TxnKey};
+use core_steps::{Pdus, TimerOps};
 use ind_words::{Indication, Indications};
 use pdu_codec::Refusal;
 use std::alloc::Global;

@@ -1,4 +1,4 @@
-use crate::lists::Answer;
+use crate::answer::Answer;
 use crate::remaining::Remaining;
 use crate::standing::Standing;
 

@@ -2,13 +2,13 @@
 ghost use Rattle.std.specs.Prelude.{◌≡◌, IfOk};
 ghost use Rattle.std.specs.Option.{option_to_list};
 
-use crate::lists::{Answer, Pdus, TimerOps};
+use crate::answer::Answer;
 use crate::plan::{Left, Plan};
 use crate::row::Row;
 use crate::sender::SenderCore;
 use crate::standing::Standing;
 use crate::steps::{changes, next};
-use crate::timers::{Changes, Clock, operations};
+use core_steps::{Changes, Clock, Pdus, TimerOps, operations};
 use pdu_codec::{Pdu, Refusal, What};
 use std::alloc::{AllocError, Global};
 
@@ -20,7 +20,7 @@ impl SenderCore {
     ghost use Rattle.cfdp_types.specs.Params.{timer_length};
     ghost use Rattle.sender_core.specs.Sending.{Entry, happens, extent_of, state_of};
     ghost use Rattle.sender_core.specs.Answers.{answer_at};
-    ghost use Rattle.sender_core.specs.Timers.{effects, stamp_of};
+    ghost use Rattle.core_steps.specs.Timers.{effects, stamp_of};
     ghost use Rattle.sender_core.specs.Core.{shown, sending_of, plan_answer, StandsAfter, IsPlanned, IsPlanOf, IsWhy};
 
     // The operations that tell what a step does with the timers.

@@ -1,20 +1,17 @@
 //! Which events a sender refuses, and why.
 ghost use Rattle.std.specs.Prelude.{◌≡◌};
-ghost use Rattle.pdu_codec.specs.Events.{is_of_other_class, needs_room};
 ghost use Rattle.sender_core.specs.Refusals.{is_last_eof};
 
 use crate::sender::SenderCore;
 use cfdp_types::limits::{JOURNAL_ENTRIES, JOURNAL_ENTRIES_KEPT};
-use cfdp_types::{Class, Condition, TimerKind};
+use cfdp_types::{Class, Condition};
+use core_steps::{is_of_other_class, is_stale_timer, needs_room};
 use pdu_codec::{Body, Eof, Pdu, Refusal, What};
 
 impl SenderCore {
-    ghost use Rattle.std.specs.Prelude.{◌≡◌, not, nat_lt, length};
-    ghost use Rattle.cfdp_types.specs.Steps.{is_stamp};
+    ghost use Rattle.std.specs.Prelude.{◌≡◌, nat_lt, length};
     ghost use Rattle.sender_core.specs.Core.{shown, sending_of};
     ghost use Rattle.sender_core.specs.Refusals.{runs_to_send, has_more_to_send, has_no_place, is_pdu_misplaced, is_misplaced, is_full, refusal_of};
-    ghost use Rattle.sender_core.specs.Timers.{stamp_of};
-    ghost use Rattle.pdu_codec.specs.Events.{is_stale_timer};
 
     // Whether octets of the file are to be sent.
     fn has_octets(&self) -> bool
@@ -69,26 +66,6 @@ impl SenderCore {
         }
     }
 
-    // Whether the timer of a kind does not run with this stamp.
-    fn is_stale(&self, kind: TimerKind, stamp: u32) -> bool
-        ensures { result ≡ not (is_stamp (stamp_of self.now.standing.armed kind) stamp) }
-    {
-        match self.standing.armed.of(kind) {
-            None => true,
-            Some(kept) => kept != stamp,
-        }
-    }
-
-    // Whether a timer expired that does not run, or was armed again since.
-    fn is_stale_timer(&self, event: &What) -> bool
-        ensures { result ≡ is_stale_timer (stamp_of self.now.standing.armed) event.now }
-    {
-        match event {
-            What::Timer(kind, stamp) => self.is_stale(*kind, *stamp),
-            _ => false,
-        }
-    }
-
     fn is_full(&self) -> bool
         ensures { result ≡ is_full (shown self.now) }
     {
@@ -101,7 +78,7 @@ impl SenderCore {
     {
         if is_of_other_class(self.request.class(), event) {
             Some(Refusal::ModeMismatch)
-        } else if self.is_stale_timer(event) {
+        } else if is_stale_timer(&self.standing.armed, event) {
             Some(Refusal::StaleTimer)
         } else if matches!(event, What::Stored(_, _)) {
             Some(Refusal::StaleStored)
@@ -113,23 +90,6 @@ impl SenderCore {
             None
         }
     }
-}
-
-// A PDU whose mode is not the transaction's class.
-fn is_of_other_class(class: Class, event: &What) -> bool
-    ensures { result ≡ is_of_other_class class event.now }
-{
-    match event {
-        What::Pdu(pdu) => pdu.header().class != class,
-        _ => false,
-    }
-}
-
-// Abandon is taken although the journal is full.
-fn needs_room(event: &What) -> bool
-    ensures { result ≡ needs_room event.now }
-{
-    !matches!(event, What::Stored(_, _) | What::Abandon)
 }
 
 // Whether the last EOF that was sent has this condition.

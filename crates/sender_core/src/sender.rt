@@ -5,8 +5,8 @@ ghost use Rattle.gap_list.specs.Runs.{in_runs};
 ghost use Rattle.sender_core.specs.Answers.{header_of};
 ghost use Rattle.sender_core.specs.Standing.{IsSound, IsInside};
 
+use crate::answer::Answer;
 use crate::left::leave;
-use crate::lists::Answer;
 use crate::plan::Plan;
 use crate::remaining::Remaining;
 use crate::standing::Standing;

@@ -1,7 +1,7 @@
 ghost use Rattle.std.specs.Prelude.{◌≡◌};
 
-use crate::timers::{Stamps, Tries};
 use cfdp_types::Condition;
+use core_steps::{Stamps, Tries};
 use ind_words::Phase;
 use pdu_codec::Eof;
 

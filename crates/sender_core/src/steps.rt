@@ -1,25 +1,21 @@
 //! What follows an event.
-ghost use Rattle.std.specs.Prelude.{◌≡◌, List, [], ◌∷◌, MatchOption, ◌+◌, ◌≤◌, ◌||◌, ◌&&◌, not, if◌then◌else◌};
+ghost use Rattle.std.specs.Prelude.{◌≡◌, [], MatchOption, ◌≤◌, ◌||◌};
 ghost use Rattle.std.specs.Option.{option_to_list};
 ghost use Rattle.std.specs.List.{list_any};
-ghost use Rattle.cfdp_types.specs.declared.limits.TheConstants.{FILE_OCTETS, JOURNAL_ENTRIES};
+ghost use Rattle.cfdp_types.specs.declared.limits.TheConstants.{FILE_OCTETS};
 ghost use Rattle.cfdp_types.specs.declared.names.TimerKind.{TimerKind};
 ghost use Rattle.cfdp_types.specs.Steps.{is_kind};
-ghost use Rattle.pdu_codec.specs.Events.{is_expiration, is_pdu};
-ghost use Rattle.ind_words.specs.Told.{paused_after, is_resumed, is_fault};
 ghost use Rattle.sender_core.specs.Sending as sending_of_file;
-ghost use Rattle.ind_words.specs.declared.indication.Indication.{Indication};
 ghost use Rattle.sender_core.specs.Sending.{is_suspended, happens, begins_phase, eof_among, extent_of, acknowledges_eof, requests_of, asks_for_metadata, tries_after};
 ghost use Rattle.sender_core.specs.Answers.{effect_of};
 ghost use Rattle.sender_core.specs.Standing.{state_from, nowhere, AreFew};
 ghost use Rattle.sender_core.specs.Core.{IsNext, untimed_entry, arming};
-ghost use Rattle.sender_core.specs.Timers.{effects, effect_of_change, tries_of};
+ghost use Rattle.core_steps.specs.Timers.{effects, effect_of_change, tries_of};
 
 use crate::row::Row;
 use crate::standing::Standing;
-use crate::timers::{Change, Changes, Tries};
 use cfdp_types::{Condition, TimerKind};
-use ind_words::Indication;
+use core_steps::{Anew, Change, Changes, Tries, is_pdu, paused_after};
 use pdu_codec::{Acknowledged, Body, Eof, Pdu, SegmentRequest, What};
 
 // The EOF that is sent, if one is.
@@ -64,40 +60,6 @@ fn extent_of(pdu: &Option<Pdu>) -> u32
             _ => 0,
         },
     }
-}
-
-// Whether the transaction is paused once one thing more is told.
-fn pauses(paused: bool, indication: &Indication) -> bool
-    ensures { (later : List Indication) → paused_after result later ≡ paused_after paused (indication.now ∷ later) }
-{
-    match indication {
-        Indication::Suspended { .. } => true,
-        Indication::Resumed { .. } => false,
-        _ => paused,
-    }
-}
-
-// Whether the user is told last that the transaction is suspended.
-fn paused_after(paused: bool, inds: &[Indication]) -> bool
-    ensures { result ≡ paused_after paused inds.now }
-{
-    let mut now = paused;
-    for indication in inds {
-        now = pauses(now, indication);
-    }
-    now
-}
-
-fn has_resumed(inds: &[Indication]) -> bool
-    ensures { result ≡ list_any is_resumed inds.now }
-{
-    inds.iter().any(|indication| matches!(indication, Indication::Resumed { .. }))
-}
-
-fn has_fault(inds: &[Indication]) -> bool
-    ensures { result ≡ list_any is_fault inds.now }
-{
-    inds.iter().any(|indication| matches!(indication, Indication::Fault { .. }))
 }
 
 // Whether an EOF is sent with another condition than the last one had.
@@ -151,63 +113,16 @@ fn acknowledges(event: &What) -> bool
     }
 }
 
-fn is_expired(kind: TimerKind, event: &What) -> bool
-    ensures { result ≡ is_expiration kind event.now }
-{
-    match event {
-        What::Timer(expired, _) => *expired == kind,
-        _ => false,
-    }
-}
-
-// An expiration more, or none where the count begins again.
-fn count(before: u32, expired: bool, again: bool) -> u32
-    requires { before ≤ JOURNAL_ENTRIES }
-    ensures { result ≡ (if again then 0 else if expired then before + 1 else before) }
-{
-    if again {
-        0
-    } else if expired {
-        before + 1
-    } else {
-        before
-    }
-}
-
-// Whether the count of a timer begins again.
-fn begins_again(resumed: bool, expired: bool, faulted: bool, phase: bool) -> bool
-    ensures { result ≡ (resumed || (expired && faulted) || phase) }
-{
-    resumed || (expired && faulted) || phase
-}
-
 // The expirations that are counted after an event that is answered by a row.
 fn tries_after(standing: &Standing, event: &What, row: &Row) -> Tries
     requires { AreFew standing.now }
     ensures { (kind : TimerKind) → tries_of result kind ≡ tries_after (state_from standing.now nowhere) (untimed_entry event.now row.now) kind }
 {
-    let resumed = has_resumed(row.inds.as_slice());
-    let faulted = has_fault(row.inds.as_slice());
-    let phase = begins_phase(standing.eof, eof_in(&row.pdu));
-    let ack = is_expired(TimerKind::Ack, event);
-    let nak = is_expired(TimerKind::Nak, event);
-    let check = is_expired(TimerKind::Check, event);
-    let inactivity = is_expired(TimerKind::Inactivity, event);
-    let tries = standing.tries;
-    Tries {
-        ack: count(tries.ack, ack, begins_again(resumed, ack, faulted, phase)),
-        nak: count(tries.nak, nak, begins_again(resumed, nak, faulted, false)),
-        check: count(
-            tries.check,
-            check,
-            begins_again(resumed, check, faulted, false),
-        ),
-        inactivity: count(
-            tries.inactivity,
-            inactivity,
-            begins_again(resumed, inactivity, faulted, false),
-        ),
-    }
+    let anew = Anew {
+        ack: begins_phase(standing.eof, eof_in(&row.pdu)),
+        nak: false,
+    };
+    standing.tries.after(event, row.inds.as_slice(), anew)
 }
 
 /// Where a sender stands after an event that is answered by a row, but for its timers, which stay as
@@ -249,12 +164,6 @@ fn is_armed(arms: Option<TimerKind>, kind: TimerKind) -> bool
         None => false,
         Some(armed) => armed == kind,
     }
-}
-
-fn is_pdu(event: &What) -> bool
-    ensures { result ≡ is_pdu event.now }
-{
-    matches!(event, What::Pdu(_))
 }
 
 // What a step does with the timer of a kind, where it leads to a standing.

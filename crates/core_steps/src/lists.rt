@@ -1,7 +1,6 @@
 ghost use Rattle.std.specs.Prelude.{◌≡◌, [], ◌∷◌, ◌++◌, IfOk, OnOk, OnErr};
 
-use cfdp_types::{Deposit, TimerOp};
-use ind_words::Indications;
+use cfdp_types::TimerOp;
 use pdu_codec::Pdu;
 use std::alloc::{AllocError, Global};
 use std::marker::Model;
@@ -89,16 +88,4 @@ impl TimerOps {
         self.items.push(op)?;
         Ok(())
     }
-}
-
-/// What one accepted event gives.
-#[derive(Debug, Drop)]
-pub struct Answer {
-    /// What the user is told.
-    pub inds: Indications,
-    /// What goes to the other entity.
-    pub pdus: Pdus,
-    pub timers: TimerOps,
-    /// A file that is handed out: never at a sender.
-    pub deposit: Option<Deposit>,
 }
