@@ -3,6 +3,15 @@ pub mod Refusals
 pub mod Answers
 pub mod LegalReceptions
 pub mod Images
+pub mod Offsets
+pub mod Standing
+pub mod Content
+pub mod Examine
+pub mod Row
+pub mod Naks
+pub mod Core
+pub mod Planned
+pub mod Stored
 pub mod ReceptionRows
 pub mod FileRows
 pub mod RefusalRows
