@@ -1,12 +1,12 @@
 -- What changes bring.
-use Rattle.std.proofs.Common.{◌≡◌, ◌⊎◌, ℕ, ◌+◌, ◌<◌, ◌≤◌, Bool, true, false, not, ◌&&◌, ◌||◌, if◌then◌else◌, List, length, Option, Some, None, eqb, refl, sym, ap, ◌∙◌, arith, inl, inr, rules, subst, Result, Ok, Err}
+use Rattle.std.proofs.Common.{◌≡◌, ◌⊎◌, ℕ, ◌+◌, ◌<◌, ◌≤◌, Bool, true, false, not, ◌&&◌, ◌||◌, List, length, Option, Some, None, eqb, refl, sym, ap, ◌∙◌, arith, inl, inr, rules, subst, Result, Ok, Err}
 use Rattle.std.proofs.Math.Path.{fun_ext}
-use Rattle.std.proofs.lemmas.Bool.{cases_Bool, ltb-true}
-use Rattle.std.specs.Prelude.{is_some, vec_len, IfOk, IfErr}
+use Rattle.std.proofs.lemmas.Bool.{ltb-true}
+use Rattle.std.specs.Prelude.{vec_len, IfOk, IfErr}
 use Rattle.std.specs.List.{All}
 use Rattle.cfdp_types.specs.Steps.{older_or}
 use Rattle.gap_list.specs.Covered.{covered}
-use Rattle.gap_list.specs.Runs.{SameSet, is_within, with_range, new_runs}
+use Rattle.gap_list.specs.Runs.{is_within, new_runs}
 use Rattle.gap_list.proofs.SetLemmas.{new_runs-same, filled-runs_of}
 use Rattle.pdu_format.specs.declared.pdu.Body.{Body}
 use Rattle.pdu_format.specs.declared.pdu.Body.TheVariants as body
@@ -19,9 +19,8 @@ use Rattle.receiver_core.specs.Answers.{answer_at}
 use Rattle.receiver_core.specs.Standing.{state_from}
 use Rattle.receiver_core.specs.declared.plan.Plan.{Plan}
 use Rattle.receiver_core.specs.declared.standing.Standing.{Standing}
-use Rattle.receiver_core.specs.Offsets.{IsInside, octets_in}
-use Rattle.receiver_core.specs.Content.{received_of, with_part, end_of, IsPartOf}
-use Rattle.receiver_core.specs.Core.{shown, reception_of, received_after, covered_after, FitsContent, HasRoom, IsLaid, IsCovered, IsChange, IsSame, IsPlanOf, IsWhy, StandsAfter, runs_in, adds, piece_of, metadata_after, plan_answer}
+use Rattle.receiver_core.specs.Content.{received_of, end_of, IsPartOf}
+use Rattle.receiver_core.specs.Core.{shown, reception_of, received_after, FitsContent, HasRoom, IsCovered, IsChange, IsSame, IsPlanOf, IsWhy, StandsAfter, runs_in, piece_of, metadata_after, plan_answer}
 use Rattle.receiver_core.specs.declared.content.Content.{Content}
 use Rattle.receiver_core.specs.declared.content.Part.{Part}
 use Rattle.receiver_core.specs.declared.plan.Change.{Change}

@@ -1,6 +1,6 @@
 -- The look at the file over what is kept is that of the table.
-use Rattle.std.proofs.Common.{◌≡◌, ℕ, ◌-◌, ◌<◌, ◌≤◌, Bool, true, false, not, ◌&&◌, ◌==◌, nat_lt, if◌then◌else◌, List, [], ◌∷◌, length, take, drop, Option, Some, None, eqb, refl, sym, ap, ◌∙◌, arith, inl, inr, IsTrue, ◌↔◌, ◌⊎◌, zero, suc}
-use Rattle.std.proofs.lemmas.Bool.{cases_Bool, eqb-true, eqb-false}
+use Rattle.std.proofs.Common.{◌≡◌, ℕ, ◌-◌, ◌<◌, ◌≤◌, Bool, true, false, not, ◌&&◌, ◌==◌, nat_lt, if◌then◌else◌, List, [], ◌∷◌, length, take, Option, Some, None, eqb, refl, sym, ap, ◌∙◌, arith, inl, inr, IsTrue, ◌↔◌, ◌⊎◌, zero, suc}
+use Rattle.std.proofs.lemmas.Bool.{cases_Bool, eqb-true}
 use Rattle.std.specs.Prelude.{is_some}
 use Rattle.std.specs.Option.{option_map}
 use Rattle.gap_list.specs.Runs.{missing_runs}
@@ -9,7 +9,7 @@ use Rattle.modular_sum.specs.Sum.{sum}
 use Rattle.pdu_format.specs.declared.bodies.Metadata.{Metadata}
 use Rattle.pdu_format.specs.declared.bodies.Eof.{Eof}
 use Rattle.receiver_core.specs.Reception.{Reception, State, is_suspended}
-use Rattle.receiver_core.specs.Answers.{Row, nothing, stores, faults, waits_for_rest, looks_at_eof, examines, is_unsupported, is_whole, agrees, missing_below}
+use Rattle.receiver_core.specs.Answers.{stores, faults, waits_for_rest, looks_at_eof, examines, is_unsupported, is_whole, agrees, missing_below}
 use Rattle.receiver_core.specs.Standing.{state_from}
 use Rattle.receiver_core.specs.Offsets.{IsInside, octets_in}
 use Rattle.receiver_core.specs.Examine.{is_unsupported_type, is_full, compared, looked_at, looked, row_found}

@@ -1,5 +1,5 @@
 -- A reception that is opened stands before its first event, which is taken unless it is too large.
-use Rattle.std.proofs.Common.{◌≡◌, ℕ, Bool, true, false, if◌then◌else◌, List, Option, Some, None, refl, sym, ap, ◌∙◌}
+use Rattle.std.proofs.Common.{◌≡◌, ℕ, true, false, if◌then◌else◌, Option, Some, None, refl, ap, ◌∙◌}
 use Rattle.std.specs.Prelude.{IsOk, Err}
 use Rattle.cfdp_types.specs.Params.{ParamsValue}
 use Rattle.cfdp_types.specs.declared.key.TxnKey.{TxnKey}

@@ -1,12 +1,12 @@
 -- What is laid at the offsets that did not come.
-use Rattle.std.proofs.Common.{◌≡◌, ℕ, ◌+◌, ◌-◌, ◌<◌, ◌≤◌, Bool, true, false, not, ◌&&◌, ◌||◌, nat_le, nat_lt, if◌then◌else◌, List, length, get_or, Option, Some, None, leb, ltb, refl, sym, ap, ◌∙◌, arith, inl, inr}
-use Rattle.std.proofs.lemmas.Bool.{cases_Bool, cases_lt, ltb-true, leb-true, lt-ltb, le-ltb, le-leb, lt-leb, and_parts}
+use Rattle.std.proofs.Common.{◌≡◌, ℕ, ◌+◌, ◌-◌, ◌<◌, ◌≤◌, Bool, true, false, not, ◌&&◌, ◌||◌, nat_le, nat_lt, if◌then◌else◌, List, length, get_or, Option, Some, None, refl, sym, ◌∙◌, arith, inl, inr}
+use Rattle.std.proofs.lemmas.Bool.{cases_Bool, cases_lt, leb-true, lt-ltb, le-ltb, le-leb, lt-leb, and_parts}
 use Rattle.std.proofs.lemmas.Option.{slice_get-get_or, slice_get_past}
 use Rattle.std.specs.Prelude.{slice_get}
 use Rattle.std.specs.List.{All}
 use Rattle.cfdp_types.specs.Steps.{older_or}
 use Rattle.gap_list.specs.declared.run.Run.{Run}
-use Rattle.gap_list.specs.Runs.{SameSet, is_within, in_runs, new_runs, with_range}
+use Rattle.gap_list.specs.Runs.{is_within, in_runs, new_runs, with_range}
 use Rattle.gap_list.proofs.RunLemmas.{in_runs-runs_of}
 use Rattle.gap_list.proofs.SetLemmas.{filled-runs_of, ends-runs_of, in_set-runs_of}
 use Rattle.pdu_format.specs.declared.bodies.FileData.{FileData}

@@ -19,3 +19,4 @@ pub mod PlanLemmas
 pub mod NakLemmas
 pub mod ChangeLemmas
 pub mod FirstLemmas
+pub mod ImageLemmas

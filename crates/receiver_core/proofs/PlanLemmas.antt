@@ -1,11 +1,10 @@
 -- A plan holds the table's answer, and what follows it.
-use Rattle.std.proofs.Common.{◌≡◌, ◌⊎◌, ℕ, ◌+◌, ◌<◌, ◌≤◌, Bool, true, false, not, ◌&&◌, ◌||◌, nat_lt, nat_le, if◌then◌else◌, List, [], ◌∷◌, ◌++◌, length, Option, Some, None, Ok, Err, Result, refl, sym, ap, subst, ◌∙◌, arith, inl, inr, leb}
+use Rattle.std.proofs.Common.{◌≡◌, ℕ, ◌+◌, ◌<◌, ◌≤◌, Bool, true, false, not, ◌&&◌, ◌||◌, nat_lt, if◌then◌else◌, List, [], ◌++◌, length, Option, Some, None, Ok, Err, Result, refl, sym, ap, ◌∙◌, arith, inl, inr}
 use Rattle.std.proofs.Math.Path.{fun_ext}
-use Rattle.std.proofs.lemmas.Bool.{leb-false, ltb-true, cases_Bool}
-use Rattle.std.specs.Prelude.{IsOk, IfOk, IfErr, map, is_some}
+use Rattle.std.proofs.lemmas.Bool.{leb-false, cases_Bool}
+use Rattle.std.specs.Prelude.{IsOk, IfOk, map, is_some}
 use Rattle.std.specs.declared.alloc.AllocError.{AllocError}
 use Rattle.std.specs.List.{list_any}
-use Rattle.gap_list.specs.Covered.{covered}
 use Rattle.cfdp_types.specs.Params.{timer_length}
 use Rattle.cfdp_types.specs.Steps.{Effect, arms, keeps, stops, armed_after, operations, newer_or, older_or, is_kind, is_stamp}
 use Rattle.cfdp_types.proofs.StepLemmas.{armed_by, armed_after-operations}
@@ -13,9 +12,9 @@ use Rattle.cfdp_types.specs.declared.key.Deposit.{Deposit}
 use Rattle.cfdp_types.specs.declared.names.TimerKind.{TimerKind}
 use Rattle.cfdp_types.specs.declared.names.TimerKind.TheVariants.{Ack, Nak, Check, Inactivity}
 use Rattle.cfdp_types.specs.declared.timer_op.TimerOp.{TimerOp}
-use Rattle.core_steps.specs.Timers.{stamp_of, stamp_by, tries_of, tries_by, is_anew, AreUpTo}
+use Rattle.core_steps.specs.Timers.{stamp_of, stamp_by, tries_by, is_anew}
 use Rattle.ind_words.specs.Words.{is_end}
-use Rattle.ind_words.specs.Told.{paused_after, is_resumed, is_fault}
+use Rattle.ind_words.specs.Told.{is_resumed, is_fault}
 use Rattle.ind_words.specs.declared.indication.Indication.{Indication}
 use Rattle.pdu_codec.specs.declared.event.What.{What}
 use Rattle.pdu_codec.specs.declared.event.What.TheVariants as what
@@ -28,16 +27,15 @@ use Rattle.pdu_format.specs.declared.pdu.Body.TheVariants as body
 use Rattle.pdu_format.specs.declared.bodies.Eof.{Eof}
 use Rattle.pdu_format.specs.declared.bodies.Finished.{Finished}
 use Rattle.pdu_format.specs.declared.bodies.Metadata.{Metadata}
-use Rattle.receiver_core.specs.Reception.{Reception, State, Answer, Entry, step, state_of, is_closing, is_storing, is_suspended, octet_at, finished_among, finished_in, tries_after, waiting_after, brings_more}
+use Rattle.receiver_core.specs.Reception.{Reception, State, Answer, step, is_storing, octet_at, finished_among, finished_in, tries_after, waiting_after, brings_more}
 use Rattle.receiver_core.specs.Refusals.{refusal_at, is_stale_store, waits_for_store, is_misplaced, is_too_large, is_full}
 use Rattle.receiver_core.specs.Answers as table
 use Rattle.receiver_core.specs.Answers.{row_of, seen, untimed, timed, accepted_at, answer_at, effect_of, bodies_of, pdu_to_sender, nak_of, ack_of, if_there, if_so, requests_of}
 use Rattle.receiver_core.specs.Standing.{state_from, bare, AreFew, IsSound}
-use Rattle.receiver_core.specs.Offsets.{IsInside, octets_in}
-use Rattle.receiver_core.specs.Content.{received_of, with_part}
+use Rattle.receiver_core.specs.Content.{received_of}
 use Rattle.receiver_core.specs.Row.{IsRow, row_value}
-use Rattle.receiver_core.specs.Core.{shown, reception_of, now_state, metadata_after, piece_of, received_after, covered_after, FitsContent, HasRoom, IsLaid, IsCovered, IsChange, IsSame, IsPlanOf, IsWhy, StandsAfter, plan_answer, adds}
-use Rattle.receiver_core.specs.Planned.{IsSeen, IsNext, IsPlanned, effect_by, deposit_of}
+use Rattle.receiver_core.specs.Core.{shown, reception_of, now_state, metadata_after, received_after, HasRoom, IsLaid, IsChange, IsPlanOf, plan_answer, adds}
+use Rattle.receiver_core.specs.Planned.{IsSeen, IsPlanned, effect_by, deposit_of}
 use Rattle.receiver_core.specs.declared.plan.Change.{Change}
 use Rattle.receiver_core.specs.declared.plan.Plan.{Plan}
 use Rattle.receiver_core.specs.declared.receiver.ReceiverCore.{ReceiverCore}

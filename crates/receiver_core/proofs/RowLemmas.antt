@@ -1,5 +1,5 @@
 -- Rows as the code makes them.
-use Rattle.std.proofs.Common.{◌≡◌, ℕ, Bool, true, false, ◌||◌, ◌&&◌, if◌then◌else◌, List, [], ◌∷◌, ◌++◌, Option, Some, None, Result, Ok, Err, IfOk, refl, sym, ap, ◌∙◌, append-nil}
+use Rattle.std.proofs.Common.{◌≡◌, ℕ, Bool, List, [], ◌++◌, Option, Result, Ok, Err, IfOk, refl, sym, ap, ◌∙◌, append-nil}
 use Rattle.cfdp_types.specs.declared.names.Class.{Class}
 use Rattle.cfdp_types.specs.declared.names.Class.TheVariants.{One, Two}
 use Rattle.cfdp_types.specs.declared.names.TimerKind.{TimerKind}

@@ -2,6 +2,7 @@
 use Rattle.std.specs.Prelude.{◌≡◌, ℕ, ◌≤◌, Bool, true, false, not, ◌==◌, List, [], length, Option, Some, None, ◌⊎◌, Result, Ok, Err, IsOk, vec_len}
 use Rattle.cfdp_types.specs.Params.{ParamsValue}
 use Rattle.cfdp_types.specs.Steps.{older_or}
+use Rattle.cfdp_types.specs.declared.image.Image.{Image}
 use Rattle.cfdp_types.specs.declared.key.TxnKey.{TxnKey}
 use Rattle.gap_list.specs.Covered.{covered}
 use Rattle.gap_list.specs.declared.run.Run.{Run}
@@ -140,6 +141,10 @@ pub record IsSame (old : ReceiverCore) (new : ReceiverCore) : Type 0 where
 -- why an event was not planned: the table refuses it so, or it is answered and memory ran out
 abbrev pub IsWhy : Result reception_module.Answer Refusal → Refusal → Type 0
 IsWhy answer why = (answer ≡ Err why) ⊎ ((why ≡ refusal.NoMemory) × IsOk answer)
+
+-- why a file was not handed out: the table says so, or there is one and memory ran out
+abbrev pub IsWhyNot : Result Image Refusal → Refusal → Type 0
+IsWhyNot image why = (image ≡ Err why) ⊎ ((why ≡ refusal.NoMemory) × IsOk image)
 
 -- in the core's present state the event is answered as planned, and the plan holds what follows
 pub record IsPlanOf (core : ReceiverCore) (plan : Plan) (event : What) : Type 0 where

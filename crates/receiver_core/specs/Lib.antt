@@ -11,7 +11,6 @@ pub mod Row
 pub mod Naks
 pub mod Core
 pub mod Planned
-pub mod Stored
 pub mod ReceptionRows
 pub mod FileRows
 pub mod RefusalRows

@@ -29,7 +29,9 @@ pub(crate) struct Part {
 }
 
 impl Content {
-    ghost use Rattle.std.specs.Prelude.{◌≡◌, ℕ, ◌≤◌, IfOk, OnOk, None, Some, length, vec_len};
+    ghost use Rattle.std.specs.Prelude.{◌≡◌, ℕ, ◌≤◌, IfOk, OnOk, None, Some, length, vec_len, not, unwrap_or};
+    ghost use Rattle.gap_list.specs.Runs.{in_runs};
+    ghost use Rattle.receiver_core.specs.Answers.{octets_from};
     ghost use Rattle.cfdp_types.specs.declared.limits.TheConstants.{FILE_OCTETS};
     ghost use Rattle.gap_list.specs.Covered.{covered};
     ghost use Rattle.receiver_core.specs.Offsets.{octets_in};
@@ -58,6 +60,30 @@ impl Content {
             gaps,
             runs,
         })
+    }
+
+    // The octet at an offset, and 0 where it is missing.
+    fn octet(&self, missing: &[Run], offset: u32) -> u8
+        requires { in_runs missing.now offset ≡ not (covered self.now.gaps offset) }
+        ensures { result ≡ unwrap_or (received_of self.now offset) 0 }
+    {
+        if is_among(missing, offset) {
+            0
+        } else {
+            self.octets[offset as usize]
+        }
+    }
+
+    /// The octets below a size, with 0 for those that are missing.
+    pub(crate) fn below(&self, size: u32) -> Result<Vec<u8>, AllocError>
+        ensures { IfOk result (λ octets. octets.items ≡ octets_from (received_of self.now) 0 size) }
+    {
+        let missing = self.gaps.missing(size)?;
+        let mut octets = Vec::with_capacity(*self.octets.allocator(), size as usize)?;
+        for offset in 0..size {
+            octets.push(self.octet(missing.as_slice(), offset))?;
+        }
+        Ok(octets)
     }
 
     // Makes room for the offsets below an end.
@@ -110,6 +136,14 @@ impl Content {
         self.lay(&part);
         self.gaps = part.gaps;
     }
+}
+
+// Whether one of the runs has an offset.
+fn is_among(runs: &[Run], offset: u32) -> bool
+    ensures { result ≡ in_runs runs.now offset }
+{
+    runs.iter()
+        .any(|run| run.start <= offset && offset < run.end)
 }
 
 // At least so many octets, of which the first are the same.

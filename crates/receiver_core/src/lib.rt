@@ -5,6 +5,7 @@ mod answer;
 mod answering;
 mod content;
 mod examine;
+mod image;
 pub mod laws;
 mod nak;
 pub mod narrow;
@@ -22,3 +23,6 @@ mod steps;
 pub use answer::Answer;
 pub use plan::Plan;
 pub use receiver::ReceiverCore;
+
+#[cfg(test)]
+mod tests;

@@ -1,4 +1,4 @@
-use Rattle.std.proofs.Common.{ap, ◌∙◌, sym}
+use Rattle.std.proofs.Common.{sym}
 use Rattle.receiver_core.proofs.NakLemmas.{last_is}
 use Rattle.receiver_core.proofs.nak.last_end.Goals as goal
 

@@ -1,4 +1,4 @@
-use Rattle.std.proofs.Common.{◌+◌, length, rules}
+use Rattle.std.proofs.Common.{◌+◌, length}
 use Rattle.std.specs.Prelude.{slice_get}
 use Rattle.gap_list.specs.Covered.{covered}
 use Rattle.receiver_core.proofs.LayLemmas.{runs_inside, received_same, laid_is}

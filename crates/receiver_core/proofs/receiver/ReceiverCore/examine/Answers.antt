@@ -1,5 +1,4 @@
-use Rattle.std.proofs.Common.{◌≡◌, false, ap, sym, ◌∙◌}
-use Rattle.gap_list.specs.Covered.{covered}
+use Rattle.std.proofs.Common.{◌≡◌, ap, sym, ◌∙◌}
 use Rattle.receiver_core.specs.Answers.{examines}
 use Rattle.receiver_core.specs.Core.{reception_of, metadata_after, covered_after, now_state}
 use Rattle.receiver_core.specs.Offsets.{octets_in}

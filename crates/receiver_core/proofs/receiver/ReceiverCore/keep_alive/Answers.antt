@@ -1,5 +1,4 @@
-use Rattle.std.proofs.Common.{◌≡◌, ℕ, sym, ap, ◌∙◌, arith}
-use Rattle.pdu_format.specs.Pdu.{PduValue}
+use Rattle.std.proofs.Common.{ℕ, sym, ap, ◌∙◌, arith}
 use Rattle.pdu_format.specs.declared.pdu.Body.TheVariants as body
 use Rattle.pdu_format.proofs.FitLaws.{keep_alive_fits}
 use Rattle.receiver_core.specs.Answers.{pdu_to_sender}

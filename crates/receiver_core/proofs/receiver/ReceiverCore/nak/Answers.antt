@@ -1,10 +1,6 @@
-use Rattle.std.proofs.Common.{◌≡◌, List, sym, ap, ◌∙◌, arith}
-use Rattle.gap_list.specs.Covered.{covered}
-use Rattle.gap_list.specs.Runs.{missing_runs}
-use Rattle.gap_list.specs.declared.run.Run.{Run}
+use Rattle.std.proofs.Common.{◌≡◌, sym, ap, ◌∙◌, arith}
 use Rattle.pdu_format.specs.declared.pdu.Body.{Body}
 use Rattle.pdu_format.specs.declared.pdu.Body.TheVariants as body
-use Rattle.pdu_format.specs.declared.bodies.Nak as nak_type
 use Rattle.pdu_format.proofs.FitLaws.{nak_fits}
 use Rattle.receiver_core.specs.Answers.{pdu_to_sender, missing_below}
 use Rattle.receiver_core.specs.Core.{reception_of, now_state, metadata_after, covered_after}

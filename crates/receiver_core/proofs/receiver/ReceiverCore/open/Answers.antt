@@ -2,7 +2,6 @@ use Rattle.std.proofs.Common.{◌≡◌, false, [], sym, ap, ◌∙◌, inl, inr
 use Rattle.std.proofs.lemmas.Result.{err_from_is_err_and}
 use Rattle.receiver_core.specs.Reception.{State, initial, state_of}
 use Rattle.receiver_core.specs.Refusals.{is_body_too_large}
-use Rattle.receiver_core.specs.Core.{shown}
 use Rattle.receiver_core.proofs.FirstLemmas.{first_refused, first_taken}
 use Rattle.receiver_core.proofs.receiver.ReceiverCore.open.Goals as goal
 
