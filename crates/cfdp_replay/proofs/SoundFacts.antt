@@ -16,7 +16,7 @@ use Rattle.ind_words.specs.declared.bundle.Bundle.{Bundle}
 use Rattle.cfdp_types.specs.declared.names.Delivery.TheVariants.{Complete}
 use Rattle.ind_words.specs.declared.indication.Indication.{Indication}
 use Rattle.ind_words.specs.declared.indication.Indication.TheVariants as told
-use Rattle.receiver_core.specs.declared.answer.Answer.{Answer}
+use Rattle.receiver_core.specs.declared.narrow.answer.Answer.{Answer}
 use Rattle.receiver_core.specs.Log.{Entry, State, initial, state_of, issued}
 use Rattle.receiver_core.specs.Table.{answer_at}
 use Rattle.receiver_core.specs.Laws.{IsLegal}

@@ -10,16 +10,16 @@ use Rattle.pdu_codec.specs.declared.event.Refusal.{Refusal}
 use Rattle.pdu_format.specs.declared.bodies.Metadata.{Metadata}
 use Rattle.pdu_format.specs.declared.bodies.Eof.{Eof}
 use Rattle.ind_words.specs.Words.{is_end}
-use Rattle.receiver_core.specs.declared.answer.Answer.{Answer}
-use Rattle.receiver_core.specs.declared.plan.Change.TheVariants as change
-use Rattle.receiver_core.specs.declared.plan.Plan.{Plan}
-use Rattle.receiver_core.specs.declared.reception.ReceiverCore.{ReceiverCore}
+use Rattle.receiver_core.specs.declared.narrow.answer.Answer.{Answer}
+use Rattle.receiver_core.specs.declared.narrow.plan.Change.TheVariants as change
+use Rattle.receiver_core.specs.declared.narrow.plan.Plan.{Plan}
+use Rattle.receiver_core.specs.declared.narrow.reception.ReceiverCore.{ReceiverCore}
 use Rattle.cfdp_types.specs.Steps.{older_or}
 use Rattle.receiver_core.specs.Log.{Entry, State, step, state_of}
 use Rattle.pdu_codec.specs.Refusal.{unless_refused}
 use Rattle.receiver_core.specs.Table.{refusal_at, accepted_at, answer_at, stored_answer}
-use Rattle.receiver_core.specs.Examine.{added, metadata_with, eof_with}
-use Rattle.receiver_core.specs.Core.{shown, StandsAfter, IsPlanOf, body_change}
+use Rattle.receiver_core.specs.NarrowExamine.{added, metadata_with, eof_with}
+use Rattle.receiver_core.specs.NarrowCore.{shown, StandsAfter, IsPlanOf, body_change}
 use Rattle.receiver_core.proofs.States.{same_state}
 use Rattle.cfdp_types.proofs.StepLemmas.{older_or-none}
 use Rattle.receiver_core.proofs.Parts.{received_parts, progress_parts, metadata_parts, eof_parts}

@@ -21,9 +21,9 @@ use Rattle.ind_words.specs.declared.indication.Indication.TheVariants as told
 use Rattle.ind_words.specs.Words.{is_end, MayFollow, IsBegun, IsFilled, MayFinish}
 use Rattle.ind_words.proofs.WordLemmas.{told_onto, told_onto-append, MayFollow-append, list_any-told_onto}
 use Rattle.modular_sum.specs.Sum.{sum}
-use Rattle.receiver_core.specs.declared.answer.Answer.{Answer}
-use Rattle.receiver_core.specs.declared.examine.Finding.{Finding}
-use Rattle.receiver_core.specs.declared.examine.Finding.TheVariants.{Nothing, Faulty, Whole}
+use Rattle.receiver_core.specs.declared.narrow.answer.Answer.{Answer}
+use Rattle.receiver_core.specs.declared.narrow.examine.Finding.{Finding}
+use Rattle.receiver_core.specs.declared.narrow.examine.Finding.TheVariants.{Nothing, Faulty, Whole}
 use Rattle.receiver_core.specs.Log.{Entry, State, initial, step, state_of, issued}
 use Rattle.receiver_core.specs.Table.{pdu_refusal, answer_at, seen, examine, is_unsupported, is_beyond, compared, none_missing, octets_from, pdu_answer, cancel_code, stored_answer, found, faulty, told_of, is_waiting}
 use Rattle.receiver_core.specs.Laws.{IsLegal, IsGoodFile, IsGood, TellsWords, CompletesGood}

@@ -11,3 +11,12 @@ pub mod ReceptionLate
 pub mod ReceptionTelling
 pub mod ReceptionEvents
 pub mod ReceptionLegal
+pub mod ContentLemmas
+pub mod LayLemmas
+pub mod ExamineLemmas
+pub mod RowLemmas
+pub mod PlanLemmas
+pub mod NakLemmas
+pub mod ChangeLemmas
+pub mod FirstLemmas
+pub mod ImageLemmas

@@ -8,9 +8,9 @@ use Rattle.std.proofs.lemmas.Option.{slice_get-get_or, slice_get_past, unwrap_or
 use Rattle.pdu_format.specs.declared.bodies.Metadata.{Metadata}
 use Rattle.pdu_format.specs.declared.bodies.Eof.{Eof}
 use Rattle.modular_sum.specs.Sum.{sum}
-use Rattle.receiver_core.specs.declared.examine.Finding.TheVariants.{Nothing, Faulty, Whole}
+use Rattle.receiver_core.specs.declared.narrow.examine.Finding.TheVariants.{Nothing, Faulty, Whole}
 use Rattle.receiver_core.specs.Table.{none_missing, octets_from, is_unsupported, is_beyond, compared}
-use Rattle.receiver_core.specs.Examine.{looked}
+use Rattle.receiver_core.specs.NarrowExamine.{looked}
 
 is_there : (xs : List ℕ) (k : ℕ) → k < length xs → is_some (slice_get xs k) ≡ true
 is_there xs k lt = rw (slice_get-get_or xs k 0 lt) refl

@@ -9,14 +9,14 @@ use Rattle.pdu_format.specs.declared.pdu.Body.TheVariants as body
 use Rattle.pdu_format.specs.declared.bodies.FileData.{FileData}
 use Rattle.pdu_format.specs.declared.bodies.Metadata.{Metadata}
 use Rattle.pdu_format.specs.declared.bodies.Eof.{Eof}
-use Rattle.receiver_core.specs.declared.plan.Change.{Change}
-use Rattle.receiver_core.specs.declared.plan.Change.TheVariants as change
+use Rattle.receiver_core.specs.declared.narrow.plan.Change.{Change}
+use Rattle.receiver_core.specs.declared.narrow.plan.Change.TheVariants as change
 use Rattle.cfdp_types.specs.Steps.{older_or}
 use Rattle.cfdp_types.proofs.StepLemmas.{older_or-none}
 use Rattle.receiver_core.specs.Log.{State, body_octet, body_extent, body_metadata, body_eof}
 use Rattle.receiver_core.specs.Table.{is_out_of_place}
-use Rattle.receiver_core.specs.Examine.{added, metadata_with, eof_with, type_with}
-use Rattle.receiver_core.specs.Core.{body_change}
+use Rattle.receiver_core.specs.NarrowExamine.{added, metadata_with, eof_with, type_with}
+use Rattle.receiver_core.specs.NarrowCore.{body_change}
 
 -- ---- octets in a list
 

@@ -10,16 +10,16 @@ use Rattle.pdu_codec.specs.declared.event.Refusal.{Refusal}
 use Rattle.pdu_codec.specs.declared.event.Refusal.TheVariants as refusal
 use Rattle.pdu_format.specs.declared.bodies.Metadata.{Metadata}
 use Rattle.pdu_format.specs.declared.bodies.Eof.{Eof}
-use Rattle.receiver_core.specs.declared.answer.Answer.{Answer}
-use Rattle.receiver_core.specs.declared.examine.Finding.{Finding}
-use Rattle.receiver_core.specs.declared.examine.Finding.TheVariants.{Faulty}
-use Rattle.receiver_core.specs.declared.reception.ReceiverCore.{ReceiverCore}
+use Rattle.receiver_core.specs.declared.narrow.answer.Answer.{Answer}
+use Rattle.receiver_core.specs.declared.narrow.examine.Finding.{Finding}
+use Rattle.receiver_core.specs.declared.narrow.examine.Finding.TheVariants.{Faulty}
+use Rattle.receiver_core.specs.declared.narrow.reception.ReceiverCore.{ReceiverCore}
 use Rattle.receiver_core.specs.Log.{State, step}
 use Rattle.receiver_core.specs.Table.{is_acknowledged, is_out_of_place, is_too_large, is_full, pdu_refusal, answer_at, seen, examine, is_unsupported, is_beyond, compared, pdu_answer, cancel_code, stored_answer, is_waiting, request_refusal}
-use Rattle.receiver_core.specs.Examine.{looked, type_with, eof_with, metadata_with, added}
-use Rattle.receiver_core.specs.Core.{shown, IsSame, body_change, HasRoom, IsPlanOf}
-use Rattle.receiver_core.specs.declared.plan.Change.{Change}
-use Rattle.receiver_core.specs.declared.plan.Change.TheVariants as change
+use Rattle.receiver_core.specs.NarrowExamine.{looked, type_with, eof_with, metadata_with, added}
+use Rattle.receiver_core.specs.NarrowCore.{shown, IsSame, body_change, HasRoom, IsPlanOf}
+use Rattle.receiver_core.specs.declared.narrow.plan.Change.{Change}
+use Rattle.receiver_core.specs.declared.narrow.plan.Change.TheVariants as change
 use Rattle.receiver_core.proofs.States.{same_state}
 use Rattle.receiver_core.proofs.Parts.{received_parts, progress_parts, metadata_parts, eof_parts, type_parts}
 use Rattle.receiver_core.proofs.Looks.{looked-list}

@@ -1,79 +1,156 @@
 -- How the code keeps a reception, and what it plans.
-use Rattle.std.specs.Prelude.{◌≡◌, ◌+◌, ◌≤◌, ◌==◌, is_some, if◌then◌else◌, List, length, slice_get, ◌++◌, ◌⊎◌, Result, Ok, Err, IsOk, vec_len, vec_capacity}
-use Rattle.cfdp_types.specs.Condition as condition
+use Rattle.std.specs.Prelude.{◌≡◌, ℕ, ◌≤◌, Bool, true, false, not, ◌==◌, List, [], length, Option, Some, None, ◌⊎◌, Result, Ok, Err, IsOk, vec_len}
+use Rattle.cfdp_types.specs.Params.{ParamsValue}
+use Rattle.cfdp_types.specs.Steps.{older_or}
+use Rattle.cfdp_types.specs.declared.image.Image.{Image}
+use Rattle.cfdp_types.specs.declared.key.TxnKey.{TxnKey}
+use Rattle.gap_list.specs.Covered.{covered}
+use Rattle.gap_list.specs.declared.run.Run.{Run}
 use Rattle.pdu_codec.specs.declared.event.What.{What}
 use Rattle.pdu_codec.specs.declared.event.What.TheVariants as what
+use Rattle.pdu_codec.specs.declared.event.Refusal.{Refusal}
+use Rattle.pdu_codec.specs.declared.event.Refusal.TheVariants as refusal
 use Rattle.pdu_format.specs.declared.pdu.Body.{Body}
-use Rattle.pdu_format.specs.declared.pdu.Body.TheVariants as body
+use Rattle.pdu_format.specs.Pdu.{PduValue}
+use Rattle.pdu_format.specs.declared.pdu.Header.{Header}
+use Rattle.pdu_format.specs.declared.bodies.Metadata.{Metadata}
+use Rattle.pdu_format.specs.declared.bodies.FileData.{FileData}
+use Rattle.receiver_core.specs.Reception.{Reception, State, Entry, step, state_of, metadata_of, file_data_of, added_runs, brings_more}
+use Rattle.receiver_core.specs.Reception as reception_module
+use Rattle.receiver_core.specs.Answers.{answer_at}
+use Rattle.receiver_core.specs.LegalReceptions.{BodyOpens}
+use Rattle.receiver_core.specs.Standing.{state_from, IsSound}
+use Rattle.receiver_core.specs.Offsets.{IsInside, octets_in}
+use Rattle.receiver_core.specs.Content.{received_of, with_part, end_of, IsPartOf}
+use Rattle.receiver_core.specs.declared.answer.Answer as answer_type
+use Rattle.receiver_core.specs.declared.content.Content.{Content}
 use Rattle.receiver_core.specs.declared.plan.Change.{Change}
 use Rattle.receiver_core.specs.declared.plan.Change.TheVariants as change
 use Rattle.receiver_core.specs.declared.plan.Plan.{Plan}
-use Rattle.receiver_core.specs.declared.reception.ReceiverCore.{ReceiverCore}
-use Rattle.receiver_core.specs.declared.answer.Answer.{Answer}
-use Rattle.receiver_core.specs.Log.{Entry, State, state_of}
-use Rattle.receiver_core.specs.Table.{answer_at}
-use Rattle.receiver_core.specs.Examine.{added, metadata_with, eof_with}
-use Rattle.pdu_codec.specs.declared.event.Refusal.{Refusal}
-use Rattle.pdu_codec.specs.declared.event.Refusal.TheVariants as refusal
+use Rattle.receiver_core.specs.declared.receiver.ReceiverCore.{ReceiverCore}
+use Rattle.receiver_core.specs.declared.standing.Standing.{Standing}
+
+-- what is settled when a PDU with this header opens a reception
+abbrev pub reception_by : TxnKey → ParamsValue → Header → Reception
+reception_by key params opening = record { key = key; params = params; opening = opening }
+
+abbrev pub reception_of : ReceiverCore → Reception
+reception_of core = reception_by core.key core.params core.opening
+
+-- a PDU opens the reception of a key
+pub record MayOpen (key : TxnKey) (pdu : PduValue) : Type 0 where
+  pub body : BodyOpens pdu.body
+  pub source : pdu.header.source ≡ key.source
+  pub sequence : pdu.header.sequence ≡ key.seq
 
 -- what a core stands at
 abbrev pub shown : ReceiverCore → State
-shown core = record {
-  place = core.place;
-  received = slice_get core.octets.items;
-  progress = length core.octets.items;
-  metadata = core.metadata;
-  eof = core.eof;
-  waiting = core.waiting;
-  ended = core.ended;
-}
+shown core = state_from core.standing core.metadata (received_of core.content)
 
 -- what the core holds is what the log gives
 abbrev pub StandsAfter : ReceiverCore → List Entry → Type 0
 StandsAfter core log = shown core ≡ state_of log
 
--- what an accepted event changes in what is kept
-abbrev pub body_change : State → Body → Change
-body_change state (body.Metadata m) = if is_some state.metadata then change.Nothing else change.Metadata m
-body_change state (body.Eof e) = if e.condition == condition.no_error then (if is_some state.eof then change.Nothing else change.Eof e) else change.Nothing
-body_change state (body.FileData d) = change.Octets d.octets
-body_change state _ = change.Nothing
-
-abbrev pub change_of : State → What → Change
-change_of state (what.Pdu pdu) = body_change state pdu.body
-change_of state _ = change.Nothing
-
--- everything but the octets is the same
-abbrev pub IsSameButOctets : ReceiverCore → ReceiverCore → Type 0
-IsSameButOctets old new =
-    (new.metadata ≡ old.metadata) × (new.eof ≡ old.eof) × (new.waiting ≡ old.waiting) × (new.ended ≡ old.ended) × (new.place ≡ old.place)
-
--- everything but the octets' room is the same
-abbrev pub IsSame : ReceiverCore → ReceiverCore → Type 0
-IsSame old new =
-    (new.octets.items ≡ old.octets.items) × (new.metadata ≡ old.metadata) × (new.eof ≡ old.eof) × (new.waiting ≡ old.waiting)
-    × (new.ended ≡ old.ended) × (new.place ≡ old.place)
-
--- there is room for what a change adds
-abbrev pub HasRoom : ReceiverCore → Change → Type 0
-HasRoom core change = vec_len core.octets + length (added change) ≤ vec_capacity core.octets
-
--- why an event was not planned: the table refuses it so, or it is answered and memory ran out
-abbrev pub IsWhy : Result Answer Refusal → Refusal → Type 0
-IsWhy answer why = (answer ≡ Err why) ⊎ ((why ≡ refusal.NoMemory) × IsOk answer)
-
--- a change was carried out
-abbrev pub IsChangedBy : Change → ReceiverCore → ReceiverCore → Type 0
-IsChangedBy change old new =
-    (new.octets.items ≡ old.octets.items ++ added change) × (new.metadata ≡ metadata_with old.metadata change) × (new.eof ≡ eof_with old.eof change)
-    × (new.waiting ≡ old.waiting) × (new.ended ≡ old.ended) × (new.place ≡ old.place)
+-- an answer as the table gives it
+abbrev pub answer_value : answer_type.Answer → reception_module.Answer
+answer_value answer = record { inds = answer.inds; pdus = answer.pdus; timers = answer.timers; deposit = answer.deposit }
 
 -- the answer of a plan
-abbrev pub plan_answer : Plan → Answer
-plan_answer plan = plan.answer
+abbrev pub plan_answer : Plan → reception_module.Answer
+plan_answer plan = answer_value plan.answer
 
--- in the core's present state the event is answered as planned, and there is room for it
+-- ---- what an event changes in what is kept
+
+-- the Metadata after a change
+abbrev pub metadata_after : Option Metadata → Change → Option Metadata
+metadata_after metadata (change.Metadata m) = Some m
+metadata_after metadata _ = metadata
+
+-- the part of the file that a change adds
+abbrev pub piece_of : Change → Option FileData
+piece_of (change.Part part) = Some part.piece
+piece_of _ = None
+
+-- the octets that came, after a change
+abbrev pub received_after : Content → Change → ℕ → Option ℕ
+received_after content c = with_part (received_of content) (piece_of c)
+
+-- the offsets that came, after a change
+abbrev pub covered_after : Content → Change → ℕ → Bool
+covered_after content (change.Part part) = covered part.gaps
+covered_after content _ = covered content.gaps
+
+-- a part is one of what is kept
+abbrev pub FitsContent : Content → Change → Type 0
+FitsContent content (change.Part part) = IsPartOf (covered content.gaps) part
+FitsContent content _ = Unit {0}
+
+-- there is room for what a change adds
+abbrev pub HasRoom : Content → Change → Type 0
+HasRoom content (change.Part part) = end_of part ≤ vec_len content.octets
+HasRoom content _ = Unit {0}
+
+-- what a change adds lies at its place already
+abbrev pub IsLaid : Content → Change → Type 0
+IsLaid content c = (i : ℕ) → octets_in content.octets.items (covered_after content c) i ≡ received_after content c i
+
+-- what a core stands at with an event and the change that it brings, before it is answered
+abbrev pub now_state : ReceiverCore → Standing → Change → State
+now_state core now c = state_from now (metadata_after core.metadata c) (octets_in core.content.octets.items (covered_after core.content c))
+
+-- the new runs of a change
+abbrev pub runs_in : Change → List Run
+runs_in (change.Part part) = part.runs.items
+runs_in _ = []
+
+-- a change adds to the file, or is the first Metadata
+abbrev pub adds : Change → Bool
+adds (change.Metadata m) = true
+adds (change.Part part) = not (length part.runs.items == 0)
+adds change.Nothing = false
+
+-- the offsets that came are those of octets that are kept
+abbrev pub IsCovered : Content → Change → Type 0
+IsCovered content c = IsInside (length content.octets.items) (covered_after content c)
+
+-- neither a PDU nor a timer
+abbrev pub is_request : What → Bool
+is_request (what.Pdu pdu) = false
+is_request (what.Timer kind stamp) = false
+is_request _ = true
+
+-- the change that a body brings, if there is one
+pub record IsChange (core : ReceiverCore) (b : Option Body) (c : Change) : Type 0 where
+  pub metadata : metadata_after core.metadata c ≡ older_or core.metadata (metadata_of b)
+  pub piece : piece_of c ≡ file_data_of b
+  pub fits : FitsContent core.content c
+  pub runs : runs_in c ≡ added_runs (shown core) (file_data_of b)
+  pub more : adds c ≡ brings_more (shown core) b
+
+-- a core that differs at most in its room, and in octets at offsets that did not come
+pub record IsSame (old : ReceiverCore) (new : ReceiverCore) : Type 0 where
+  pub reception : reception_of new ≡ reception_of old
+  pub standing : new.standing ≡ old.standing
+  pub metadata : new.metadata ≡ old.metadata
+  pub received : (i : ℕ) → received_of new.content i ≡ received_of old.content i
+  pub gaps : (i : ℕ) → covered new.content.gaps i ≡ covered old.content.gaps i
+  pub longer : vec_len old.content.octets ≤ vec_len new.content.octets
+
+-- ---- plans
+
+-- why an event was not planned: the table refuses it so, or it is answered and memory ran out
+abbrev pub IsWhy : Result reception_module.Answer Refusal → Refusal → Type 0
+IsWhy answer why = (answer ≡ Err why) ⊎ ((why ≡ refusal.NoMemory) × IsOk answer)
+
+-- why a file was not handed out: the table says so, or there is one and memory ran out
+abbrev pub IsWhyNot : Result Image Refusal → Refusal → Type 0
+IsWhyNot image why = (image ≡ Err why) ⊎ ((why ≡ refusal.NoMemory) × IsOk image)
+
+-- in the core's present state the event is answered as planned, and the plan holds what follows
 pub record IsPlanOf (core : ReceiverCore) (plan : Plan) (event : What) : Type 0 where
-  pub accepted : answer_at (shown core) event ≡ Ok plan.answer
-  pub change : plan.change ≡ change_of (shown core) event
-  pub room : HasRoom core plan.change
+  pub accepted : answer_at (reception_of core) (shown core) event ≡ Ok (plan_answer plan)
+  pub follows : state_from plan.next (metadata_after core.metadata plan.change) (received_after core.content plan.change)
+      ≡ step (shown core) (record { event = event; answer = plan_answer plan })
+  pub fits : FitsContent core.content plan.change
+  pub room : HasRoom core.content plan.change
+  pub sound : core.standing.ended ≡ false → IsSound plan.next

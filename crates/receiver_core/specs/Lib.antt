@@ -3,6 +3,14 @@ pub mod Refusals
 pub mod Answers
 pub mod LegalReceptions
 pub mod Images
+pub mod Offsets
+pub mod Standing
+pub mod Content
+pub mod Examine
+pub mod Row
+pub mod Naks
+pub mod Core
+pub mod Planned
 pub mod ReceptionRows
 pub mod FileRows
 pub mod RefusalRows
@@ -13,8 +21,8 @@ pub mod TimerRows
 pub mod ReceptionLaws
 pub mod Log
 pub mod Table
-pub mod Examine
-pub mod Core
+pub mod NarrowExamine
+pub mod NarrowCore
 pub mod Laws
 pub mod Rows
 pub use Rattle.cfdp_types.specs.Condition

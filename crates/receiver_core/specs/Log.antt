@@ -12,7 +12,7 @@ use Rattle.pdu_format.specs.declared.bodies.Eof.{Eof}
 use Rattle.pdu_format.specs.declared.bodies.FileData.{FileData}
 use Rattle.ind_words.specs.declared.indication.Indication.{Indication}
 use Rattle.ind_words.specs.Words.{is_end}
-use Rattle.receiver_core.specs.declared.answer.Answer.{Answer}
+use Rattle.receiver_core.specs.declared.narrow.answer.Answer.{Answer}
 
 -- an accepted event with what it was answered; a log has the newest entry first, so that the entries
 -- before an entry are the list behind it, and its place is their number

@@ -13,7 +13,7 @@ use Rattle.pdu_format.specs.declared.pdu.Body.{Body}
 use Rattle.pdu_format.specs.declared.pdu.Body.TheVariants as body
 use Rattle.ind_words.specs.declared.indication.Indication.{Indication}
 use Rattle.ind_words.specs.declared.indication.Indication.TheVariants as told
-use Rattle.receiver_core.specs.declared.answer.Answer.{Answer}
+use Rattle.receiver_core.specs.declared.narrow.answer.Answer.{Answer}
 use Rattle.receiver_core.specs.Log.{Entry, initial, step, state_of, issued}
 use Rattle.receiver_core.specs.Table.{seen, accepted_at, answer_at}
 

@@ -21,9 +21,9 @@ use Rattle.pdu_format.specs.declared.bodies.Metadata.{Metadata}
 use Rattle.pdu_format.specs.declared.bodies.Eof.{Eof}
 use Rattle.ind_words.specs.declared.indication.Indication.{Indication}
 use Rattle.ind_words.specs.declared.indication.Indication.TheVariants as told
-use Rattle.receiver_core.specs.declared.answer.Answer.{Answer}
-use Rattle.receiver_core.specs.declared.examine.Finding.{Finding}
-use Rattle.receiver_core.specs.declared.examine.Finding.TheVariants.{Nothing, Faulty, Whole}
+use Rattle.receiver_core.specs.declared.narrow.answer.Answer.{Answer}
+use Rattle.receiver_core.specs.declared.narrow.examine.Finding.{Finding}
+use Rattle.receiver_core.specs.declared.narrow.examine.Finding.TheVariants.{Nothing, Faulty, Whole}
 use Rattle.modular_sum.specs.Sum.{sum}
 use Rattle.receiver_core.specs.Log.{State, step}
 

@@ -1,40 +1,51 @@
-ghost use Rattle.std.specs.Prelude.{◌≡◌};
-ghost use Rattle.receiver_core.specs.Examine.{looked, is_unsupported_type};
+//! The look at the file so far.
+ghost use Rattle.std.specs.Prelude.{◌≡◌, ◌≤◌, true, length};
+ghost use Rattle.gap_list.specs.Covered.{covered};
+ghost use Rattle.receiver_core.specs.Offsets.{IsInside};
+ghost use Rattle.receiver_core.specs.Examine.{looked, is_full, is_unsupported_type};
 
+use crate::standing::Standing;
 use cfdp_types::{ChecksumType, Condition};
+use gap_list::Gaps;
 use modular_sum::sum_of;
-use pdu_codec::Eof;
 
 /// What a look at the file so far finds.
 #[derive(Clone, Copy, Debug, PartialEq, Eq)]
-pub enum Finding {
-    /// No fault, and the file is not whole.
+pub(crate) enum Finding {
+    /// There is no EOF, and no fault.
     Nothing,
     /// A fault with this condition.
     Faulty(Condition),
     /// The file is whole, and its checksum agrees.
     Whole,
+    /// There is an EOF, and the file is not whole.
+    Waits,
 }
 
-/// Looks at the file so far: its type of checksum, where the Metadata came, its EOF, and its octets
-/// in order.
-pub(crate) fn look(checksum_type: Option<ChecksumType>, eof: Option<Eof>, octets: &[u8]) -> Finding
-    ensures { result ≡ looked checksum_type eof octets.now }
+/// Looks at the file so far: its type of checksum, where the Metadata came, and its octets, of which
+/// those that the gaps cover came.
+pub(crate) fn look(
+    checksum_type: Option<ChecksumType>,
+    now: &Standing,
+    gaps: &Gaps,
+    octets: &[u8],
+) -> Finding
+    requires { IsInside (length octets.now) (covered gaps.now) }
+    ensures { result ≡ looked checksum_type now.now.eof now.now.progress (covered gaps.now) octets.now }
 {
     if is_unsupported(checksum_type) {
         return Finding::Faulty(Condition::UNSUPPORTED_CHECKSUM_TYPE);
     }
-    let Some(eof) = eof else {
+    let Some(eof) = now.eof else {
         return Finding::Nothing;
     };
-    let size = eof.size as usize;
-    if size < octets.len() {
+    if eof.size < now.progress {
         return Finding::Faulty(Condition::FILE_SIZE_ERROR);
     }
-    if checksum_type.is_none() || octets.len() < size {
-        return Finding::Nothing;
+    if checksum_type.is_none() || !is_full(gaps, octets, eof.size) {
+        return Finding::Waits;
     }
-    if sum_of(octets) == eof.checksum {
+    if sum_of(&octets[..eof.size as usize]) == eof.checksum {
         Finding::Whole
     } else {
         Finding::Faulty(Condition::FILE_CHECKSUM_FAILURE)
@@ -48,4 +59,13 @@ fn is_unsupported(checksum_type: Option<ChecksumType>) -> bool
         None => false,
         Some(checksum_type) => checksum_type != ChecksumType::MODULAR,
     }
+}
+
+// Whether nothing is missing below a size; then there are so many octets.
+fn is_full(gaps: &Gaps, octets: &[u8], size: u32) -> bool
+    requires { IsInside (length octets.now) (covered gaps.now) }
+    ensures full { result ≡ is_full (covered gaps.now) size }
+    ensures within { result ≡ true → size ≤ length octets.now }
+{
+    gaps.is_full(size)
 }

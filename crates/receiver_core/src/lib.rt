@@ -2,15 +2,27 @@
 #![tactic(auto)]
 
 mod answer;
+mod answering;
+mod content;
 mod examine;
+mod image;
 pub mod laws;
+mod nak;
+pub mod narrow;
+mod opening;
+mod pdus;
 mod plan;
-mod reception;
+mod planning;
+mod receiver;
+mod refusals;
+mod row;
+mod rows;
+mod standing;
+mod steps;
 
 pub use answer::Answer;
-pub use examine::Finding;
 pub use plan::Plan;
-pub use reception::ReceiverCore;
+pub use receiver::ReceiverCore;
 
 #[cfg(test)]
 mod tests;

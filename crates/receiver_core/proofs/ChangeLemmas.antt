@@ -1,0 +1,158 @@
+-- What changes bring.
+use Rattle.std.proofs.Common.{◌≡◌, ◌⊎◌, ℕ, ◌+◌, ◌<◌, ◌≤◌, Bool, true, false, not, ◌&&◌, ◌||◌, List, length, Option, Some, None, eqb, refl, sym, ap, ◌∙◌, arith, inl, inr, rules, subst, Result, Ok, Err}
+use Rattle.std.proofs.Math.Path.{fun_ext}
+use Rattle.std.proofs.lemmas.Bool.{ltb-true}
+use Rattle.std.specs.Prelude.{vec_len, IfOk, IfErr}
+use Rattle.std.specs.List.{All}
+use Rattle.cfdp_types.specs.Steps.{older_or}
+use Rattle.gap_list.specs.Covered.{covered}
+use Rattle.gap_list.specs.Runs.{is_within, new_runs}
+use Rattle.gap_list.proofs.SetLemmas.{new_runs-same, filled-runs_of}
+use Rattle.pdu_format.specs.declared.pdu.Body.{Body}
+use Rattle.pdu_format.specs.declared.pdu.Body.TheVariants as body
+use Rattle.pdu_format.specs.declared.bodies.FileData.{FileData}
+use Rattle.pdu_codec.specs.declared.event.What.{What}
+use Rattle.pdu_codec.specs.declared.event.Refusal.{Refusal}
+use Rattle.pdu_format.specs.declared.bodies.Metadata.{Metadata}
+use Rattle.receiver_core.specs.Reception.{State, Entry, step, state_of, is_received, added_runs, octet_at, metadata_of, file_data_of, brings_more}
+use Rattle.receiver_core.specs.Answers.{answer_at}
+use Rattle.receiver_core.specs.Standing.{state_from}
+use Rattle.receiver_core.specs.declared.plan.Plan.{Plan}
+use Rattle.receiver_core.specs.declared.standing.Standing.{Standing}
+use Rattle.receiver_core.specs.Content.{received_of, end_of, IsPartOf}
+use Rattle.receiver_core.specs.Core.{shown, reception_of, received_after, FitsContent, HasRoom, IsCovered, IsChange, IsSame, IsPlanOf, IsWhy, StandsAfter, runs_in, piece_of, metadata_after, plan_answer}
+use Rattle.receiver_core.specs.declared.content.Content.{Content}
+use Rattle.receiver_core.specs.declared.content.Part.{Part}
+use Rattle.receiver_core.specs.declared.plan.Change.{Change}
+use Rattle.receiver_core.specs.declared.plan.Change.TheVariants as change
+use Rattle.receiver_core.specs.declared.receiver.ReceiverCore.{ReceiverCore}
+use Rattle.receiver_core.proofs.ContentLemmas.{there}
+
+older_none : {A : Type 0} (o : Option A) → o ≡ older_or o None
+older_none None = refl
+older_none (Some x) = refl
+
+-- the offsets of octets that came are those that are covered
+pub covers : (core : ReceiverCore) (i : ℕ) → covered core.content.gaps i ≡ is_received (shown core) i
+covers core i = sym (there core.content.octets.items (covered core.content.gaps) i core.content.inside)
+
+runs_are : (core : ReceiverCore) (piece : FileData) (part : Part) → part.piece ≡ piece → IsPartOf (covered core.content.gaps) part
+    → part.runs.items ≡ added_runs (shown core) (Some piece)
+runs_are core piece part is fits =
+    fits.runs ∙ ap (λ (d : FileData). new_runs (covered core.content.gaps) d.offset (d.offset + length d.octets)) is
+    ∙ new_runs-same (covered core.content.gaps) (is_received (shown core)) piece.offset (piece.offset + length piece.octets) (covers core)
+
+-- a part of the file
+pub piece_change : (core : ReceiverCore) (piece : FileData) (part : Part) → part.piece ≡ piece → IsPartOf (covered core.content.gaps) part
+    → IsChange core (Some (body.FileData piece)) (change.Part part)
+piece_change core piece part is fits = record {
+  metadata = older_none core.metadata;
+  piece = ap Some is;
+  fits = fits;
+  runs = runs_are core piece part is fits;
+  more = ap (λ runs. not (eqb (length runs) 0)) (runs_are core piece part is fits);
+}
+
+-- the new runs of a change have an offset each
+pub runs_filled : (core : ReceiverCore) (b : Option Body) (c : Change) → IsChange core b c → All (λ run. run.start < run.end) (runs_in c)
+runs_filled core b c is = rw is.runs (filled_runs (shown core) _)
+  where
+    filled_runs : (state : State) (d : Option FileData) → All (λ run. run.start < run.end) (added_runs state d)
+    filled_runs state None = search rules
+    filled_runs state (Some d) = filled-runs_of (λ i. is_within d.offset (d.offset + length d.octets) i && not (is_received state i)) (d.offset + length d.octets)
+
+or_either : (a b : Bool) → (a || b) ≡ true → (a ≡ true) ⊎ (b ≡ true)
+or_either true b e = inl refl
+or_either false b e = inr e
+
+and_last : (a b : Bool) → (a && b) ≡ true → b ≡ true
+and_last true b e = e
+and_last false b e = absurd cc
+
+-- what a change covers has its room
+pub covered_inside : (content : Content) (c : Change) → FitsContent content c → HasRoom content c → IsCovered content c
+covered_inside content change.Nothing fits room i came = content.inside i came
+covered_inside content (change.Metadata m) fits room i came = content.inside i came
+covered_inside content (change.Part part) fits room i came =
+    elim (or_either (covered content.gaps i) (is_within part.piece.offset (end_of part) i) (sym (fits.covers i) ∙ came)) [
+      | inl before ↦ content.inside i before
+      | inr new ↦ omega (arith, ltb-true i (end_of part) (and_last _ _ new), room, content.octets.ok.0)
+    ]
+
+-- ---- a core with more room
+
+state_with : ReceiverCore → Option Metadata → (ℕ → Option ℕ) → Standing → State
+state_with core metadata received standing = state_from standing metadata received
+
+-- a core with more room shows the same
+pub same_shown : (old new : ReceiverCore) → IsSame old new → shown new ≡ shown old
+unfolding state_with
+same_shown old new same =
+    ap (λ s. state_with old new.metadata (received_of new.content) s) same.standing
+    ∙ ap (λ m. state_with old m (received_of new.content) old.standing) same.metadata
+    ∙ ap (λ r. state_with old old.metadata r old.standing) (fun_ext same.received)
+
+fits_still : (old new : Content) (c : Change) → ((i : ℕ) → covered new.gaps i ≡ covered old.gaps i) → FitsContent old c → FitsContent new c
+fits_still old new change.Nothing same fits = tt
+fits_still old new (change.Metadata m) same fits = tt
+fits_still old new (change.Part part) same fits = record {
+  covers = λ i. fits.covers i ∙ ap (λ b. b || is_within part.piece.offset (end_of part) i) (sym (same i));
+  runs = fits.runs ∙ new_runs-same (covered old.gaps) (covered new.gaps) part.piece.offset (end_of part) (λ i. sym (same i));
+}
+
+room_still : (old new : Content) (c : Change) → vec_len old.octets ≤ vec_len new.octets → HasRoom old c → HasRoom new c
+room_still old new change.Nothing longer room = tt
+room_still old new (change.Metadata m) longer room = tt
+room_still old new (change.Part part) longer room = omega (arith, longer, room)
+
+-- a change of a core is one of the core with more room
+pub change_still : (old new : ReceiverCore) (b : Option Body) (c : Change) → IsSame old new → IsChange old b c → IsChange new b c
+change_still old new b c same is =
+    let shows = same_shown old new same in
+    record {
+      metadata = ap (λ m. metadata_after m c) same.metadata ∙ is.metadata ∙ ap (λ m. older_or m (metadata_of b)) (sym same.metadata);
+      piece = is.piece;
+      fits = fits_still old.content new.content c same.gaps is.fits;
+      runs = is.runs ∙ ap (λ s. added_runs s (file_data_of b)) (sym shows);
+      more = is.more ∙ ap (λ s. brings_more s b) (sym shows);
+    }
+
+-- a plan of a core is one of the core with more room
+pub plan_still : (old new : ReceiverCore) (plan : Plan) (event : What) → IsSame old new → IsPlanOf old plan event → IsPlanOf new plan event
+unfolding state_with
+plan_still old new plan event same is =
+    let shows = same_shown old new same in
+    record {
+      accepted = ap (λ r. answer_at r (shown new) event) same.reception ∙ ap (λ s. answer_at (reception_of old) s event) shows ∙ is.accepted;
+      follows = ap (λ m. state_with old (metadata_after m plan.change) (received_after new.content plan.change) plan.next) same.metadata
+          ∙ ap (λ r. state_with old (metadata_after old.metadata plan.change) r plan.next) (fun_ext (λ i. ap (λ o. older_or o (octet_at (piece_of plan.change) i)) (same.received i)))
+          ∙ is.follows
+          ∙ ap (λ s. step s (record { event = event; answer = plan_answer plan })) (sym shows);
+      fits = fits_still old.content new.content plan.change same.gaps is.fits;
+      room = room_still old.content new.content plan.change same.longer is.room;
+      sound = λ runs. is.sound (ap (λ (s : Standing). s.ended) (sym same.standing) ∙ runs);
+    }
+
+-- what stands after a plan is carried out
+pub committed : (old : ReceiverCore) (plan : Plan) (event : What) (metadata : Option Metadata) (received : ℕ → Option ℕ) → metadata ≡ metadata_after old.metadata plan.change
+    → ((i : ℕ) → received i ≡ received_after old.content plan.change i) → IsPlanOf old plan event
+    → state_from plan.next metadata received ≡ step (shown old) (record { event = event; answer = plan_answer plan })
+committed old plan event metadata received m r planned =
+    ap (λ x. state_from plan.next x received) m ∙ ap (λ x. state_from plan.next (metadata_after old.metadata plan.change) x) (fun_ext r) ∙ planned.follows
+
+-- ---- over a log that a core stands after
+
+pub accepted_over : (old new : ReceiverCore) (event : What) (result : Result Plan Refusal) (log : List Entry) → IsSame old new → StandsAfter old log
+    → IfOk result (λ plan. IsPlanOf new plan event)
+    → IfOk result (λ plan. answer_at (reception_of old) (state_of log) event ≡ Ok (plan_answer plan))
+accepted_over old new event (Ok plan) log same stood planned =
+    ap (λ r. answer_at r (state_of log) event) (sym same.reception)
+    ∙ ap (λ s. answer_at (reception_of new) s event) (sym (same_shown old new same ∙ stood)) ∙ planned.accepted
+accepted_over old new event (Err why) log same stood planned = tt
+
+pub refused_over : (core : ReceiverCore) (event : What) (result : Result Plan Refusal) (log : List Entry) → StandsAfter core log
+    → IfErr result (λ why. IsWhy (answer_at (reception_of core) (shown core) event) why)
+    → IfErr result (λ why. IsWhy (answer_at (reception_of core) (state_of log) event) why)
+refused_over core event (Ok plan) log stood planned = tt
+refused_over core event (Err why) log stood planned =
+    subst (λ state. IsWhy (answer_at (reception_of core) state event) why) stood planned

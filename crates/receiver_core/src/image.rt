@@ -1,0 +1,55 @@
+//! The file that is handed out.
+use crate::receiver::ReceiverCore;
+use cfdp_types::{Image, Octets};
+use pdu_codec::{Metadata, Refusal};
+use std::alloc::AllocError;
+
+impl ReceiverCore {
+    ghost use Rattle.std.specs.Prelude.{◌≡◌, IfOk, IfErr, List, Ok};
+    ghost use Rattle.receiver_core.specs.Reception.{Entry, state_of};
+    ghost use Rattle.receiver_core.specs.Answers.{octets_from};
+    ghost use Rattle.receiver_core.specs.Images.{image_at};
+    ghost use Rattle.receiver_core.specs.Content.{received_of};
+    ghost use Rattle.receiver_core.specs.Core.{shown, StandsAfter, IsWhyNot};
+
+    // The file that Metadata names, with the octets below a size.
+    fn file(&self, metadata: &Metadata, size: u32) -> Result<Image, AllocError>
+        ensures { IfOk result (λ image. image ≡ record {
+          source_name = metadata.now.source_name;
+          destination_name = metadata.now.destination_name;
+          octets = octets_from (received_of self.now.content) 0 size;
+        }) }
+    {
+        Ok(Image {
+            source_name: metadata.source_name.copy()?,
+            destination_name: metadata.destination_name.copy()?,
+            octets: Octets::from_vec(self.content.below(size)?),
+        })
+    }
+
+    // The file of the deposit with this stamp, in the present state.
+    fn image_now(&self, stamp: u32) -> Result<Image, Refusal>
+        ensures image { IfOk result (λ image. image_at (shown self.now) stamp ≡ Ok image) }
+        ensures refused { IfErr result (λ why. IsWhyNot (image_at (shown self.now) stamp) why) }
+    {
+        if !self.standing.waits_for(stamp) {
+            return Err(Refusal::StaleStored);
+        }
+        let Some(metadata) = &self.metadata else {
+            return Err(Refusal::StaleStored);
+        };
+        let Some(eof) = self.standing.eof else {
+            return Err(Refusal::StaleStored);
+        };
+        let image = self.file(metadata, eof.size)?;
+        Ok(image)
+    }
+
+    /// The file of the deposit that waits, by its stamp.
+    pub fn image(&self, stamp: u32) -> Result<Image, Refusal>
+        ensures image { (log : List Entry) → StandsAfter self.now log → IfOk result (λ image. image_at (state_of log) stamp ≡ Ok image) }
+        ensures refused { (log : List Entry) → StandsAfter self.now log → IfErr result (λ why. IsWhyNot (image_at (state_of log) stamp) why) }
+    {
+        self.image_now(stamp)
+    }
+}

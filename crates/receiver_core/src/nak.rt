@@ -1,0 +1,105 @@
+//! What a NAK asks for.
+ghost use Rattle.std.specs.Prelude.{◌≡◌, ◌<◌, ◌≤◌, ◌^◌, ◌++◌, IfOk, OnOk, map, take, length};
+ghost use Rattle.std.specs.List.{AllByRecursion};
+ghost use Rattle.cfdp_types.specs.declared.limits.TheConstants.{NAK_REQUESTS};
+ghost use Rattle.pdu_format.specs.Spelling.{size_octets, NakFits, RequestFits};
+ghost use Rattle.receiver_core.specs.Answers.{request_of, last_end};
+ghost use Rattle.receiver_core.specs.Naks.{requests_for, nak_with};
+
+use cfdp_types::limits::NAK_REQUESTS;
+use gap_list::Run;
+use pdu_codec::{Nak, SegmentRequest, SegmentRequests};
+use std::alloc::{AllocError, Global};
+
+// The request for a run.
+fn request_of(run: Run) -> SegmentRequest
+    ensures value { result ≡ request_of run }
+    ensures fits { RequestFits size_octets result }
+{
+    SegmentRequest {
+        start: run.start,
+        end: run.end,
+    }
+}
+
+// Asks for each of the runs.
+fn put_requests(requests: &mut SegmentRequests, runs: &[Run]) -> Result<(), AllocError>
+    ensures value { OnOk result (requests.new ≡ requests.old ++ map request_of runs.now) }
+    ensures fits { OnOk result (AllByRecursion (RequestFits size_octets) requests.old → AllByRecursion (RequestFits size_octets) requests.new) }
+{
+    for run in runs {
+        requests.push(request_of(*run))?;
+    }
+    Ok(())
+}
+
+// The first of the runs, so many at the most.
+fn front(runs: &[Run], most: usize) -> &[Run]
+    ensures { result.now ≡ take most runs.now }
+{
+    &runs[..runs.len().min(most)]
+}
+
+// The requests for what is missing, as many as a NAK may hold.
+fn requests_for(
+    alloc: Global,
+    has_metadata: bool,
+    runs: &[Run],
+) -> Result<SegmentRequests, AllocError>
+    ensures value { IfOk result (λ requests. requests ≡ take NAK_REQUESTS (requests_for has_metadata runs.now)) }
+    ensures fits { IfOk result (λ requests. AllByRecursion (RequestFits size_octets) requests) }
+{
+    let mut requests = SegmentRequests::new(alloc);
+    if has_metadata {
+        put_requests(&mut requests, front(runs, NAK_REQUESTS))?;
+    } else {
+        requests.push(SegmentRequest { start: 0, end: 0 })?;
+        put_requests(&mut requests, front(runs, NAK_REQUESTS - 1))?;
+    }
+    Ok(requests)
+}
+
+// The end of the last request.
+fn last_end(requests: &[SegmentRequest]) -> u32
+    ensures { result ≡ last_end requests.now }
+{
+    match requests.last() {
+        None => 0,
+        Some(request) => request.end,
+    }
+}
+
+// What the type of a number says of it.
+fn word(number: u32) -> u32
+    ensures value { result ≡ number }
+    ensures range { result < 2 ^ 32 }
+{
+    number
+}
+
+/// The NAK that asks for the Metadata, where it is not there, and for the runs, as many as it may
+/// hold. Its scope ends where the rest of the file does, or with the last request where some are left
+/// out.
+pub(crate) fn nak(
+    alloc: Global,
+    has_metadata: bool,
+    scope: u32,
+    runs: &[Run],
+) -> Result<Nak, AllocError>
+    ensures value { IfOk result (λ nak. nak ≡ nak_with has_metadata scope runs.now) }
+    ensures fits { IfOk result (λ nak. NakFits size_octets nak) }
+    ensures few { IfOk result (λ nak. length nak.requests ≤ NAK_REQUESTS) }
+{
+    let requests = requests_for(alloc, has_metadata, runs)?;
+    let count = runs.len() + usize::from(!has_metadata);
+    let end = if count > NAK_REQUESTS {
+        last_end(requests.as_slice())
+    } else {
+        scope
+    };
+    Ok(Nak {
+        start: 0,
+        end: word(end),
+        requests,
+    })
+}

@@ -1,0 +1,197 @@
+//! The PDUs that a reception sends.
+ghost use Rattle.std.specs.Prelude.{◌≡◌, ◌<◌, ◌^◌, if◌then◌else◌};
+ghost use Rattle.pdu_format.specs.declared.bodies.TransactionStatus.TheVariants as status;
+ghost use Rattle.pdu_format.specs.Spelling.{IsLocation};
+
+use crate::nak::nak;
+use crate::plan::Change;
+use crate::receiver::ReceiverCore;
+use crate::row::Row;
+use crate::standing::Standing;
+use cfdp_types::{Condition, EntityId};
+use core_steps::Pdus;
+use pdu_codec::{
+    Ack, Acknowledged, Body, Direction, Finished, Header, KeepAlive, Pdu, TransactionStatus,
+};
+use std::alloc::AllocError;
+
+impl ReceiverCore {
+    ghost use Rattle.std.specs.Prelude.{◌≡◌, ◌++◌, IfOk, OnOk, map, is_some};
+    ghost use Rattle.pdu_format.specs.Spelling.{HeaderFits};
+    ghost use Rattle.pdu_format.specs.declared.pdu.Body.{Body};
+    ghost use Rattle.pdu_format.specs.declared.pdu.Body.TheVariants as body;
+    ghost use Rattle.receiver_core.specs.Answers.{pdu_to_sender, ack_of, nak_of, if_there, if_so, bodies_of};
+    ghost use Rattle.receiver_core.specs.Row.{row_value};
+    ghost use Rattle.receiver_core.specs.Core.{reception_of, metadata_after, now_state, IsCovered};
+
+    // The header of every PDU toward the sender.
+    fn header(&self) -> Header
+        ensures value { (b : Body) → pdu_to_sender (reception_of self.now) b ≡ record { header = result; body = b } }
+        ensures fits { HeaderFits result }
+    {
+        Header {
+            direction: Direction::TowardSender,
+            ..self.opening
+        }
+    }
+
+    // An EOF is acknowledged.
+    fn ack(&self, condition: Condition, ended: bool) -> Pdu
+        ensures { result ≡ pdu_to_sender (reception_of self.now) (ack_of ended condition) }
+    {
+        let _code = condition.code();
+        Pdu::new(
+            self.header(),
+            Body::Ack(Ack {
+                of: Acknowledged::Eof,
+                condition,
+                status: status_of(ended),
+            }),
+        )
+    }
+
+    fn keep_alive(&self, progress: u32) -> Pdu
+        ensures { result ≡ pdu_to_sender (reception_of self.now) (body.KeepAlive (record { progress = progress })) }
+    {
+        Pdu::new(
+            self.header(),
+            Body::KeepAlive(KeepAlive {
+                progress: word(progress),
+            }),
+        )
+    }
+
+    fn finished(&self, finished: Finished) -> Pdu
+        ensures { result ≡ pdu_to_sender (reception_of self.now) (body.Finished finished) }
+    {
+        let _code = finished.condition.code();
+        let _location = has_location(finished.location);
+        Pdu::new(self.header(), Body::Finished(finished))
+    }
+
+    // Whether Metadata came, with that of a change.
+    fn has_metadata_after(&self, change: &Change) -> bool
+        ensures { result ≡ is_some (metadata_after self.now.metadata change.now) }
+    {
+        self.metadata.is_some() || matches!(change, Change::Metadata(_))
+    }
+
+    // What is missing of the file.
+    fn nak(&self, now: &Standing, change: &Change) -> Result<Pdu, AllocError>
+        requires { IsCovered self.now.content change.now }
+        ensures { IfOk result (λ pdu. pdu ≡ pdu_to_sender (reception_of self.now) (nak_of (now_state self.now now.now change.now))) }
+    {
+        let scope = now.scope();
+        let runs = self.gaps_after(change).missing(scope)?;
+        let nak = nak(
+            self.alloc,
+            self.has_metadata_after(change),
+            scope,
+            runs.as_slice(),
+        )?;
+        Ok(Pdu::new(self.header(), Body::Nak(nak)))
+    }
+
+    fn put_ack(&self, pdus: &mut Pdus, row: &Row, ended: bool) -> Result<(), AllocError>
+        ensures { OnOk result (pdus.new ≡ pdus.old ++ map (pdu_to_sender (reception_of self.now)) (if_there (ack_of ended) row.now.ack)) }
+    {
+        match row.ack {
+            None => Ok(()),
+            Some(condition) => pdus.push(self.ack(condition, ended)),
+        }
+    }
+
+    fn put_nak(
+        &self,
+        pdus: &mut Pdus,
+        row: &Row,
+        now: &Standing,
+        change: &Change,
+    ) -> Result<(), AllocError>
+        requires { IsCovered self.now.content change.now }
+        ensures { OnOk result (pdus.new ≡ pdus.old ++ map (pdu_to_sender (reception_of self.now)) (if_so row.now.nak (nak_of (now_state self.now now.now change.now)))) }
+    {
+        if row.nak {
+            pdus.push(self.nak(now, change)?)
+        } else {
+            Ok(())
+        }
+    }
+
+    fn put_keep_alive(&self, pdus: &mut Pdus, row: &Row, progress: u32) -> Result<(), AllocError>
+        ensures { OnOk result (pdus.new ≡ pdus.old ++ map (pdu_to_sender (reception_of self.now)) (if_so row.now.keep_alive (body.KeepAlive (record { progress = progress })))) }
+    {
+        if row.keep_alive {
+            pdus.push(self.keep_alive(progress))
+        } else {
+            Ok(())
+        }
+    }
+
+    fn put_finished(&self, pdus: &mut Pdus, row: &Row) -> Result<(), AllocError>
+        ensures { OnOk result (pdus.new ≡ pdus.old ++ map (pdu_to_sender (reception_of self.now)) (if_there body.Finished row.now.finished)) }
+    {
+        match row.finished {
+            None => Ok(()),
+            Some(finished) => pdus.push(self.finished(finished)),
+        }
+    }
+
+    /// The PDUs of a row, where `now` is the standing with the event; an ACK says whether the
+    /// transaction has ended.
+    pub(crate) fn pdus_of(
+        &self,
+        row: &Row,
+        now: &Standing,
+        change: &Change,
+        ended: bool,
+    ) -> Result<Pdus, AllocError>
+        requires { IsCovered self.now.content change.now }
+        ensures { IfOk result (λ pdus. pdus ≡ map (pdu_to_sender (reception_of self.now)) (bodies_of (now_state self.now now.now change.now) ended (row_value row.now))) }
+    {
+        let mut pdus = Pdus::new(self.alloc);
+        self.put_ack(&mut pdus, row, ended)?;
+        self.put_nak(&mut pdus, row, now, change)?;
+        self.put_keep_alive(&mut pdus, row, now.progress)?;
+        self.put_finished(&mut pdus, row)?;
+        Ok(pdus)
+    }
+}
+
+// What an ACK says of the transaction.
+fn status_of(ended: bool) -> TransactionStatus
+    ensures { result ≡ (if ended then status.Terminated else status.Active) }
+{
+    if ended {
+        TransactionStatus::Terminated
+    } else {
+        TransactionStatus::Active
+    }
+}
+
+// What the type of a number says of it.
+fn word(number: u32) -> u32
+    ensures value { result ≡ number }
+    ensures range { result < 2 ^ 32 }
+{
+    number
+}
+
+fn long_word(number: u64) -> u64
+    ensures { number < 2 ^ 64 }
+{
+    number
+}
+
+// What the type of a fault location says of it.
+fn has_location(location: Option<EntityId>) -> bool
+    ensures { IsLocation location }
+{
+    match location {
+        None => false,
+        Some(id) => {
+            let _id = long_word(id.0);
+            true
+        }
+    }
+}

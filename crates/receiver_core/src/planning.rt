@@ -1,0 +1,182 @@
+//! How an event is planned.
+use crate::answer::Answer;
+use crate::plan::{Change, Plan};
+use crate::receiver::ReceiverCore;
+use crate::row::Row;
+use crate::standing::Standing;
+use crate::steps::{changes, next, seen};
+use cfdp_types::Deposit;
+use core_steps::{Changes, Clock, TimerOps, operations};
+use pdu_codec::{Body, FileData, Metadata, Refusal, What};
+use std::alloc::AllocError;
+
+impl ReceiverCore {
+    ghost use Rattle.std.specs.Prelude.{◌≡◌, IfOk, IfErr, OnOk, List, Ok, Some, None, false};
+    ghost use Rattle.cfdp_types.specs.Steps as steps;
+    ghost use Rattle.cfdp_types.specs.Params.{timer_length};
+    ghost use Rattle.core_steps.specs.Timers.{effects, stamp_of};
+    ghost use Rattle.pdu_codec.specs.declared.event.What.{What};
+    ghost use Rattle.pdu_codec.specs.Events.{body_of_event};
+    ghost use Rattle.pdu_format.specs.declared.pdu.Body.TheVariants as body;
+    ghost use Rattle.receiver_core.specs.Reception.{Entry, state_of};
+    ghost use Rattle.receiver_core.specs.Refusals.{is_too_large, is_body_too_large, refusal_at};
+    ghost use Rattle.receiver_core.specs.Answers.{answer_at};
+    ghost use Rattle.receiver_core.specs.Planned.{IsPlanned, deposit_of};
+    ghost use Rattle.receiver_core.specs.Core.{shown, reception_of, plan_answer, StandsAfter, FitsContent, HasRoom, IsLaid, IsCovered, IsChange, IsSame, IsPlanOf, IsWhy};
+
+    // The change that Metadata brings: the first is kept.
+    fn change_by_metadata(&self, metadata: &Metadata) -> Result<Change, AllocError>
+        ensures { IfOk result (λ change. IsChange self.now (Some (body.Metadata metadata.now)) change) }
+    {
+        if self.metadata.is_some() {
+            return Ok(Change::Nothing);
+        }
+        Ok(Change::Metadata(metadata.clone()?))
+    }
+
+    // The change that a part of the file brings.
+    fn change_by_piece(&self, piece: &FileData) -> Result<Change, AllocError>
+        requires { is_body_too_large (body.FileData piece.now) ≡ false }
+        ensures { IfOk result (λ change. IsChange self.now (Some (body.FileData piece.now)) change) }
+    {
+        let end = piece.offset + piece.octets.as_slice().len() as u32;
+        Ok(Change::Part(self.content.part(piece, end)?))
+    }
+
+    // The change that a PDU brings; what it needs of the PDU is copied.
+    fn change_by(&self, body: &Body) -> Result<Change, AllocError>
+        requires { is_body_too_large body.now ≡ false }
+        ensures { IfOk result (λ change. IsChange self.now (Some body.now) change) }
+    {
+        match body {
+            Body::Metadata(metadata) => self.change_by_metadata(metadata),
+            Body::FileData(piece) => self.change_by_piece(piece),
+            _ => Ok(Change::Nothing),
+        }
+    }
+
+    // The change that an event brings.
+    fn change_of(&self, event: &What) -> Result<Change, AllocError>
+        requires { is_too_large event.now ≡ false }
+        ensures { IfOk result (λ change. IsChange self.now (body_of_event event.now) change) }
+    {
+        match event {
+            What::Pdu(pdu) => self.change_by(pdu.body()),
+            _ => Ok(Change::Nothing),
+        }
+    }
+
+    // Makes room for a change, and lays its octets at their offsets where none came.
+    fn prepare(&mut self, change: &Change) -> Result<(), AllocError>
+        requires { FitsContent self.old.content change.now }
+        ensures same { IsSame self.old self.new }
+        ensures fits { FitsContent self.new.content change.now }
+        ensures room { OnOk result (HasRoom self.new.content change.now) }
+        ensures laid { OnOk result (IsLaid self.new.content change.now) }
+    {
+        match change {
+            Change::Nothing | Change::Metadata(_) => Ok(()),
+            Change::Part(part) => self.content.prepare(part),
+        }
+    }
+
+    // The deposit of a row.
+    fn deposit_of(&self, row: &Row) -> Option<Deposit>
+        ensures { result ≡ deposit_of self.now row.now }
+    {
+        if row.deposit {
+            Some(Deposit {
+                key: self.key,
+                stamp: self.standing.place,
+            })
+        } else {
+            None
+        }
+    }
+
+    // The operations that tell what a step does with the timers.
+    fn timer_ops(&self, changes: Changes) -> Result<TimerOps, AllocError>
+        ensures { IfOk result (λ ops. ops ≡ steps.operations self.now.key (timer_length self.now.params.timers) self.now.standing.place (effects changes) (stamp_of self.now.standing.armed)) }
+    {
+        let clock = Clock {
+            key: self.key,
+            lengths: self.params.timers(),
+            place: self.standing.place,
+        };
+        operations(self.alloc, &clock, changes, &self.standing.armed)
+    }
+
+    // The plan of an event that is answered by a row, and brings a change; `now` is the standing with
+    // the event.
+    fn planned(
+        &self,
+        event: &What,
+        now: Standing,
+        row: Row,
+        change: Change,
+    ) -> Result<Plan, AllocError>
+        requires { IsCovered self.now.content change }
+        ensures { IfOk result (λ plan. IsPlanned self.now event.now now row change plan) }
+    {
+        let deposit = self.deposit_of(&row);
+        let next = next(&self.standing, now, event, &row, deposit, change.adds());
+        let changes = changes(&next, event, &row);
+        let pdus = self.pdus_of(&row, &now, &change, row.inds.has_end())?;
+        let timers = self.timer_ops(changes)?;
+        let armed = self.standing.armed.after(changes, self.standing.place);
+        Ok(Plan {
+            next: Standing { armed, ..next },
+            change,
+            answer: Answer {
+                inds: row.inds,
+                pdus,
+                timers,
+                deposit,
+            },
+        })
+    }
+
+    // The plan of an event that is accepted, and of the change that it brings, which lies at its
+    // place.
+    fn plan_change(&self, event: &What, change: Change) -> Result<Plan, AllocError>
+        requires taken { refusal_at (reception_of self.now) (shown self.now) event.now ≡ None }
+        requires change { IsChange self.now (body_of_event event.now) change }
+        requires room { HasRoom self.now.content change }
+        requires laid { IsLaid self.now.content change }
+        ensures { IfOk result (λ plan. IsPlanOf self.now plan event.now) }
+    {
+        let now = seen(&self.standing, event, change.adds());
+        let row = self.row_of(event, &now, &change)?;
+        self.planned(event, now, row, change)
+    }
+
+    // Plans an event in the present state.
+    fn plan_now(&mut self, event: &What) -> Result<Plan, Refusal>
+        ensures same { IsSame self.old self.new }
+        ensures planned { IfOk result (λ plan. IsPlanOf self.new plan event.now) }
+        ensures refused { IfErr result (λ why. IsWhy (answer_at (reception_of self.old) (shown self.old) event.now) why) }
+    {
+        if let Some(refusal) = self.refusal_of(event) {
+            return Err(refusal);
+        }
+        let change = self.change_of(event)?;
+        self.prepare(&change)?;
+        let plan = self.plan_change(event, change)?;
+        Ok(plan)
+    }
+
+    /// Plans an event in the present state, which stays as it is: the plan holds all memory that the
+    /// event takes, and room is made for the octets that it brings.
+    pub fn plan(&mut self, event: &What) -> Result<Plan, Refusal>
+        ensures same { shown self.new ≡ shown self.old }
+        ensures reception { reception_of self.new ≡ reception_of self.old }
+        ensures others { (plan : Plan) (other : What) → IsPlanOf self.old plan other → IsPlanOf self.new plan other }
+        ensures planned { IfOk result (λ plan. IsPlanOf self.new plan event.now) }
+        ensures accepted { (log : List Entry) → StandsAfter self.old log
+            → IfOk result (λ plan. answer_at (reception_of self.old) (state_of log) event.now ≡ Ok (plan_answer plan)) }
+        ensures refused { (log : List Entry) → StandsAfter self.old log
+            → IfErr result (λ why. IsWhy (answer_at (reception_of self.old) (state_of log) event.now) why) }
+    {
+        self.plan_now(event)
+    }
+}
