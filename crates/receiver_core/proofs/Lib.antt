@@ -11,3 +11,4 @@ pub mod ReceptionLate
 pub mod ReceptionTelling
 pub mod ReceptionEvents
 pub mod ReceptionLegal
+pub mod ReceptionDeposits
