@@ -1,7 +1,7 @@
 -- Worked lane lists: what is one, and what is none.
-use Rattle.std.proofs.Common.{◌≡◌, ℕ, ◌<◌, ◌≤◌, Bool, true, false, All, List, [], ◌∷◌, refl, arith}
+use Rattle.std.proofs.Common.{◌≡◌, ℕ, ◌≤◌, true, All, List, [], ◌∷◌, refl, ap, arith}
 use Rattle.std.proofs.lemmas.Bool.{false≢true}
-use Rattle.std.proofs.lemmas.List.Elements.{All-nil, All-cons, All-head, All-tail}
+use Rattle.std.proofs.lemmas.List.Elements.{All-nil, All-cons, All-head}
 use Rattle.cfdp_types.specs.declared.key.EntityId.{EntityId}
 use Rattle.cfdp_types.specs.declared.names.Delivery.TheVariants.{Incomplete}
 use Rattle.cfdp_types.specs.declared.names.FileStatus.TheVariants.{Unreported}
@@ -66,7 +66,16 @@ told_after_end all = let runs = (all.begun 5).2.0 in absurd cc
 silent_bundle : IsLaneList 0 2 source (one (bundle 5 [])) → ⊥
 silent_bundle all = false≢true (All-head (λ (other : Bundle). tells other ≡ true) (bundle 5 []) [] all.told)
 
--- a bundle of another lane, and one of another source
+-- a bundle of another lane, one of another source, and one of another user
 other_lane : IsLaneList 0 3 source (one (bundle 5 (told.EofRecv ∷ []))) → ⊥
 other_lane all =
     let lane : 2 ≡ 3 = All-head (λ (other : Bundle). other.lane ≡ 3) (bundle 5 (told.EofRecv ∷ [])) [] all.lanes in absurd (omega (arith, lane))
+
+other_source : IsLaneList 0 2 (record { 0 = 3 }) (one (bundle 5 (told.EofRecv ∷ []))) → ⊥
+other_source all =
+    let from : source ≡ record { 0 = 3 } = All-head (λ (other : Bundle). other.key.source ≡ record { 0 = 3 }) (bundle 5 (told.EofRecv ∷ [])) [] all.sources in
+    let number : 1 ≡ 3 = ap (λ (id : EntityId). id.0) from in absurd (omega (arith, number))
+
+other_user : IsLaneList 1 2 source (one (bundle 5 (told.EofRecv ∷ []))) → ⊥
+other_user all =
+    let user : 0 ≡ 1 = All-head (λ (other : Bundle). other.user ≡ 1) (bundle 5 (told.EofRecv ∷ [])) [] all.users in absurd (omega (arith, user))

@@ -1,5 +1,6 @@
 pub mod Refusal
 pub mod Events
+pub mod EventRows
 pub mod Parts
 pub mod Writing
 pub mod Laws

@@ -20,3 +20,4 @@ pub mod NakLemmas
 pub mod ChangeLemmas
 pub mod FirstLemmas
 pub mod ImageLemmas
+pub mod ReceptionDeposits

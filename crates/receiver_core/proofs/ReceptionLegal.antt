@@ -48,7 +48,7 @@ entry_goes_on reception front event answer before was runs taken =
 -- ---- every log
 
 -- what was told, newest first
-abbrev told_by : List Entry → List Indication
+abbrev pub told_by : List Entry → List Indication
 told_by log = told_onto [] (issued log)
 
 -- before the first event
@@ -68,11 +68,11 @@ nothing_fits = record {
 }
 
 -- a legal log's words are begun, and fit what it stands at
-record Holds (log : List Entry) : Type 0 where
-  begun : IsBegun (issued log)
-  fits : Fits (state_of log) (told_by log)
+pub record Holds (log : List Entry) : Type 0 where
+  pub begun : IsBegun (issued log)
+  pub fits : Fits (state_of log) (told_by log)
 
-holds : (reception : Reception) (log : List Entry) → IsLegal reception log → Holds log
+pub holds : (reception : Reception) (log : List Entry) → IsLegal reception log → Holds log
 unfolding state_of
 holds reception [] legal = record { begun = tt; fits = nothing_fits }
 holds reception (entry ∷ front) legal =

@@ -1,5 +1,5 @@
 -- Rows on faults: what is declared, and what each handler answers.
-use Rattle.std.specs.Prelude.{◌≡◌, false, [], ◌∷◌, Some, refl}
+use Rattle.std.specs.Prelude.{◌≡◌, true, false, [], ◌∷◌, Some, refl}
 use Rattle.cfdp_types.specs.declared.names.Class.TheVariants.{One, Two}
 use Rattle.cfdp_types.specs.declared.names.Delivery.TheVariants.{Incomplete}
 use Rattle.cfdp_types.specs.declared.names.FileStatus.TheVariants.{Discarded, Rejected}
@@ -14,7 +14,7 @@ use Rattle.ind_words.specs.declared.indication.Indication.TheVariants as told
 use Rattle.gap_list.specs.Runs.{runs_of, runs_from}
 use Rattle.receiver_core.specs.Reception.{initial, step, state_of}
 use Rattle.receiver_core.specs.Answers.{answer_at}
-use Rattle.receiver_core.specs.ReceptionRows.{metadata_of, file_data, eof_of, metadata, part, eof, finished_acknowledged, some_octets, last, tells, sends, operates, class_one, class_two, one_with, two_with}
+use Rattle.receiver_core.specs.ReceptionRows.{metadata_of, file_data, eof_of, metadata, part, eof, finished_acknowledged, some_octets, after, last, tells, sends, operates, class_one, class_two, one_with, two_with, two_at}
 
 -- ---- faults of the file, with handler Cancel
 
@@ -106,6 +106,26 @@ pub inactive_finished : sends (last class_two (metadata Two ∷ []) (what.Timer 
 unfolding initial step state_of answer_at runs_of runs_from written spelling digits width_from
 inactive_finished = refl
 
+-- the Finished PDU names this entity by its own ID, whatever the header has as its destination
+pub location_is_this_entity : sends (last (two_at 7) (metadata Two ∷ []) (what.Timer Inactivity 0))
+    ≡ Some (digits 12 0x280005000105020584060107 ∷ [])
+unfolding initial step state_of answer_at runs_of runs_from written spelling digits width_from
+location_is_this_entity = refl
+
+pub location_of_a_cancel : sends (last (two_at 7) (metadata Two ∷ []) what.Cancel) ≡ Some (digits 12 0x2800050001050205f4060107 ∷ [])
+unfolding initial step state_of answer_at runs_of runs_from written spelling digits width_from
+location_of_a_cancel = refl
+
+pub location_of_two_octets : sends (last (two_at 300) (metadata Two ∷ []) (what.Timer Inactivity 0))
+    ≡ Some (digits 13 0x2800060001050205840602012c ∷ [])
+unfolding initial step state_of answer_at runs_of runs_from written spelling digits width_from
+location_of_two_octets = refl
+
+pub no_location_without_a_fault : sends (last (two_at 7) (metadata Two ∷ part Two ∷ eof Two ∷ []) (what.Stored 2 true))
+    ≡ Some (digits 9 0x280002000105020502 ∷ [])
+unfolding initial step state_of answer_at runs_of runs_from written spelling digits width_from
+no_location_without_a_fault = refl
+
 -- the rest of the file does not come in class 1, and in class 2
 pub check_limit_reached : tells (last class_one (eof One ∷ what.Timer Check 0 ∷ []) (what.Timer Check 1))
     ≡ Some (told.TransactionFinished 10 Incomplete Discarded ∷ [])
@@ -117,6 +137,18 @@ pub check_counted_on_with_more : tells (last class_one (metadata One ∷ eof_of 
 unfolding initial step state_of answer_at runs_of runs_from digits
 check_counted_on_with_more = refl
 
+-- neither Metadata nor an EOF begins its count anew
+pub check_counted_on_with_metadata : tells (last class_one (eof One ∷ what.Timer Check 0 ∷ metadata One ∷ []) (what.Timer Check 1))
+    ≡ Some (told.TransactionFinished 10 Incomplete Discarded ∷ [])
+unfolding initial step state_of answer_at runs_of runs_from digits
+check_counted_on_with_metadata = refl
+
+pub check_counted_on_with_eof : tells (last class_one (eof One ∷ what.Timer Check 0 ∷ eof One ∷ []) (what.Timer Check 1))
+    ≡ Some (told.TransactionFinished 10 Incomplete Discarded ∷ [])
+unfolding initial step state_of answer_at runs_of runs_from digits
+check_counted_on_with_eof = refl
+
+-- its expirations send nothing
 pub check_sends_nothing : sends (last class_one (eof One ∷ []) (what.Timer Check 0)) ≡ Some []
 unfolding initial step state_of answer_at runs_of runs_from written spelling digits width_from
 check_sends_nothing = refl
@@ -206,6 +238,26 @@ nak_limit_suspends = refl
 pub nothing_sent_suspending : sends (last (two_with 7 Suspend) (part Two ∷ eof Two ∷ what.Timer Nak 1 ∷ []) (what.Timer Nak 2)) ≡ Some []
 unfolding initial step state_of answer_at runs_of runs_from written spelling digits width_from
 nothing_sent_suspending = refl
+
+-- neither does the count of Inactivity begin anew, and with Resume it does
+pub inactivity_counted_on_with_metadata : (state_of (after (two_with 8 Suspend) (part Two ∷ what.Timer Inactivity 0 ∷ metadata Two ∷ []))).tries Inactivity
+    ≡ 1
+unfolding initial step state_of runs_of runs_from
+inactivity_counted_on_with_metadata = refl
+
+pub inactivity_counted_on_with_eof : (state_of (after (two_with 8 Suspend) (part Two ∷ what.Timer Inactivity 0 ∷ eof Two ∷ []))).tries Inactivity ≡ 1
+unfolding initial step state_of runs_of runs_from
+inactivity_counted_on_with_eof = refl
+
+pub inactivity_counted_on_with_a_part : (state_of (after (two_with 8 Suspend) (metadata Two ∷ what.Timer Inactivity 0 ∷ part Two ∷ []))).tries Inactivity
+    ≡ 1
+unfolding initial step state_of runs_of runs_from
+inactivity_counted_on_with_a_part = refl
+
+pub inactivity_counted_anew : (state_of (after (two_with 8 Suspend) (metadata Two ∷ what.Timer Inactivity 0 ∷ what.Resume ∷ []))).tries Inactivity
+    ≡ 0
+unfolding initial step state_of runs_of runs_from
+inactivity_counted_anew = refl
 
 -- ---- which table counts
 

@@ -1,6 +1,10 @@
 -- Rows on the file: what of it the user is told, when it is handed out, and what is kept of what comes twice.
-use Rattle.std.specs.Prelude.{◌≡◌, true, [], ◌∷◌, Some, Ok, Err, refl}
+use Rattle.std.specs.Prelude.{◌≡◌, true, List, [], ◌∷◌, ◌++◌, Some, Ok, Err, refl}
+use Rattle.cfdp_types.specs.declared.names.Class.{Class}
 use Rattle.cfdp_types.specs.declared.names.Class.TheVariants.{One, Two}
+use Rattle.cfdp_types.specs.declared.names.Delivery.TheVariants.{Incomplete}
+use Rattle.cfdp_types.specs.declared.names.FileStatus.TheVariants.{Discarded}
+use Rattle.pdu_codec.specs.declared.event.What.{What}
 use Rattle.pdu_codec.specs.declared.event.What.TheVariants as what
 use Rattle.pdu_codec.specs.declared.event.Refusal.TheVariants as refusal
 use Rattle.pdu_format.specs.Numbers.{digits}
@@ -13,7 +17,7 @@ use Rattle.gap_list.specs.Runs.{runs_of, runs_from}
 use Rattle.receiver_core.specs.Reception.{initial, step, state_of, issued}
 use Rattle.receiver_core.specs.Answers.{answer_at}
 use Rattle.receiver_core.specs.Images.{image_at}
-use Rattle.receiver_core.specs.ReceptionRows.{pdu, metadata_value, metadata_of, file_data, eof_of, abc, metadata, part, eof, some_octets, after, last, tells, sends, hands_out, class_one, class_two}
+use Rattle.receiver_core.specs.ReceptionRows.{pdu, metadata_value, metadata_of, file_data, eof_of, abc, metadata, part, eof, some_octets, after, last, tells, sends, hands_out, deposits, class_one, class_two}
 
 -- ---- handed out to be stored
 
@@ -21,6 +25,17 @@ use Rattle.receiver_core.specs.ReceptionRows.{pdu, metadata_value, metadata_of, 
 pub handed_out : hands_out (last class_one (metadata One ∷ part One ∷ []) (eof One)) ≡ Some (2 ∷ [])
 unfolding initial step state_of answer_at runs_of runs_from digits
 handed_out = refl
+
+-- the deposit has the reception's key
+pub deposit_with_key : deposits (last class_one (metadata One ∷ part One ∷ []) (eof One))
+    ≡ Some (Some (record { key = record { source = record { 0 = 1 }; seq = 5 }; stamp = 2 }))
+unfolding initial step state_of answer_at runs_of runs_from digits
+deposit_with_key = refl
+
+pub deposit_on_resume : deposits (last class_two (metadata Two ∷ eof Two ∷ what.Suspend ∷ part Two ∷ []) what.Resume)
+    ≡ Some (Some (record { key = record { source = record { 0 = 1 }; seq = 5 }; stamp = 4 }))
+unfolding initial step state_of answer_at runs_of runs_from digits
+deposit_on_resume = refl
 
 -- so does the last part, and Metadata that comes last: then nothing is sent
 pub handed_out_by_part : hands_out (last class_two (metadata Two ∷ eof Two ∷ []) (part Two)) ≡ Some (2 ∷ [])
@@ -58,6 +73,17 @@ pub not_handed_out_with_a_gap : hands_out (last class_one (metadata One ∷ file
     ≡ Some []
 unfolding initial step state_of answer_at runs_of runs_from digits
 not_handed_out_with_a_gap = refl
+
+-- nor while the last octet alone is missing
+pub not_handed_out_without_the_last_octet : hands_out (last class_one (metadata One ∷ file_data One 0 (97 ∷ 98 ∷ []) ∷ []) (eof_of One 0 0x6162_0000 3))
+    ≡ Some []
+unfolding initial step state_of answer_at runs_of runs_from digits
+not_handed_out_without_the_last_octet = refl
+
+pub not_handed_out_without_the_last_octet_in_class_two : hands_out (last class_two (metadata Two ∷ file_data Two 0 (97 ∷ 98 ∷ []) ∷ []) (eof_of Two 0 0x6162_0000 3))
+    ≡ Some []
+unfolding initial step state_of answer_at runs_of runs_from digits
+not_handed_out_without_the_last_octet_in_class_two = refl
 
 -- ---- told
 
@@ -125,6 +151,21 @@ pub first_octets_count : hands_out (last class_two (metadata Two ∷ part Two �
 unfolding initial step state_of answer_at runs_of runs_from digits
 first_octets_count = refl
 
+-- the octet in the middle, and then all three with another one there
+abbrev pub middle_first : Class → List What
+middle_first class = file_data class 1 (98 ∷ []) ∷ file_data class 0 (97 ∷ 1 ∷ 99 ∷ []) ∷ []
+
+-- the first octets count in the checksum, and the later ones do not
+pub first_octets_count_in_the_sum : hands_out (last class_two (metadata Two ∷ middle_first Two) (eof Two))
+    ≡ Some (3 ∷ [])
+unfolding initial step state_of answer_at runs_of runs_from digits
+first_octets_count_in_the_sum = refl
+
+pub later_octets_do_not_count : tells (last class_one (metadata One ∷ middle_first One) (eof_of One 0 0x6101_6300 3))
+    ≡ Some (told.EofRecv ∷ told.TransactionFinished 5 Incomplete Discarded ∷ [])
+unfolding initial step state_of answer_at runs_of runs_from digits
+later_octets_do_not_count = refl
+
 -- a later EOF is acknowledged all the same
 pub later_eof_acknowledged : sends (last class_two (metadata Two ∷ eof Two ∷ []) (eof_of Two 0 1 2))
     ≡ Some (digits 10 0x28000300010502064001 ∷ [])
@@ -139,6 +180,28 @@ pub image_given : image_at (state_of (after class_one (metadata One ∷ part One
 unfolding initial step state_of runs_of runs_from
 image_given = refl
 
+-- up to the size of the EOF, where Metadata told a greater one or a lower one
+pub image_of_the_eof_size : image_at (state_of (after class_one (metadata_of One 0 9 ∷ part One ∷ eof One ∷ []))) 2
+    ≡ Ok (record { source_name = 97 ∷ []; destination_name = 98 ∷ []; octets = abc })
+unfolding initial step state_of runs_of runs_from
+image_of_the_eof_size = refl
+
+pub image_past_the_metadata_size : image_at (state_of (after class_one (metadata_of One 0 2 ∷ part One ∷ eof One ∷ []))) 2
+    ≡ Ok (record { source_name = 97 ∷ []; destination_name = 98 ∷ []; octets = abc })
+unfolding initial step state_of runs_of runs_from
+image_past_the_metadata_size = refl
+
+-- Metadata with other names
+abbrev pub other_names : What
+other_names = pdu Two (body.Metadata (record (metadata_value 0 3) { source_name = 120 ∷ []; destination_name = 121 ∷ [] }))
+
+-- with the names and the octets that came first
+pub image_of_first_octets : image_at (state_of (after class_two (metadata Two ∷ other_names ∷ (middle_first Two ++ eof Two ∷ [])))) 4
+    ≡ Ok (record { source_name = 97 ∷ []; destination_name = 98 ∷ []; octets = abc })
+unfolding initial step state_of runs_of runs_from
+image_of_first_octets = refl
+
+-- and only for that stamp
 pub image_of_another_stamp : image_at (state_of (after class_one (metadata One ∷ part One ∷ eof One ∷ []))) 1 ≡ Err refusal.StaleStored
 unfolding initial step state_of runs_of runs_from
 image_of_another_stamp = refl
@@ -147,3 +210,17 @@ image_of_another_stamp = refl
 pub image_gone : image_at (state_of (after class_two (metadata Two ∷ part Two ∷ eof Two ∷ what.Stored 2 true ∷ []))) 2 ≡ Err refusal.StaleStored
 unfolding initial step state_of runs_of runs_from
 image_gone = refl
+
+-- nor before it was asked, also where Metadata and EOF came
+pub image_unasked : image_at (state_of (after class_one (metadata One ∷ part One ∷ []))) 2 ≡ Err refusal.StaleStored
+unfolding initial step state_of runs_of runs_from
+image_unasked = refl
+
+pub image_unasked_after_eof : image_at (state_of (after class_one (metadata One ∷ eof One ∷ []))) 1 ≡ Err refusal.StaleStored
+unfolding initial step state_of runs_of runs_from
+image_unasked_after_eof = refl
+
+-- nor for a stamp above the own one
+pub image_of_a_later_stamp : image_at (state_of (after class_one (metadata One ∷ part One ∷ eof One ∷ []))) 3 ≡ Err refusal.StaleStored
+unfolding initial step state_of runs_of runs_from
+image_of_a_later_stamp = refl

@@ -9,12 +9,13 @@ use Rattle.pdu_codec.specs.declared.event.What.TheVariants as what
 use Rattle.pdu_format.specs.Numbers.{digits}
 use Rattle.pdu_format.specs.Spelling.{spelling, written}
 use Rattle.pdu_format.specs.Tlvs.{width_from}
+use Rattle.pdu_format.specs.declared.pdu.Body.TheVariants as body
 use Rattle.pdu_format.specs.declared.bodies.Prompt.TheVariants as prompt
 use Rattle.ind_words.specs.declared.indication.Indication.TheVariants as told
 use Rattle.gap_list.specs.Runs.{runs_of, runs_from}
 use Rattle.receiver_core.specs.Reception.{initial, step, state_of}
 use Rattle.receiver_core.specs.Answers.{answer_at}
-use Rattle.receiver_core.specs.ReceptionRows.{metadata_of, file_data, eof_of, metadata, part, eof, prompted, finished_acknowledged, last, tells, sends, hands_out, echoes, class_one, class_two, two_with, every_second}
+use Rattle.receiver_core.specs.ReceptionRows.{metadata_value, metadata_of, file_data, eof_value, eof_of, metadata, part, eof, prompted, wide, finished_acknowledged, last, tells, sends, hands_out, echoes, class_one, class_two, two_with, wide_two, every_second}
 
 -- ---- the EOF
 
@@ -47,6 +48,32 @@ nothing_sent_in_class_one = refl
 pub cancelling_eof_acknowledged : sends (last class_two [] (eof_of Two 15 0 0)) ≡ Some (digits 10 0x280003000105020640f2 ∷ [])
 unfolding initial step state_of answer_at runs_of runs_from written spelling digits width_from
 cancelling_eof_acknowledged = refl
+
+-- with its own code, and the user is told that too
+pub eof_of_inactivity_acknowledged : sends (last class_two (metadata Two ∷ []) (eof_of Two 8 0 0)) ≡ Some (digits 10 0x28000300010502064082 ∷ [])
+unfolding initial step state_of answer_at runs_of runs_from written spelling digits width_from
+eof_of_inactivity_acknowledged = refl
+
+pub eof_of_inactivity_told : tells (last class_two (metadata Two ∷ []) (eof_of Two 8 0 0))
+    ≡ Some (told.TransactionFinished 8 Incomplete Discarded ∷ [])
+unfolding initial step state_of answer_at runs_of runs_from digits
+eof_of_inactivity_told = refl
+
+-- class 1 sends nothing, and the user is told the same
+pub eof_of_inactivity_in_class_one : sends (last class_one (metadata One ∷ []) (eof_of One 8 0 0)) ≡ Some []
+unfolding initial step state_of answer_at runs_of runs_from written spelling digits width_from
+eof_of_inactivity_in_class_one = refl
+
+pub eof_of_inactivity_in_class_one_told : tells (last class_one (metadata One ∷ []) (eof_of One 8 0 0))
+    ≡ Some (told.TransactionFinished 8 Incomplete Discarded ∷ [])
+unfolding initial step state_of answer_at runs_of runs_from digits
+eof_of_inactivity_in_class_one_told = refl
+
+-- of a file that is whole but for its last octet, that octet is asked for
+pub last_octet_asked_for : sends (last class_two (metadata Two ∷ file_data Two 0 (97 ∷ 98 ∷ []) ∷ []) (eof_of Two 0 0x6162_0000 3))
+    ≡ Some (digits 10 0x28000300010502064001 ∷ digits 24 0x280011000105020800000000000000030000000200000003 ∷ [])
+unfolding initial step state_of answer_at runs_of runs_from written spelling digits width_from
+last_octet_asked_for = refl
 
 -- while Nak runs the rest is not asked for again
 pub later_part_asks_nothing : sends (last class_two (metadata Two ∷ eof Two ∷ []) (file_data Two 0 (97 ∷ []))) ≡ Some []
@@ -90,6 +117,12 @@ pub keep_alive_prompted_while_suspended : sends (last class_two (metadata Two �
     ≡ Some (digits 12 0x280005000105020c00000003 ∷ [])
 unfolding initial step state_of answer_at runs_of runs_from written spelling digits width_from
 keep_alive_prompted_while_suspended = refl
+
+-- with the progress, also where an EOF told the size
+pub keep_alive_prompted_after_eof : sends (last class_two (part Two ∷ eof_of Two 0 0 9 ∷ []) (prompted prompt.KeepAlive))
+    ≡ Some (digits 12 0x280005000105020c00000003 ∷ [])
+unfolding initial step state_of answer_at runs_of runs_from written spelling digits width_from
+keep_alive_prompted_after_eof = refl
 
 -- ---- while it is suspended
 
@@ -155,6 +188,11 @@ pub counted_on_with_octets_again : sends (last class_two (part Two ∷ eof Two �
 unfolding initial step state_of answer_at runs_of runs_from written spelling digits width_from
 counted_on_with_octets_again = refl
 
+pub counted_on_with_later_eof : sends (last class_two (metadata Two ∷ eof Two ∷ what.Timer Nak 1 ∷ eof Two ∷ []) (what.Timer Nak 2))
+    ≡ Some (digits 12 0x280005000105020574060102 ∷ [])
+unfolding initial step state_of answer_at runs_of runs_from written spelling digits width_from
+counted_on_with_later_eof = refl
+
 -- and with Resume
 pub counted_anew_after_resume : sends (last class_two (metadata Two ∷ eof Two ∷ what.Timer Nak 1 ∷ what.Suspend ∷ what.Resume ∷ []) (what.Timer Nak 4))
     ≡ Some (digits 24 0x280011000105020800000000000000030000000000000003 ∷ [])
@@ -209,6 +247,12 @@ pub finished_at_the_limit : sends (last class_two (metadata Two ∷ part Two ∷
 unfolding initial step state_of answer_at runs_of runs_from written spelling digits width_from
 finished_at_the_limit = refl
 
+-- an EOF that comes again does not begin the count anew
+pub ack_counted_on_with_eof : tells (last class_two (metadata Two ∷ part Two ∷ eof Two ∷ what.Stored 2 true ∷ what.Timer Ack 3 ∷ eof Two ∷ []) (what.Timer Ack 4))
+    ≡ Some (told.TransactionFinished 0 Complete Retained ∷ [])
+unfolding initial step state_of answer_at runs_of runs_from digits
+ack_counted_on_with_eof = refl
+
 -- the user is told what the Finished PDU said, also where the ACK says otherwise
 pub finished_acknowledged_told : tells (last class_two (metadata Two ∷ part Two ∷ eof Two ∷ what.Stored 2 true ∷ []) (finished_acknowledged 0))
     ≡ Some (told.TransactionFinished 0 Complete Retained ∷ [])
@@ -240,9 +284,49 @@ pub cancelling_eof_while_closing : sends (last class_two (metadata Two ∷ what.
 unfolding initial step state_of answer_at runs_of runs_from written spelling digits width_from
 cancelling_eof_while_closing = refl
 
+pub eof_of_inactivity_while_closing : sends (last class_two (metadata Two ∷ what.Cancel ∷ []) (eof_of Two 8 0 0))
+    ≡ Some (digits 10 0x28000300010502064081 ∷ [])
+unfolding initial step state_of answer_at runs_of runs_from written spelling digits width_from
+eof_of_inactivity_while_closing = refl
+
 pub cancelling_eof_while_closing_told : tells (last class_two (metadata Two ∷ what.Cancel ∷ []) (eof_of Two 15 0 0)) ≡ Some []
 unfolding initial step state_of answer_at runs_of runs_from digits
 cancelling_eof_while_closing_told = refl
+
+-- ---- the lengths of the header
+
+-- ACK, NAK and Keep Alive have the lengths of the PDU that opened the reception
+pub wide_eof_answered : sends (last wide_two [] (wide (body.Eof (eof_value 0 0x6162_6300 3))))
+    ≡ Some (digits 14 0x2800031200010000050002064001 ∷ digits 36 0x280019120001000005000208000000000000000300000000000000000000000000000003 ∷ [])
+unfolding initial step state_of answer_at runs_of runs_from written spelling digits width_from
+wide_eof_answered = refl
+
+pub wide_keep_alive : sends (last wide_two (wide (body.Metadata (metadata_value 0 3)) ∷ []) (wide (body.Prompt prompt.KeepAlive)))
+    ≡ Some (digits 16 0x28000512000100000500020c00000000 ∷ [])
+unfolding initial step state_of answer_at runs_of runs_from written spelling digits width_from
+wide_keep_alive = refl
+
+-- so has the Finished PDU, and the location in it
+pub wide_finished : sends (last wide_two (wide (body.Metadata (metadata_value 0 0)) ∷ wide (body.Eof (eof_value 0 0 0)) ∷ []) (what.Stored 1 true))
+    ≡ Some (digits 13 0x28000212000100000500020502 ∷ [])
+unfolding initial step state_of answer_at runs_of runs_from written spelling digits width_from
+wide_finished = refl
+
+pub wide_cancelled : sends (last wide_two (wide (body.Metadata (metadata_value 0 3)) ∷ []) what.Cancel)
+    ≡ Some (digits 17 0x280006120001000005000205f406020002 ∷ [])
+unfolding initial step state_of answer_at runs_of runs_from written spelling digits width_from
+wide_cancelled = refl
+
+-- a later PDU with other lengths changes nothing of that
+pub lengths_of_the_opening : sends (last wide_two (wide (body.Metadata (metadata_value 0 0)) ∷ []) (eof_of Two 0 0 0))
+    ≡ Some (digits 14 0x2800031200010000050002064001 ∷ [])
+unfolding initial step state_of answer_at runs_of runs_from written spelling digits width_from
+lengths_of_the_opening = refl
+
+pub lengths_of_the_opening_kept : sends (last class_two (metadata_of Two 0 0 ∷ []) (wide (body.Eof (eof_value 0 0 0))))
+    ≡ Some (digits 10 0x28000300010502064001 ∷ [])
+unfolding initial step state_of answer_at runs_of runs_from written spelling digits width_from
+lengths_of_the_opening_kept = refl
 
 -- ---- after the end, an EOF is acknowledged by its echo alone, and nothing in class 1
 

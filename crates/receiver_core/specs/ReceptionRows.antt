@@ -94,11 +94,27 @@ unequal_one = record class_one { params = unequal }
 abbrev pub unequal_two : Reception
 unequal_two = record class_two { params = unequal }
 
+-- with another ID of this entity
+abbrev pub two_at : ℕ → Reception
+two_at local = record class_two { params = record reference { local = record { 0 = local } } }
+
+-- its header with entity IDs of two octets and sequence numbers of three
+abbrev pub wide_header : Header
+wide_header = record (header Two) { entity_octets = 2; sequence_octets = 3 }
+
+-- opened with such a header
+abbrev pub wide_two : Reception
+wide_two = record class_two { opening = wide_header }
+
 -- ---- events
 
 -- a PDU of the transaction
 abbrev pub pdu : Class → Body → What
 pdu class b = what.Pdu (record { header = header class; body = b })
+
+-- a PDU with such a header
+abbrev pub wide : Body → What
+wide b = what.Pdu (record { header = wide_header; body = b })
 
 -- of the file "a", to be kept as "b": a type of checksum and a size
 abbrev pub metadata_value : ℕ → ℕ → Metadata
@@ -184,6 +200,11 @@ hands_out (Ok answer) = Some (stamp_of answer.deposit)
     stamp_of None = []
     stamp_of (Some deposit) = deposit.stamp ∷ []
 hands_out (Err why) = None
+
+-- the deposit, with its key and its stamp, if there is one
+abbrev pub deposits : Result Answer Refusal → Option (Option Deposit)
+deposits (Ok answer) = Some answer.deposit
+deposits (Err why) = None
 
 -- what is said to the timers
 abbrev pub operates : Result Answer Refusal → Option (List TimerOp)

@@ -209,10 +209,36 @@ pub large_part : last class_one (metadata One ∷ []) (file_data One 4194302 abc
 unfolding initial step state_of answer_at runs_of runs_from digits
 large_part = refl
 
+-- it may end at the limit: then it is taken
+pub largest_part : hands_out (last class_one [] (file_data One 4194301 abc)) ≡ Some []
+unfolding initial step state_of answer_at runs_of runs_from digits
+largest_part = refl
+
+pub largest_part_and_one_octet : last class_one [] (file_data One 4194301 (97 ∷ 98 ∷ 99 ∷ 100 ∷ [])) ≡ Err refusal.TooLarge
+unfolding initial step state_of answer_at runs_of runs_from digits
+largest_part_and_one_octet = refl
+
+-- one without octets ends at its offset
+pub empty_part_at_the_limit : hands_out (last class_one [] (file_data One 4194304 [])) ≡ Some []
+unfolding initial step state_of answer_at runs_of runs_from digits
+empty_part_at_the_limit = refl
+
+pub empty_part_above_the_limit : last class_one [] (file_data One 4194305 []) ≡ Err refusal.TooLarge
+unfolding initial step state_of answer_at runs_of runs_from digits
+empty_part_above_the_limit = refl
+
 -- the size of an EOF counts where it has no error
 pub large_eof : last class_one (metadata One ∷ []) (eof_of One 0 0 4194305) ≡ Err refusal.TooLarge
 unfolding initial step state_of answer_at runs_of runs_from digits
 large_eof = refl
+
+pub largest_eof : tells (last class_one (part One ∷ []) (eof_of One 0 0 4194304)) ≡ Some (told.EofRecv ∷ [])
+unfolding initial step state_of answer_at runs_of runs_from digits
+largest_eof = refl
+
+pub large_first_eof_in_class_two : last class_two [] (eof_of Two 0 0 4194305) ≡ Err refusal.TooLarge
+unfolding initial step state_of answer_at runs_of runs_from digits
+large_first_eof_in_class_two = refl
 
 pub large_eof_with_an_error : tells (last class_two (metadata Two ∷ []) (eof_of Two 15 0 4194305))
     ≡ Some (told.TransactionFinished 15 Incomplete Discarded ∷ [])
@@ -254,6 +280,42 @@ room_for_eof = refl
 pub room_for_abandon : tells (answer_at class_two (with_entries 65535) what.Abandon) ≡ Some (told.Abandoned 15 3 ∷ [])
 unfolding initial step state_of answer_at runs_of runs_from digits
 room_for_abandon = refl
+
+-- the state after the same and a Suspend, as if behind so many entries
+abbrev pub suspended_with_entries : ℕ → State
+suspended_with_entries n = record (state_of (after class_two (metadata Two ∷ part Two ∷ what.Suspend ∷ []))) { place = n }
+
+-- suspended, it is full at the same place
+pub full_for_report_while_suspended : answer_at class_two (suspended_with_entries 65534) what.Report ≡ Err refusal.JournalFull
+unfolding initial step state_of answer_at runs_of runs_from digits
+full_for_report_while_suspended = refl
+
+pub full_for_resume : answer_at class_two (suspended_with_entries 65534) what.Resume ≡ Err refusal.JournalFull
+unfolding initial step state_of answer_at runs_of runs_from digits
+full_for_resume = refl
+
+pub full_for_part_while_suspended : answer_at class_two (suspended_with_entries 65534) (part Two) ≡ Err refusal.JournalFull
+unfolding initial step state_of answer_at runs_of runs_from digits
+full_for_part_while_suspended = refl
+
+-- and not before
+pub room_for_report_while_suspended : tells (answer_at class_two (suspended_with_entries 65533) what.Report)
+    ≡ Some (told.Report phase.Suspended 3 ∷ [])
+unfolding initial step state_of answer_at runs_of runs_from digits
+room_for_report_while_suspended = refl
+
+pub room_for_resume : tells (answer_at class_two (suspended_with_entries 65533) what.Resume) ≡ Some (told.Resumed 3 ∷ [])
+unfolding initial step state_of answer_at runs_of runs_from digits
+room_for_resume = refl
+
+pub room_for_part_while_suspended : tells (answer_at class_two (suspended_with_entries 65533) (file_data Two 3 (0 ∷ [])))
+    ≡ Some (told.FileSegmentRecv 3 1 ∷ [])
+unfolding initial step state_of answer_at runs_of runs_from digits
+room_for_part_while_suspended = refl
+
+pub room_for_abandon_while_suspended : tells (answer_at class_two (suspended_with_entries 65534) what.Abandon) ≡ Some (told.Abandoned 15 3 ∷ [])
+unfolding initial step state_of answer_at runs_of runs_from digits
+room_for_abandon_while_suspended = refl
 
 -- the state while the file store is asked, as if behind so many entries
 abbrev pub storing_with_entries : ℕ → State

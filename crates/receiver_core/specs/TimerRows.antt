@@ -14,7 +14,7 @@ use Rattle.ind_words.specs.declared.indication.Indication.TheVariants as told
 use Rattle.gap_list.specs.Runs.{runs_of, runs_from}
 use Rattle.receiver_core.specs.Reception.{initial, step, state_of}
 use Rattle.receiver_core.specs.Answers.{answer_at}
-use Rattle.receiver_core.specs.ReceptionRows.{metadata, part, eof, prompted, finished_acknowledged, last, tells, sends, operates, class_one, class_two, unequal_one, unequal_two, metadata_of}
+use Rattle.receiver_core.specs.ReceptionRows.{metadata, part, eof, prompted, finished_acknowledged, last, tells, sends, operates, class_one, class_two, unequal_one, unequal_two, metadata_of, file_data, eof_of}
 
 -- ---- what arms them
 
@@ -32,6 +32,12 @@ pub check_arms : operates (last class_one (metadata One ∷ []) (eof One))
     ≡ Some (op.Arm class_one.key Check 1 1000 ∷ op.Arm class_one.key Inactivity 1 1000 ∷ [])
 unfolding initial step state_of answer_at runs_of runs_from digits
 check_arms = refl
+
+-- also where the last octet alone is missing
+pub check_arms_for_the_last_octet : operates (last class_one (metadata One ∷ file_data One 0 (97 ∷ 98 ∷ []) ∷ []) (eof_of One 0 0x6162_0000 3))
+    ≡ Some (op.Arm class_one.key Check 2 1000 ∷ op.Arm class_one.key Inactivity 2 1000 ∷ [])
+unfolding initial step state_of answer_at runs_of runs_from digits
+check_arms_for_the_last_octet = refl
 
 -- a timer that goes on as it was is not armed again
 pub nak_goes_on : operates (last class_two (metadata Two ∷ eof Two ∷ []) (eof Two)) ≡ Some (op.Arm class_two.key Inactivity 2 1000 ∷ [])

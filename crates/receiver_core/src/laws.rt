@@ -1,7 +1,7 @@
 //! What holds of every reception, over its definitions alone.
 
 ghost use Rattle.receiver_core.specs.Laws.{TellsWords, CompletesGood};
-ghost use Rattle.receiver_core.specs.ReceptionLaws.{TellsWholeWords, CompletesWholeGood};
+ghost use Rattle.receiver_core.specs.ReceptionLaws.{TellsWholeWords, CompletesWholeGood, DepositsGood};
 
 /// What a reception tells its user is a beginning of a receiver's word, and a word once the
 /// reception has ended.
@@ -24,4 +24,10 @@ pub fn whole_words()
 /// The same as [`complete`] of a reception of either class, with any parameters.
 pub fn whole_complete()
     ensures { CompletesWholeGood }
+{}
+
+/// While a deposit waits, the file is good as in [`complete`], and its image has the names of its
+/// Metadata and, at each offset below the EOF's size, the octet that was received there.
+pub fn deposits()
+    ensures { DepositsGood }
 {}

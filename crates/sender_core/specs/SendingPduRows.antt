@@ -109,6 +109,17 @@ pub finished_told : tells (last two sent_all finished) ≡ Some (told.Transactio
 unfolding initial step state_of answer_at runs_of runs_from digits
 finished_told = refl
 
+-- also where the sender is suspended: it stays the end
+pub finished_while_suspended : sends (last two (sent_all ++ happens what.Suspend ∷ []) finished)
+    ≡ Some (digits 10 0x20000300020401065102 ∷ [])
+unfolding initial step state_of answer_at runs_of runs_from written spelling digits width_from
+finished_while_suspended = refl
+
+pub finished_while_suspended_told : tells (last two (sent_all ++ happens what.Suspend ∷ []) finished)
+    ≡ Some (told.TransactionFinished 0 Complete Retained ∷ [])
+unfolding initial step state_of answer_at runs_of runs_from digits
+finished_while_suspended_told = refl
+
 -- resumed, it sends what remains
 pub metadata_after_all : sends (last two (put ∷ happens what.Suspend ∷ happens what.Resume ∷ []) pump)
     ≡ Some (digits 17 0x20000a0002040107000000000301610162 ∷ [])
@@ -286,6 +297,12 @@ pub numbers_of_two_and_three_octets : sends (last large_numbers (put ∷ []) pum
     ≡ Some (digits 21 0x20000a1200020111_70012c07000000000301610162 ∷ [])
 unfolding initial step state_of answer_at runs_of runs_from written spelling digits width_from
 numbers_of_two_and_three_octets = refl
+
+-- also where the source has the larger ID
+pub numbers_of_a_large_source : sends (last (record two { key = record { source = record { 0 = 300 }; seq = 4 } }) (put ∷ []) pump)
+    ≡ Some (digits 19 0x20000a10012c04000107000000000301610162 ∷ [])
+unfolding initial step state_of answer_at runs_of runs_from written spelling digits width_from
+numbers_of_a_large_source = refl
 
 -- and no fewer than is set
 pub numbers_as_long_as_is_set : sends (last (record two { params = record reference { lengths = record { entity_octets = 2; sequence_octets = 3 } } }) (put ∷ []) pump)

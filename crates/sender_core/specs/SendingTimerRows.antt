@@ -97,6 +97,11 @@ pub acknowledged_while_suspended : operates (last two (sent_all ++ happens what.
 unfolding initial step state_of answer_at runs_of runs_from digits
 acknowledged_while_suspended = refl
 
+-- a Finished PDU arms nothing then
+pub finished_while_suspended_arms_nothing : operates (last two (sent_all ++ happens what.Suspend ∷ []) finished) ≡ Some []
+unfolding initial step state_of answer_at runs_of runs_from digits
+finished_while_suspended_arms_nothing = refl
+
 -- closing, Ack alone runs
 pub cancelling_arms : operates (last two acknowledged_all (happens what.Cancel))
     ≡ Some (op.Arm two.key Ack 5 1000 ∷ op.Disarm two.key Inactivity 5 ∷ [])
