@@ -1,5 +1,4 @@
 -- The receiving end of a transaction in both classes: what a log of its events and answers gives.
--- The code is still proved against the narrower Log and Table; it widens to these.
 use Rattle.std.specs.Prelude.{ℕ, ◌+◌, ◌-◌, max, Bool, false, not, ◌||◌, ◌&&◌, nat_le, ◌==◌, is_some, if◌then◌else◌, List, [], ◌∷◌, ◌++◌, length, slice_get, Option, Some, None}
 use Rattle.std.specs.List.{list_any}
 use Rattle.cfdp_types.specs.Condition as condition
