@@ -1,4 +1,5 @@
-//! One reception: what the receiving end of a transaction answers to its events.
+//! The receiving end of a transaction, in both classes: what it answers, what holds of every reception,
+//! and the code, which plans an event and then carries it out.
 #![tactic(auto)]
 
 mod answer;
