@@ -49,7 +49,7 @@ pub cancelling_eof_acknowledged : sends (last class_two [] (eof_of Two 15 0 0)) 
 unfolding initial step state_of answer_at runs_of runs_from written spelling digits width_from
 cancelling_eof_acknowledged = refl
 
--- with its own code, and the user is told that too
+-- an EOF with another code than that of Cancel: its ACK has that code, and the user is told it too
 pub eof_of_inactivity_acknowledged : sends (last class_two (metadata Two ∷ []) (eof_of Two 8 0 0)) ≡ Some (digits 10 0x28000300010502064082 ∷ [])
 unfolding initial step state_of answer_at runs_of runs_from written spelling digits width_from
 eof_of_inactivity_acknowledged = refl
@@ -306,7 +306,7 @@ pub wide_keep_alive : sends (last wide_two (wide (body.Metadata (metadata_value 
 unfolding initial step state_of answer_at runs_of runs_from written spelling digits width_from
 wide_keep_alive = refl
 
--- so has the Finished PDU, and the location in it
+-- so have the Finished PDU and the location in it
 pub wide_finished : sends (last wide_two (wide (body.Metadata (metadata_value 0 0)) ∷ wide (body.Eof (eof_value 0 0 0)) ∷ []) (what.Stored 1 true))
     ≡ Some (digits 13 0x28000212000100000500020502 ∷ [])
 unfolding initial step state_of answer_at runs_of runs_from written spelling digits width_from
@@ -317,7 +317,7 @@ pub wide_cancelled : sends (last wide_two (wide (body.Metadata (metadata_value 0
 unfolding initial step state_of answer_at runs_of runs_from written spelling digits width_from
 wide_cancelled = refl
 
--- a later PDU with other lengths changes nothing of that
+-- and not those of a later PDU
 pub lengths_of_the_opening : sends (last wide_two (wide (body.Metadata (metadata_value 0 0)) ∷ []) (eof_of Two 0 0 0))
     ≡ Some (digits 14 0x2800031200010000050002064001 ∷ [])
 unfolding initial step state_of answer_at runs_of runs_from written spelling digits width_from
