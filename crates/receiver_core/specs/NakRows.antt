@@ -69,6 +69,17 @@ pub eof_of_inactivity_in_class_one_told : tells (last class_one (metadata One �
 unfolding initial step state_of answer_at runs_of runs_from digits
 eof_of_inactivity_in_class_one_told = refl
 
+-- whatever the code, the file is told as discarded
+pub eof_of_rejection_told : tells (last class_two (metadata Two ∷ []) (eof_of Two 4 0 0))
+    ≡ Some (told.TransactionFinished 4 Incomplete Discarded ∷ [])
+unfolding initial step state_of answer_at runs_of runs_from digits
+eof_of_rejection_told = refl
+
+pub eof_of_rejection_in_class_one_told : tells (last class_one (metadata One ∷ []) (eof_of One 4 0 0))
+    ≡ Some (told.TransactionFinished 4 Incomplete Discarded ∷ [])
+unfolding initial step state_of answer_at runs_of runs_from digits
+eof_of_rejection_in_class_one_told = refl
+
 -- of a file that is whole but for its last octet, that octet is asked for
 pub last_octet_asked_for : sends (last class_two (metadata Two ∷ file_data Two 0 (97 ∷ 98 ∷ []) ∷ []) (eof_of Two 0 0x6162_0000 3))
     ≡ Some (digits 10 0x28000300010502064001 ∷ digits 24 0x280011000105020800000000000000030000000200000003 ∷ [])
@@ -149,6 +160,17 @@ pub eof_acknowledged_while_suspended : sends (last class_two (metadata Two ∷ w
     ≡ Some (digits 10 0x28000300010502064001 ∷ [])
 unfolding initial step state_of answer_at runs_of runs_from written spelling digits width_from
 eof_acknowledged_while_suspended = refl
+
+-- one with an error ends the reception there too
+pub cancelling_eof_while_suspended : sends (last class_two (metadata Two ∷ what.Suspend ∷ []) (eof_of Two 15 0 0))
+    ≡ Some (digits 10 0x280003000105020640f2 ∷ [])
+unfolding initial step state_of answer_at runs_of runs_from written spelling digits width_from
+cancelling_eof_while_suspended = refl
+
+pub cancelling_eof_while_suspended_told : tells (last class_two (metadata Two ∷ what.Suspend ∷ []) (eof_of Two 15 0 0))
+    ≡ Some (told.TransactionFinished 15 Incomplete Discarded ∷ [])
+unfolding initial step state_of answer_at runs_of runs_from digits
+cancelling_eof_while_suspended_told = refl
 
 -- ---- again and again
 
