@@ -239,7 +239,13 @@ pub nothing_sent_suspending : sends (last (two_with 7 Suspend) (part Two ∷ eof
 unfolding initial step state_of answer_at runs_of runs_from written spelling digits width_from
 nothing_sent_suspending = refl
 
--- neither does the count of Inactivity begin anew, and with Resume it does
+-- nothing runs then
+pub nak_limit_suspended_disarms : operates (last (two_with 7 Suspend) (part Two ∷ eof Two ∷ what.Timer Nak 1 ∷ []) (what.Timer Nak 2))
+    ≡ Some (op.Disarm class_two.key Nak 3 ∷ op.Disarm class_two.key Inactivity 3 ∷ [])
+unfolding initial step state_of answer_at runs_of runs_from digits
+nak_limit_suspended_disarms = refl
+
+-- what comes while it is suspended leaves the count of Inactivity, and Resume begins it anew
 pub inactivity_counted_on_with_metadata : (state_of (after (two_with 8 Suspend) (part Two ∷ what.Timer Inactivity 0 ∷ metadata Two ∷ []))).tries Inactivity
     ≡ 1
 unfolding initial step state_of runs_of runs_from

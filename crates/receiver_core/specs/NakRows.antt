@@ -49,7 +49,7 @@ pub cancelling_eof_acknowledged : sends (last class_two [] (eof_of Two 15 0 0)) 
 unfolding initial step state_of answer_at runs_of runs_from written spelling digits width_from
 cancelling_eof_acknowledged = refl
 
--- with its own code, and the user is told that too
+-- an EOF with another code than that of Cancel: its ACK has that code, and the user is told it too
 pub eof_of_inactivity_acknowledged : sends (last class_two (metadata Two ∷ []) (eof_of Two 8 0 0)) ≡ Some (digits 10 0x28000300010502064082 ∷ [])
 unfolding initial step state_of answer_at runs_of runs_from written spelling digits width_from
 eof_of_inactivity_acknowledged = refl
@@ -68,6 +68,17 @@ pub eof_of_inactivity_in_class_one_told : tells (last class_one (metadata One �
     ≡ Some (told.TransactionFinished 8 Incomplete Discarded ∷ [])
 unfolding initial step state_of answer_at runs_of runs_from digits
 eof_of_inactivity_in_class_one_told = refl
+
+-- whatever the code, the file is told as discarded
+pub eof_of_rejection_told : tells (last class_two (metadata Two ∷ []) (eof_of Two 4 0 0))
+    ≡ Some (told.TransactionFinished 4 Incomplete Discarded ∷ [])
+unfolding initial step state_of answer_at runs_of runs_from digits
+eof_of_rejection_told = refl
+
+pub eof_of_rejection_in_class_one_told : tells (last class_one (metadata One ∷ []) (eof_of One 4 0 0))
+    ≡ Some (told.TransactionFinished 4 Incomplete Discarded ∷ [])
+unfolding initial step state_of answer_at runs_of runs_from digits
+eof_of_rejection_in_class_one_told = refl
 
 -- of a file that is whole but for its last octet, that octet is asked for
 pub last_octet_asked_for : sends (last class_two (metadata Two ∷ file_data Two 0 (97 ∷ 98 ∷ []) ∷ []) (eof_of Two 0 0x6162_0000 3))
@@ -149,6 +160,17 @@ pub eof_acknowledged_while_suspended : sends (last class_two (metadata Two ∷ w
     ≡ Some (digits 10 0x28000300010502064001 ∷ [])
 unfolding initial step state_of answer_at runs_of runs_from written spelling digits width_from
 eof_acknowledged_while_suspended = refl
+
+-- one with an error ends the reception there too
+pub cancelling_eof_while_suspended : sends (last class_two (metadata Two ∷ what.Suspend ∷ []) (eof_of Two 15 0 0))
+    ≡ Some (digits 10 0x280003000105020640f2 ∷ [])
+unfolding initial step state_of answer_at runs_of runs_from written spelling digits width_from
+cancelling_eof_while_suspended = refl
+
+pub cancelling_eof_while_suspended_told : tells (last class_two (metadata Two ∷ what.Suspend ∷ []) (eof_of Two 15 0 0))
+    ≡ Some (told.TransactionFinished 15 Incomplete Discarded ∷ [])
+unfolding initial step state_of answer_at runs_of runs_from digits
+cancelling_eof_while_suspended_told = refl
 
 -- ---- again and again
 
@@ -306,7 +328,7 @@ pub wide_keep_alive : sends (last wide_two (wide (body.Metadata (metadata_value 
 unfolding initial step state_of answer_at runs_of runs_from written spelling digits width_from
 wide_keep_alive = refl
 
--- so has the Finished PDU, and the location in it
+-- so have the Finished PDU and the location in it
 pub wide_finished : sends (last wide_two (wide (body.Metadata (metadata_value 0 0)) ∷ wide (body.Eof (eof_value 0 0 0)) ∷ []) (what.Stored 1 true))
     ≡ Some (digits 13 0x28000212000100000500020502 ∷ [])
 unfolding initial step state_of answer_at runs_of runs_from written spelling digits width_from
@@ -317,7 +339,7 @@ pub wide_cancelled : sends (last wide_two (wide (body.Metadata (metadata_value 0
 unfolding initial step state_of answer_at runs_of runs_from written spelling digits width_from
 wide_cancelled = refl
 
--- a later PDU with other lengths changes nothing of that
+-- and not those of a later PDU
 pub lengths_of_the_opening : sends (last wide_two (wide (body.Metadata (metadata_value 0 0)) ∷ []) (eof_of Two 0 0 0))
     ≡ Some (digits 14 0x2800031200010000050002064001 ∷ [])
 unfolding initial step state_of answer_at runs_of runs_from written spelling digits width_from

@@ -80,6 +80,16 @@ pub report_while_storing : tells (last class_two (metadata Two ∷ part Two ∷ 
 unfolding initial step state_of answer_at runs_of runs_from digits
 report_while_storing = refl
 
+-- Report leaves the deposit waiting
+pub stored_after_report : tells (last class_one (metadata One ∷ part One ∷ eof One ∷ what.Report ∷ []) (what.Stored 2 true))
+    ≡ Some (told.TransactionFinished 0 Complete Retained ∷ [])
+unfolding initial step state_of answer_at runs_of runs_from digits
+stored_after_report = refl
+
+pub pdu_after_report : last class_one (metadata One ∷ part One ∷ eof One ∷ what.Report ∷ []) (metadata One) ≡ Err refusal.Storing
+unfolding initial step state_of answer_at runs_of runs_from digits
+pdu_after_report = refl
+
 -- of several reasons the first: Storing before WrongState, and behind a stale timer and another mode
 pub misplaced_while_storing : last class_one (metadata One ∷ part One ∷ eof One ∷ []) what.Suspend ≡ Err refusal.Storing
 unfolding initial step state_of answer_at runs_of runs_from digits

@@ -148,6 +148,11 @@ pub acknowledged_end_disarms : operates (last class_two (metadata Two ∷ part T
 unfolding initial step state_of answer_at runs_of runs_from digits
 acknowledged_end_disarms = refl
 
+pub cancelling_eof_disarms : operates (last class_two (metadata Two ∷ eof Two ∷ []) (eof_of Two 15 0 0))
+    ≡ Some (op.Disarm class_two.key Nak 2 ∷ op.Disarm class_two.key Inactivity 2 ∷ [])
+unfolding initial step state_of answer_at runs_of runs_from digits
+cancelling_eof_disarms = refl
+
 pub abandon_disarms : operates (last class_two (metadata Two ∷ eof Two ∷ []) what.Abandon)
     ≡ Some (op.Disarm class_two.key Nak 2 ∷ op.Disarm class_two.key Inactivity 2 ∷ [])
 unfolding initial step state_of answer_at runs_of runs_from digits

@@ -109,7 +109,7 @@ pub finished_told : tells (last two sent_all finished) ≡ Some (told.Transactio
 unfolding initial step state_of answer_at runs_of runs_from digits
 finished_told = refl
 
--- also where the sender is suspended: it stays the end
+-- also where the sender is suspended
 pub finished_while_suspended : sends (last two (sent_all ++ happens what.Suspend ∷ []) finished)
     ≡ Some (digits 10 0x20000300020401065102 ∷ [])
 unfolding initial step state_of answer_at runs_of runs_from written spelling digits width_from
