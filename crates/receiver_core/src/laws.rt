@@ -10,7 +10,7 @@ pub fn words()
 {}
 
 /// A user is told of a complete delivery only where Metadata and EOF came, every octet below the
-/// EOF's size was received and none above it, and the modular checksum agrees.
+/// EOF's size was received and none at or above it, and the modular checksum agrees.
 pub fn complete()
     ensures { CompletesGood }
 {}
