@@ -24,6 +24,3 @@ mod steps;
 pub use answer::Answer;
 pub use plan::Plan;
 pub use receiver::ReceiverCore;
-
-#[cfg(test)]
-mod tests;

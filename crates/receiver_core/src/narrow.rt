@@ -9,6 +9,3 @@ pub use answer::Answer;
 pub use examine::Finding;
 pub use plan::Plan;
 pub use reception::ReceiverCore;
-
-#[cfg(test)]
-mod tests;
