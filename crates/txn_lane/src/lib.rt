@@ -1,0 +1,18 @@
+//! Lanes: each runs one transaction after the other, sending ones or those that come from one source,
+//! and hands the indications of each step to its user's queue.
+#![tactic(auto)]
+
+mod done;
+mod event;
+mod lane_side;
+mod outlet;
+mod refused;
+
+pub use done::Done;
+pub use event::Event;
+pub use lane_side::{LaneSide, Numbers};
+pub use outlet::Outlet;
+pub use refused::Refused;
+
+#[cfg(test)]
+mod tests;
