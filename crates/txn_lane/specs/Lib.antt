@@ -1,1 +1,5 @@
--- none yet
+pub mod Logs
+pub mod Lane
+pub mod Steps
+pub mod Keeping
+pub mod LaneLaws
