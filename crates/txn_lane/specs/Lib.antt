@@ -3,3 +3,5 @@ pub mod Lane
 pub mod Steps
 pub mod Keeping
 pub mod LaneLaws
+pub mod ReceivingLaneRows
+pub mod SendingLaneRows
