@@ -1,1 +1,3 @@
--- none yet
+pub mod LogFacts
+pub mod SentFacts
+pub mod StepFacts

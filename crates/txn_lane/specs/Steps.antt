@@ -27,13 +27,14 @@ abbrev pub IsKeyed : Event → Type 0
 IsKeyed (On key (what.Pdu pdu)) = (pdu.header.source ≡ key.source) × (pdu.header.sequence ≡ key.seq)
 IsKeyed event = Unit {0}
 
--- the number that a Put gets; a receiving lane has none
+-- the number after the last; a receiving lane gives none
+abbrev pub next_in : LaneSide → ℕ → ℕ → Option ℕ → ℕ
+next_in (Sending numbers greatest) user lane last = number_after numbers user lane last
+next_in (Receiving params) user lane last = 0
+
+-- the number that a Put gets
 abbrev pub next_number : State → ℕ
-next_number state = by_side state.side
-  where
-    by_side : LaneSide → ℕ
-    by_side (Sending numbers greatest) = number_after numbers state.user state.lane state.last
-    by_side (Receiving params) = 0
+next_number state = next_in state.side state.user state.lane state.last
 
 -- the number of an event's transaction
 abbrev pub number_in : State → Event → ℕ
@@ -79,13 +80,14 @@ is_old state event = not (is_new state event) && not (is_stamp state.last (numbe
 abbrev pub is_busy : State → Event → Bool
 is_busy state event = is_some (opening state event) && is_running state
 
+-- a number is more than the sequence length of a side holds
+abbrev pub exceeds : LaneSide → ℕ → Bool
+exceeds (Sending numbers greatest) number = nat_lt greatest number
+exceeds (Receiving params) number = false
+
 -- SeqExhausted: a Put's number is more than the sequence length holds
 abbrev pub is_exhausted : State → Event → Bool
-is_exhausted state (Put request params) = by_side state.side
-  where
-    by_side : LaneSide → Bool
-    by_side (Sending numbers greatest) = nat_lt greatest (next_number state)
-    by_side (Receiving params) = false
+is_exhausted state (Put request params) = exceeds state.side (next_number state)
 is_exhausted state (On key event) = false
 
 -- the echo of a PDU
@@ -113,23 +115,25 @@ refusal_at state event =
 
 -- ---- the step
 
+-- where a lane stands after an event: one that opens a transaction begins a new journal
+abbrev pub stepped_by : State → Event → Option Transaction → State
+stepped_by state event None = record state { journal = state.journal ++ event ∷ [] }
+stepped_by state event (Some transaction) = record state { last = Some (number_in state event); before = state.last; journal = event ∷ [] }
+
 -- where a lane stands after an event that it takes
 abbrev pub stepped : State → Event → State
-stepped state event = by_opening (opening state event)
-  where
-    by_opening : Option Transaction → State
-    by_opening None = record state { journal = state.journal ++ event ∷ [] }
-    by_opening (Some transaction) = record state { last = Some (number_in state event); before = state.last; journal = event ∷ [] }
+stepped state event = stepped_by state event (opening state event)
+
+-- what the last event of a transaction was answered
+abbrev pub answer_in : Option Log → Answer
+answer_in None = quiet
+answer_in (Some log) = last_answer log
 
 -- what the last event of a lane was answered
 abbrev pub answer_of : State → Answer
-answer_of state = by_log (log_of state)
-  where
-    by_log : Option Log → Answer
-    by_log None = quiet
-    by_log (Some log) = last_answer log
+answer_of state = answer_in (log_of state)
 
--- with the key, but for what the user is told
+-- what a step gives, but for what the user is told
 pub record IsDone (state : State) (done : Done) : Type 0 where
   pub key : key_of state ≡ Some done.key
   pub pdus : done.pdus ≡ (answer_of state).pdus
