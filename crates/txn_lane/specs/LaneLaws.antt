@@ -1,11 +1,17 @@
 -- What holds of the log of every transaction, at both ends.
 use Rattle.std.specs.Prelude.{◌≡◌, ℕ, true, List, Contains}
+use Rattle.cfdp_types.specs.declared.key.EntityId.{EntityId}
 use Rattle.cfdp_types.specs.declared.names.Delivery.TheVariants.{Complete}
 use Rattle.cfdp_types.specs.declared.names.FileStatus.{FileStatus}
 use Rattle.ind_words.specs.declared.indication.Indication.TheVariants as told
+use Rattle.ind_words.specs.LaneLists.{IsLaneList}
 use Rattle.ind_words.specs.Words.{IsBegunOf, IsWordOf}
 use Rattle.receiver_core.specs.Reception.{Reception, Entry, state_of}
 use Rattle.receiver_core.specs.LegalReceptions.{IsGood}
+use Rattle.txn_lane.specs.declared.event.Event.{Event}
+use Rattle.txn_lane.specs.declared.lane_side.LaneSide.{LaneSide}
+use Rattle.txn_lane.specs.Lane.{idle, IsNumbered}
+use Rattle.txn_lane.specs.Keeping.{sent_after, AreTaken}
 use Rattle.txn_lane.specs.Logs.{Log, received, side_of, issued, has_ended, IsLegal}
 
 -- what a transaction tells its user is a beginning of a word of its side, and a word once it has ended
@@ -17,3 +23,8 @@ TellsWords = (log : Log) → IsLegal log
 abbrev pub CompletesGood : Type 0
 CompletesGood = (reception : Reception) (log : List Entry) (condition : ℕ) (status : FileStatus) → IsLegal (received reception log)
     → Contains (issued (received reception log)) (told.TransactionFinished condition Complete status) → IsGood (state_of log)
+
+-- what a lane sends from its first event on is a lane list
+abbrev pub SendsLaneLists : Type 0
+SendsLaneLists = (side : LaneSide) (user lane : ℕ) (source : EntityId) (events : List Event) → IsNumbered side
+    → AreTaken (idle side user lane source) events → IsLaneList user lane source (sent_after (idle side user lane source) events)

@@ -5,6 +5,7 @@
 mod done;
 mod event;
 mod lane_side;
+pub mod laws;
 mod outlet;
 mod refused;
 
