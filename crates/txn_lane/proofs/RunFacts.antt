@@ -29,7 +29,7 @@ step_by : (state : State) (event : Event) (bundles : List Bundle) → IsSound st
     → (key : Option TxnKey) → key_of (stepped state event) ≡ key → (inds : List Indication) → (answer_of (stepped state event)).inds ≡ inds
     → Keeps (stepped state event) (bundles ++ bundle_by (stepped state event) key inds)
 step_by state event bundles sound keeps keyed free key of_key [] told =
-    subst (Keeps (stepped state event)) (sym (none_by key) ) (keeps_quiet state event bundles sound keeps keyed free told)
+    subst (Keeps (stepped state event)) (sym (none_by key)) (keeps_quiet state event bundles sound keeps keyed free told)
   where
     none_by : (key : Option TxnKey) → bundles ++ bundle_by (stepped state event) key [] ≡ bundles
     none_by None = append-nil bundles

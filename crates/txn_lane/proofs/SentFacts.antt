@@ -80,8 +80,8 @@ number_opens user lane source last before told bundles number was over risen = r
   others = λ n has other. (
     up_to_of last n bundles was.reached has,
     cases_last last n (IsWordGroup (told_of n bundles))
-    (λ this. subst IsWordGroup (sym (was.current n this)) (over_word last n told this over))
-    (λ no. (was.others n has no).1),
+        (λ this. subst IsWordGroup (sym (was.current n this)) (over_word last n told this over))
+        (λ no. (was.others n has no).1),
   );
 }
 

@@ -130,7 +130,7 @@ comes_behind state key event sound taken none =
     let unknown = both_false (is_foreign state (On key event)) (is_new state (On key event) && not (is_some (opening state (On key event)))) taken.known in
     let reached : is_new state (On key event) ≡ false = new_false (is_new state (On key event)) (is_some (opening state (On key event))) found unknown.1 in
     let runs = both_true (is_stamp state.last key.seq) (is_running state)
-        (is_true (is_stamp state.last key.seq && is_running state) (old_false (is_new state (On key event)) _ reached taken.young)) in
+    (is_true (is_stamp state.last key.seq && is_running state) (old_false (is_new state (On key event)) _ reached taken.young)) in
     let log = going (log_of state) runs.1 in
     record {
       log = log.0;
@@ -145,6 +145,7 @@ comes_behind state key event sound taken none =
     new_false true true is e = is
     new_false true false is e = e
     new_false false found is e = refl
+
     old_false : (new rest : Bool) → new ≡ false → (not new && not rest) ≡ false → not rest ≡ false
     old_false true rest is e = absurd (true≢false is)
     old_false false rest is e = e
