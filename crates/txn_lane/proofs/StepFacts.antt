@@ -1,6 +1,6 @@
 -- A step of a lane: what an event that is taken makes of its log, and of what the lane keeps.
 use Rattle.std.proofs.Common.{◌≡◌, ℕ, ◌*◌, ◌<◌, Bool, true, false, not, ◌||◌, ◌&&◌, ◌==◌, if◌then◌else◌, is_some, List, [], ◌∷◌, ◌++◌, Option, Some, None, refl, sym, ap, ◌∙◌, subst, arith}
-use Rattle.std.specs.Option.{option_map}
+use Rattle.std.specs.Option.{option_map, option_or}
 use Rattle.std.proofs.lemmas.Bool.{false≢true, true≢false, ltb-true, eqb-true}
 use Rattle.std.proofs.lemmas.List.{append-nil}
 use Rattle.std.proofs.Math.Nat.{mul-pos}
@@ -18,7 +18,7 @@ use Rattle.txn_lane.specs.declared.lane_side.LaneSide.{LaneSide}
 use Rattle.txn_lane.specs.declared.lane_side.LaneSide.TheVariants.{Sending, Receiving}
 use Rattle.txn_lane.specs.Logs.{Transaction, Log, opened_by, log_by, issued, has_ended, IsLegal, last_answer, side_of}
 use Rattle.txn_lane.specs.Lane.{State, idle, key_at, is_above, log_from, log_of, goes_on, is_running, issued_in, issued_by, IsNumbered, IsRun, IsRisen, IsSound}
-use Rattle.txn_lane.specs.Steps.{IsKeyed, next_in, next_number, number_in, is_foreign, is_new, opening, log_before, is_unknown, is_old, is_busy, is_exhausted, plainly, refused_by_end, refusal_at, stepped_by, stepped, answer_in, answer_of, IsBundle}
+use Rattle.txn_lane.specs.Steps.{IsKeyed, next_in, next_number, number_in, is_foreign, is_new, opening, log_before, is_unknown, is_old, is_busy, is_exhausted, plainly, refused_by_end, refused_by_lane, refusal_at, stepped_by, stepped, answer_in, answer_of, IsBundle}
 use Rattle.txn_lane.specs.Keeping.{AreSent, Keeps}
 use Rattle.txn_lane.proofs.LogFacts.{log_with, log_by-more, HasPlace, issued_with, legal_with, nothing_legal, nothing_ended, nothing_issued, IfOpened, IsOfPdu, first_place, later_place, lane_words, begun_group, word_group}
 use Rattle.txn_lane.proofs.SentFacts.{some_is, nothing_sent, IsOver, number_opens, bundle_more}
@@ -39,13 +39,17 @@ record IsTaken (state : State) (event : Event) : Type 0 where
   free : is_busy state event ≡ false
   allowed : refused_by_end (log_before state (opening state event)) event ≡ None
 
+or_none : {A : Type 0} (o rest : Option A) → option_or o rest ≡ None → (o ≡ None) × (rest ≡ None)
+or_none None rest e = (refl, e)
+or_none (Some x) rest e = absurd cc
+
 taken_by : (state : State) (event : Event) → refusal_at state event ≡ None → IsTaken state event
 taken_by state event e =
-    let one = if_none (is_unknown state event) _ _ e in
+    let both = or_none (refused_by_lane state event) (option_map plainly (refused_by_end (log_before state (opening state event)) event)) e in
+    let one = if_none (is_unknown state event) _ _ both.0 in
     let two = if_none (is_old state event) _ _ one.1 in
     let three = if_none (is_busy state event) _ _ two.1 in
-    let four = if_none (is_exhausted state event) _ _ three.1 in
-    record { known = one.0; young = two.0; free = three.0; allowed = map_none plainly (refused_by_end (log_before state (opening state event)) event) four.1 }
+    record { known = one.0; young = two.0; free = three.0; allowed = map_none plainly (refused_by_end (log_before state (opening state event)) event) both.1 }
 
 -- ---- tests
 

@@ -3,5 +3,6 @@ pub mod Lane
 pub mod Steps
 pub mod Keeping
 pub mod LaneLaws
+pub mod LaneCode
 pub mod ReceivingLaneRows
 pub mod SendingLaneRows

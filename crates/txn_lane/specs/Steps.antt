@@ -1,6 +1,6 @@
 -- Which events a lane refuses, what it answers to the others, and where it stands then.
 use Rattle.std.specs.Prelude.{◌≡◌, ℕ, Bool, true, false, not, ◌||◌, ◌&&◌, nat_lt, ◌==◌, is_some, if◌then◌else◌, [], ◌∷◌, ◌++◌, Option, Some, None, Result, Err}
-use Rattle.std.specs.Option.{option_map}
+use Rattle.std.specs.Option.{option_map, option_or}
 use Rattle.cfdp_types.specs.Steps.{is_stamp}
 use Rattle.cfdp_types.specs.declared.image.Image.{Image}
 use Rattle.cfdp_types.specs.declared.key.TxnKey.{TxnKey}
@@ -104,14 +104,20 @@ abbrev pub refused_by_end : Option Log → Event → Option Refusal
 refused_by_end None event = None
 refused_by_end (Some log) event = refused_behind log event
 
--- why an event is refused, if it is: the first that applies; want of memory and a full queue aside
-abbrev pub refusal_at : State → Event → Option Refused
-refusal_at state event =
+-- the reasons of the lane itself, the first that applies
+abbrev pub refused_by_lane : State → Event → Option Refused
+refused_by_lane state event =
     if is_unknown state event then Some (plainly refusal.NoTransaction)
     else if is_old state event then Some (record { why = refusal.OldTransaction; echo = echo_to event })
     else if is_busy state event then Some (plainly refusal.LaneBusy)
     else if is_exhausted state event then Some (plainly refusal.SeqExhausted)
-    else option_map plainly (refused_by_end (log_before state (opening state event)) event)
+    else None
+
+-- why an event is refused, if it is: the first that applies, where a Put has no reason of its end between
+-- LaneBusy and SeqExhausted; want of memory and a full queue aside
+abbrev pub refusal_at : State → Event → Option Refused
+refusal_at state event =
+    option_or (refused_by_lane state event) (option_map plainly (refused_by_end (log_before state (opening state event)) event))
 
 -- ---- the step
 

@@ -1,5 +1,8 @@
+ghost use Rattle.std.specs.Prelude.{◌≡◌, IfOk};
+
 use cfdp_types::{Params, PutRequest, TxnKey};
 use pdu_codec::What;
+use std::alloc::AllocError;
 
 /// What a lane is told.
 #[derive(Debug, Drop)]
@@ -8,4 +11,22 @@ pub enum Event {
     Put(PutRequest, Params),
     /// Something happens to the transaction with this key. The key of a PDU is the PDU's own.
     On(TxnKey, What),
+}
+
+impl Event {
+    /// The same event once more.
+    pub fn copy(&self) -> Result<Event, AllocError>
+        ensures { IfOk result (λ copy. copy ≡ self.now) }
+    {
+        Ok(match self {
+            Event::Put(request, params) => Event::Put(request.copy()?, *params),
+            Event::On(key, what) => Event::On(*key, copy_of(what)?),
+        })
+    }
+}
+
+fn copy_of(what: &What) -> Result<What, AllocError>
+    ensures { IfOk result (λ copy. copy ≡ what.now) }
+{
+    what.clone()
 }

@@ -4,6 +4,8 @@
 
 mod done;
 mod event;
+mod lane;
+mod lane_refusals;
 mod lane_side;
 pub mod laws;
 mod outlet;
@@ -11,6 +13,7 @@ mod refused;
 
 pub use done::Done;
 pub use event::Event;
+pub use lane::Lane;
 pub use lane_side::{LaneSide, Numbers};
 pub use outlet::Outlet;
 pub use refused::Refused;
