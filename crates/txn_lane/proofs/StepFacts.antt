@@ -18,7 +18,7 @@ use Rattle.txn_lane.specs.declared.lane_side.LaneSide.{LaneSide}
 use Rattle.txn_lane.specs.declared.lane_side.LaneSide.TheVariants.{Sending, Receiving}
 use Rattle.txn_lane.specs.Logs.{Transaction, Log, opened_by, log_by, issued, has_ended, IsLegal, last_answer, side_of}
 use Rattle.txn_lane.specs.Lane.{State, idle, key_at, is_above, log_from, log_of, goes_on, is_running, issued_in, issued_by, IsNumbered, IsRun, IsRisen, IsSound}
-use Rattle.txn_lane.specs.Steps.{IsKeyed, next_in, next_number, number_in, is_foreign, is_new, opening, log_before, is_unknown, is_old, is_busy, is_exhausted, plainly, refused_by_end, refused_by_lane, refusal_at, stepped_by, stepped, answer_in, answer_of, IsBundle}
+use Rattle.txn_lane.specs.Steps.{IsKeyed, next_in, next_number, number_in, is_foreign, is_new, opening, log_before, is_unknown, is_old, is_busy, plainly, refused_by_end, refused_by_lane, refusal_at, stepped_by, stepped, answer_in, answer_of, IsBundle}
 use Rattle.txn_lane.specs.Keeping.{AreSent, Keeps}
 use Rattle.txn_lane.proofs.LogFacts.{log_with, log_by-more, HasPlace, issued_with, legal_with, nothing_legal, nothing_ended, nothing_issued, IfOpened, IsOfPdu, first_place, later_place, lane_words, begun_group, word_group}
 use Rattle.txn_lane.proofs.SentFacts.{some_is, nothing_sent, IsOver, number_opens, bundle_more}

@@ -4,5 +4,6 @@ pub mod Steps
 pub mod Keeping
 pub mod LaneLaws
 pub mod LaneCode
+pub mod Handing
 pub mod ReceivingLaneRows
 pub mod SendingLaneRows

@@ -4,6 +4,7 @@
 
 mod done;
 mod event;
+mod handing;
 mod lane;
 mod lane_refusals;
 mod lane_side;
