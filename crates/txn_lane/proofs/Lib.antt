@@ -2,3 +2,4 @@ pub mod LogFacts
 pub mod SentFacts
 pub mod StepFacts
 pub mod RunFacts
+pub mod OpenFacts

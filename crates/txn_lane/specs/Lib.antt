@@ -5,5 +5,6 @@ pub mod Keeping
 pub mod LaneLaws
 pub mod LaneCode
 pub mod Handing
+pub mod RunningCode
 pub mod ReceivingLaneRows
 pub mod SendingLaneRows

@@ -25,7 +25,8 @@ impl Event {
     }
 }
 
-fn copy_of(what: &What) -> Result<What, AllocError>
+/// The same once more.
+pub(crate) fn copy_of(what: &What) -> Result<What, AllocError>
     ensures { IfOk result (λ copy. copy ≡ what.now) }
 {
     what.clone()

@@ -11,6 +11,7 @@ mod lane_side;
 pub mod laws;
 mod outlet;
 mod refused;
+mod running;
 
 pub use done::Done;
 pub use event::Event;
