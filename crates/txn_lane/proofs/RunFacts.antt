@@ -21,7 +21,7 @@ pub completes_good : CompletesGood
 completes_good reception log condition status legal told = completes_whole_good reception log condition status legal told
 
 -- one indication and more are some
-tells_some : (rest : List Indication) → not (suc (length rest) == 0) ≡ true
+pub tells_some : (rest : List Indication) → not (suc (length rest) == 0) ≡ true
 tells_some rest = ap not (ne_eqb (suc (length rest)) 0 (λ e. omega (arith, e)))
 
 -- one step, with its bundle or without
@@ -52,12 +52,12 @@ step_keeps state event bundles sound keeps keyed free =
     step_by state event bundles sound keeps keyed free (key_of (stepped state event)) refl (answer_of (stepped state event)).inds refl
 
 -- a lane stays what it is
-record IsSame (state next : State) : Type 0 where
-  user : next.user ≡ state.user
-  lane : next.lane ≡ state.lane
-  source : next.source ≡ state.source
+pub record IsSame (state next : State) : Type 0 where
+  pub user : next.user ≡ state.user
+  pub lane : next.lane ≡ state.lane
+  pub source : next.source ≡ state.source
 
-same_by : (state : State) (event : Event) (opened : Option Transaction) → IsSame state (stepped_by state event opened)
+pub same_by : (state : State) (event : Event) (opened : Option Transaction) → IsSame state (stepped_by state event opened)
 same_by state event None = record { user = refl; lane = refl; source = refl }
 same_by state event (Some transaction) = record { user = refl; lane = refl; source = refl }
 

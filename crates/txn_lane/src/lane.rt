@@ -2,9 +2,9 @@ use crate::event::Event;
 use crate::lane_refusals::{refused_by_key, refused_put};
 use crate::lane_side::Numbers;
 use crate::refused::Refused;
+use crate::running::Running;
 use cfdp_types::{EntityId, TxnKey};
 use ind_words::Indication;
-use sender_core::SenderCore;
 use std::alloc::Global;
 use std::marker::Model;
 
@@ -20,20 +20,18 @@ pub struct Lane {
     source: EntityId,
     last: Option<u64>,
     before: Option<u64>,
-    journal: Vec<Event>,
-    core: Option<SenderCore>,
-    trace: Vec<Indication>,
+    running: Option<Running>,
 }
 
 impl Model for Lane {
     ghost use Rattle.txn_lane.specs.Lane.{State};
-    ghost use Rattle.txn_lane.specs.LaneCode.{sending_state, IsHeld};
+    ghost use Rattle.txn_lane.specs.LaneCode.{sending_state, journal_of, IsHeld};
 
     ghost Value = { State };
 
-    ghost view = { λ l. sending_state l.numbers l.greatest l.user l.lane l.source l.last l.before l.journal.items };
+    ghost view = { λ l. sending_state l.numbers l.greatest l.user l.lane l.source l.last l.before (journal_of l.running) };
 
-    ghost invariant = { λ l. IsHeld (sending_state l.numbers l.greatest l.user l.lane l.source l.last l.before l.journal.items) l.core l.trace.items };
+    ghost invariant = { λ l. IsHeld (sending_state l.numbers l.greatest l.user l.lane l.source l.last l.before (journal_of l.running)) l.running };
 }
 
 impl Lane {
@@ -65,9 +63,7 @@ impl Lane {
             source,
             last: None,
             before: None,
-            journal: Vec::new(alloc),
-            core: None,
-            trace: Vec::new(alloc),
+            running: None,
         }
     }
 
@@ -83,23 +79,29 @@ impl Lane {
     pub fn journal(&self) -> &[Event]
         ensures { result.now ≡ self.now.journal }
     {
-        self.journal.as_slice()
+        match &self.running {
+            None => &[],
+            Some(running) => running.journal.as_slice(),
+        }
     }
 
     /// All that its user was told of that transaction, in order.
     pub fn trace(&self) -> &[Indication]
         ensures { result.now ≡ issued_by self.now }
     {
-        self.trace.as_slice()
+        match &self.running {
+            None => &[],
+            Some(running) => running.trace.as_slice(),
+        }
     }
 
     // Whether that transaction has not ended.
     pub(crate) fn is_running(&self) -> bool
         ensures { result ≡ is_running self.now }
     {
-        match &self.core {
+        match &self.running {
             None => false,
-            Some(core) => !core.has_ended(),
+            Some(running) => !running.core.has_ended(),
         }
     }
 
