@@ -14,7 +14,7 @@ use Rattle.txn_lane.specs.Logs.{Transaction, Log}
 use Rattle.txn_lane.specs.Lane.{State, idle, key_at, key_of, log_of, IsRun, IsSound}
 use Rattle.txn_lane.specs.Steps.{IsKeyed, refusal_at, opening, stepped_by, stepped, answer_in, answer_of}
 use Rattle.txn_lane.specs.Keeping.{Keeps, bundle_by, bundle_of, sent_after, AreTaken}
-use Rattle.txn_lane.specs.LaneLaws.{CompletesGood, SendsLaneLists}
+use Rattle.txn_lane.specs.LaneLaws.{CompletesGood, SendsLaneLists, StepsKeep}
 use Rattle.txn_lane.proofs.StepFacts.{stays_sound, idle_sound, keeps_bundle, keeps_quiet, idle_keeps}
 
 pub completes_good : CompletesGood
@@ -81,3 +81,6 @@ runs_on user lane source state bundles (event ∷ later) sound keeps of_user of_
 pub sends_lane_lists : SendsLaneLists
 sends_lane_lists side user lane source events numbered taken =
     runs_on user lane source (idle side user lane source) [] events (idle_sound side user lane source numbered) (idle_keeps side user lane source) refl refl refl taken
+
+pub steps_keep : StepsKeep
+steps_keep state event bundles sound keeps keyed free = (stays_sound state event sound keyed free, step_keeps state event bundles sound keeps keyed free)

@@ -1,6 +1,6 @@
 //! What holds of every transaction and of every lane, over their definitions alone.
 
-ghost use Rattle.txn_lane.specs.LaneLaws.{TellsWords, CompletesGood, SendsLaneLists};
+ghost use Rattle.txn_lane.specs.LaneLaws.{TellsWords, CompletesGood, SendsLaneLists, StepsKeep};
 
 /// What a transaction tells its user, at either end, is a beginning of a word of its side, and a
 /// word once it has ended.
@@ -18,4 +18,10 @@ pub fn complete()
 /// its transactions, one after the other, with rising numbers; only the last may be a beginning.
 pub fn lists()
     ensures { SendsLaneLists }
+{}
+
+/// What a lane knows of the bundles that it sent holds again after each event that it takes, with the
+/// bundle of that step.
+pub fn keeps()
+    ensures { StepsKeep }
 {}
