@@ -5,3 +5,4 @@ pub mod RunFacts
 pub mod HeldFacts
 pub mod HandFacts
 pub mod OpenFacts
+pub mod CarryFacts

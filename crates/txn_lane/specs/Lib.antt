@@ -5,6 +5,7 @@ pub mod Keeping
 pub mod LaneLaws
 pub mod LaneCode
 pub mod Handing
+pub mod Stepping
 pub mod RunningCode
 pub mod ReceivingLaneRows
 pub mod SendingLaneRows

@@ -12,6 +12,7 @@ pub mod laws;
 mod outlet;
 mod refused;
 mod running;
+mod stepping;
 
 pub use done::Done;
 pub use event::Event;
