@@ -6,3 +6,7 @@ pub mod HeldFacts
 pub mod HandFacts
 pub mod OpenFacts
 pub mod CarryFacts
+pub mod TakenFacts
+pub mod OnFacts
+pub mod PutFacts
+pub mod KeepFacts

@@ -25,7 +25,7 @@ use Rattle.txn_lane.proofs.SentFacts.{some_is, nothing_sent, IsOver, number_open
 
 -- ---- an event that is taken meets none of the reasons
 
-if_none : {A : Type 0} (b : Bool) (x : A) (rest : Option A) → (if b then Some x else rest) ≡ None → (b ≡ false) × (rest ≡ None)
+pub if_none : {A : Type 0} (b : Bool) (x : A) (rest : Option A) → (if b then Some x else rest) ≡ None → (b ≡ false) × (rest ≡ None)
 if_none true x rest e = absurd cc
 if_none false x rest e = (refl, e)
 
@@ -53,19 +53,19 @@ taken_by state event e =
 
 -- ---- tests
 
-both_false : (a b : Bool) → (a || b) ≡ false → (a ≡ false) × (b ≡ false)
+pub both_false : (a b : Bool) → (a || b) ≡ false → (a ≡ false) × (b ≡ false)
 both_false true b e = absurd (true≢false e)
 both_false false b e = (refl, e)
 
-both_true : (a b : Bool) → (a && b) ≡ true → (a ≡ true) × (b ≡ true)
+pub both_true : (a b : Bool) → (a && b) ≡ true → (a ≡ true) × (b ≡ true)
 both_true true b e = (refl, e)
 both_true false b e = absurd (false≢true e)
 
-is_false : (a : Bool) → not a ≡ true → a ≡ false
+pub is_false : (a : Bool) → not a ≡ true → a ≡ false
 is_false true e = absurd (false≢true e)
 is_false false e = refl
 
-is_true : (a : Bool) → not a ≡ false → a ≡ true
+pub is_true : (a : Bool) → not a ≡ false → a ≡ true
 is_true true e = refl
 is_true false e = absurd (true≢false e)
 
@@ -160,7 +160,7 @@ if_some : {A : Type 0} (b : Bool) (o : Option A) (x : A) → (if b then o else N
 if_some true o x e = (refl, e)
 if_some false o x e = absurd cc
 
-same_source : (one other : EntityId) → not (one.0 == other.0) ≡ false → one ≡ other
+pub same_source : (one other : EntityId) → not (one.0 == other.0) ≡ false → one ≡ other
 same_source one other e =
     let same : one.0 ≡ other.0 = eqb-true (one.0) (other.0) (is_true (one.0 == other.0) e) in
     ap (λ (n : ℕ). let id : EntityId = record { 0 = n } in id) same
