@@ -1,5 +1,5 @@
 -- Every list that an outlet stood after and a lane kept is stood after and kept once more.
-use Rattle.std.proofs.Common.{◌≡◌, ℕ, List, [], ◌∷◌, ◌++◌, Option, Some, None, inl, inr, sym, subst}
+use Rattle.std.proofs.Common.{◌≡◌, List, [], ◌∷◌, ◌++◌, Option, Some, None, inl, inr, sym, subst}
 use Rattle.std.proofs.lemmas.List.{append-nil}
 use Rattle.cfdp_types.specs.declared.key.TxnKey.{TxnKey}
 use Rattle.ind_words.specs.declared.bundle.Bundle.{Bundle}

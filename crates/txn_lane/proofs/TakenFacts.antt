@@ -1,5 +1,5 @@
 -- An event that a sending lane itself lets pass: what it comes to, and what is made of it.
-use Rattle.std.proofs.Common.{◌≡◌, ℕ, Bool, true, false, not, ◌&&◌, List, [], ◌∷◌, ◌++◌, Option, Some, None, is_some, if◌then◌else◌, Result, Ok, Err, IsOk, IsSome, inl, inr, refl, sym, ap, ◌∙◌, subst}
+use Rattle.std.proofs.Common.{◌≡◌, ℕ, Bool, true, false, not, ◌&&◌, List, [], ◌∷◌, ◌++◌, Option, Some, None, is_some, Result, Ok, Err, IsOk, IsSome, inl, inr, refl, sym, ap, ◌∙◌, subst}
 use Rattle.std.specs.Option.{option_map, option_or}
 use Rattle.std.proofs.lemmas.Bool.{false≢true, true≢false, eqb-true}
 use Rattle.cfdp_types.specs.Steps.{is_stamp}
@@ -11,7 +11,7 @@ use Rattle.pdu_codec.specs.declared.event.Refusal.{Refusal}
 use Rattle.pdu_codec.specs.declared.event.What.{What}
 use Rattle.sender_core.specs.Sending as sender
 use Rattle.sender_core.specs.Answers.{answer_at}
-use Rattle.sender_core.specs.Core.{shown, sending_of, StandsAfter, IsWhy}
+use Rattle.sender_core.specs.Core.{shown, sending_of, StandsAfter}
 use Rattle.txn_lane.specs.declared.done.Done.{Done}
 use Rattle.txn_lane.specs.declared.event.Event.{Event}
 use Rattle.txn_lane.specs.declared.event.Event.TheVariants.{On}
@@ -21,7 +21,7 @@ use Rattle.txn_lane.specs.Keeping.{Keeps, bundle_by, bundle_of}
 use Rattle.txn_lane.specs.Lane.{State, key_at, key_of, log_of, goes_on, is_running, IsSound}
 use Rattle.txn_lane.specs.LaneCode.{Stands, IsHeld}
 use Rattle.txn_lane.specs.Logs.{Log, sent, received, to_sender, without_deposit}
-use Rattle.txn_lane.specs.Stepping.{IsOffered, IsWhyNot, IsNotCarried, RanOut}
+use Rattle.txn_lane.specs.Stepping.{IsOffered, IsWhyNot, IsNotCarried}
 use Rattle.txn_lane.specs.Steps.{IsKeyed, opening, log_before, is_foreign, is_new, is_old, is_unknown, plainly, refused_by_end, refused_by_lane, refusal_at, stepped, stepped_by, answer_in, answer_of, IsDone}
 use Rattle.txn_lane.proofs.HandFacts.{may_hand_over}
 use Rattle.txn_lane.proofs.HeldFacts.{taken_by_both}

@@ -1,4 +1,4 @@
-use Rattle.std.proofs.Common.{◌≡◌, ◌∷◌, [], Ok, inr, sym, ap, ◌∙◌, subst, IsSome}
+use Rattle.std.proofs.Common.{◌∷◌, [], Ok, inr, sym, ap, ◌∙◌, subst, IsSome}
 use Rattle.std.proofs.lemmas.Result.{err_from_is_err_and}
 use Rattle.sender_core.specs.Core.{sending_by, StandsAfter, plan_answer}
 use Rattle.sender_core.specs.Sending.{put}

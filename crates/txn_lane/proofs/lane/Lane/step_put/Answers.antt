@@ -1,4 +1,4 @@
-use Rattle.std.proofs.Common.{◌≡◌, Some, [], sym, ◌∙◌, subst}
+use Rattle.std.proofs.Common.{Some, [], sym, ◌∙◌, subst}
 use Rattle.std.proofs.lemmas.Result.{err_from_is_err_and}
 use Rattle.sender_core.specs.Core.{sending_by, answer_value}
 use Rattle.txn_lane.specs.Keeping.{bundle_of}
