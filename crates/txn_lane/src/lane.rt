@@ -237,6 +237,7 @@ impl Lane {
         Ok(done(key, answer))
     }
 
+    // Where its bundles go, and where memory comes from.
     fn place(&self) -> Place
         ensures user { result.user ≡ self.now.user }
         ensures lane { result.lane ≡ self.now.lane }

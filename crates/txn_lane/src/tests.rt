@@ -1,18 +1,18 @@
 mod bounded;
 
-ghost use Rattle.std.specs.Prelude.{◌≡◌, [], ◌∷◌, OnOk, IfErr, IfOk};
+ghost use Rattle.std.specs.Prelude.{◌≡◌, [], ◌∷◌, OnOk, IfErr, IfOk, IfSome};
 ghost use Rattle.ind_words.specs.declared.indication.Indication.TheVariants as told;
+ghost use Rattle.txn_lane.specs.Lane.{idle};
+ghost use Rattle.txn_lane.specs.Steps.{IsKeyed};
 
-use crate::lane_refusals::refused_by_key;
-use crate::running::Running;
-use crate::{Event, Lane, Numbers, Outlet};
+use crate::{Done, Event, Lane, Numbers, Outlet, Refused};
 use bounded::Bounded;
 use cfdp_types::{
     Class, EntityId, ExpirationLimits, FaultTable, FaultTables, HeaderLengths, Params, PutRequest,
     Role, TimerLengths, TxnKey,
 };
 use ind_words::{Bundle, Indication, Indications};
-use pdu_codec::{What, decode};
+use pdu_codec::What;
 use std::alloc::{AllocError, Global};
 use std::test::*;
 
@@ -70,7 +70,9 @@ fn an_outlet_without_room_gives_back(rt: HostRuntime) -> Result<(), Fail> {
     Ok(())
 }
 
-fn lane(alloc: Global, first: u64) -> Lane {
+fn lane(alloc: Global, first: u64) -> Lane
+    ensures { result ≡ idle result.side 0 0 result.source }
+{
     let numbers = Numbers {
         first,
         lanes: 2,
@@ -135,39 +137,41 @@ fn numbers_of_one_octet(rt: HostRuntime) -> Result<(), Fail> {
     Ok(())
 }
 
-// To an EOF of an old transaction in class 2 an ACK is sent back.
+// A Put, by such parameters.
+fn put(alloc: Global) -> Result<Option<Event>, Fail>
+    ensures { IfOk result (λ found. IfSome found IsKeyed) }
+{
+    let Some(params) = params()? else {
+        return Ok(None);
+    };
+    let request = PutRequest::new(alloc, EntityId(1), Class::One, b"a", b"b", &[], b"abc")?;
+    Ok(Some(Event::Put(request, params)))
+}
+
+// Steps a lane that has sent nothing, with an outlet that nothing was put into.
+fn step_first(lane: &mut Lane, put: &Event, outlet: &mut Bounded) -> Result<Done, Refused>
+    requires fresh { lane.old ≡ idle lane.old.side 0 0 lane.old.source }
+    requires keyed { IsKeyed put.now }
+    requires of_user { outlet.old.user ≡ 0 }
+    requires of_lane { outlet.old.lane ≡ 0 }
+    requires first { outlet.old.bundles.items ≡ [] }
+{
+    lane.step(put, outlet)
+}
+
+// A Put gets the lane's first number, and what it tells is put into the outlet.
 #[test]
-fn an_old_eof_is_echoed(rt: HostRuntime) -> Result<(), Fail> {
-    let octets = b"\x20\x00\x0a\x00\x01\x05\x02\x04\x00\x61\x62\x63\x00\x00\x00\x00\x03";
-    let pdu = decode(rt.alloc(), octets)?;
-    let refused = refused_by_key(EntityId(1), Some(5), false, key(1, 5), &What::Pdu(pdu));
-    let Some(refused) = refused else {
+fn a_put_is_stepped(rt: HostRuntime) -> Result<(), Fail> {
+    let mut lane = lane(rt.alloc(), 1);
+    let mut outlet = Bounded::new(rt.alloc(), 0, 0, 1)?;
+    let Some(put) = put(rt.alloc())? else {
         assert!(rt; false);
         return Ok(());
     };
-    assert_eq!(rt; refused.why.number(), 2);
-    assert!(rt; refused.echo.is_some());
-    Ok(())
-}
-
-// The first two steps of a transaction, with what they tell.
-#[test]
-fn a_transaction_steps(rt: HostRuntime) -> Result<(), Fail> {
-    let request = PutRequest::new(rt.alloc(), EntityId(1), Class::One, b"a", b"b", &[], b"abc")?;
-    let params = params()?;
-    assert!(rt; params.is_some());
-    let Some(params) = params else {
-        return Ok(());
-    };
-    let (mut running, step) = Running::open(rt.alloc(), key(2, 4), &request, params)?;
-    assert_eq!(rt; running.commit(step).inds.as_slice().len(), 1);
-    assert_eq!(rt;
-        running.trace.as_slice(),
-        [Indication::Transaction].as_slice()
-    );
-    let step = running.plan(rt.alloc(), key(2, 4), &What::Pump)?;
-    assert!(rt; !running.core.has_ended());
-    assert_eq!(rt; running.commit(step).pdus.as_slice().len(), 1);
-    assert_eq!(rt; running.journal.len(), 2);
+    let answer = step_first(&mut lane, &put, &mut outlet);
+    let number = answer.ok().map(|done| done.key.seq);
+    assert_eq!(rt; number, Some(4));
+    assert_eq!(rt; outlet.len(), 1);
+    assert_eq!(rt; outlet.told(), [Indication::Transaction].as_slice());
     Ok(())
 }

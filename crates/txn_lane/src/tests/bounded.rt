@@ -2,7 +2,7 @@ ghost use Rattle.std.specs.Prelude.{◌≡◌, [], ◌++◌, ◌∷◌, length, 
 ghost use Rattle.std.proofs.Common.{ap, ◌∙◌};
 
 use crate::outlet::Outlet;
-use ind_words::Bundle;
+use ind_words::{Bundle, Indication};
 use std::alloc::{AllocError, Global};
 
 /// A queue of one lane, with room for so many bundles.
@@ -35,6 +35,14 @@ impl Bounded {
         ensures { result ≡ vec_len self.now.bundles }
     {
         self.bundles.len()
+    }
+
+    // What the first bundle tells.
+    pub(crate) fn told(&self) -> &[Indication] {
+        match self.bundles.first() {
+            None => &[],
+            Some(bundle) => bundle.inds.as_slice(),
+        }
     }
 }
 
