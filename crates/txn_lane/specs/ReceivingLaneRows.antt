@@ -8,6 +8,8 @@ use Rattle.cfdp_types.specs.declared.names.Class.{Class}
 use Rattle.cfdp_types.specs.declared.names.Class.TheVariants.{One, Two}
 use Rattle.cfdp_types.specs.declared.names.Delivery.TheVariants.{Complete, Incomplete}
 use Rattle.cfdp_types.specs.declared.names.FileStatus.TheVariants.{Discarded, Retained}
+use Rattle.cfdp_types.specs.declared.names.TimerKind.TheVariants.{Inactivity}
+use Rattle.cfdp_types.specs.declared.timer_op.TimerOp.TheVariants as op
 use Rattle.gap_list.specs.Runs.{runs_of, runs_from}
 use Rattle.pdu_codec.specs.declared.event.What.{What}
 use Rattle.pdu_codec.specs.declared.event.What.TheVariants as what
@@ -133,6 +135,11 @@ pub higher_is_busy : refusal_at (running One) (metadata One 7) ≡ plain refusal
 unfolding initial step state_of runs_of runs_from
 higher_is_busy = refl
 
+-- also where its file is too large
+pub higher_is_busy_before_too_large : refusal_at (running One) (pdu One 7 (body.Metadata (metadata_value 0 4194305))) ≡ plain refusal.LaneBusy
+unfolding initial step state_of runs_of runs_from
+higher_is_busy_before_too_large = refl
+
 pub higher_is_unknown : refusal_at (running One) (on 7 what.Report) ≡ plain refusal.NoTransaction
 unfolding initial step state_of runs_of runs_from
 higher_is_unknown = refl
@@ -153,6 +160,23 @@ lower_class_one_eof_is_not = refl
 pub lower_report_is_old : refusal_at (running One) (on 3 what.Report) ≡ plain refusal.OldTransaction
 unfolding initial step state_of runs_of runs_from
 lower_report_is_old = refl
+
+-- an EOF from another source
+abbrev pub foreign_eof : Class → ℕ → Event
+foreign_eof class number = On (record { source = record { 0 = 3 }; seq = number }) (what.Pdu (record {
+  header = record (header class) { source = record { 0 = 3 }; sequence = number };
+  body = body.Eof (eof_value 0 0x6162_6300 3);
+}))
+
+-- it is unknown, also with the number that runs, and has no echo
+pub foreign_running_eof : refusal_at (running Two) (foreign_eof Two 5) ≡ plain refusal.NoTransaction
+unfolding initial step state_of runs_of runs_from
+foreign_running_eof = refl
+
+-- and so it is with a lower number
+pub foreign_lower_eof : refusal_at (running Two) (foreign_eof Two 3) ≡ plain refusal.NoTransaction
+unfolding initial step state_of runs_of runs_from
+foreign_lower_eof = refl
 
 -- what the end itself refuses
 pub other_mode : refusal_at (running One) (part Two 5) ≡ plain refusal.ModeMismatch
@@ -182,6 +206,16 @@ cancelled_runs_not = refl
 pub next_opens : are_taken fresh (cancelled ++ metadata One 7 ∷ part One 7 ∷ []) ≡ true
 unfolding initial step state_of runs_of runs_from
 next_opens = refl
+
+-- after class 1 there may be class 2
+pub other_class_opens : are_taken fresh (cancelled ++ metadata Two 7 ∷ part Two 7 ∷ []) ≡ true
+unfolding initial step state_of runs_of runs_from
+other_class_opens = refl
+
+-- and the new class is the one that counts then
+pub first_class_then_mismatches : refusal_at (after fresh (cancelled ++ metadata Two 7 ∷ [])) (part One 7) ≡ plain refusal.ModeMismatch
+unfolding initial step state_of runs_of runs_from
+first_class_then_mismatches = refl
 
 pub next_key : key_of (after fresh (cancelled ++ metadata One 7 ∷ [])) ≡ Some (key 7)
 unfolding initial step state_of runs_of runs_from
@@ -232,11 +266,28 @@ pub metadata_again_is_not : refusal_at (after fresh whole) (metadata Two 5) ≡ 
 unfolding initial step state_of runs_of runs_from
 metadata_again_is_not = refl
 
+-- ---- what a step gives
+
+-- Metadata arms Inactivity, at its place in the journal
+pub metadata_timers : (answer_of (running Two)).timers ≡ op.Arm (key 5) Inactivity 0 1000 ∷ []
+unfolding initial step state_of runs_of runs_from
+metadata_timers = refl
+
+-- the EOF of class 2 is acknowledged
+pub eof_pdus : map written (answer_of (after (running Two) (part Two 5 ∷ eof Two 5 ∷ []))).pdus ≡ digits 10 0x28000300010502064001 ∷ []
+unfolding initial step state_of runs_of runs_from written spelling digits width_from
+eof_pdus = refl
+
 -- ---- the file that waits for the file store
 
 -- the lane that asks the file store
 abbrev pub storing : State
 storing = after fresh (metadata One 5 ∷ part One 5 ∷ eof One 5 ∷ [])
+
+-- its deposit has the key of the transaction and the place of the EOF
+pub deposit_given : (answer_of storing).deposit ≡ Some (record { key = key 5; stamp = 2 })
+unfolding initial step state_of runs_of runs_from
+deposit_given = refl
 
 abbrev pub image : Image
 image = record { source_name = 97 ∷ []; destination_name = 98 ∷ []; octets = abc }
@@ -252,6 +303,11 @@ other_stamp = refl
 pub other_key : image_of storing (key 6) 2 ≡ Err refusal.StaleStored
 unfolding initial step state_of runs_of runs_from
 other_key = refl
+
+-- the right number and stamp, but another source
+pub other_source_of_image : image_of storing (record { source = record { 0 = 3 }; seq = 5 }) 2 ≡ Err refusal.StaleStored
+unfolding initial step state_of runs_of runs_from
+other_source_of_image = refl
 
 pub nothing_waits : image_of fresh (key 5) 0 ≡ Err refusal.StaleStored
 nothing_waits = refl

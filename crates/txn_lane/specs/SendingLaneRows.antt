@@ -1,11 +1,13 @@
 -- Worked steps of a lane that sends, computed.
-use Rattle.std.specs.Prelude.{◌≡◌, ℕ, true, List, [], ◌∷◌, Some, None, Err, refl}
+use Rattle.std.specs.Prelude.{◌≡◌, ℕ, true, List, [], ◌∷◌, map, Some, None, Err, refl}
 use Rattle.cfdp_types.specs.Reference.{reference}
 use Rattle.cfdp_types.specs.declared.key.TxnKey.{TxnKey}
 use Rattle.cfdp_types.specs.declared.names.Class.{Class}
 use Rattle.cfdp_types.specs.declared.names.Class.TheVariants.{One, Two}
 use Rattle.cfdp_types.specs.declared.names.Delivery.TheVariants.{Complete}
 use Rattle.cfdp_types.specs.declared.names.FileStatus.TheVariants.{Retained}
+use Rattle.cfdp_types.specs.declared.names.TimerKind.TheVariants.{Ack}
+use Rattle.cfdp_types.specs.declared.timer_op.TimerOp.TheVariants as op
 use Rattle.gap_list.specs.Runs.{runs_of, runs_from}
 use Rattle.pdu_codec.specs.declared.event.What.{What}
 use Rattle.pdu_codec.specs.declared.event.What.TheVariants as what
@@ -100,23 +102,23 @@ number_above_is_unknown = refl
 
 -- ---- a whole transaction of class 2
 
--- the PDUs of the receiver
-abbrev pub finished : PduValue
-finished = record {
+-- the receiver's Finished PDU
+abbrev pub finished : ℕ → PduValue
+finished number = record {
   header = record {
     direction = TowardSender;
     class = Two;
     entity_octets = 1;
     sequence_octets = 1;
     source = record { 0 = 2 };
-    sequence = 4;
+    sequence = number;
     destination = record { 0 = 1 };
   };
   body = body.Finished (record { condition = 0; delivery = Complete; status = Retained; location = None });
 }
 
 abbrev pub whole : List Event
-whole = put Two ∷ on 4 what.Pump ∷ on 4 what.Pump ∷ on 4 what.Pump ∷ on 4 (what.Pdu finished) ∷ []
+whole = put Two ∷ on 4 what.Pump ∷ on 4 what.Pump ∷ on 4 what.Pump ∷ on 4 (what.Pdu (finished 4)) ∷ []
 
 pub whole_taken : are_taken fresh whole ≡ true
 unfolding initial step state_of runs_of runs_from
@@ -127,9 +129,19 @@ unfolding initial step state_of runs_of runs_from
 whole_told = refl
 
 -- then the Finished PDU is echoed
-pub finished_again_is_echoed : echoed (refusal_at (after fresh whole) (on 4 (what.Pdu finished))) ≡ digits 10 0x20000300020401065102 ∷ []
+pub finished_again_is_echoed : echoed (refusal_at (after fresh whole) (on 4 (what.Pdu (finished 4)))) ≡ digits 10 0x20000300020401065102 ∷ []
 unfolding initial step state_of runs_of runs_from written spelling digits width_from
 finished_again_is_echoed = refl
+
+-- one with a number above the last is unknown, and has no echo
+pub finished_above_is_unknown : refusal_at (after fresh whole) (on 8 (what.Pdu (finished 8))) ≡ plain refusal.NoTransaction
+unfolding initial step state_of runs_of runs_from
+finished_above_is_unknown = refl
+
+-- so it is while the transaction runs
+pub finished_above_is_unknown_before : refusal_at (after fresh (put Two ∷ [])) (on 8 (what.Pdu (finished 8))) ≡ plain refusal.NoTransaction
+unfolding initial step state_of runs_of runs_from
+finished_above_is_unknown_before = refl
 
 pub pump_is_old : refusal_at (after fresh whole) (on 4 what.Pump) ≡ plain refusal.OldTransaction
 unfolding initial step state_of runs_of runs_from
@@ -139,6 +151,18 @@ pump_is_old = refl
 pub no_image : image_of (after fresh (put One ∷ [])) (key 4) 0 ≡ Err refusal.StaleStored
 unfolding initial step state_of runs_of runs_from
 no_image = refl
+
+-- ---- what a step gives
+
+-- the first Pump sends the Metadata
+pub metadata_sent : map written (answer_of (after fresh (put One ∷ on 4 what.Pump ∷ []))).pdus ≡ digits 17 0x24000a000204010700000000030161_0162 ∷ []
+unfolding initial step state_of runs_of runs_from written spelling digits width_from
+metadata_sent = refl
+
+-- the third one sends the EOF, which class 2 arms Ack for, at its place in the journal
+pub eof_timers : (answer_of (after fresh (put Two ∷ on 4 what.Pump ∷ on 4 what.Pump ∷ on 4 what.Pump ∷ []))).timers ≡ op.Arm (key 4) Ack 3 1000 ∷ []
+unfolding initial step state_of runs_of runs_from
+eof_timers = refl
 
 -- ---- the end of the numbers
 
@@ -161,3 +185,25 @@ then_exhausted = refl
 pub busy_before_exhausted : refusal_at (after last_number (puts One [] ∷ [])) (puts One []) ≡ plain refusal.LaneBusy
 unfolding initial step state_of runs_of runs_from
 busy_before_exhausted = refl
+
+-- lane 1 of user 1, which has the greatest number left
+abbrev pub greatest_number : State
+greatest_number = sending_lane 63 1 1
+
+-- it is the greatest of one octet
+pub greatest_is_next : next_number greatest_number ≡ 255
+greatest_is_next = refl
+
+-- a Put is taken
+pub greatest_is_taken : refusal_at greatest_number (puts One []) ≡ None
+unfolding initial step state_of runs_of runs_from
+greatest_is_taken = refl
+
+-- under that number
+pub greatest_key : key_of (after greatest_number (puts One [] ∷ [])) ≡ Some (key 255)
+greatest_key = refl
+
+-- the next Put finds none
+pub exhausted_after_greatest : refusal_at (after greatest_number (puts One [] ∷ on 255 what.Cancel ∷ [])) (puts One []) ≡ plain refusal.SeqExhausted
+unfolding initial step state_of runs_of runs_from
+exhausted_after_greatest = refl
