@@ -1,4 +1,4 @@
-ghost use Rattle.std.specs.Prelude.{◌≡◌, ℕ, List, [], ◌∷◌, ◌++◌, OnOk, IfErr};
+ghost use Rattle.std.specs.Prelude.{◌≡◌, ℕ, List, [], ◌∷◌, ◌++◌, OnOk, IfErr, OnErr};
 ghost use Rattle.ind_words.specs.LaneLists.{IsLaneList};
 ghost use Rattle.ind_words.specs.declared.bundle.Bundle.{Bundle as BundleValue};
 
@@ -30,7 +30,7 @@ pub trait Outlet {
             × IsLaneList bundle.user bundle.lane bundle.key.source (bundles ++ bundle ∷ []) }
         ensures taken { OnOk result (takes self.old bundle self.new) }
         ensures same { IfErr result (λ back. back ≡ bundle) }
-        ensures returned { IfErr result (λ back. returns self.old self.new) };
+        ensures returned { OnErr result (returns self.old self.new) };
 
     /// An offer that is taken makes what the lane has sent one bundle longer.
     ghost takes_adds: { (old new : Self) (bundle : BundleValue) → takes old bundle new
