@@ -1,0 +1,12 @@
+pub mod LogFacts
+pub mod SentFacts
+pub mod StepFacts
+pub mod RunFacts
+pub mod HeldFacts
+pub mod HandFacts
+pub mod OpenFacts
+pub mod CarryFacts
+pub mod TakenFacts
+pub mod OnFacts
+pub mod PutFacts
+pub mod KeepFacts

@@ -1,0 +1,257 @@
+-- What holds of logs of both ends: one event more, and the words that they tell.
+use Rattle.std.proofs.Common.{◌≡◌, Bool, true, false, List, [], ◌∷◌, ◌++◌, map, Option, Some, None, if◌then◌else◌, refl, sym, ap, ◌∙◌, subst}
+use Rattle.std.proofs.lemmas.Bool.{false≢true}
+use Rattle.std.proofs.lemmas.List.{map-append}
+use Rattle.cfdp_types.specs.declared.key.TxnKey.{TxnKey}
+use Rattle.pdu_codec.specs.Refusal.{unless_refused}
+use Rattle.pdu_codec.specs.declared.event.What.{What}
+use Rattle.pdu_codec.specs.declared.event.What.TheVariants as what
+use Rattle.pdu_format.specs.declared.pdu.Body.{Body}
+use Rattle.pdu_format.specs.declared.pdu.Body.TheVariants as body
+use Rattle.ind_words.specs.declared.indication.Indication.{Indication}
+use Rattle.ind_words.specs.declared.side.Side.{Side}
+use Rattle.ind_words.specs.declared.side.Side.TheVariants.{Sender, Receiver}
+use Rattle.ind_words.specs.Words.{IsBegunOf, IsWordOf, is_transaction}
+use Rattle.ind_words.specs.LaneLists.{side_by, IsBegunGroup, IsWordGroup}
+use Rattle.ind_words.specs.declared.indication.Indication.TheVariants as told
+use Rattle.ind_words.proofs.WordLemmas.{opens_sender}
+use Rattle.sender_core.specs.Sending as sender
+use Rattle.sender_core.specs.Sending.{initial, state_of}
+use Rattle.sender_core.specs.Answers as sender_answers
+use Rattle.sender_core.specs.Answers.{answer_at}
+use Rattle.sender_core.specs.LegalSendings as sender_logs
+use Rattle.sender_core.proofs.SendingLegal.{tells_words}
+use Rattle.receiver_core.specs.Reception as receiver
+use Rattle.receiver_core.specs.Answers as receiver_answers
+use Rattle.receiver_core.specs.LegalReceptions as receiver_logs
+use Rattle.receiver_core.proofs.ReceptionLegal.{tells_whole_words}
+use Rattle.txn_lane.specs.declared.event.Event.{Event}
+use Rattle.txn_lane.specs.declared.event.Event.TheVariants.{Put, On}
+use Rattle.txn_lane.specs.declared.lane_side.LaneSide.{LaneSide}
+use Rattle.txn_lane.specs.declared.lane_side.LaneSide.TheVariants.{Sending, Receiving}
+use Rattle.txn_lane.specs.Logs.{Transaction, sends, receives, Log, sent, received, body_opens, opened_by, to_sender, to_receiver, log_by, issued, has_ended, IsLegal, refused_behind, last_answer}
+use Rattle.txn_lane.specs.LaneLaws.{TellsWords}
+
+-- ---- one event more
+
+-- a log with an event that its end answers by its table
+abbrev pub log_with : Log → Event → Log
+log_with (sent sending log) event =
+    sent sending (record { event = to_sender event; answer = sender_answers.accepted_at sending (sender.state_of sending log) (to_sender event) } ∷ log)
+log_with (received reception log) (On key event) =
+    received reception (record { event = event; answer = receiver_answers.accepted_at reception (receiver.state_of log) event } ∷ log)
+log_with (received reception log) (Put request params) = received reception log
+
+sent-more : (sending : sender.Sending) (front : List sender.Entry) (events : List sender.Event) (event : sender.Event)
+    → sender_logs.log_after sending front (events ++ event ∷ [])
+    ≡ record {
+      event = event;
+      answer = sender_answers.accepted_at sending (sender.state_of sending (sender_logs.log_after sending front events)) event;
+    } ∷ sender_logs.log_after sending front events
+sent-more sending front [] event = refl
+sent-more sending front (first ∷ later) event =
+    sent-more sending (record { event = first; answer = sender_answers.accepted_at sending (sender.state_of sending front) first } ∷ front) later event
+
+received-more : (reception : receiver.Reception) (front : List receiver.Entry) (events : List What) (event : What)
+    → receiver_logs.log_after reception front (events ++ event ∷ [])
+    ≡ record {
+      event = event;
+      answer = receiver_answers.accepted_at reception (receiver.state_of (receiver_logs.log_after reception front events)) event;
+    } ∷ receiver_logs.log_after reception front events
+received-more reception front [] event = refl
+received-more reception front (first ∷ later) event =
+    received-more reception (record { event = first; answer = receiver_answers.accepted_at reception (receiver.state_of front) first } ∷ front) later event
+
+to_receiver-more : (events : List Event) (key : TxnKey) (event : What) → to_receiver (events ++ On key event ∷ []) ≡ to_receiver events ++ event ∷ []
+to_receiver-more [] key event = refl
+to_receiver-more (Put request params ∷ later) key event = to_receiver-more later key event
+to_receiver-more (On other first ∷ later) key event = ap (λ l. first ∷ l) (to_receiver-more later key event)
+
+to_receiver-put : (events : List Event) (request : _) (params : _) → to_receiver (events ++ Put request params ∷ []) ≡ to_receiver events
+to_receiver-put [] request params = refl
+to_receiver-put (Put other others ∷ later) request params = to_receiver-put later request params
+to_receiver-put (On other first ∷ later) request params = ap (λ l. first ∷ l) (to_receiver-put later request params)
+
+pub log_by-more : (transaction : Transaction) (events : List Event) (event : Event)
+    → log_by transaction (events ++ event ∷ []) ≡ log_with (log_by transaction events) event
+log_by-more (sends sending) events event =
+    ap (λ l. sent sending (sender_logs.log_after sending [] l)) (map-append to_sender events (event ∷ []))
+    ∙ ap (sent sending) (sent-more sending [] (map to_sender events) (to_sender event))
+log_by-more (receives reception) events (On key event) =
+    ap (λ l. received reception (receiver_logs.log_after reception [] l)) (to_receiver-more events key event)
+    ∙ ap (received reception) (received-more reception [] (to_receiver events) event)
+log_by-more (receives reception) events (Put request params) =
+    ap (λ l. received reception (receiver_logs.log_after reception [] l)) (to_receiver-put events request params)
+
+-- ---- its place
+
+-- an event may stand behind a log
+abbrev pub HasPlace : Log → Event → Type 0
+HasPlace (sent sending log) event = sender_logs.HasItsPlace log (to_sender event)
+HasPlace (received reception log) (On key event) = receiver_logs.HasItsPlace reception log event
+HasPlace (received reception log) (Put request params) = ⊥
+
+pub issued_with : (log : Log) (event : Event) → HasPlace log event
+    → issued (log_with log event) ≡ issued log ++ (last_answer (log_with log event)).inds
+issued_with (sent sending log) event place = refl
+issued_with (received reception log) (On key event) place = refl
+issued_with (received reception log) (Put request params) place = absurd place
+
+pub legal_with : (log : Log) (event : Event) → IsLegal log → has_ended log ≡ false → HasPlace log event → refused_behind log event ≡ None
+    → IsLegal (log_with log event)
+unfolding answer_at receiver_answers.answer_at
+legal_with (sent sending log) event legal goes place taken =
+    (goes, place, ap (λ why. unless_refused why (sender_answers.accepted_at sending (sender.state_of sending log) (to_sender event))) taken, legal)
+legal_with (received reception log) (On key event) legal goes place taken =
+    (goes, place, ap (λ why. unless_refused why (receiver_answers.accepted_at reception (receiver.state_of log) event)) taken, legal)
+legal_with (received reception log) (Put request params) legal goes place taken = absurd place
+
+-- ---- the first event, and those behind it
+
+pub nothing_legal : (transaction : Transaction) → IsLegal (log_by transaction [])
+nothing_legal (sends sending) = tt
+nothing_legal (receives reception) = tt
+
+pub nothing_ended : (transaction : Transaction) → has_ended (log_by transaction []) ≡ false
+unfolding initial state_of receiver.initial receiver.state_of
+nothing_ended (sends sending) = refl
+nothing_ended (receives reception) = refl
+
+pub nothing_issued : (transaction : Transaction) → issued (log_by transaction []) ≡ []
+nothing_issued (sends sending) = refl
+nothing_issued (receives reception) = refl
+
+-- of a transaction, if there is one
+abbrev pub IfOpened : Option Transaction → (Transaction → Type 0) → Type 0
+IfOpened None P = Unit {0}
+IfOpened (Some transaction) P = P transaction
+
+-- a PDU is of a key
+abbrev IsOfKey : What → TxnKey → Type 0
+IsOfKey (what.Pdu pdu) key = (pdu.header.source ≡ key.source) × (pdu.header.sequence ≡ key.seq)
+IsOfKey event key = Unit {0}
+
+-- the PDU is of the key that it opens
+abbrev pub IsOfPdu : Event → TxnKey → Type 0
+IsOfPdu (Put request params) key = Unit {0}
+IsOfPdu (On named event) key = IsOfKey event key
+
+opening_body : (b : Body) → body_opens b ≡ true → receiver_logs.BodyOpens b
+opening_body (body.Metadata m) is = tt
+opening_body (body.FileData d) is = tt
+opening_body (body.Eof e) is = tt
+opening_body (body.Finished f) is = absurd (false≢true is)
+opening_body (body.Ack a) is = absurd (false≢true is)
+opening_body (body.Nak n) is = absurd (false≢true is)
+opening_body (body.Prompt p) is = absurd (false≢true is)
+opening_body (body.KeepAlive k) is = absurd (false≢true is)
+
+if_opens : (b : Bool) (transaction : Transaction) (P : Transaction → Type 0) → (b ≡ true → P transaction)
+    → IfOpened (if b then Some transaction else None) P
+if_opens true transaction P holds = holds refl
+if_opens false transaction P holds = tt
+
+pub first_place : (side : LaneSide) (key : TxnKey) (event : Event) → IsOfPdu event key
+    → IfOpened (opened_by side key event) (λ transaction. HasPlace (log_by transaction []) event)
+first_place (Sending numbers greatest) key (Put request params) keyed = tt
+first_place (Receiving params) key (On named (what.Pdu pdu)) keyed =
+    if_opens (body_opens pdu.body) (receives (record { key = key; params = params; opening = pdu.header }))
+    (λ transaction. HasPlace (log_by transaction []) (On named (what.Pdu pdu)))
+    (λ opens. (opening_body pdu.body opens, refl, keyed.0, keyed.1))
+first_place (Sending numbers greatest) key (On named event) keyed = tt
+first_place (Receiving params) key (Put request others) keyed = tt
+first_place (Receiving params) key (On named what.Cancel) keyed = tt
+first_place (Receiving params) key (On named what.Suspend) keyed = tt
+first_place (Receiving params) key (On named what.Resume) keyed = tt
+first_place (Receiving params) key (On named what.Report) keyed = tt
+first_place (Receiving params) key (On named what.Abandon) keyed = tt
+first_place (Receiving params) key (On named what.Pump) keyed = tt
+first_place (Receiving params) key (On named (what.Timer kind stamp)) keyed = tt
+first_place (Receiving params) key (On named (what.Stored stamp kept)) keyed = tt
+
+behind_sent : (sending : sender.Sending) (front : List sender.Entry) (events : List sender.Event) (event : What)
+    → sender_logs.HasItsPlace front (sender.happens event)
+    → sender_logs.HasItsPlace (sender_logs.log_after sending front events) (sender.happens event)
+behind_sent sending front [] event place = place
+behind_sent sending front (first ∷ later) event place =
+    behind_sent sending (record { event = first; answer = sender_answers.accepted_at sending (sender.state_of sending front) first } ∷ front) later event tt
+
+behind_received : (reception : receiver.Reception) (front : List receiver.Entry) (events : List What) (event : What)
+    → receiver_logs.HasItsPlace reception front event
+    → receiver_logs.HasItsPlace reception (receiver_logs.log_after reception front events) event
+behind_received reception front [] event place = place
+behind_received reception front (first ∷ later) event place =
+    behind_received reception (record { event = first; answer = receiver_answers.accepted_at reception (receiver.state_of front) first } ∷ front) later event tt
+
+place_in_sent : (sending : sender.Sending) (first : sender.Event) (later : List sender.Event) (event : What)
+    → sender_logs.HasItsPlace (sender_logs.log_of sending (first ∷ later)) (sender.happens event)
+place_in_sent sending first later event =
+    behind_sent sending (record { event = first; answer = sender_answers.accepted_at sending (sender.state_of sending []) first } ∷ []) later event tt
+
+place_in_received : (reception : receiver.Reception) (first : What) (later : List What) (event : What)
+    → receiver_logs.HasItsPlace reception (receiver_logs.log_of reception (first ∷ later)) event
+place_in_received reception first later event =
+    behind_received reception (record { event = first; answer = receiver_answers.accepted_at reception (receiver.state_of []) first } ∷ []) later event tt
+
+pub later_place : (side : LaneSide) (key named : TxnKey) (first : Event) (later : List Event) (event : What)
+    → IfOpened (opened_by side key first) (λ transaction. HasPlace (log_by transaction (first ∷ later)) (On named event))
+later_place (Sending numbers greatest) key named (Put request params) later event = place_in_sent (record { key = key; params = params; request = request }) sender.put (map to_sender later) event
+later_place (Receiving params) key named (On other (what.Pdu pdu)) later event =
+    if_opens (body_opens pdu.body) (receives (record { key = key; params = params; opening = pdu.header }))
+    (λ transaction. HasPlace (log_by transaction (On other (what.Pdu pdu) ∷ later)) (On named event))
+    (λ opens. place_in_received (record { key = key; params = params; opening = pdu.header }) (what.Pdu pdu) (to_receiver later) event)
+later_place (Sending numbers greatest) key named (On other first) later event = tt
+later_place (Receiving params) key named (Put request others) later event = tt
+later_place (Receiving params) key named (On other what.Cancel) later event = tt
+later_place (Receiving params) key named (On other what.Suspend) later event = tt
+later_place (Receiving params) key named (On other what.Resume) later event = tt
+later_place (Receiving params) key named (On other what.Report) later event = tt
+later_place (Receiving params) key named (On other what.Abandon) later event = tt
+later_place (Receiving params) key named (On other what.Pump) later event = tt
+later_place (Receiving params) key named (On other (what.Timer kind stamp)) later event = tt
+later_place (Receiving params) key named (On other (what.Stored stamp kept)) later event = tt
+
+-- ---- words
+
+pub lane_words : TellsWords
+lane_words (sent sending log) legal = tells_words sending log legal
+lane_words (received reception log) legal = tells_whole_words reception log legal
+
+sender_side : (first : Indication) → is_transaction first ≡ true → side_by first ≡ Sender
+sender_side told.Transaction is = refl
+sender_side told.EofSent is = absurd (false≢true is)
+sender_side told.EofRecv is = absurd (false≢true is)
+sender_side (told.TransactionFinished a b c) is = absurd (false≢true is)
+sender_side (told.MetadataRecv a b c d e) is = absurd (false≢true is)
+sender_side (told.FileSegmentRecv a b) is = absurd (false≢true is)
+sender_side (told.Suspended a) is = absurd (false≢true is)
+sender_side (told.Resumed a) is = absurd (false≢true is)
+sender_side (told.Report a b) is = absurd (false≢true is)
+sender_side (told.Fault a b) is = absurd (false≢true is)
+sender_side (told.Abandoned a b) is = absurd (false≢true is)
+
+receiver_side : (first : Indication) (rest : List Indication) → IsBegunOf Receiver (first ∷ rest) → side_by first ≡ Receiver
+receiver_side told.Transaction rest begun = absurd begun.1
+receiver_side told.EofSent rest begun = refl
+receiver_side told.EofRecv rest begun = refl
+receiver_side (told.TransactionFinished a b c) rest begun = refl
+receiver_side (told.MetadataRecv a b c d e) rest begun = refl
+receiver_side (told.FileSegmentRecv a b) rest begun = refl
+receiver_side (told.Suspended a) rest begun = refl
+receiver_side (told.Resumed a) rest begun = refl
+receiver_side (told.Report a b) rest begun = refl
+receiver_side (told.Fault a b) rest begun = refl
+receiver_side (told.Abandoned a b) rest begun = refl
+
+side_shown : (side : Side) (first : Indication) (rest : List Indication) → IsBegunOf side (first ∷ rest) → side ≡ side_by first
+side_shown Sender first rest begun = sym (sender_side first (opens_sender first rest begun))
+side_shown Receiver first rest begun = sym (receiver_side first rest begun)
+
+-- the beginning of a word of a side shows its side
+pub begun_group : (side : Side) (word : List Indication) → IsBegunOf side word → IsBegunGroup word
+begun_group side [] begun = tt
+begun_group side (first ∷ rest) begun = subst (λ s. IsBegunOf s (first ∷ rest)) (side_shown side first rest begun) begun
+
+pub word_group : (side : Side) (word : List Indication) → IsWordOf side word → IsWordGroup word
+word_group side [] is = absurd (false≢true is.1)
+word_group side (first ∷ rest) is = subst (λ s. IsWordOf s (first ∷ rest)) (side_shown side first rest is.0) is

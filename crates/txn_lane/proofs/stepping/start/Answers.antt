@@ -1,0 +1,36 @@
+use Rattle.std.proofs.Common.{◌∷◌, [], Ok, inr, sym, ap, ◌∙◌, subst, IsSome}
+use Rattle.std.proofs.lemmas.Result.{err_from_is_err_and}
+use Rattle.sender_core.specs.Core.{sending_by, StandsAfter, plan_answer}
+use Rattle.sender_core.specs.Sending.{put}
+use Rattle.txn_lane.specs.Logs.{to_sender}
+use Rattle.txn_lane.proofs.OpenFacts.{put_accepted}
+use Rattle.txn_lane.proofs.stepping.start.Goals as goal
+
+pub carry_out-requires-clause-may : goal.carry_out-requires-clause-may
+carry_out-requires-clause-may g c =
+    let opened = c.in_ok-running.ensures in
+    let accepted = put_accepted c.in_ok-running.running.core c.in_ok-running.step.plan (sending_by c.args.key c.args.params c.args.request.now) opened.sending opened.stands opened.planned.planned in
+    rw opened.bundle (c.requires.may (plan_answer c.in_ok-running.step.plan) accepted)
+
+pub returns-in_err-answer-clause-refused : goal.returns-in_err-answer-clause-refused
+returns-in_err-answer-clause-refused g c =
+    let opened = c.in_ok-running.ensures in
+    let accepted = put_accepted c.in_ok-running.running.core c.in_ok-running.step.plan (sending_by c.args.key c.args.params c.args.request.now) opened.sending opened.stands opened.planned.planned in
+    let p = err_from_is_err_and c.from_residual-in_err-answer.result c.from_residual-in_err-answer.ensures.1 in
+    let full = c.in_err-answer.ensures.full in
+    rw (p.1, p.2) (inr (full.2, full.0, (plan_answer c.in_ok-running.step.plan, accepted, subst IsSome opened.bundle full.1)))
+
+pub returns-clause-answer : goal.returns-clause-answer
+returns-clause-answer g c =
+    let opened = c.in_ok-running.ensures in
+    let accepted = put_accepted c.in_ok-running.running.core c.in_ok-running.step.plan (sending_by c.args.key c.args.params c.args.request.now) opened.sending opened.stands opened.planned.planned in
+    accepted ∙ ap Ok (sym c.in_ok-answer.ensures.answer)
+
+pub returns-clause-stands : goal.returns-clause-stands
+returns-clause-stands g c =
+    let opened = c.in_ok-running.ensures in
+    let next = c.carry_out.new.running.core in
+    let answer = plan_answer c.in_ok-running.step.plan in
+    subst (λ a. StandsAfter next (record { event = put; answer = a } ∷ [])) (sym c.in_ok-answer.ensures.answer)
+    (subst (λ e. StandsAfter next (record { event = to_sender e; answer = answer } ∷ [])) opened.planned.event_is
+    (c.in_ok-answer.ensures.stands [] opened.stands))

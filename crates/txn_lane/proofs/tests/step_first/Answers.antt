@@ -1,0 +1,18 @@
+use Rattle.std.proofs.Common.{[], sym, ap, ◌∙◌, subst}
+use Rattle.txn_lane.specs.Keeping.{Keeps}
+use Rattle.txn_lane.specs.Lane.{State}
+use Rattle.txn_lane.proofs.StepFacts.{idle_keeps}
+use Rattle.txn_lane.proofs.tests.step_first.Goals as goal
+
+pub step-requires-clause-of_user : goal.step-requires-clause-of_user
+step-requires-clause-of_user c = c.requires.of_user ∙ sym (ap (λ (s : State). s.user) c.requires.fresh)
+
+pub step-requires-clause-of_lane : goal.step-requires-clause-of_lane
+step-requires-clause-of_lane c = c.requires.of_lane ∙ sym (ap (λ (s : State). s.lane) c.requires.fresh)
+
+pub step-requires-clause-kept : goal.step-requires-clause-kept
+step-requires-clause-kept c = (
+  [],
+  c.requires.first,
+  subst (λ s. Keeps s []) (sym c.requires.fresh) (idle_keeps c.args.lane.now.side 0 0 c.args.lane.now.source),
+)

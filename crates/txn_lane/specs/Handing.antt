@@ -1,0 +1,23 @@
+-- How a step's bundle is handed to the user's queue.
+use Rattle.std.specs.Prelude.{◌≡◌, ℕ, List, [], ◌∷◌, ◌++◌, Option, Some, None}
+use Rattle.cfdp_types.specs.declared.key.TxnKey.{TxnKey}
+use Rattle.ind_words.specs.declared.bundle.Bundle.{Bundle}
+use Rattle.ind_words.specs.declared.indication.Indication.{Indication}
+use Rattle.ind_words.specs.LaneLists.{IsLaneList}
+
+-- the bundle of what is told under a key, if anything is
+abbrev pub bundle_for : ℕ → ℕ → TxnKey → List Indication → Option Bundle
+bundle_for user lane key [] = None
+bundle_for user lane key (first ∷ rest) = Some (record { user = user; lane = lane; key = key; inds = first ∷ rest })
+
+-- an outlet of this user and lane may be offered the bundle that there is, behind bundles that it may stand after
+abbrev pub MayHandOver : ℕ → ℕ → (List Bundle → Type 0) → Option Bundle → Type 0
+MayHandOver user lane stands None = Unit {0}
+MayHandOver user lane stands (Some bundle) =
+    (bundle.user ≡ user) × (bundle.lane ≡ lane)
+    × ((bundles : List Bundle) × stands bundles × IsLaneList bundle.user bundle.lane bundle.key.source (bundles ++ bundle ∷ []))
+
+-- a bundle that there is was taken, and without one nothing happened
+abbrev pub IsHandedOver : {A : Type 0} → (A → Bundle → A → Type 0) → A → A → Option Bundle → Type 0
+IsHandedOver takes old new None = new ≡ old
+IsHandedOver takes old new (Some bundle) = takes old bundle new

@@ -1,0 +1,11 @@
+pub mod Logs
+pub mod Lane
+pub mod Steps
+pub mod Keeping
+pub mod LaneLaws
+pub mod LaneCode
+pub mod Handing
+pub mod Stepping
+pub mod RunningCode
+pub mod ReceivingLaneRows
+pub mod SendingLaneRows

@@ -1,0 +1,57 @@
+//! How what a step tells is copied, and handed to the user's queue.
+ghost use Rattle.std.specs.Prelude.{◌≡◌, IfOk, OnOk, IfErr, OnErr, IsSome};
+ghost use Rattle.pdu_codec.specs.declared.event.Refusal.TheVariants as refusal;
+ghost use Rattle.txn_lane.specs.Handing.{bundle_for, MayHandOver, IsHandedOver};
+
+use crate::outlet::Outlet;
+use cfdp_types::TxnKey;
+use ind_words::{Bundle, Indication, Indications};
+use pdu_codec::Refusal;
+use std::alloc::{AllocError, Global};
+
+/// Copies of what a step tells.
+pub(crate) fn copies(alloc: Global, inds: &Indications) -> Result<Vec<Indication>, AllocError>
+    ensures { IfOk result (λ copies. copies.items ≡ inds.now) }
+{
+    let told = inds.as_slice();
+    let mut copies = Vec::with_capacity(alloc, told.len())?;
+    for indication in told {
+        copies.push(indication.copy()?)?;
+    }
+    Ok(copies)
+}
+
+/// The bundle of what a step tells, if it tells anything.
+pub(crate) fn bundle_for(
+    user: usize,
+    lane: usize,
+    key: TxnKey,
+    inds: &Indications,
+) -> Result<Option<Bundle>, AllocError>
+    ensures { IfOk result (λ bundle. bundle ≡ bundle_for user lane key inds.now) }
+{
+    if inds.as_slice().is_empty() {
+        return Ok(None);
+    }
+    Ok(Some(Bundle {
+        user,
+        lane,
+        key,
+        inds: inds.copy()?,
+    }))
+}
+
+/// Offers the bundle, if there is one.
+pub(crate) fn hand_over<O: Outlet>(outlet: &mut O, bundle: Option<Bundle>) -> Result<(), Refusal>
+    requires { MayHandOver (O.user outlet.old) (O.lane outlet.old) (O.stands outlet.old) bundle }
+    ensures taken { OnOk result (IsHandedOver O.takes outlet.old outlet.new bundle) }
+    ensures full { IfErr result (λ why. (why ≡ refusal.QueueFull) × IsSome bundle × O.returns outlet.old outlet.new) }
+{
+    match bundle {
+        None => Ok(()),
+        Some(bundle) => match outlet.offer(bundle) {
+            Ok(()) => Ok(()),
+            Err(_) => Err(Refusal::QueueFull),
+        },
+    }
+}

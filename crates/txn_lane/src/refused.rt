@@ -1,0 +1,9 @@
+use pdu_codec::{Pdu, Refusal};
+
+/// Why a lane does not take an event, which then changes nothing.
+#[derive(Debug, Drop)]
+pub struct Refused {
+    pub why: Refusal,
+    /// To a PDU of an old transaction, what is sent back all the same.
+    pub echo: Option<Pdu>,
+}

@@ -1,0 +1,112 @@
+ghost use Rattle.std.specs.Prelude.{◌≡◌, ◌++◌, ◌+◌, ◌≤◌, vec_len, vec_capacity};
+
+use crate::event::{Event, copy_of};
+use crate::handing::copies;
+use cfdp_types::{Params, PutRequest, TxnKey};
+use ind_words::Indication;
+use pdu_codec::{Refusal, What};
+use sender_core::{Answer, Plan, SenderCore};
+use std::alloc::Global;
+
+/// The transaction that a lane runs or ran last.
+#[derive(Debug, Drop)]
+pub(crate) struct Running {
+    pub(crate) core: SenderCore,
+    /// Its events that were taken, in order.
+    pub(crate) journal: Vec<Event>,
+    /// All that its user was told.
+    pub(crate) trace: Vec<Indication>,
+}
+
+/// An event that its end takes, with all that is needed to carry it out.
+#[derive(Debug, Drop)]
+pub(crate) struct Step {
+    pub(crate) event: Event,
+    pub(crate) plan: Plan,
+    /// What the plan tells, once more.
+    pub(crate) told: Vec<Indication>,
+}
+
+impl Running {
+    ghost use Rattle.std.specs.Prelude.{◌≡◌, ◌∷◌, ◌++◌, [], false, List, IfOk, IfErr};
+    ghost use Rattle.pdu_codec.specs.declared.event.Refusal.TheVariants as refusal;
+    ghost use Rattle.sender_core.specs.Sending.{Entry, put, happens, initial};
+    ghost use Rattle.sender_core.specs.Answers.{answer_at};
+    ghost use Rattle.sender_core.specs.Core.{shown, sending_of, sending_by, StandsAfter, IsPlanOf, IsWhy, plan_answer, answer_value};
+    ghost use Rattle.txn_lane.specs.declared.event.Event.{Event as EventValue};
+    ghost use Rattle.txn_lane.specs.declared.event.Event.TheVariants.{Put, On};
+    ghost use Rattle.txn_lane.specs.Logs.{to_sender};
+    ghost use Rattle.txn_lane.specs.RunningCode.{IsStepOf};
+
+    /// The transaction that a Put opens, before its first event, and that event.
+    pub(crate) fn open(
+        alloc: Global,
+        key: TxnKey,
+        request: &PutRequest,
+        params: Params,
+    ) -> Result<(Running, Step), Refusal>
+        ensures sending { IfOk result (λ opened. sending_of opened.0.core ≡ sending_by key params request.now) }
+        ensures stands { IfOk result (λ opened. StandsAfter opened.0.core []) }
+        ensures runs { IfOk result (λ opened. (shown opened.0.core).ended ≡ false) }
+        ensures empty { IfOk result (λ opened. (opened.0.journal.items ≡ []) × (opened.0.trace.items ≡ [])) }
+        ensures planned { IfOk result (λ opened. IsStepOf opened.0 (Put request.now params) opened.1) }
+        ensures refused { IfErr result (λ why. IsWhy (answer_at (sending_by key params request.now) (initial (sending_by key params request.now)) put) why) }
+    {
+        let (core, plan) = SenderCore::open(alloc, key, request, params)?;
+        let told = copies(alloc, &plan.answer().inds)?;
+        let journal = Vec::with_capacity(alloc, 1)?;
+        let trace = Vec::with_capacity(alloc, told.len())?;
+        let event = Event::Put(request.copy()?, params);
+        let running = Running {
+            core,
+            journal,
+            trace,
+        };
+        let step = Step { event, plan, told };
+        Ok((running, step))
+    }
+
+    /// Plans an event, and makes room for it.
+    pub(crate) fn plan(&mut self, alloc: Global, key: TxnKey, what: &What) -> Result<Step, Refusal>
+        ensures core { self.new.core ≡ self.old.core }
+        ensures journal { self.new.journal.items ≡ self.old.journal.items }
+        ensures trace { self.new.trace.items ≡ self.old.trace.items }
+        ensures planned { IfOk result (λ step. IsStepOf self.new (On key what.now) step) }
+        ensures refused { (log : List Entry) → StandsAfter self.old.core log
+            → IfErr result (λ why. IsWhy (answer_at (sending_of self.old.core) (shown self.old.core) (happens what.now)) why) }
+    {
+        let plan = self.core.plan(what)?;
+        let told = copies(alloc, &plan.answer().inds)?;
+        let event = Event::On(key, copy_of(what)?);
+        self.journal.reserve(1)?;
+        self.trace.reserve(told.len())?;
+        Ok(Step { event, plan, told })
+    }
+
+    /// Carries out a step that was planned in the present state.
+    pub(crate) fn commit(&mut self, step: Step) -> Answer
+        requires planned { (event : EventValue) × IsStepOf self.old event step }
+        requires runs { (shown self.old.core).ended ≡ false }
+        ensures answer { answer_value result ≡ plan_answer step.plan }
+        ensures nothing { result.deposit ≡ None }
+        ensures sending { sending_of self.new.core ≡ sending_of self.old.core }
+        ensures stands { (log : List Entry) → StandsAfter self.old.core log
+            → StandsAfter self.new.core (record { event = to_sender step.event; answer = plan_answer step.plan } ∷ log) }
+        ensures journal { self.new.journal.items ≡ self.old.journal.items ++ step.event ∷ [] }
+        ensures trace { self.new.trace.items ≡ self.old.trace.items ++ (plan_answer step.plan).inds }
+    {
+        let Step { event, plan, told } = step;
+        let answer = self.core.commit(plan);
+        self.journal.push_reserved(event);
+        append_reserved(&mut self.trace, told);
+        answer
+    }
+}
+
+// Adds indications in room that is there.
+fn append_reserved(trace: &mut Vec<Indication>, mut told: Vec<Indication>)
+    requires { vec_len trace.old + vec_len told ≤ vec_capacity trace.old }
+    ensures { trace.new.items ≡ trace.old.items ++ told.items }
+{
+    let _done = trace.append(&mut told);
+}

@@ -1,0 +1,166 @@
+//! How an event of a transaction is carried out: it is planned, what it tells is offered, and only
+//! then does the transaction go on.
+ghost use Rattle.std.specs.Prelude.{◌≡◌, ◌∷◌, ◌++◌, [], false, List, Ok, IfOk, IfErr, OnOk, OnErr, IsSome};
+ghost use Rattle.pdu_codec.specs.declared.event.Refusal.TheVariants as refusal;
+ghost use Rattle.sender_core.specs.Sending.{Entry, Answer as AnswerValue, put, happens, initial};
+ghost use Rattle.sender_core.specs.Answers.{answer_at};
+ghost use Rattle.sender_core.specs.Core.{shown, sending_of, sending_by, StandsAfter, IsWhy, plan_answer, answer_value};
+ghost use Rattle.txn_lane.specs.declared.event.Event.{Event as EventValue};
+ghost use Rattle.txn_lane.specs.declared.event.Event.TheVariants.{Put, On};
+ghost use Rattle.txn_lane.specs.Handing.{bundle_for, MayHandOver, IsHandedOver};
+ghost use Rattle.txn_lane.specs.Logs.{to_sender};
+ghost use Rattle.txn_lane.specs.RunningCode.{IsStepOf};
+ghost use Rattle.txn_lane.specs.Stepping.{IsNotCarried};
+
+use crate::done::Done;
+use crate::handing::{bundle_for, hand_over};
+use crate::outlet::Outlet;
+use crate::running::{Running, Step};
+use cfdp_types::{Params, PutRequest, TxnKey};
+use ind_words::Bundle;
+use pdu_codec::{Refusal, What};
+use sender_core::Answer;
+use std::alloc::Global;
+
+/// What a step gives, but for what its user is told.
+pub(crate) fn done(key: TxnKey, answer: Answer) -> Done
+    ensures key { result.key ≡ key }
+    ensures pdus { result.pdus ≡ answer.pdus }
+    ensures timers { result.timers ≡ answer.timers }
+    ensures deposit { result.deposit ≡ answer.deposit }
+{
+    Done {
+        key,
+        pdus: answer.pdus,
+        timers: answer.timers,
+        deposit: answer.deposit,
+    }
+}
+
+/// The lane of a user, with the memory that its steps take.
+#[derive(Clone, Copy, Debug)]
+pub(crate) struct Place {
+    pub(crate) alloc: Global,
+    pub(crate) user: usize,
+    pub(crate) lane: usize,
+}
+
+// Opens a transaction, with its first step and the bundle of what that tells.
+fn open(
+    place: Place,
+    key: TxnKey,
+    request: &PutRequest,
+    params: Params,
+) -> Result<(Running, Step, Option<Bundle>), Refusal>
+    ensures sending { IfOk result (λ opened. sending_of opened.0.core ≡ sending_by key params request.now) }
+    ensures stands { IfOk result (λ opened. StandsAfter opened.0.core []) }
+    ensures runs { IfOk result (λ opened. (shown opened.0.core).ended ≡ false) }
+    ensures empty { IfOk result (λ opened. (opened.0.journal.items ≡ []) × (opened.0.trace.items ≡ [])) }
+    ensures planned { IfOk result (λ opened. IsStepOf opened.0 (Put request.now params) opened.1) }
+    ensures bundle { IfOk result (λ opened. opened.2 ≡ bundle_for place.user place.lane key (plan_answer opened.1.plan).inds) }
+    ensures refused { IfErr result (λ why. IsWhy (answer_at (sending_by key params request.now) (initial (sending_by key params request.now)) put) why) }
+{
+    let (running, step) = Running::open(place.alloc, key, request, params)?;
+    let bundle = bundle_for(place.user, place.lane, key, &step.plan.answer().inds)?;
+    Ok((running, step, bundle))
+}
+
+// Plans an event, with the bundle of what it tells.
+fn plan(
+    running: &mut Running,
+    place: Place,
+    key: TxnKey,
+    what: &What,
+) -> Result<(Step, Option<Bundle>), Refusal>
+    ensures core { running.new.core ≡ running.old.core }
+    ensures journal { running.new.journal.items ≡ running.old.journal.items }
+    ensures trace { running.new.trace.items ≡ running.old.trace.items }
+    ensures planned { IfOk result (λ planned. IsStepOf running.new (On key what.now) planned.0) }
+    ensures bundle { IfOk result (λ planned. planned.1 ≡ bundle_for place.user place.lane key (plan_answer planned.0.plan).inds) }
+    ensures refused { (log : List Entry) → StandsAfter running.old.core log
+        → IfErr result (λ why. IsWhy (answer_at (sending_of running.old.core) (shown running.old.core) (happens what.now)) why) }
+{
+    let step = running.plan(place.alloc, key, what)?;
+    let bundle = bundle_for(place.user, place.lane, key, &step.plan.answer().inds)?;
+    Ok((step, bundle))
+}
+
+// Offers the bundle of a step, if there is one, and then carries out the step.
+fn carry_out<O: Outlet>(
+    running: &mut Running,
+    step: Step,
+    bundle: Option<Bundle>,
+    outlet: &mut O,
+) -> Result<Answer, Refusal>
+    requires planned { (event : EventValue) × IsStepOf running.old event step }
+    requires runs { (shown running.old.core).ended ≡ false }
+    requires may { MayHandOver (O.user outlet.old) (O.lane outlet.old) (O.stands outlet.old) bundle }
+    ensures answer { IfOk result (λ answer. answer_value answer ≡ plan_answer step.plan) }
+    ensures nothing { IfOk result (λ answer. answer.deposit ≡ None) }
+    ensures sending { OnOk result (sending_of running.new.core ≡ sending_of running.old.core) }
+    ensures stands { OnOk result ((log : List Entry) → StandsAfter running.old.core log
+        → StandsAfter running.new.core (record { event = to_sender step.event; answer = plan_answer step.plan } ∷ log)) }
+    ensures journal { OnOk result (running.new.journal.items ≡ running.old.journal.items ++ step.event ∷ []) }
+    ensures trace { OnOk result (running.new.trace.items ≡ running.old.trace.items ++ (plan_answer step.plan).inds) }
+    ensures offered { OnOk result (IsHandedOver O.takes outlet.old outlet.new bundle) }
+    ensures same { IfErr result (λ why. running.new ≡ running.old) }
+    ensures full { IfErr result (λ why. (why ≡ refusal.QueueFull) × IsSome bundle × O.returns outlet.old outlet.new) }
+{
+    hand_over(outlet, bundle)?;
+    Ok(running.commit(step))
+}
+
+/// Opens a transaction by a Put.
+pub(crate) fn start<O: Outlet>(
+    place: Place,
+    key: TxnKey,
+    request: &PutRequest,
+    params: Params,
+    outlet: &mut O,
+) -> Result<(Running, Answer), Refusal>
+    requires may { (answer : AnswerValue) → answer_at (sending_by key params request.now) (initial (sending_by key params request.now)) put ≡ Ok answer
+        → MayHandOver (O.user outlet.old) (O.lane outlet.old) (O.stands outlet.old) (bundle_for place.user place.lane key answer.inds) }
+    ensures answer { IfOk result (λ started. answer_at (sending_by key params request.now) (initial (sending_by key params request.now)) put ≡ Ok (answer_value started.1)) }
+    ensures nothing { IfOk result (λ started. started.1.deposit ≡ None) }
+    ensures sending { IfOk result (λ started. sending_of started.0.core ≡ sending_by key params request.now) }
+    ensures stands { IfOk result (λ started. StandsAfter started.0.core (record { event = put; answer = answer_value started.1 } ∷ [])) }
+    ensures journal { IfOk result (λ started. started.0.journal.items ≡ Put request.now params ∷ []) }
+    ensures trace { IfOk result (λ started. started.0.trace.items ≡ (answer_value started.1).inds) }
+    ensures offered { IfOk result (λ started. IsHandedOver O.takes outlet.old outlet.new (bundle_for place.user place.lane key (answer_value started.1).inds)) }
+    ensures refused { IfErr result (λ why. IsNotCarried O.returns outlet.old outlet.new place.user place.lane key
+        (answer_at (sending_by key params request.now) (initial (sending_by key params request.now)) put) why) }
+{
+    let (mut running, step, bundle) = open(place, key, request, params)?;
+    let answer = carry_out(&mut running, step, bundle, outlet)?;
+    Ok((running, answer))
+}
+
+/// Has a transaction go on by an event.
+pub(crate) fn advance<O: Outlet>(
+    running: &mut Running,
+    place: Place,
+    key: TxnKey,
+    what: &What,
+    outlet: &mut O,
+) -> Result<Answer, Refusal>
+    requires stands { (log : List Entry) × StandsAfter running.old.core log }
+    requires runs { (shown running.old.core).ended ≡ false }
+    requires may { (answer : AnswerValue) → answer_at (sending_of running.old.core) (shown running.old.core) (happens what.now) ≡ Ok answer
+        → MayHandOver (O.user outlet.old) (O.lane outlet.old) (O.stands outlet.old) (bundle_for place.user place.lane key answer.inds) }
+    ensures answer { IfOk result (λ answer. answer_at (sending_of running.old.core) (shown running.old.core) (happens what.now) ≡ Ok (answer_value answer)) }
+    ensures nothing { IfOk result (λ answer. answer.deposit ≡ None) }
+    ensures sending { sending_of running.new.core ≡ sending_of running.old.core }
+    ensures stands { IfOk result (λ answer. (log : List Entry) → StandsAfter running.old.core log
+        → StandsAfter running.new.core (record { event = happens what.now; answer = answer_value answer } ∷ log)) }
+    ensures journal { OnOk result (running.new.journal.items ≡ running.old.journal.items ++ On key what.now ∷ []) }
+    ensures trace { IfOk result (λ answer. running.new.trace.items ≡ running.old.trace.items ++ (answer_value answer).inds) }
+    ensures offered { IfOk result (λ answer. IsHandedOver O.takes outlet.old outlet.new (bundle_for place.user place.lane key (answer_value answer).inds)) }
+    ensures same_core { IfErr result (λ why. running.new.core ≡ running.old.core) }
+    ensures same_journal { IfErr result (λ why. running.new.journal.items ≡ running.old.journal.items) }
+    ensures same_trace { IfErr result (λ why. running.new.trace.items ≡ running.old.trace.items) }
+    ensures refused { IfErr result (λ why. IsNotCarried O.returns outlet.old outlet.new place.user place.lane key
+        (answer_at (sending_of running.old.core) (shown running.old.core) (happens what.now)) why) }
+{
+    let (step, bundle) = plan(running, place, key, what)?;
+    carry_out(running, step, bundle, outlet)
+}
