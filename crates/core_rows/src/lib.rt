@@ -3,6 +3,16 @@
 #![tactic(auto)]
 
 #[cfg(test)]
-mod play;
+mod events;
+#[cfg(test)]
+mod receiving;
+#[cfg(test)]
+mod reception_faults;
+#[cfg(test)]
+mod receptions;
 #[cfg(test)]
 mod senders;
+#[cfg(test)]
+mod setting;
+#[cfg(test)]
+mod texts;

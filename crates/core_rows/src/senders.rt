@@ -1,11 +1,10 @@
 //! Senders. Entity 2 puts the file "a" to entity 1, to be kept as "b", as transaction 4.
-use crate::play::{Said, came, params, sent};
-use cfdp_types::{
-    Class, Condition, Delivery, EntityId, FileStatus, Octets, PutRequest, TimerKind, TxnKey,
-};
-use ind_words::{Indication, Phase};
+use crate::events::event_of;
+use crate::setting::params;
+use crate::texts::{Parts, answer_text, refused};
+use cfdp_types::{Class, EntityId, PutRequest, TxnKey};
 use pdu_codec::{Refusal, What};
-use sender_core::SenderCore;
+use sender_core::{Answer, SenderCore};
 use std::alloc::Global;
 use std::process::Abort;
 use std::test::*;
@@ -19,57 +18,55 @@ const METADATA: &str = "20000a0002040107000000000301610162";
 
 const DATA: &str = "3000070002040100000000616263";
 
-const EOF: &str = "20000a0002040104006162630000000003";
+const EOF: &str = "20000a0002040104006162630000000003; EOF-Sent; arm ack 3 1000";
 
-fn finished(condition: Condition, delivery: Delivery, status: FileStatus) -> Indication {
-    Indication::TransactionFinished {
-        condition,
-        delivery,
-        status,
-    }
+const WRONG_STATE: &str = "refused WrongState";
+
+fn said(alloc: Global, answer: &Answer) -> Result<String, Fail> {
+    let parts = Parts {
+        pdus: &answer.pdus,
+        inds: &answer.inds,
+        timers: &answer.timers,
+        deposit: answer.deposit,
+    };
+    answer_text(alloc, KEY, parts)
 }
 
-// The end where nothing is known of the file at the receiver.
-fn unreported(condition: Condition) -> Indication {
-    finished(condition, Delivery::Incomplete, FileStatus::Unreported)
+// A request to put a file.
+fn request(alloc: Global, class: Class, file: &[u8]) -> Result<PutRequest, Fail> {
+    Ok(PutRequest::new(alloc, EntityId(1), class, b"a", b"b", &[], file)?)
 }
 
 // The sender of a file, once its Put is taken.
 fn put<R: Abort>(rt: &R, alloc: Global, class: Class, file: &[u8]) -> Result<SenderCore, Fail> {
-    let request = PutRequest::new(alloc, EntityId(1), class, b"a", b"b", &[], file)?;
-    let (mut core, plan) = SenderCore::open(alloc, KEY, &request, params(2)?)?;
-    let told = core.commit(plan).inds;
-    assert_eq!(rt; told.as_slice(), [Indication::Transaction].as_slice());
+    let request = request(alloc, class, file)?;
+    let (mut core, plan) = SenderCore::open(alloc, KEY, &request, params(&[], &[])?)?;
+    assert_eq!(rt; said(alloc, plan.answer())?.as_str(), "Transaction");
+    let answer = core.commit(plan);
+    assert_eq!(rt; said(alloc, &answer)?.as_str(), "Transaction");
     Ok(core)
 }
 
-// One event: what it is answered, and that the plan said so before.
+// What an event is answered, and that the plan says so before.
 fn step<R: Abort>(
     rt: &R,
     alloc: Global,
     core: &mut SenderCore,
     event: &What,
-    said: &Said,
-) -> Result<(), Fail> {
-    assert!(rt; !core.has_ended());
+) -> Result<String, Fail> {
+    if core.has_ended() {
+        return Ok(String::from_str(alloc, "ended")?);
+    }
     match core.plan(event) {
-        Err(refusal) => {
-            assert_eq!(rt; Some(refusal), said.refusal(), "at {event:?}");
-        }
+        Err(refusal) => refused(alloc, refusal),
         Ok(plan) => {
-            assert_eq!(rt; said.refusal(), None, "at {event:?}");
-            let planned = sent(alloc, &plan.answer().pdus)?;
+            let planned = said(alloc, plan.answer())?;
             let answer = core.commit(plan);
-            assert_eq!(rt; planned.as_str(), said.pdus(), "at {event:?}");
-            assert_eq!(rt;
-                sent(alloc, &answer.pdus)?.as_str(),
-                said.pdus(),
-                "at {event:?}"
-            );
-            assert_eq!(rt; answer.inds.as_slice(), said.inds(), "at {event:?}");
+            let done = said(alloc, &answer)?;
+            assert_eq!(rt; planned.as_str(), done.as_str(), "at {event:?}");
+            Ok(done)
         }
     }
-    Ok(())
 }
 
 // Events in their order, each with what it is answered.
@@ -77,170 +74,183 @@ fn play<R: Abort>(
     rt: &R,
     alloc: Global,
     core: &mut SenderCore,
-    rows: &[(What, Said)],
+    rows: &[(&str, &str)],
 ) -> Result<(), Fail> {
-    for (event, said) in rows {
-        step(rt, alloc, core, event, said)?;
+    for &(row, expected) in rows {
+        let event = event_of(alloc, row)?;
+        let answered = step(rt, alloc, core, &event)?;
+        assert_eq!(rt; answered.as_str(), expected, "at {row}");
     }
     Ok(())
 }
 
+// A sender from its Put on.
+fn check<R: AllocGlobal + Abort>(
+    rt: &R,
+    class: Class,
+    file: &[u8],
+    rows: &[(&str, &str)],
+) -> Result<(), Fail> {
+    let alloc = rt.alloc();
+    let mut core = put(rt, alloc, class, file)?;
+    play(rt, alloc, &mut core, rows)
+}
+
 #[test]
 fn a_file_in_class_one(rt: HostRuntime) -> Result<(), Fail> {
-    let mut core = put(&rt, rt.alloc(), Class::One, b"abc")?;
-    let end = [Indication::EofSent, unreported(Condition::NO_ERROR)];
-    let rows = [
-        (
-            What::Pump,
-            Said::Sends("24000a0002040107000000000301610162"),
-        ),
-        (What::Pump, Said::Sends("3400070002040100000000616263")),
-        (
-            What::Pump,
-            Said::Both("24000a0002040104006162630000000003", &end),
-        ),
-    ];
-    play(&rt, rt.alloc(), &mut core, &rows)?;
-    assert!(rt; core.has_ended());
-    Ok(())
+    check(
+        &rt,
+        Class::One,
+        b"abc",
+        &[
+            ("pump", "24000a0002040107000000000301610162"),
+            ("pump", "3400070002040100000000616263"),
+            (
+                "pump",
+                "24000a0002040104006162630000000003; EOF-Sent; Finished 0 Incomplete Unreported",
+            ),
+            ("pump", "ended"),
+        ],
+    )
 }
 
 // The EOF that cancels has the checksum and the size of what was sent.
 #[test]
 fn cancelled_in_class_two(rt: HostRuntime) -> Result<(), Fail> {
-    let alloc = rt.alloc();
-    let mut core = put(&rt, alloc, Class::Two, b"abc")?;
-    let eof = "20000d0002040104f06162630000000003060102";
-    let end = [unreported(Condition::CANCEL_REQUEST)];
-    let rows = [
-        (What::Pump, Said::Sends(METADATA)),
-        (What::Pump, Said::Sends(DATA)),
-        (What::Cancel, Said::Sends(eof)),
-        (What::Cancel, Said::Refuses(Refusal::WrongState)),
-        (What::Timer(TimerKind::Ack, 3), Said::Sends(eof)),
-        (
-            What::Timer(TimerKind::Ack, 3),
-            Said::Refuses(Refusal::StaleTimer),
-        ),
-        (What::Timer(TimerKind::Ack, 4), Said::Tells(&end)),
-    ];
-    play(&rt, alloc, &mut core, &rows)?;
-    assert!(rt; core.has_ended());
-    Ok(())
+    check(
+        &rt,
+        Class::Two,
+        b"abc",
+        &[
+            ("pump", METADATA),
+            ("pump", DATA),
+            (
+                "cancel",
+                "20000d0002040104f06162630000000003060102; arm ack 3 1000",
+            ),
+            ("cancel", WRONG_STATE),
+            (
+                "timer ack 3",
+                "20000d0002040104f06162630000000003060102; arm ack 4 1000",
+            ),
+            ("timer ack 3", "refused StaleTimer"),
+            (
+                "timer ack 4",
+                "Finished 15 Incomplete Unreported; disarm ack 5",
+            ),
+            ("cancel", "ended"),
+        ],
+    )
 }
 
 #[test]
 fn cancelled_in_class_one(rt: HostRuntime) -> Result<(), Fail> {
-    let alloc = rt.alloc();
-    let mut core = put(&rt, alloc, Class::One, b"")?;
-    let end = [unreported(Condition::CANCEL_REQUEST)];
-    let eof = "24000d0002040104f00000000000000000060102";
-    let rows = [(What::Cancel, Said::Both(eof, &end))];
-    play(&rt, alloc, &mut core, &rows)
+    check(
+        &rt,
+        Class::One,
+        b"",
+        &[
+            (
+                "cancel",
+                "24000d0002040104f00000000000000000060102; Finished 15 Incomplete Unreported",
+            ),
+            ("cancel", "ended"),
+        ],
+    )
 }
 
 #[test]
 fn suspended_and_resumed(rt: HostRuntime) -> Result<(), Fail> {
-    let alloc = rt.alloc();
-    let mut core = put(&rt, alloc, Class::Two, b"abc")?;
-    let suspended = [Indication::Suspended {
-        condition: Condition::SUSPEND_REQUEST,
-    }];
-    let resumed = [Indication::Resumed { progress: 0 }];
-    let report = [Indication::Report {
-        phase: Phase::Suspended,
-        progress: 0,
-    }];
-    let rows = [
-        (What::Resume, Said::Refuses(Refusal::WrongState)),
-        (What::Suspend, Said::Tells(&suspended)),
-        (What::Pump, Said::Refuses(Refusal::WrongState)),
-        (What::Suspend, Said::Refuses(Refusal::WrongState)),
-        (What::Report, Said::Tells(&report)),
-        (What::Resume, Said::Tells(&resumed)),
-        (What::Pump, Said::Sends(METADATA)),
-    ];
-    play(&rt, alloc, &mut core, &rows)
+    check(
+        &rt,
+        Class::Two,
+        b"abc",
+        &[
+            ("resume", WRONG_STATE),
+            ("suspend", "Suspended 14"),
+            ("pump", WRONG_STATE),
+            ("suspend", WRONG_STATE),
+            ("report", "Report Suspended 0"),
+            ("resume", "Resumed 0"),
+            ("pump", METADATA),
+        ],
+    )
 }
 
 // A part is asked for again, and the receiver says that it keeps the file.
 #[test]
 fn a_file_in_class_two(rt: HostRuntime) -> Result<(), Fail> {
-    let alloc = rt.alloc();
-    let mut core = put(&rt, alloc, Class::Two, b"abc")?;
-    let nak = came(alloc, "280011000204010800000000000000030000000100000002")?;
-    let ack = came(alloc, "28000300020401064001")?;
-    let end = came(alloc, "280002000204010502")?;
-    let told = [finished(
-        Condition::NO_ERROR,
-        Delivery::Complete,
-        FileStatus::Retained,
-    )];
-    let rows = [
-        (What::Pump, Said::Sends(METADATA)),
-        (What::Pump, Said::Sends(DATA)),
-        (What::Pump, Said::Both(EOF, &[Indication::EofSent])),
-        (What::Pump, Said::Refuses(Refusal::WrongState)),
-        (nak, Said::Sends("")),
-        (What::Pump, Said::Sends("300005000204010000000162")),
-        (ack, Said::Sends("")),
-        (end, Said::Both("20000300020401065102", &told)),
-    ];
-    play(&rt, alloc, &mut core, &rows)?;
-    assert!(rt; core.has_ended());
-    Ok(())
+    check(
+        &rt,
+        Class::Two,
+        b"abc",
+        &[
+            ("pump", METADATA),
+            ("pump", DATA),
+            ("pump", EOF),
+            ("pump", WRONG_STATE),
+            ("pdu 280011000204010800000000000000030000000100000002", ""),
+            ("pump", "300005000204010000000162"),
+            (
+                "pdu 28000300020401064001",
+                "disarm ack 6; arm inactivity 6 4000",
+            ),
+            (
+                "pdu 280002000204010502",
+                "20000300020401065102; Finished 0 Complete Retained; disarm inactivity 7",
+            ),
+            ("pump", "ended"),
+        ],
+    )
 }
 
 // The EOF is sent again, and then the limit is a fault that cancels.
 #[test]
 fn never_acknowledged(rt: HostRuntime) -> Result<(), Fail> {
-    let alloc = rt.alloc();
-    let mut core = put(&rt, alloc, Class::Two, b"abc")?;
-    let rows = [
-        (What::Pump, Said::Sends(METADATA)),
-        (What::Pump, Said::Sends(DATA)),
-        (What::Pump, Said::Both(EOF, &[Indication::EofSent])),
-        (What::Timer(TimerKind::Ack, 3), Said::Sends(EOF)),
-        (
-            What::Timer(TimerKind::Ack, 4),
-            Said::Sends("20000d0002040104106162630000000003060102"),
-        ),
-        (What::Pump, Said::Refuses(Refusal::WrongState)),
-    ];
-    play(&rt, alloc, &mut core, &rows)?;
-    let ack = came(alloc, "28000300020401064011")?;
-    let end = [unreported(Condition::POSITIVE_ACK_LIMIT)];
-    play(&rt, alloc, &mut core, &[(ack, Said::Tells(&end))])
+    check(
+        &rt,
+        Class::Two,
+        b"abc",
+        &[
+            ("pump", METADATA),
+            ("pump", DATA),
+            ("pump", EOF),
+            (
+                "timer ack 3",
+                "20000a0002040104006162630000000003; arm ack 4 1000",
+            ),
+            (
+                "timer ack 4",
+                "20000d0002040104106162630000000003060102; arm ack 5 1000",
+            ),
+            ("pump", WRONG_STATE),
+            (
+                "pdu 28000300020401064011",
+                "Finished 1 Incomplete Unreported; disarm ack 6",
+            ),
+            ("pump", "ended"),
+        ],
+    )
 }
 
 #[test]
 fn what_is_refused(rt: HostRuntime) -> Result<(), Fail> {
-    let alloc = rt.alloc();
-    let mut core = put(&rt, alloc, Class::Two, b"abc")?;
-    let abandoned = [Indication::Abandoned {
-        condition: Condition::CANCEL_REQUEST,
-        progress: 0,
-    }];
-    let rows = [
-        // an ACK of an EOF that was not sent
-        (
-            came(alloc, "28000300020401064001")?,
-            Said::Refuses(Refusal::WrongState),
-        ),
-        // a Finished of class 1, and one that goes the wrong way
-        (
-            came(alloc, "2c0002000204010502")?,
-            Said::Refuses(Refusal::ModeMismatch),
-        ),
-        (came(alloc, METADATA)?, Said::Refuses(Refusal::WrongState)),
-        (What::Stored(1, true), Said::Refuses(Refusal::StaleStored)),
-        (
-            What::Timer(TimerKind::Ack, 0),
-            Said::Refuses(Refusal::StaleTimer),
-        ),
-        (What::Abandon, Said::Tells(&abandoned)),
-    ];
-    play(&rt, alloc, &mut core, &rows)
+    check(
+        &rt,
+        Class::Two,
+        b"abc",
+        &[
+            // an ACK of an EOF that was not sent
+            ("pdu 28000300020401064001", WRONG_STATE),
+            // a Finished of class 1, and a PDU that goes the wrong way
+            ("pdu 2c0002000204010502", "refused ModeMismatch"),
+            ("pdu 20000a0002040107000000000301610162", WRONG_STATE),
+            ("stored 1 yes", "refused StaleStored"),
+            ("timer ack 0", "refused StaleTimer"),
+            ("abandon", "Abandoned 15 0"),
+            ("abandon", "ended"),
+        ],
+    )
 }
 
 // After 65,534 entries only Abandon is taken.
@@ -248,50 +258,36 @@ fn what_is_refused(rt: HostRuntime) -> Result<(), Fail> {
 fn a_full_journal(rt: HostRuntime) -> Result<(), Fail> {
     let alloc = rt.alloc();
     let mut core = put(&rt, alloc, Class::Two, b"abc")?;
-    let report = [Indication::Report {
-        phase: Phase::Active,
-        progress: 0,
-    }];
     for _ in 1..65_534 {
-        step(&rt, alloc, &mut core, &What::Report, &Said::Tells(&report))?;
+        play(&rt, alloc, &mut core, &[("report", "Report Active 0")])?;
     }
-    let abandoned = [Indication::Abandoned {
-        condition: Condition::CANCEL_REQUEST,
-        progress: 0,
-    }];
-    let rows = [
-        (What::Pump, Said::Refuses(Refusal::JournalFull)),
-        (What::Report, Said::Refuses(Refusal::JournalFull)),
-        (What::Abandon, Said::Tells(&abandoned)),
-    ];
-    play(&rt, alloc, &mut core, &rows)
+    play(
+        &rt,
+        alloc,
+        &mut core,
+        &[
+            ("pump", "refused JournalFull"),
+            ("report", "refused JournalFull"),
+            ("abandon", "Abandoned 15 0"),
+            ("abandon", "ended"),
+        ],
+    )
 }
 
 // A file of the greatest size is taken, and one octet more is too large.
 #[test]
 fn too_large_a_file(rt: HostRuntime) -> Result<(), Fail> {
     let alloc = rt.alloc();
-    let mut file = Vec::with_capacity(alloc, 4_194_305)?;
-    for _ in 0..4_194_304 {
-        file.push(0)?;
-    }
-    let mut core = put(&rt, alloc, Class::One, file.as_slice())?;
-    let rows = [(
-        What::Pump,
-        Said::Sends("24000a0002040107000040000001610162"),
-    )];
-    play(&rt, alloc, &mut core, &rows)?;
-    file.push(0)?;
-    let request = PutRequest::new(
-        alloc,
-        EntityId(1),
+    let mut file = vec![in alloc; 0; 4_194_304]?;
+    check(
+        &rt,
         Class::One,
-        b"a",
-        b"b",
-        &[],
         file.as_slice(),
+        &[("pump", "24000a0002040107000040000001610162")],
     )?;
-    let opened = SenderCore::open(alloc, KEY, &request, params(2)?);
+    file.push(0)?;
+    let request = request(alloc, Class::One, file.as_slice())?;
+    let opened = SenderCore::open(alloc, KEY, &request, params(&[], &[])?);
     assert!(rt; matches!(opened, Err(Refusal::TooLarge)));
     Ok(())
 }

@@ -1,0 +1,37 @@
+//! What the worked transactions go by.
+use cfdp_types::{
+    Condition, EntityId, ExpirationLimits, FaultTable, FaultTables, Handler, HeaderLengths, Params,
+    Role, TimerLengths,
+};
+use std::test::*;
+
+/// What a role does at some faults; at all others it cancels.
+pub(crate) type Acts<'a> = &'a [(Condition, Handler)];
+
+/// Entity 2, with IDs and sequence numbers of one octet, parts of 256 octets and all limits 2, which
+/// does so at the faults of a reception, and cancels at those of a sender. Each timer has another
+/// length, so that the rows tell them apart.
+pub(crate) fn params(one: Acts, two: Acts) -> Result<Params, Fail> {
+    let tables = FaultTables {
+        send: FaultTable::new(Role::Send, &[])?,
+        receive_one: FaultTable::new(Role::RecvOne, one)?,
+        receive_two: FaultTable::new(Role::RecvTwo, two)?,
+    };
+    let lengths = HeaderLengths {
+        entity_octets: 1,
+        sequence_octets: 1,
+    };
+    let timers = TimerLengths {
+        ack: 1000,
+        nak: 2000,
+        check: 3000,
+        inactivity: 4000,
+    };
+    let limits = ExpirationLimits {
+        ack: 2,
+        nak: 2,
+        check: 2,
+    };
+    let params = Params::new(EntityId(2), lengths, 256, timers, limits, tables);
+    Ok(params.ok_or("the parameters are in range")?)
+}
