@@ -1,12 +1,16 @@
 //! How a reception is played. Entity 1 sends the file "a" to entity 2, to be kept as "b", as
 //! transaction 5.
+ghost use Rattle.std.specs.Prelude.{◌≡◌, false};
+ghost use Rattle.pdu_codec.specs.declared.event.What.{What};
+ghost use Rattle.receiver_core.specs.Core.{shown, IsPlanOf};
+
 use crate::events::{event_of, pdu_of};
 use crate::setting::{Acts, params};
 use crate::texts::{Parts, answer_text, image_text, refused};
-use cfdp_types::{EntityId, Params, TxnKey};
+use cfdp_types::{EntityId, TxnKey};
 use pdu_codec::What;
-use receiver_core::{Answer, ReceiverCore};
-use std::alloc::Global;
+use receiver_core::{Answer, Plan, ReceiverCore};
+use std::alloc::{AllocError, Global};
 use std::process::Abort;
 use std::test::*;
 
@@ -16,7 +20,7 @@ pub(crate) const KEY: TxnKey = TxnKey {
     seq: 5,
 };
 
-fn said(alloc: Global, answer: &Answer) -> Result<String, Fail> {
+fn said(alloc: Global, answer: &Answer) -> Result<String, AllocError> {
     let parts = Parts {
         pdus: &answer.pdus,
         inds: &answer.inds,
@@ -26,47 +30,46 @@ fn said(alloc: Global, answer: &Answer) -> Result<String, Fail> {
     answer_text(alloc, KEY, parts)
 }
 
-/// The reception that the PDU of a row opens, which is answered so.
-pub(crate) fn opened<R: Abort>(
-    rt: &R,
-    alloc: Global,
-    params: Params,
-    row: (&str, &str),
-) -> Result<ReceiverCore, Fail> {
-    let hex = row.0.strip_prefix("pdu ").ok_or("a PDU opens it")?;
-    let first = pdu_of(alloc, hex)?;
-    assert!(rt; ReceiverCore::may_open(KEY, &first));
-    let (mut core, plan) = ReceiverCore::open(alloc, KEY, &first, params)?;
-    assert_eq!(rt; said(alloc, plan.answer())?.as_str(), row.1);
-    let answer = core.commit(plan);
-    assert_eq!(rt; said(alloc, &answer)?.as_str(), row.1);
-    Ok(core)
+fn told(alloc: Global, answer: Answer) -> Result<String, AllocError> {
+    said(alloc, &answer)
 }
 
-// What an event is answered, and that the plan says so before.
+// What a plan says, and that the same is answered once it is carried out.
+fn carried_out<R: Abort>(
+    rt: &R,
+    alloc: Global,
+    core: &mut ReceiverCore,
+    plan: Plan,
+) -> Result<String, AllocError>
+    requires planned { (event : What) × IsPlanOf core.old plan event }
+    requires runs { (shown core.old).ended ≡ false }
+{
+    let planned = said(alloc, plan.answer());
+    let done = told(alloc, core.commit(plan));
+    let planned = planned?;
+    let done = done?;
+    assert_eq!(rt; planned.as_str(), done.as_str());
+    Ok(done)
+}
+
+// What an event is answered.
 fn step<R: Abort>(
     rt: &R,
     alloc: Global,
     core: &mut ReceiverCore,
     event: &What,
-) -> Result<String, Fail> {
+) -> Result<String, AllocError> {
     if core.has_ended() {
-        return Ok(String::from_str(alloc, "ended")?);
+        return String::from_str(alloc, "ended");
     }
     match core.plan(event) {
         Err(refusal) => refused(alloc, refusal),
-        Ok(plan) => {
-            let planned = said(alloc, plan.answer())?;
-            let answer = core.commit(plan);
-            let done = said(alloc, &answer)?;
-            assert_eq!(rt; planned.as_str(), done.as_str(), "at {event:?}");
-            Ok(done)
-        }
+        Ok(plan) => carried_out(rt, alloc, core, plan),
     }
 }
 
 // The file with a stamp.
-fn image(alloc: Global, core: &ReceiverCore, stamp: u32) -> Result<String, Fail> {
+fn image(alloc: Global, core: &ReceiverCore, stamp: u32) -> Result<String, AllocError> {
     match core.image(stamp) {
         Err(refusal) => refused(alloc, refusal),
         Ok(image) => image_text(alloc, &image),
@@ -81,16 +84,16 @@ fn row_text<R: Abort>(
     row: &str,
 ) -> Result<String, Fail> {
     match row.strip_prefix("image ") {
-        Some(stamp) => image(alloc, core, stamp.parse()?),
+        Some(stamp) => Ok(image(alloc, core, stamp.parse()?)?),
         None => {
             let event = event_of(alloc, row)?;
-            step(rt, alloc, core, &event)
+            Ok(step(rt, alloc, core, &event)?)
         }
     }
 }
 
-/// Events in their order, each with what it is answered.
-pub(crate) fn play<R: Abort>(
+// Events in their order, each with what it is answered.
+fn play<R: Abort>(
     rt: &R,
     alloc: Global,
     core: &mut ReceiverCore,
@@ -103,7 +106,26 @@ pub(crate) fn play<R: Abort>(
     Ok(())
 }
 
-/// A reception from the PDU that opens it on, which is the first row; each fault cancels it.
+// A reception from the plan of its first row on.
+fn play_from<R: Abort>(
+    rt: &R,
+    alloc: Global,
+    core: &mut ReceiverCore,
+    plan: Plan,
+    first: (&str, &str),
+    rest: &[(&str, &str)],
+) -> Result<(), Fail>
+    requires planned { (event : What) × IsPlanOf core.old plan event }
+    requires runs { (shown core.old).ended ≡ false }
+{
+    let (row, expected) = first;
+    let answered = carried_out(rt, alloc, core, plan)?;
+    assert_eq!(rt; answered.as_str(), expected, "at {row}");
+    play(rt, alloc, core, rest)
+}
+
+/// A reception: the PDU that opens it, and what follows, each with what it is answered. Each fault
+/// cancels it.
 pub(crate) fn check<R: AllocGlobal + Abort>(rt: &R, rows: &[(&str, &str)]) -> Result<(), Fail> {
     check_with(rt, &[], &[], rows)
 }
@@ -115,8 +137,18 @@ pub(crate) fn check_with<R: AllocGlobal + Abort>(
     two: Acts,
     rows: &[(&str, &str)],
 ) -> Result<(), Fail> {
-    let (first, rest) = rows.split_first().ok_or("a row opens it")?;
+    let (first, rest) = rows.split_first().ok_or("there is a row")?;
+    let hex = first.0.strip_prefix("pdu ").ok_or("a PDU comes first")?;
     let alloc = rt.alloc();
-    let mut core = opened(rt, alloc, params(one, two)?, *first)?;
-    play(rt, alloc, &mut core, rest)
+    let params = params(one, two)?;
+    let pdu = pdu_of(alloc, hex)?;
+    assert!(rt; ReceiverCore::may_open(KEY, &pdu));
+    match ReceiverCore::open(alloc, KEY, &pdu, params) {
+        Err(refusal) => {
+            assert!(rt; rest.is_empty());
+            assert_eq!(rt; refused(alloc, refusal)?.as_str(), first.1);
+            Ok(())
+        }
+        Ok((mut core, plan)) => play_from(rt, alloc, &mut core, plan, *first, rest),
+    }
 }

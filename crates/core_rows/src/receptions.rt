@@ -1,11 +1,8 @@
 //! Receptions, row by row.
 use crate::events::pdu_of;
-use crate::receiving::{KEY, check, opened, play};
-use crate::setting::params;
-use pdu_codec::Refusal;
+use crate::receiving::{KEY, check};
 use receiver_core::ReceiverCore;
-use std::alloc::Global;
-use std::process::Abort;
+use std::alloc::{AllocError, Global};
 use std::test::*;
 
 const METADATA_ONE: &str = "pdu 24000a0001050207000000000301610162";
@@ -368,74 +365,76 @@ fn what_is_refused(rt: HostRuntime) -> Result<(), Fail> {
 // them.
 #[test]
 fn more_gaps_than_a_nak_asks_for(rt: HostRuntime) -> Result<(), Fail> {
-    let alloc = rt.alloc();
-    let mut core = opened(&rt, alloc, params(&[], &[])?, (METADATA, NAMED))?;
-    let mut asked = String::from_str(
-        alloc,
-        "28000300010502064001; 2802090001050208000000000000007f",
-    )?;
-    for gap in 0..64_u32 {
-        let start = 2 * gap;
-        let end = start + 1;
-        write!(asked, "{start:08x}{end:08x}")?;
-    }
-    asked.push_str("; EOF-Recv; arm nak 66 2000; arm inactivity 66 4000")?;
+    let mut script = String::new(rt.alloc());
+    writeln!(script, "{METADATA}: {NAMED}")?;
     for gap in 0..65_u32 {
-        one_octet(&rt, alloc, &mut core, gap + 1, 2 * gap + 1)?;
+        write_part(&mut script, gap + 1, 2 * gap + 1)?;
     }
-    let end = "pdu 20000a0001050204000000000000000082";
-    play(&rt, alloc, &mut core, &[(end, asked.as_str())])
+    script.push_str("pdu 20000a0001050204000000000000000082: 28000300010502064001; ")?;
+    write_nak(&mut script)?;
+    script.push_str("; EOF-Recv; arm nak 66 2000; arm inactivity 66 4000\n")?;
+    check(&rt, rows_of(rt.alloc(), script.as_str())?.as_slice())
 }
 
 // The event at a place brings the octet at an offset, which is new.
-fn one_octet<R: Abort>(
-    rt: &R,
-    alloc: Global,
-    core: &mut ReceiverCore,
-    place: u32,
-    offset: u32,
-) -> Result<(), Fail> {
-    let mut row = String::new(alloc);
-    write!(row, "pdu 30000500010502{offset:08x}61")?;
-    let mut told = String::new(alloc);
-    write!(
-        told,
+fn write_part(script: &mut String, place: u32, offset: u32) -> Result<(), AllocError> {
+    write!(script, "pdu 30000500010502{offset:08x}61: ")?;
+    writeln!(
+        script,
         "File-Segment-Recv {offset} 1; arm inactivity {place} 4000"
-    )?;
-    play(rt, alloc, core, &[(row.as_str(), told.as_str())])
+    )
+}
+
+// The NAK for the octets at 0, 2, 4 and so on up to 126.
+fn write_nak(script: &mut String) -> Result<(), AllocError> {
+    script.push_str("2802090001050208000000000000007f")?;
+    for gap in 0..64_u32 {
+        let start = 2 * gap;
+        let end = start + 1;
+        write!(script, "{start:08x}{end:08x}")?;
+    }
+    Ok(())
+}
+
+// The rows of a script, one a line, each with what it is answered.
+fn rows_of(alloc: Global, script: &str) -> Result<Vec<(&str, &str)>, Fail> {
+    let mut rows = Vec::new(alloc);
+    let mut rest = script;
+    for _ in 0..script.len() {
+        let Some((line, later)) = rest.split_once('\n') else {
+            break;
+        };
+        rows.push(line.split_once(": ").ok_or("a row is answered")?)?;
+        rest = later;
+    }
+    Ok(rows)
 }
 
 // After 65,534 entries only the file store's answer and Abandon are taken.
 #[test]
 fn a_full_journal(rt: HostRuntime) -> Result<(), Fail> {
-    let alloc = rt.alloc();
-    let mut core = opened(&rt, alloc, params(&[], &[])?, (METADATA, NAMED))?;
-    play(&rt, alloc, &mut core, &[(DATA, PART_NEXT), (EOF, WHOLE)])?;
+    let mut rows = Vec::new(rt.alloc());
+    rows.push((METADATA, NAMED))?;
+    rows.push((DATA, PART_NEXT))?;
+    rows.push((EOF, WHOLE))?;
     for _ in 3..65_534 {
-        play(&rt, alloc, &mut core, &[("report", "Report Storing 3")])?;
+        rows.push(("report", "Report Storing 3"))?;
     }
-    play(
-        &rt,
-        alloc,
-        &mut core,
-        &[
-            ("report", "refused JournalFull"),
-            ("stored 2 yes", "280002000105020502; arm ack 65534 1000"),
-            ("timer ack 65534", "refused JournalFull"),
-            ("abandon", "Abandoned 15 3; disarm ack 65535"),
-            ("abandon", "ended"),
-        ],
-    )
+    rows.push(("report", "refused JournalFull"))?;
+    rows.push(("stored 2 yes", "280002000105020502; arm ack 65534 1000"))?;
+    rows.push(("timer ack 65534", "refused JournalFull"))?;
+    rows.push(("abandon", "Abandoned 15 3; disarm ack 65535"))?;
+    rows.push(("abandon", "ended"))?;
+    check(&rt, rows.as_slice())
 }
 
-// A PDU that is above the limits opens nothing.
+// Metadata of a file that is too large opens nothing.
 #[test]
 fn too_large_a_file(rt: HostRuntime) -> Result<(), Fail> {
-    let first = pdu_of(rt.alloc(), "24000a0001050207000040000101610162")?;
-    assert!(rt; ReceiverCore::may_open(KEY, &first));
-    let opened = ReceiverCore::open(rt.alloc(), KEY, &first, params(&[], &[])?);
-    assert!(rt; matches!(opened, Err(Refusal::TooLarge)));
-    Ok(())
+    check(
+        &rt,
+        &[("pdu 24000a0001050207000040000101610162", "refused TooLarge")],
+    )
 }
 
 // Metadata, File Data and EOF of the key alone open a reception.

@@ -1,11 +1,15 @@
 //! Senders. Entity 2 puts the file "a" to entity 1, to be kept as "b", as transaction 4.
+ghost use Rattle.std.specs.Prelude.{◌≡◌, false};
+ghost use Rattle.sender_core.specs.Sending.{Event};
+ghost use Rattle.sender_core.specs.Core.{shown, IsPlanOf};
+
 use crate::events::event_of;
 use crate::setting::params;
 use crate::texts::{Parts, answer_text, refused};
 use cfdp_types::{Class, EntityId, PutRequest, TxnKey};
-use pdu_codec::{Refusal, What};
-use sender_core::{Answer, SenderCore};
-use std::alloc::Global;
+use pdu_codec::What;
+use sender_core::{Answer, Plan, SenderCore};
+use std::alloc::{AllocError, Global};
 use std::process::Abort;
 use std::test::*;
 
@@ -22,7 +26,7 @@ const EOF: &str = "20000a0002040104006162630000000003; EOF-Sent; arm ack 3 1000"
 
 const WRONG_STATE: &str = "refused WrongState";
 
-fn said(alloc: Global, answer: &Answer) -> Result<String, Fail> {
+fn said(alloc: Global, answer: &Answer) -> Result<String, AllocError> {
     let parts = Parts {
         pdus: &answer.pdus,
         inds: &answer.inds,
@@ -32,40 +36,41 @@ fn said(alloc: Global, answer: &Answer) -> Result<String, Fail> {
     answer_text(alloc, KEY, parts)
 }
 
-// A request to put a file.
-fn request(alloc: Global, class: Class, file: &[u8]) -> Result<PutRequest, Fail> {
-    Ok(PutRequest::new(alloc, EntityId(1), class, b"a", b"b", &[], file)?)
+fn told(alloc: Global, answer: Answer) -> Result<String, AllocError> {
+    said(alloc, &answer)
 }
 
-// The sender of a file, once its Put is taken.
-fn put<R: Abort>(rt: &R, alloc: Global, class: Class, file: &[u8]) -> Result<SenderCore, Fail> {
-    let request = request(alloc, class, file)?;
-    let (mut core, plan) = SenderCore::open(alloc, KEY, &request, params(&[], &[])?)?;
-    assert_eq!(rt; said(alloc, plan.answer())?.as_str(), "Transaction");
-    let answer = core.commit(plan);
-    assert_eq!(rt; said(alloc, &answer)?.as_str(), "Transaction");
-    Ok(core)
+// What a plan says, and that the same is answered once it is carried out.
+fn carried_out<R: Abort>(
+    rt: &R,
+    alloc: Global,
+    core: &mut SenderCore,
+    plan: Plan,
+) -> Result<String, AllocError>
+    requires planned { (event : Event) × IsPlanOf core.old plan event }
+    requires runs { (shown core.old).ended ≡ false }
+{
+    let planned = said(alloc, plan.answer());
+    let done = told(alloc, core.commit(plan));
+    let planned = planned?;
+    let done = done?;
+    assert_eq!(rt; planned.as_str(), done.as_str());
+    Ok(done)
 }
 
-// What an event is answered, and that the plan says so before.
+// What an event is answered.
 fn step<R: Abort>(
     rt: &R,
     alloc: Global,
     core: &mut SenderCore,
     event: &What,
-) -> Result<String, Fail> {
+) -> Result<String, AllocError> {
     if core.has_ended() {
-        return Ok(String::from_str(alloc, "ended")?);
+        return String::from_str(alloc, "ended");
     }
     match core.plan(event) {
         Err(refusal) => refused(alloc, refusal),
-        Ok(plan) => {
-            let planned = said(alloc, plan.answer())?;
-            let answer = core.commit(plan);
-            let done = said(alloc, &answer)?;
-            assert_eq!(rt; planned.as_str(), done.as_str(), "at {event:?}");
-            Ok(done)
-        }
+        Ok(plan) => carried_out(rt, alloc, core, plan),
     }
 }
 
@@ -84,7 +89,33 @@ fn play<R: Abort>(
     Ok(())
 }
 
-// A sender from its Put on.
+// A sender from the plan of its Put on.
+fn play_from<R: Abort>(
+    rt: &R,
+    alloc: Global,
+    core: &mut SenderCore,
+    plan: Plan,
+    rows: &[(&str, &str)],
+) -> Result<(), Fail>
+    requires planned { (event : Event) × IsPlanOf core.old plan event }
+    requires runs { (shown core.old).ended ≡ false }
+{
+    let answered = carried_out(rt, alloc, core, plan)?;
+    assert_eq!(rt; answered.as_str(), "Transaction");
+    play(rt, alloc, core, rows)
+}
+
+// The one row says why the Put is refused.
+fn refuses<R: Abort>(rt: &R, rows: &[(&str, &str)], why: &str) -> Result<(), Fail> {
+    let (first, rest) = rows.split_first().ok_or("there is a row")?;
+    assert!(rt; rest.is_empty());
+    assert_eq!(rt; first.0, "put");
+    assert_eq!(rt; first.1, why);
+    Ok(())
+}
+
+// A sender: what follows its Put, each with what it is answered; or the row is "put", with why it is
+// refused.
 fn check<R: AllocGlobal + Abort>(
     rt: &R,
     class: Class,
@@ -92,8 +123,15 @@ fn check<R: AllocGlobal + Abort>(
     rows: &[(&str, &str)],
 ) -> Result<(), Fail> {
     let alloc = rt.alloc();
-    let mut core = put(rt, alloc, class, file)?;
-    play(rt, alloc, &mut core, rows)
+    let params = params(&[], &[])?;
+    let request = PutRequest::new(alloc, EntityId(1), class, b"a", b"b", &[], file)?;
+    match SenderCore::open(alloc, KEY, &request, params) {
+        Err(refusal) => {
+            let why = refused(alloc, refusal)?;
+            refuses(rt, rows, why.as_str())
+        }
+        Ok((mut core, plan)) => play_from(rt, alloc, &mut core, plan, rows),
+    }
 }
 
 #[test]
@@ -256,29 +294,21 @@ fn what_is_refused(rt: HostRuntime) -> Result<(), Fail> {
 // After 65,534 entries only Abandon is taken.
 #[test]
 fn a_full_journal(rt: HostRuntime) -> Result<(), Fail> {
-    let alloc = rt.alloc();
-    let mut core = put(&rt, alloc, Class::Two, b"abc")?;
+    let mut rows = Vec::new(rt.alloc());
     for _ in 1..65_534 {
-        play(&rt, alloc, &mut core, &[("report", "Report Active 0")])?;
+        rows.push(("report", "Report Active 0"))?;
     }
-    play(
-        &rt,
-        alloc,
-        &mut core,
-        &[
-            ("pump", "refused JournalFull"),
-            ("report", "refused JournalFull"),
-            ("abandon", "Abandoned 15 0"),
-            ("abandon", "ended"),
-        ],
-    )
+    rows.push(("pump", "refused JournalFull"))?;
+    rows.push(("report", "refused JournalFull"))?;
+    rows.push(("abandon", "Abandoned 15 0"))?;
+    rows.push(("abandon", "ended"))?;
+    check(&rt, Class::Two, b"abc", rows.as_slice())
 }
 
 // A file of the greatest size is taken, and one octet more is too large.
 #[test]
 fn too_large_a_file(rt: HostRuntime) -> Result<(), Fail> {
-    let alloc = rt.alloc();
-    let mut file = vec![in alloc; 0; 4_194_304]?;
+    let mut file = vec![in rt.alloc(); 0; 4_194_304]?;
     check(
         &rt,
         Class::One,
@@ -286,8 +316,10 @@ fn too_large_a_file(rt: HostRuntime) -> Result<(), Fail> {
         &[("pump", "24000a0002040107000040000001610162")],
     )?;
     file.push(0)?;
-    let request = request(alloc, Class::One, file.as_slice())?;
-    let opened = SenderCore::open(alloc, KEY, &request, params(&[], &[])?);
-    assert!(rt; matches!(opened, Err(Refusal::TooLarge)));
-    Ok(())
+    check(
+        &rt,
+        Class::One,
+        file.as_slice(),
+        &[("put", "refused TooLarge")],
+    )
 }

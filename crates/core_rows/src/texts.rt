@@ -5,17 +5,16 @@ use core_steps::{Pdus, TimerOps};
 use ind_words::{Indication, Indications};
 use pdu_codec::{Pdu, Refusal, encode};
 use std::alloc::{AllocError, Global};
-use std::test::*;
 
 /// The text of a refusal.
-pub(crate) fn refused(alloc: Global, refusal: Refusal) -> Result<String, Fail> {
+pub(crate) fn refused(alloc: Global, refusal: Refusal) -> Result<String, AllocError> {
     let mut text = String::new(alloc);
     write!(text, "refused {refusal:?}")?;
     Ok(text)
 }
 
 /// The text of a file: its two names and its octets, in hex.
-pub(crate) fn image_text(alloc: Global, image: &Image) -> Result<String, Fail> {
+pub(crate) fn image_text(alloc: Global, image: &Image) -> Result<String, AllocError> {
     let mut text = String::from_str(alloc, "image")?;
     push_octets(alloc, &mut text, &image.source_name)?;
     push_octets(alloc, &mut text, &image.destination_name)?;
@@ -33,7 +32,7 @@ pub(crate) struct Parts<'a> {
 }
 
 /// The text of an answer of the transaction with a key.
-pub(crate) fn answer_text(alloc: Global, key: TxnKey, parts: Parts) -> Result<String, Fail> {
+pub(crate) fn answer_text(alloc: Global, key: TxnKey, parts: Parts) -> Result<String, AllocError> {
     let mut text = String::new(alloc);
     for pdu in parts.pdus.as_slice() {
         separate(&mut text)?;
@@ -59,15 +58,18 @@ fn separate(text: &mut String) -> Result<(), AllocError> {
     }
 }
 
-fn push_pdu(alloc: Global, text: &mut String, pdu: &Pdu) -> Result<(), Fail> {
+fn push_pdu(alloc: Global, text: &mut String, pdu: &Pdu) -> Result<(), AllocError> {
     let mut octets = Vec::new(alloc);
     encode(pdu, &mut octets)?;
     let hex = hex::encode(alloc, octets.as_slice())?;
-    text.push_str(hex.as_str())?;
-    Ok(())
+    text.push_str(hex.as_str())
 }
 
-fn push_indications(alloc: Global, text: &mut String, inds: &[Indication]) -> Result<(), Fail> {
+fn push_indications(
+    alloc: Global,
+    text: &mut String,
+    inds: &[Indication],
+) -> Result<(), AllocError> {
     for indication in inds {
         separate(text)?;
         push_indication(alloc, text, indication)?;
