@@ -8,8 +8,8 @@ use Rattle.cfdp_types.specs.declared.key.TxnKey.{TxnKey}
 use Rattle.pdu_codec.specs.declared.event.What.{What}
 use Rattle.pdu_codec.specs.declared.event.Refusal.TheVariants as refusal
 use Rattle.ind_words.specs.declared.bundle.Bundle.{Bundle}
-use Rattle.receiver_core.specs.declared.narrow.answer.Answer.{Answer}
-use Rattle.receiver_core.specs.Log.{Entry, State, state_of}
+use Rattle.narrow_reception.specs.declared.answer.Answer.{Answer}
+use Rattle.narrow_reception.specs.Log.{Entry, State, state_of}
 use Rattle.cfdp_replay.specs.declared.reply.Reply.TheVariants as reply
 use Rattle.cfdp_replay.specs.declared.world.Reception.{Reception}
 use Rattle.cfdp_replay.specs.declared.world.World.{World}

@@ -16,11 +16,11 @@ use Rattle.ind_words.specs.declared.bundle.Bundle.{Bundle}
 use Rattle.cfdp_types.specs.declared.names.Delivery.TheVariants.{Complete}
 use Rattle.ind_words.specs.declared.indication.Indication.{Indication}
 use Rattle.ind_words.specs.declared.indication.Indication.TheVariants as told
-use Rattle.receiver_core.specs.declared.narrow.answer.Answer.{Answer}
-use Rattle.receiver_core.specs.Log.{Entry, State, initial, state_of, issued}
-use Rattle.receiver_core.specs.Table.{answer_at}
-use Rattle.receiver_core.specs.Laws.{IsLegal}
-use Rattle.receiver_core.proofs.Legal.{tells_words, completes_good}
+use Rattle.narrow_reception.specs.declared.answer.Answer.{Answer}
+use Rattle.narrow_reception.specs.Log.{Entry, State, initial, state_of, issued}
+use Rattle.narrow_reception.specs.Table.{answer_at}
+use Rattle.narrow_reception.specs.Laws.{IsLegal}
+use Rattle.narrow_reception.proofs.Legal.{tells_words, completes_good}
 use Rattle.cfdp_replay.specs.declared.command.Command.{Command}
 use Rattle.cfdp_replay.specs.declared.command.Command.TheVariants.{Deliver, Stored, Take, Nothing}
 use Rattle.cfdp_replay.specs.declared.reply.StepRefusal.{StepRefusal}

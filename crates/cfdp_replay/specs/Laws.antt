@@ -5,8 +5,8 @@ use Rattle.cfdp_types.specs.declared.names.FileStatus.{FileStatus}
 use Rattle.ind_words.specs.LaneLists.{told_in}
 use Rattle.ind_words.specs.Words.{IsBegun}
 use Rattle.ind_words.specs.declared.indication.Indication.TheVariants as told
-use Rattle.receiver_core.specs.Log.{state_of, issued}
-use Rattle.receiver_core.specs.Laws.{IsLegal, IsGood}
+use Rattle.narrow_reception.specs.Log.{state_of, issued}
+use Rattle.narrow_reception.specs.Laws.{IsLegal, IsGood}
 use Rattle.cfdp_replay.specs.Session.{Session, fresh, given}
 use Rattle.cfdp_replay.specs.Run.{Plays}
 

@@ -14,9 +14,9 @@ use Rattle.pdu_format.specs.declared.pdu.Direction.{Direction}
 use Rattle.pdu_format.specs.declared.pdu.Direction.TheVariants.{TowardReceiver, TowardSender}
 use Rattle.pdu_format.specs.declared.pdu.Header.{Header}
 use Rattle.ind_words.specs.declared.bundle.Bundle.{Bundle}
-use Rattle.receiver_core.specs.declared.narrow.answer.Answer.{Answer}
-use Rattle.receiver_core.specs.Log.{Entry, State, state_of}
-use Rattle.receiver_core.specs.Table.{answer_at}
+use Rattle.narrow_reception.specs.declared.answer.Answer.{Answer}
+use Rattle.narrow_reception.specs.Log.{Entry, State, state_of}
+use Rattle.narrow_reception.specs.Table.{answer_at}
 use Rattle.cfdp_replay.specs.declared.command.Command.{Command}
 use Rattle.cfdp_replay.specs.declared.command.Command.TheVariants.{Deliver, Stored, Take, Nothing}
 use Rattle.cfdp_replay.specs.declared.reply.StepRefusal.{StepRefusal}

@@ -7,10 +7,10 @@ use Rattle.pdu_codec.specs.declared.event.What.TheVariants as what
 use Rattle.pdu_codec.specs.declared.event.Refusal.{Refusal}
 use Rattle.pdu_codec.specs.declared.event.Refusal.TheVariants as refusal
 use Rattle.ind_words.specs.declared.bundle.Bundle.{Bundle}
-use Rattle.receiver_core.specs.declared.narrow.answer.Answer.{Answer}
-use Rattle.receiver_core.specs.declared.narrow.reception.ReceiverCore.{ReceiverCore}
-use Rattle.receiver_core.specs.Log.{Entry}
-use Rattle.receiver_core.specs.NarrowCore.{StandsAfter}
+use Rattle.narrow_reception.specs.declared.answer.Answer.{Answer}
+use Rattle.narrow_reception.specs.declared.reception.ReceiverCore.{ReceiverCore}
+use Rattle.narrow_reception.specs.Log.{Entry}
+use Rattle.narrow_reception.specs.NarrowCore.{StandsAfter}
 use Rattle.cfdp_replay.specs.declared.reply.Reply.{Reply}
 use Rattle.cfdp_replay.specs.declared.command.Command.{Command}
 use Rattle.cfdp_replay.specs.declared.world.Reception.{Reception}

@@ -2,9 +2,9 @@
 
 ghost use Rattle.std.specs.Prelude.{◌≡◌, List, [], false, Option, true, Some, IfOk, IfErr, IfSome, IfNone, OnErr};
 ghost use Rattle.pdu_codec.specs.declared.event.What.TheVariants as what;
-ghost use Rattle.receiver_core.specs.Log.{Entry, state_of};
-ghost use Rattle.receiver_core.specs.Table.{answer_at};
-ghost use Rattle.receiver_core.specs.NarrowCore.{shown, StandsAfter};
+ghost use Rattle.narrow_reception.specs.Log.{Entry, state_of};
+ghost use Rattle.narrow_reception.specs.Table.{answer_at};
+ghost use Rattle.narrow_reception.specs.NarrowCore.{shown, StandsAfter};
 ghost use Rattle.cfdp_types.specs.declared.key.TxnKey.{TxnKey};
 ghost use Rattle.cfdp_replay.specs.Session.{Session, fresh, answer_for, is_same_key, key_of, opens, route_refusal};
 ghost use Rattle.cfdp_replay.specs.declared.command.Command.TheVariants.{Take, Stored};
@@ -15,7 +15,7 @@ use crate::queue::{Queue, RECEIVER};
 use crate::reply::{Reply, StepRefusal};
 use cfdp_types::TxnKey;
 use pdu_codec::{Body, DecodeFault, Direction, Header, Pdu, Refusal, What, decode};
-use receiver_core::narrow::ReceiverCore;
+use narrow_reception::ReceiverCore;
 use std::alloc::Global;
 
 /// The entity that the script drives.

@@ -1,6 +1,6 @@
 //! Senders. Entity 2 puts the file "a" to entity 1, to be kept as "b", as transaction 4.
 ghost use Rattle.std.specs.Prelude.{◌≡◌, false};
-ghost use Rattle.sender_core.specs.Sending.{Event};
+ghost use Rattle.sender_table.specs.Sending.{Event};
 ghost use Rattle.sender_core.specs.Core.{shown, IsPlanOf};
 
 use crate::events::event_of;

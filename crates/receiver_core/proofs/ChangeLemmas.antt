@@ -14,47 +14,47 @@ use Rattle.pdu_format.specs.declared.bodies.FileData.{FileData}
 use Rattle.pdu_codec.specs.declared.event.What.{What}
 use Rattle.pdu_codec.specs.declared.event.Refusal.{Refusal}
 use Rattle.pdu_format.specs.declared.bodies.Metadata.{Metadata}
-use Rattle.receiver_core.specs.Reception.{State, Entry, step, state_of, is_received, added_runs, octet_at, metadata_of, file_data_of, brings_more}
-use Rattle.receiver_core.specs.Answers.{answer_at}
-use Rattle.receiver_core.specs.Standing.{state_from}
+use Rattle.receiver_table.specs.Reception.{State, Entry, step, state_of, is_received, added_runs, octet_at, metadata_of, file_data_of, brings_more}
+use Rattle.receiver_table.specs.Answers.{answer_at}
+use Rattle.receiver_core.specs.ControlBlock.{state_from}
 use Rattle.receiver_core.specs.declared.plan.Plan.{Plan}
-use Rattle.receiver_core.specs.declared.standing.Standing.{Standing}
-use Rattle.receiver_core.specs.Content.{received_of, end_of, IsPartOf}
-use Rattle.receiver_core.specs.Core.{shown, reception_of, received_after, FitsContent, HasRoom, IsCovered, IsChange, IsSame, IsPlanOf, IsWhy, StandsAfter, runs_in, piece_of, metadata_after, plan_answer}
-use Rattle.receiver_core.specs.declared.content.Content.{Content}
-use Rattle.receiver_core.specs.declared.content.Part.{Part}
-use Rattle.receiver_core.specs.declared.plan.Change.{Change}
-use Rattle.receiver_core.specs.declared.plan.Change.TheVariants as change
+use Rattle.receiver_core.specs.declared.control.ControlBlock.{ControlBlock}
+use Rattle.receiver_core.specs.ReceivedFile.{received_of, end_of, IsSegmentOf}
+use Rattle.receiver_core.specs.Core.{shown, reception_of, received_after, FitsFile, HasRoom, IsCovered, IsChange, IsSame, IsPlanOf, IsWhy, StandsAfter, runs_in, segment_of, metadata_after, plan_answer}
+use Rattle.receiver_core.specs.declared.received_file.ReceivedFile.{ReceivedFile}
+use Rattle.receiver_core.specs.declared.received_file.NewSegment.{NewSegment}
+use Rattle.receiver_core.specs.declared.plan.FileChange.{FileChange}
+use Rattle.receiver_core.specs.declared.plan.FileChange.TheVariants as change
 use Rattle.receiver_core.specs.declared.receiver.ReceiverCore.{ReceiverCore}
-use Rattle.receiver_core.proofs.ContentLemmas.{there}
+use Rattle.receiver_core.proofs.ReceivedFileLemmas.{there}
 
 older_none : {A : Type 0} (o : Option A) → o ≡ older_or o None
 older_none None = refl
 older_none (Some x) = refl
 
 -- the offsets of octets that came are those that are covered
-pub covers : (core : ReceiverCore) (i : ℕ) → covered core.content.gaps i ≡ is_received (shown core) i
-covers core i = sym (there core.content.octets.items (covered core.content.gaps) i core.content.inside)
+pub covers : (core : ReceiverCore) (i : ℕ) → covered core.file.gaps i ≡ is_received (shown core) i
+covers core i = sym (there core.file.octets.items (covered core.file.gaps) i core.file.inside)
 
-runs_are : (core : ReceiverCore) (piece : FileData) (part : Part) → part.piece ≡ piece → IsPartOf (covered core.content.gaps) part
-    → part.runs.items ≡ added_runs (shown core) (Some piece)
-runs_are core piece part is fits =
-    fits.runs ∙ ap (λ (d : FileData). new_runs (covered core.content.gaps) d.offset (d.offset + length d.octets)) is
-    ∙ new_runs-same (covered core.content.gaps) (is_received (shown core)) piece.offset (piece.offset + length piece.octets) (covers core)
+runs_are : (core : ReceiverCore) (file_data : FileData) (segment : NewSegment) → segment.file_data ≡ file_data → IsSegmentOf (covered core.file.gaps) segment
+    → segment.runs.items ≡ added_runs (shown core) (Some file_data)
+runs_are core file_data segment is fits =
+    fits.runs ∙ ap (λ (d : FileData). new_runs (covered core.file.gaps) d.offset (d.offset + length d.octets)) is
+    ∙ new_runs-same (covered core.file.gaps) (is_received (shown core)) file_data.offset (file_data.offset + length file_data.octets) (covers core)
 
--- a part of the file
-pub piece_change : (core : ReceiverCore) (piece : FileData) (part : Part) → part.piece ≡ piece → IsPartOf (covered core.content.gaps) part
-    → IsChange core (Some (body.FileData piece)) (change.Part part)
-piece_change core piece part is fits = record {
+-- a segment of the file
+pub piece_change : (core : ReceiverCore) (file_data : FileData) (segment : NewSegment) → segment.file_data ≡ file_data → IsSegmentOf (covered core.file.gaps) segment
+    → IsChange core (Some (body.FileData file_data)) (change.NewSegment segment)
+piece_change core file_data segment is fits = record {
   metadata = older_none core.metadata;
-  piece = ap Some is;
+  file_data = ap Some is;
   fits = fits;
-  runs = runs_are core piece part is fits;
-  more = ap (λ runs. not (eqb (length runs) 0)) (runs_are core piece part is fits);
+  runs = runs_are core file_data segment is fits;
+  more = ap (λ runs. not (eqb (length runs) 0)) (runs_are core file_data segment is fits);
 }
 
 -- the new runs of a change have an offset each
-pub runs_filled : (core : ReceiverCore) (b : Option Body) (c : Change) → IsChange core b c → All (λ run. run.start < run.end) (runs_in c)
+pub runs_filled : (core : ReceiverCore) (b : Option Body) (c : FileChange) → IsChange core b c → All (λ run. run.start < run.end) (runs_in c)
 runs_filled core b c is = rw is.runs (filled_runs (shown core) _)
   where
     filled_runs : (state : State) (d : Option FileData) → All (λ run. run.start < run.end) (added_runs state d)
@@ -70,49 +70,49 @@ and_last true b e = e
 and_last false b e = absurd cc
 
 -- what a change covers has its room
-pub covered_inside : (content : Content) (c : Change) → FitsContent content c → HasRoom content c → IsCovered content c
-covered_inside content change.Nothing fits room i came = content.inside i came
-covered_inside content (change.Metadata m) fits room i came = content.inside i came
-covered_inside content (change.Part part) fits room i came =
-    elim (or_either (covered content.gaps i) (is_within part.piece.offset (end_of part) i) (sym (fits.covers i) ∙ came)) [
-      | inl before ↦ content.inside i before
-      | inr new ↦ omega (arith, ltb-true i (end_of part) (and_last _ _ new), room, content.octets.ok.0)
+pub covered_inside : (file : ReceivedFile) (c : FileChange) → FitsFile file c → HasRoom file c → IsCovered file c
+covered_inside file change.Nothing fits room i came = file.inside i came
+covered_inside file (change.Metadata m) fits room i came = file.inside i came
+covered_inside file (change.NewSegment segment) fits room i came =
+    elim (or_either (covered file.gaps i) (is_within segment.file_data.offset (end_of segment) i) (sym (fits.covers i) ∙ came)) [
+      | inl before ↦ file.inside i before
+      | inr new ↦ omega (arith, ltb-true i (end_of segment) (and_last _ _ new), room, file.octets.ok.0)
     ]
 
 -- ---- a core with more room
 
-state_with : ReceiverCore → Option Metadata → (ℕ → Option ℕ) → Standing → State
-state_with core metadata received standing = state_from standing metadata received
+state_with : ReceiverCore → Option Metadata → (ℕ → Option ℕ) → ControlBlock → State
+state_with core metadata received control = state_from control metadata received
 
 -- a core with more room shows the same
 pub same_shown : (old new : ReceiverCore) → IsSame old new → shown new ≡ shown old
 unfolding state_with
 same_shown old new same =
-    ap (λ s. state_with old new.metadata (received_of new.content) s) same.standing
-    ∙ ap (λ m. state_with old m (received_of new.content) old.standing) same.metadata
-    ∙ ap (λ r. state_with old old.metadata r old.standing) (fun_ext same.received)
+    ap (λ s. state_with old new.metadata (received_of new.file) s) same.control
+    ∙ ap (λ m. state_with old m (received_of new.file) old.control) same.metadata
+    ∙ ap (λ r. state_with old old.metadata r old.control) (fun_ext same.received)
 
-fits_still : (old new : Content) (c : Change) → ((i : ℕ) → covered new.gaps i ≡ covered old.gaps i) → FitsContent old c → FitsContent new c
+fits_still : (old new : ReceivedFile) (c : FileChange) → ((i : ℕ) → covered new.gaps i ≡ covered old.gaps i) → FitsFile old c → FitsFile new c
 fits_still old new change.Nothing same fits = tt
 fits_still old new (change.Metadata m) same fits = tt
-fits_still old new (change.Part part) same fits = record {
-  covers = λ i. fits.covers i ∙ ap (λ b. b || is_within part.piece.offset (end_of part) i) (sym (same i));
-  runs = fits.runs ∙ new_runs-same (covered old.gaps) (covered new.gaps) part.piece.offset (end_of part) (λ i. sym (same i));
+fits_still old new (change.NewSegment segment) same fits = record {
+  covers = λ i. fits.covers i ∙ ap (λ b. b || is_within segment.file_data.offset (end_of segment) i) (sym (same i));
+  runs = fits.runs ∙ new_runs-same (covered old.gaps) (covered new.gaps) segment.file_data.offset (end_of segment) (λ i. sym (same i));
 }
 
-room_still : (old new : Content) (c : Change) → vec_len old.octets ≤ vec_len new.octets → HasRoom old c → HasRoom new c
+room_still : (old new : ReceivedFile) (c : FileChange) → vec_len old.octets ≤ vec_len new.octets → HasRoom old c → HasRoom new c
 room_still old new change.Nothing longer room = tt
 room_still old new (change.Metadata m) longer room = tt
-room_still old new (change.Part part) longer room = omega (arith, longer, room)
+room_still old new (change.NewSegment segment) longer room = omega (arith, longer, room)
 
 -- a change of a core is one of the core with more room
-pub change_still : (old new : ReceiverCore) (b : Option Body) (c : Change) → IsSame old new → IsChange old b c → IsChange new b c
+pub change_still : (old new : ReceiverCore) (b : Option Body) (c : FileChange) → IsSame old new → IsChange old b c → IsChange new b c
 change_still old new b c same is =
     let shows = same_shown old new same in
     record {
       metadata = ap (λ m. metadata_after m c) same.metadata ∙ is.metadata ∙ ap (λ m. older_or m (metadata_of b)) (sym same.metadata);
-      piece = is.piece;
-      fits = fits_still old.content new.content c same.gaps is.fits;
+      file_data = is.file_data;
+      fits = fits_still old.file new.file c same.gaps is.fits;
       runs = is.runs ∙ ap (λ s. added_runs s (file_data_of b)) (sym shows);
       more = is.more ∙ ap (λ s. brings_more s b) (sym shows);
     }
@@ -124,18 +124,18 @@ plan_still old new plan event same is =
     let shows = same_shown old new same in
     record {
       accepted = ap (λ r. answer_at r (shown new) event) same.reception ∙ ap (λ s. answer_at (reception_of old) s event) shows ∙ is.accepted;
-      follows = ap (λ m. state_with old (metadata_after m plan.change) (received_after new.content plan.change) plan.next) same.metadata
-          ∙ ap (λ r. state_with old (metadata_after old.metadata plan.change) r plan.next) (fun_ext (λ i. ap (λ o. older_or o (octet_at (piece_of plan.change) i)) (same.received i)))
+      follows = ap (λ m. state_with old (metadata_after m plan.change) (received_after new.file plan.change) plan.next) same.metadata
+          ∙ ap (λ r. state_with old (metadata_after old.metadata plan.change) r plan.next) (fun_ext (λ i. ap (λ o. older_or o (octet_at (segment_of plan.change) i)) (same.received i)))
           ∙ is.follows
           ∙ ap (λ s. step s (record { event = event; answer = plan_answer plan })) (sym shows);
-      fits = fits_still old.content new.content plan.change same.gaps is.fits;
-      room = room_still old.content new.content plan.change same.longer is.room;
-      sound = λ runs. is.sound (ap (λ (s : Standing). s.ended) (sym same.standing) ∙ runs);
+      fits = fits_still old.file new.file plan.change same.gaps is.fits;
+      room = room_still old.file new.file plan.change same.longer is.room;
+      sound = λ runs. is.sound (ap (λ (s : ControlBlock). s.ended) (sym same.control) ∙ runs);
     }
 
 -- what stands after a plan is carried out
 pub committed : (old : ReceiverCore) (plan : Plan) (event : What) (metadata : Option Metadata) (received : ℕ → Option ℕ) → metadata ≡ metadata_after old.metadata plan.change
-    → ((i : ℕ) → received i ≡ received_after old.content plan.change i) → IsPlanOf old plan event
+    → ((i : ℕ) → received i ≡ received_after old.file plan.change i) → IsPlanOf old plan event
     → state_from plan.next metadata received ≡ step (shown old) (record { event = event; answer = plan_answer plan })
 committed old plan event metadata received m r planned =
     ap (λ x. state_from plan.next x received) m ∙ ap (λ x. state_from plan.next (metadata_after old.metadata plan.change) x) (fun_ext r) ∙ planned.follows

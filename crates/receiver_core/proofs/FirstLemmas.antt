@@ -14,13 +14,13 @@ use Rattle.pdu_format.specs.Pdu.{PduValue}
 use Rattle.pdu_format.specs.declared.pdu.Header.{Header}
 use Rattle.pdu_format.specs.declared.pdu.Body.{Body}
 use Rattle.pdu_format.specs.declared.pdu.Body.TheVariants as body
-use Rattle.receiver_core.specs.Reception.{initial}
-use Rattle.receiver_core.specs.Refusals.{refusal_at, is_body_too_large}
-use Rattle.receiver_core.specs.Answers.{answer_at}
-use Rattle.receiver_core.specs.LegalReceptions.{BodyOpens}
-use Rattle.receiver_core.specs.Standing.{state_from, first}
+use Rattle.receiver_table.specs.Reception.{initial}
+use Rattle.receiver_table.specs.Refusals.{refusal_at, is_body_too_large}
+use Rattle.receiver_table.specs.Answers.{answer_at}
+use Rattle.receiver_laws.specs.LegalReceptions.{BodyOpens}
+use Rattle.receiver_core.specs.ControlBlock.{state_from, first}
 use Rattle.receiver_core.specs.Core.{reception_by}
-use Rattle.receiver_core.specs.declared.standing.Standing.{Standing}
+use Rattle.receiver_core.specs.declared.control.ControlBlock.{ControlBlock}
 use Rattle.receiver_core.proofs.PlanLemmas.{same_state, answered_is, refused_is}
 
 none_runs : (kind : TimerKind) → (state_from first None (λ i. None)).armed kind ≡ None
@@ -36,9 +36,9 @@ none_expired Check = refl
 none_expired Inactivity = refl
 
 -- before the first event
-pub first_is : (standing : Standing) (received : ℕ → Option ℕ) → standing ≡ first → ((i : ℕ) → received i ≡ None) → state_from standing None received ≡ initial
+pub first_is : (control : ControlBlock) (received : ℕ → Option ℕ) → control ≡ first → ((i : ℕ) → received i ≡ None) → state_from control None received ≡ initial
 unfolding initial
-first_is standing received is none =
+first_is control received is none =
     ap (λ s. state_from s None received) is
     ∙ same_state (state_from first None received) _ refl none refl refl refl refl refl refl none_runs none_expired refl
 

@@ -6,9 +6,9 @@ use Rattle.cfdp_types.specs.declared.image.Image.{Image}
 use Rattle.gap_list.specs.Runs.{in_runs, missing_runs}
 use Rattle.gap_list.proofs.RunLemmas.{in_runs-runs_of}
 use Rattle.pdu_codec.specs.declared.event.Refusal.{Refusal}
-use Rattle.receiver_core.specs.Reception.{Entry, state_of}
-use Rattle.receiver_core.specs.Answers.{octets_from}
-use Rattle.receiver_core.specs.Images.{image_at}
+use Rattle.receiver_table.specs.Reception.{Entry, state_of}
+use Rattle.receiver_table.specs.Answers.{octets_from}
+use Rattle.receiver_table.specs.Images.{image_at}
 use Rattle.receiver_core.specs.Core.{shown, StandsAfter, IsWhyNot}
 use Rattle.receiver_core.specs.declared.receiver.ReceiverCore.{ReceiverCore}
 

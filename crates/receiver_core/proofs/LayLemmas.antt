@@ -10,7 +10,7 @@ use Rattle.gap_list.specs.Runs.{is_within, in_runs, new_runs, with_range}
 use Rattle.gap_list.proofs.RunLemmas.{in_runs-runs_of}
 use Rattle.gap_list.proofs.SetLemmas.{filled-runs_of, ends-runs_of, in_set-runs_of}
 use Rattle.pdu_format.specs.declared.bodies.FileData.{FileData}
-use Rattle.receiver_core.specs.Reception.{octet_at}
+use Rattle.receiver_table.specs.Reception.{octet_at}
 use Rattle.receiver_core.specs.Offsets.{IsInside, octets_in}
 
 -- the new runs of a range are inside it
@@ -52,33 +52,33 @@ kept within false after new x old other octet here covers put there = absurd cc
 kept true true after new x old other octet here covers put there = rw (covers, put, there) refl
 kept false true after new x old other octet here covers put there = rw (covers, put, there) refl
 
--- what did not come is that of the part
-pub laid_is : (set after : ℕ → Bool) (piece : FileData) (old : List ℕ) (i : ℕ) (new : Option ℕ) → IsInside (length old) set
-    → after i ≡ with_range set piece.offset (piece.offset + length piece.octets) i
-    → new ≡ (if in_runs (new_runs set piece.offset (piece.offset + length piece.octets)) i then slice_get piece.octets (i - piece.offset) else slice_get old i)
-    → (if after i then new else None) ≡ older_or (octets_in old set i) (octet_at (Some piece) i)
-laid_is set after piece old i new inside covers is =
-    let end : ℕ = piece.offset + length piece.octets in
-    let put : new ≡ (if is_within piece.offset end i && not (set i) then slice_get piece.octets (i - piece.offset) else slice_get old i) = rw (new_has set piece.offset end i) at is in
+-- what did not come is that of the segment
+pub laid_is : (set after : ℕ → Bool) (file_data : FileData) (old : List ℕ) (i : ℕ) (new : Option ℕ) → IsInside (length old) set
+    → after i ≡ with_range set file_data.offset (file_data.offset + length file_data.octets) i
+    → new ≡ (if in_runs (new_runs set file_data.offset (file_data.offset + length file_data.octets)) i then slice_get file_data.octets (i - file_data.offset) else slice_get old i)
+    → (if after i then new else None) ≡ older_or (octets_in old set i) (octet_at (Some file_data) i)
+laid_is set after file_data old i new inside covers is =
+    let end : ℕ = file_data.offset + length file_data.octets in
+    let put : new ≡ (if is_within file_data.offset end i && not (set i) then slice_get file_data.octets (i - file_data.offset) else slice_get old i) = rw (new_has set file_data.offset end i) at is in
     elim (cases_Bool (set i)) [
       | inl came ↦
           let there : slice_get old i ≡ Some (get_or old i 0) = slice_get-get_or old i 0 (inside i came) in
-          kept (is_within piece.offset end i) (set i) (after i) new (slice_get piece.octets (i - piece.offset)) (slice_get old i) (octet_at (Some piece) i) (get_or old i 0) came covers put there
+          kept (is_within file_data.offset end i) (set i) (after i) new (slice_get file_data.octets (i - file_data.offset)) (slice_get old i) (octet_at (Some file_data) i) (get_or old i 0) came covers put there
       | inr none ↦
-          elim (cases_lt i piece.offset) [
+          elim (cases_lt i file_data.offset) [
             | inl before ↦
-                let low : nat_le piece.offset i ≡ false = lt-leb piece.offset i before in
+                let low : nat_le file_data.offset i ≡ false = lt-leb file_data.offset i before in
                 rw (covers, none, low) refl
             | inr from ↦
                 elim (cases_lt i end) [
                   | inl below ↦
-                      let low : nat_le piece.offset i ≡ true = le-leb piece.offset i from in
+                      let low : nat_le file_data.offset i ≡ true = le-leb file_data.offset i from in
                       let high : nat_lt i end ≡ true = lt-ltb i end below in
                       rw (covers, none, low, high) (rw (none, low, high) at put)
                   | inr past ↦
-                      let low : nat_le piece.offset i ≡ true = le-leb piece.offset i from in
+                      let low : nat_le file_data.offset i ≡ true = le-leb file_data.offset i from in
                       let high : nat_lt i end ≡ false = le-ltb i end past in
-                      rw (covers, none, low, high) (sym (slice_get_past piece.octets (i - piece.offset) (omega (arith, past, from))))
+                      rw (covers, none, low, high) (sym (slice_get_past file_data.octets (i - file_data.offset) (omega (arith, past, from))))
                 ]
           ]
     ]

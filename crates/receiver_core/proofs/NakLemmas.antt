@@ -7,8 +7,8 @@ use Rattle.gap_list.specs.declared.run.Run.{Run}
 use Rattle.pdu_format.specs.Spelling.{size_octets, RequestFits}
 use Rattle.pdu_format.specs.declared.requests.SegmentRequest.{SegmentRequest}
 use Rattle.pdu_format.specs.declared.pdu.Body.TheVariants as body
-use Rattle.receiver_core.specs.Reception.{State}
-use Rattle.receiver_core.specs.Answers.{request_of, last_end, requests_of, scope_of, missing_below, nak_of}
+use Rattle.receiver_table.specs.Reception.{State}
+use Rattle.receiver_table.specs.Answers.{request_of, last_end, requests_of, scope_of, missing_below, nak_of}
 use Rattle.receiver_core.specs.Naks.{requests_for, nak_with}
 
 -- one more that fits
@@ -25,8 +25,8 @@ pub last_is : (requests : List SegmentRequest) (r : SegmentRequest) → slice_ge
 last_is [] r e = absurd cc
 last_is (first ∷ []) r e = ap (λ (x : SegmentRequest). x.end) (sym (same_some first r e))
 last_is (first ∷ second ∷ requests) r e =
-    let place : length (first ∷ second ∷ requests) - 1 ≡ suc (length (second ∷ requests) - 1) = omega arith in
-    last_is (second ∷ requests) r (rw place at e)
+    let entries : length (first ∷ second ∷ requests) - 1 ≡ suc (length (second ∷ requests) - 1) = omega arith in
+    last_is (second ∷ requests) r (rw entries at e)
 
 -- the first of the requests for runs are those for the first runs
 pub take_map : (n : ℕ) (runs : List Run) → map request_of (take n runs) ≡ take n (map request_of runs)

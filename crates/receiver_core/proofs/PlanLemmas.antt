@@ -27,27 +27,27 @@ use Rattle.pdu_format.specs.declared.pdu.Body.TheVariants as body
 use Rattle.pdu_format.specs.declared.bodies.Eof.{Eof}
 use Rattle.pdu_format.specs.declared.bodies.Finished.{Finished}
 use Rattle.pdu_format.specs.declared.bodies.Metadata.{Metadata}
-use Rattle.receiver_core.specs.Reception.{Reception, State, Answer, step, is_storing, octet_at, finished_among, finished_in, tries_after, waiting_after, brings_more}
-use Rattle.receiver_core.specs.Refusals.{refusal_at, is_stale_store, waits_for_store, is_misplaced, is_too_large, is_full}
-use Rattle.receiver_core.specs.Answers as table
-use Rattle.receiver_core.specs.Answers.{row_of, seen, untimed, timed, accepted_at, answer_at, effect_of, bodies_of, pdu_to_sender, nak_of, ack_of, if_there, if_so, requests_of}
-use Rattle.receiver_core.specs.Standing.{state_from, bare, AreFew, IsSound}
-use Rattle.receiver_core.specs.Content.{received_of}
-use Rattle.receiver_core.specs.Row.{IsRow, row_value}
+use Rattle.receiver_table.specs.Reception.{Reception, State, Answer, step, is_storing, octet_at, finished_among, finished_in, tries_after, waiting_after, brings_more}
+use Rattle.receiver_table.specs.Refusals.{refusal_at, is_stale_store, waits_for_store, is_misplaced, is_too_large, is_full}
+use Rattle.receiver_table.specs.Answers as table
+use Rattle.receiver_table.specs.Answers.{response_to, with_event, without_timers, with_timers, accepted_at, answer_at, effect_of, bodies_of, pdu_to_sender, nak_of, ack_of, if_there, if_so, requests_of}
+use Rattle.receiver_core.specs.ControlBlock.{state_from, bare, AreFew, IsSound}
+use Rattle.receiver_core.specs.ReceivedFile.{received_of}
+use Rattle.receiver_core.specs.Response.{IsResponse, response_value}
 use Rattle.receiver_core.specs.Core.{shown, reception_of, now_state, metadata_after, received_after, HasRoom, IsLaid, IsChange, IsPlanOf, plan_answer, adds}
-use Rattle.receiver_core.specs.Planned.{IsSeen, IsPlanned, effect_by, deposit_of}
-use Rattle.receiver_core.specs.declared.plan.Change.{Change}
+use Rattle.receiver_core.specs.PlanParts.{IsWithEvent, HoldsResponse, effect_by, deposit_of}
+use Rattle.receiver_core.specs.declared.plan.FileChange.{FileChange}
 use Rattle.receiver_core.specs.declared.plan.Plan.{Plan}
 use Rattle.receiver_core.specs.declared.receiver.ReceiverCore.{ReceiverCore}
-use Rattle.receiver_core.specs.declared.row.Row as row_type
-use Rattle.receiver_core.specs.declared.standing.Standing.{Standing}
-use Rattle.receiver_core.proofs.RowLemmas.{row_is}
+use Rattle.receiver_core.specs.declared.response.Response as response_type
+use Rattle.receiver_core.specs.declared.control.ControlBlock.{ControlBlock}
+use Rattle.receiver_core.proofs.ResponseLemmas.{response_is}
 
 -- ---- states
 
 made : ℕ → (ℕ → Option ℕ) → ℕ → Option Metadata → Option Eof → Option ℕ → Option Finished → Bool → (TimerKind → Option ℕ) → (TimerKind → ℕ) → Bool → State
-made place received progress metadata eof waiting finished paused armed tries ended = record {
-  place = place;
+made entries received progress metadata eof waiting finished paused armed tries ended = record {
+  entries = entries;
   received = received;
   progress = progress;
   metadata = metadata;
@@ -60,14 +60,14 @@ made place received progress metadata eof waiting finished paused armed tries en
   ended = ended;
 }
 
-same_made : (a b : State) → a.place ≡ b.place → a.received ≡ b.received → a.progress ≡ b.progress → a.metadata ≡ b.metadata → a.eof ≡ b.eof → a.waiting ≡ b.waiting
+same_made : (a b : State) → a.entries ≡ b.entries → a.received ≡ b.received → a.progress ≡ b.progress → a.metadata ≡ b.metadata → a.eof ≡ b.eof → a.waiting ≡ b.waiting
     → a.finished ≡ b.finished → a.paused ≡ b.paused → a.armed ≡ b.armed → a.tries ≡ b.tries → a.ended ≡ b.ended
-    → made a.place a.received a.progress a.metadata a.eof a.waiting a.finished a.paused a.armed a.tries a.ended
-    ≡ made b.place b.received b.progress b.metadata b.eof b.waiting b.finished b.paused b.armed b.tries b.ended
+    → made a.entries a.received a.progress a.metadata a.eof a.waiting a.finished a.paused a.armed a.tries a.ended
+    ≡ made b.entries b.received b.progress b.metadata b.eof b.waiting b.finished b.paused b.armed b.tries b.ended
 same_made a b x1 x2 x3 x4 x5 x6 x7 x8 x9 x10 x11 = cc
 
--- states whose parts are the same
-pub same_state : (a b : State) → a.place ≡ b.place → ((i : ℕ) → a.received i ≡ b.received i) → a.progress ≡ b.progress → a.metadata ≡ b.metadata → a.eof ≡ b.eof
+-- states whose segments are the same
+pub same_state : (a b : State) → a.entries ≡ b.entries → ((i : ℕ) → a.received i ≡ b.received i) → a.progress ≡ b.progress → a.metadata ≡ b.metadata → a.eof ≡ b.eof
     → a.waiting ≡ b.waiting → a.finished ≡ b.finished → a.paused ≡ b.paused → ((kind : TimerKind) → a.armed kind ≡ b.armed kind)
     → ((kind : TimerKind) → a.tries kind ≡ b.tries kind) → a.ended ≡ b.ended → a ≡ b
 unfolding made
@@ -92,20 +92,20 @@ tries_same state event inds pdus timers deposit more kind e =
     (anew_same kind more (brings_more state (body_of_event event)) e)
 
 -- the state with the event
-pub is_seen : (core : ReceiverCore) (event : What) (c : Change) (now : Standing) → IsSeen core.standing event (adds c) now → IsChange core (body_of_event event) c
-    → IsLaid core.content c → now_state core now c ≡ seen (shown core) event
+pub is_with_event : (core : ReceiverCore) (event : What) (c : FileChange) (now : ControlBlock) → IsWithEvent core.control event (adds c) now → IsChange core (body_of_event event) c
+    → IsLaid core.file c → now_state core now c ≡ with_event (shown core) event
 unfolding step
-is_seen core event c now is change laid =
-    same_state (now_state core now c) _ is.place
-    (λ i. laid i ∙ ap (λ d. older_or (received_of core.content i) (octet_at d i)) change.piece)
+is_with_event core event c now is change laid =
+    same_state (now_state core now c) _ is.entries
+    (λ i. laid i ∙ ap (λ d. older_or (received_of core.file i) (octet_at d i)) change.file_data)
     is.progress change.metadata is.eof is.waiting is.finished is.paused
     (λ kind. ap (λ a. stamp_of a kind) is.armed)
     (λ kind. is.tries kind ∙ tries_same (shown core) event [] [] [] None (adds c) kind change.more)
-    (is.ended ∙ sym (or_false core.standing.ended))
+    (is.ended ∙ sym (or_false core.control.ended))
 
 -- ---- the answer
 
-effect_same : (r : table.Row) (a b : State) (event : What) (kind : TimerKind) → a.ended ≡ b.ended → a.waiting ≡ b.waiting → a.paused ≡ b.paused → a.finished ≡ b.finished
+effect_same : (r : table.Response) (a b : State) (event : What) (kind : TimerKind) → a.ended ≡ b.ended → a.waiting ≡ b.waiting → a.paused ≡ b.paused → a.finished ≡ b.finished
     → effect_of r a event kind ≡ effect_of r b event kind
 effect_same r a b event kind e w p f = rw (e, w, p, f) refl
 
@@ -135,9 +135,9 @@ among reception (Some code) false true (Some x) ended nb progress e = refl
 among reception (Some code) false false None ended nb progress e = refl
 among reception (Some code) false false (Some x) ended nb progress e = refl
 
--- of the PDUs of a row only its Finished is one
-finished_is : (reception : Reception) (state : State) (ended : Bool) (row : table.Row) → finished_among (map (pdu_to_sender reception) (bodies_of state ended row)) ≡ row.finished
-finished_is reception state ended row = among reception row.ack row.nak row.keep_alive row.finished ended (nak_of state) state.progress (nak_not_finished state)
+-- of the PDUs of a response only its Finished is one
+finished_is : (reception : Reception) (state : State) (ended : Bool) (response : table.Response) → finished_among (map (pdu_to_sender reception) (bodies_of state ended response)) ≡ response.finished
+finished_is reception state ended response = among reception response.ack response.nak response.keep_alive response.finished ended (nak_of state) state.progress (nak_not_finished state)
 
 made_answer : List Indication → List PduValue → List TimerOp → Option Deposit → Answer
 made_answer inds pdus timers deposit = record { inds = inds; pdus = pdus; timers = timers; deposit = deposit }
@@ -146,66 +146,66 @@ same_answer : (inds inds' : List Indication) (pdus pdus' : List PduValue) (timer
     → inds ≡ inds' → pdus ≡ pdus' → timers ≡ timers' → deposit ≡ deposit' → made_answer inds pdus timers deposit ≡ made_answer inds' pdus' timers' deposit'
 same_answer inds inds' pdus pdus' timers timers' deposit deposit' a b c d = cc
 
-effects_are : (core : ReceiverCore) (event : What) (now : Standing) (row : row_type.Row) (c : Change) (plan : Plan) → IsPlanned core event now row c plan
-    → effect_of (row_value row) (step (shown core) (record { event = event; answer = untimed (reception_of core) (shown core) (now_state core now c) (row_value row) })) event ≡ effect_by plan.next event row
+effects_are : (core : ReceiverCore) (event : What) (now : ControlBlock) (response : response_type.Response) (c : FileChange) (plan : Plan) → HoldsResponse core event now response c plan
+    → effect_of (response_value response) (step (shown core) (record { event = event; answer = without_timers (reception_of core) (shown core) (now_state core now c) (response_value response) })) event ≡ effect_by plan.next event response
 unfolding step
-effects_are core event now row c plan planned =
-    fun_ext (λ kind. effect_same (row_value row) (step (shown core) (record { event = event; answer = untimed (reception_of core) (shown core) (now_state core now c) (row_value row) })) (bare plan.next) event kind
+effects_are core event now response c plan planned =
+    fun_ext (λ kind. effect_same (response_value response) (step (shown core) (record { event = event; answer = without_timers (reception_of core) (shown core) (now_state core now c) (response_value response) })) (bare plan.next) event kind
     (sym planned.next.ended) (sym planned.next.waiting) (sym planned.next.paused)
-    (ap (λ f. newer_or f core.standing.finished) (finished_is (reception_of core) (now_state core now c) (list_any is_end row.inds) (row_value row)) ∙ sym planned.next.finished))
+    (ap (λ f. newer_or f core.control.finished) (finished_is (reception_of core) (now_state core now c) (list_any is_end response.inds) (response_value response)) ∙ sym planned.next.finished))
 
-pub accepted_is : (core : ReceiverCore) (event : What) (now : Standing) (row : row_type.Row) (c : Change) (plan : Plan)
-    → now_state core now c ≡ seen (shown core) event → IsRow row (row_of (reception_of core) (shown core) (now_state core now c) event) → IsPlanned core event now row c plan
+pub accepted_is : (core : ReceiverCore) (event : What) (now : ControlBlock) (response : response_type.Response) (c : FileChange) (plan : Plan)
+    → now_state core now c ≡ with_event (shown core) event → IsResponse response (response_to (reception_of core) (shown core) (now_state core now c) event) → HoldsResponse core event now response c plan
     → accepted_at (reception_of core) (shown core) event ≡ plan_answer plan
 unfolding made_answer
-accepted_is core event now row c plan is_now is planned =
+accepted_is core event now response c plan is_now is planned =
     let r : Reception = reception_of core in
     let f : State = shown core in
     let n : State = now_state core now c in
-    ap (λ (st : State). timed r f event (row_of r f st event) (untimed r f st (row_of r f st event))) (sym is_now)
-    ∙ ap (λ (w : table.Row). timed r f event w (untimed r f n w)) (sym (row_is row (row_of r f n event) is))
-    ∙ same_answer row.inds plan.answer.inds _ plan.answer.pdus _ plan.answer.timers _ plan.answer.deposit
+    ap (λ (st : State). with_timers r f event (response_to r f st event) (without_timers r f st (response_to r f st event))) (sym is_now)
+    ∙ ap (λ (w : table.Response). with_timers r f event w (without_timers r f n w)) (sym (response_is response (response_to r f n event) is))
+    ∙ same_answer response.inds plan.answer.inds _ plan.answer.pdus _ plan.answer.timers _ plan.answer.deposit
     (sym planned.inds) (sym planned.pdus)
-    (ap (λ e. operations core.key (timer_length core.params.timers) core.standing.place e (stamp_of core.standing.armed)) (effects_are core event now row c plan planned) ∙ sym planned.timers)
+    (ap (λ e. operations core.key (timer_length core.params.timers) core.control.entries e (stamp_of core.control.armed)) (effects_are core event now response c plan planned) ∙ sym planned.timers)
     (sym planned.deposit)
 
 -- ---- the state that follows
 
-stamp_is : (place : ℕ) (effect : Effect) (before : Option ℕ) → stamp_by place effect before ≡ armed_by place effect before
-stamp_is place arms before = refl
-stamp_is place keeps before = refl
-stamp_is place stops before = refl
+stamp_is : (entries : ℕ) (effect : Effect) (before : Option ℕ) → stamp_by entries effect before ≡ armed_by entries effect before
+stamp_is entries arms before = refl
+stamp_is entries keeps before = refl
+stamp_is entries stops before = refl
 
-pub follows : (core : ReceiverCore) (event : What) (now : Standing) (row : row_type.Row) (c : Change) (plan : Plan)
-    → IsSeen core.standing event (adds c) now → IsChange core (body_of_event event) c → IsPlanned core event now row c plan
-    → state_from plan.next (metadata_after core.metadata plan.change) (received_after core.content plan.change) ≡ step (shown core) (record { event = event; answer = plan_answer plan })
+pub follows : (core : ReceiverCore) (event : What) (now : ControlBlock) (response : response_type.Response) (c : FileChange) (plan : Plan)
+    → IsWithEvent core.control event (adds c) now → IsChange core (body_of_event event) c → HoldsResponse core event now response c plan
+    → state_from plan.next (metadata_after core.metadata plan.change) (received_after core.file plan.change) ≡ step (shown core) (record { event = event; answer = plan_answer plan })
 unfolding step
-follows core event now row c plan is change planned =
+follows core event now response c plan is change planned =
     let next = planned.next in
-    let inds : row.inds ≡ plan.answer.inds = sym planned.inds in
-    let finished : row.finished ≡ finished_among plan.answer.pdus =
-    sym (ap finished_among planned.pdus ∙ finished_is (reception_of core) (now_state core now c) (list_any is_end row.inds) (row_value row)) in
-    same_state (state_from plan.next (metadata_after core.metadata plan.change) (received_after core.content plan.change)) _
-    (next.place ∙ is.place)
-    (λ i. ap (λ x. received_after core.content x i) planned.change_is ∙ ap (λ d. older_or (received_of core.content i) (octet_at d i)) change.piece)
+    let inds : response.inds ≡ plan.answer.inds = sym planned.inds in
+    let finished : response.finished ≡ finished_among plan.answer.pdus =
+    sym (ap finished_among planned.pdus ∙ finished_is (reception_of core) (now_state core now c) (list_any is_end response.inds) (response_value response)) in
+    same_state (state_from plan.next (metadata_after core.metadata plan.change) (received_after core.file plan.change)) _
+    (next.entries ∙ is.entries)
+    (λ i. ap (λ x. received_after core.file x i) planned.change_is ∙ ap (λ d. older_or (received_of core.file i) (octet_at d i)) change.file_data)
     (next.progress ∙ is.progress)
     (ap (λ x. metadata_after core.metadata x) planned.change_is ∙ change.metadata)
     (next.eof ∙ is.eof)
-    (next.waiting ∙ ap (λ d. waiting_after core.standing.waiting event d) (sym planned.deposit))
-    (next.finished ∙ ap (λ f. newer_or f core.standing.finished) finished)
+    (next.waiting ∙ ap (λ d. waiting_after core.control.waiting event d) (sym planned.deposit))
+    (next.finished ∙ ap (λ f. newer_or f core.control.finished) finished)
     (rw inds at next.paused)
-    (λ kind. planned.armed kind ∙ stamp_is core.standing.place (effect_by plan.next event row kind) (stamp_of core.standing.armed kind)
-    ∙ sym (armed_after-operations core.key (timer_length core.params.timers) core.standing.place (effect_by plan.next event row) (stamp_of core.standing.armed) kind)
-    ∙ ap (λ t. armed_after core.standing.place (stamp_of core.standing.armed kind) t kind) (sym planned.timers))
+    (λ kind. planned.armed kind ∙ stamp_is core.control.entries (effect_by plan.next event response kind) (stamp_of core.control.armed kind)
+    ∙ sym (armed_after-operations core.key (timer_length core.params.timers) core.control.entries (effect_by plan.next event response) (stamp_of core.control.armed) kind)
+    ∙ ap (λ t. armed_after core.control.entries (stamp_of core.control.armed kind) t kind) (sym planned.timers))
     (λ kind. rw inds at (next.tries kind) ∙ tries_same (shown core) event plan.answer.inds plan.answer.pdus plan.answer.timers plan.answer.deposit (adds c) kind change.more)
     (rw inds at next.ended)
 
 -- ---- what the code can hold
 
-counted : (again expired : Bool) (t place : ℕ) → t ≤ place → (if again then 0 else if expired then t + 1 else t) ≤ place + 1
-counted true expired t place le = omega arith
-counted false true t place le = omega (arith, le)
-counted false false t place le = omega (arith, le)
+counted : (again expired : Bool) (t entries : ℕ) → t ≤ entries → (if again then 0 else if expired then t + 1 else t) ≤ entries + 1
+counted true expired t entries le = omega arith
+counted false true t entries le = omega (arith, le)
+counted false false t entries le = omega (arith, le)
 
 refused_not : {A : Type 0} (a b c d e f g : Bool) (t u v w x y z : A)
     → (if a then Some t else if b then Some u else if c then Some v else if d then Some w else if e then Some x else if f then Some y else if g then Some z else None) ≡ None
@@ -223,12 +223,12 @@ refused_not false false false false false false false t u v w x y z h = (refl, r
 pub taken_is : (reception : Reception) (front : State) (event : What) → refusal_at reception front event ≡ None
     → (is_stale_store front event ≡ false) × (is_too_large event ≡ false) × ((is_full front && needs_room event) ≡ false)
 taken_is reception front event taken =
-    refused_not (is_of_other_class reception.opening.class event) (is_stale_timer front.armed event) (is_stale_store front event) (is_storing front && waits_for_store event) (is_misplaced reception front event)
+    refused_not (is_of_other_class reception.header.class event) (is_stale_timer front.armed event) (is_stale_store front event) (is_storing front && waits_for_store event) (is_misplaced reception front event)
     (is_too_large event) (is_full front && needs_room event) refusal.ModeMismatch refusal.StaleTimer refusal.StaleStored refusal.Storing refusal.WrongState refusal.TooLarge refusal.JournalFull taken
 
 -- the room that is left
 Leaves : State → What → Option Deposit → Type 0
-Leaves front event deposit = (front.place ≤ 65534) × (is_some (waiting_after front.waiting event deposit) ≡ true → front.place + 1 ≤ 65534)
+Leaves front event deposit = (front.entries ≤ 65534) × (is_some (waiting_after front.waiting event deposit) ≡ true → front.entries + 1 ≤ 65534)
 
 and_true : (b : Bool) → (b && true) ≡ b
 and_true true = refl
@@ -237,7 +237,7 @@ and_true false = refl
 room : (front : State) (event : What) (deposit : Option Deposit) → (is_full front && true) ≡ false → Leaves front event deposit
 unfolding Leaves
 room front event deposit free =
-    let below : front.place < 65534 = leb-false 65534 front.place (sym (and_true (is_full front)) ∙ free) in
+    let below : front.entries < 65534 = leb-false 65534 front.entries (sym (and_true (is_full front)) ∙ free) in
     (omega (arith, below), λ waits. omega (arith, below))
 
 asked : (waiting : Option ℕ) (stamp : ℕ) → not (is_stamp waiting stamp) ≡ false → is_some waiting ≡ true
@@ -248,60 +248,60 @@ ends_true : (b : Bool) → (b || true) ≡ true
 ends_true true = refl
 ends_true false = refl
 
-goes_on : (reception : Reception) (front now : State) (event : What) (row : row_type.Row) (deposit : Option Deposit) (b : Bool) → refusal_at reception front event ≡ None
-    → IsRow row (row_of reception front now event) → (is_some front.waiting ≡ true → front.place ≤ 65534) → (b || list_any is_end row.inds) ≡ false → Leaves front event deposit
+goes_on : (reception : Reception) (front now : State) (event : What) (response : response_type.Response) (deposit : Option Deposit) (b : Bool) → refusal_at reception front event ≡ None
+    → IsResponse response (response_to reception front now event) → (is_some front.waiting ≡ true → front.entries ≤ 65534) → (b || list_any is_end response.inds) ≡ false → Leaves front event deposit
 unfolding Leaves
-goes_on reception front now (what.Pdu pdu) row deposit b taken is asks e = room front (what.Pdu pdu) deposit (taken_is reception front (what.Pdu pdu) taken).2
-goes_on reception front now (what.Timer kind stamp) row deposit b taken is asks e = room front (what.Timer kind stamp) deposit (taken_is reception front (what.Timer kind stamp) taken).2
-goes_on reception front now what.Pump row deposit b taken is asks e = room front what.Pump deposit (taken_is reception front what.Pump taken).2
-goes_on reception front now what.Cancel row deposit b taken is asks e = room front what.Cancel deposit (taken_is reception front what.Cancel taken).2
-goes_on reception front now what.Suspend row deposit b taken is asks e = room front what.Suspend deposit (taken_is reception front what.Suspend taken).2
-goes_on reception front now what.Resume row deposit b taken is asks e = room front what.Resume deposit (taken_is reception front what.Resume taken).2
-goes_on reception front now what.Report row deposit b taken is asks e = room front what.Report deposit (taken_is reception front what.Report taken).2
-goes_on reception front now what.Abandon row deposit b taken is asks e =
+goes_on reception front now (what.Pdu pdu) response deposit b taken is asks e = room front (what.Pdu pdu) deposit (taken_is reception front (what.Pdu pdu) taken).2
+goes_on reception front now (what.Timer kind stamp) response deposit b taken is asks e = room front (what.Timer kind stamp) deposit (taken_is reception front (what.Timer kind stamp) taken).2
+goes_on reception front now what.Pump response deposit b taken is asks e = room front what.Pump deposit (taken_is reception front what.Pump taken).2
+goes_on reception front now what.Cancel response deposit b taken is asks e = room front what.Cancel deposit (taken_is reception front what.Cancel taken).2
+goes_on reception front now what.Suspend response deposit b taken is asks e = room front what.Suspend deposit (taken_is reception front what.Suspend taken).2
+goes_on reception front now what.Resume response deposit b taken is asks e = room front what.Resume deposit (taken_is reception front what.Resume taken).2
+goes_on reception front now what.Report response deposit b taken is asks e = room front what.Report deposit (taken_is reception front what.Report taken).2
+goes_on reception front now what.Abandon response deposit b taken is asks e =
     let ends : (b || true) ≡ false = rw is.inds at e in
     let yes : (b || true) ≡ true = ends_true b in absurd cc
-goes_on reception front now (what.Stored stamp kept) row deposit b taken is asks e =
+goes_on reception front now (what.Stored stamp kept) response deposit b taken is asks e =
     (asks (asked front.waiting stamp (taken_is reception front (what.Stored stamp kept) taken).0), λ waits. absurd cc)
 
-pub sound_after : (core : ReceiverCore) (event : What) (now : Standing) (row : row_type.Row) (c : Change) (plan : Plan) → refusal_at (reception_of core) (shown core) event ≡ None
-    → IsSeen core.standing event (adds c) now → IsRow row (row_of (reception_of core) (shown core) (now_state core now c) event) → IsPlanned core event now row c plan
-    → core.standing.ended ≡ false → IsSound plan.next
+pub sound_after : (core : ReceiverCore) (event : What) (now : ControlBlock) (response : response_type.Response) (c : FileChange) (plan : Plan) → refusal_at (reception_of core) (shown core) event ≡ None
+    → IsWithEvent core.control event (adds c) now → IsResponse response (response_to (reception_of core) (shown core) (now_state core now c) event) → HoldsResponse core event now response c plan
+    → core.control.ended ≡ false → IsSound plan.next
 unfolding Leaves
-sound_after core event now row c plan taken seen_is is planned runs =
+sound_after core event now response c plan taken seen_is is planned runs =
     let next = planned.next in
-    let old : AreFew core.standing = core.sound.few in
-    let more : core.standing.place + 1 ≤ 65536 = core.sound.goes_on runs in
-    let place : plan.next.place ≡ core.standing.place + 1 = next.place ∙ seen_is.place in
+    let old : AreFew core.control = core.sound.few in
+    let more : core.control.entries + 1 ≤ 65536 = core.sound.goes_on runs in
+    let entries : plan.next.entries ≡ core.control.entries + 1 = next.entries ∙ seen_is.entries in
     record {
       few = record {
-        place = omega (arith, place, more);
+        entries = omega (arith, entries, more);
         tries = record {
-          ack = rw (next.tries Ack, place) (counted _ _ core.standing.tries.ack core.standing.place old.tries.ack);
-          nak = rw (next.tries Nak, place) (counted _ _ core.standing.tries.nak core.standing.place old.tries.nak);
-          check = rw (next.tries Check, place) (counted _ _ core.standing.tries.check core.standing.place old.tries.check);
-          inactivity = rw (next.tries Inactivity, place) (counted _ _ core.standing.tries.inactivity core.standing.place old.tries.inactivity);
+          ack = rw (next.tries Ack, entries) (counted _ _ core.control.tries.ack core.control.entries old.tries.ack);
+          nak = rw (next.tries Nak, entries) (counted _ _ core.control.tries.nak core.control.entries old.tries.nak);
+          check = rw (next.tries Check, entries) (counted _ _ core.control.tries.check core.control.entries old.tries.check);
+          inactivity = rw (next.tries Inactivity, entries) (counted _ _ core.control.tries.inactivity core.control.entries old.tries.inactivity);
         };
       };
       goes_on = λ e.
-          let leaves = goes_on (reception_of core) (shown core) (now_state core now c) event row (deposit_of core row) core.standing.ended taken is (core.sound.asks runs) (sym next.ended ∙ e) in
-          omega (arith, place, leaves.0);
+          let leaves = goes_on (reception_of core) (shown core) (now_state core now c) event response (deposit_of core response) core.control.ended taken is (core.sound.asks runs) (sym next.ended ∙ e) in
+          omega (arith, entries, leaves.0);
       asks = λ e waits.
-          let leaves = goes_on (reception_of core) (shown core) (now_state core now c) event row (deposit_of core row) core.standing.ended taken is (core.sound.asks runs) (sym next.ended ∙ e) in
-          let low : core.standing.place + 1 ≤ 65534 = leaves.1 (ap is_some (sym next.waiting) ∙ waits) in
-          omega (arith, place, low);
+          let leaves = goes_on (reception_of core) (shown core) (now_state core now c) event response (deposit_of core response) core.control.ended taken is (core.sound.asks runs) (sym next.ended ∙ e) in
+          let low : core.control.entries + 1 ≤ 65534 = leaves.1 (ap is_some (sym next.waiting) ∙ waits) in
+          omega (arith, entries, low);
     }
 
-pub is_plan : (core : ReceiverCore) (event : What) (now : Standing) (row : row_type.Row) (c : Change) (plan : Plan) → refusal_at (reception_of core) (shown core) event ≡ None
-    → IsSeen core.standing event (adds c) now → IsChange core (body_of_event event) c → HasRoom core.content c → IsLaid core.content c
-    → IsRow row (row_of (reception_of core) (shown core) (now_state core now c) event) → IsPlanned core event now row c plan → IsPlanOf core plan event
+pub is_plan : (core : ReceiverCore) (event : What) (now : ControlBlock) (response : response_type.Response) (c : FileChange) (plan : Plan) → refusal_at (reception_of core) (shown core) event ≡ None
+    → IsWithEvent core.control event (adds c) now → IsChange core (body_of_event event) c → HasRoom core.file c → IsLaid core.file c
+    → IsResponse response (response_to (reception_of core) (shown core) (now_state core now c) event) → HoldsResponse core event now response c plan → IsPlanOf core plan event
 unfolding answer_at
-is_plan core event now row c plan taken seen_is change room laid is planned = record {
-  accepted = rw taken (ap Ok (accepted_is core event now row c plan (is_seen core event c now seen_is change laid) is planned));
-  follows = follows core event now row c plan seen_is change planned;
+is_plan core event now response c plan taken seen_is change room laid is planned = record {
+  accepted = rw taken (ap Ok (accepted_is core event now response c plan (is_with_event core event c now seen_is change laid) is planned));
+  follows = follows core event now response c plan seen_is change planned;
   fits = rw planned.change_is change.fits;
   room = rw planned.change_is room;
-  sound = sound_after core event now row c plan taken seen_is is planned;
+  sound = sound_after core event now response c plan taken seen_is is planned;
 }
 
 pub refused_is : (reception : Reception) (state : State) (event : What) (why : Refusal) → refusal_at reception state event ≡ Some why → answer_at reception state event ≡ Err why
@@ -312,8 +312,8 @@ pub answered_is : (reception : Reception) (state : State) (event : What) → ref
 unfolding answer_at
 answered_is reception state event taken = rw taken refl
 
-pub is_plan_if : (core : ReceiverCore) (event : What) (now : Standing) (row : row_type.Row) (c : Change) (result : Result Plan AllocError) → refusal_at (reception_of core) (shown core) event ≡ None
-    → IsSeen core.standing event (adds c) now → IsChange core (body_of_event event) c → HasRoom core.content c → IsLaid core.content c
-    → IsRow row (row_of (reception_of core) (shown core) (now_state core now c) event) → IfOk result (λ plan. IsPlanned core event now row c plan) → IfOk result (λ plan. IsPlanOf core plan event)
-is_plan_if core event now row c (Ok plan) taken seen_is change room laid is planned = is_plan core event now row c plan taken seen_is change room laid is planned
-is_plan_if core event now row c (Err e) taken seen_is change room laid is planned = tt
+pub is_plan_if : (core : ReceiverCore) (event : What) (now : ControlBlock) (response : response_type.Response) (c : FileChange) (result : Result Plan AllocError) → refusal_at (reception_of core) (shown core) event ≡ None
+    → IsWithEvent core.control event (adds c) now → IsChange core (body_of_event event) c → HasRoom core.file c → IsLaid core.file c
+    → IsResponse response (response_to (reception_of core) (shown core) (now_state core now c) event) → IfOk result (λ plan. HoldsResponse core event now response c plan) → IfOk result (λ plan. IsPlanOf core plan event)
+is_plan_if core event now response c (Ok plan) taken seen_is change room laid is planned = is_plan core event now response c plan taken seen_is change room laid is planned
+is_plan_if core event now response c (Err e) taken seen_is change room laid is planned = tt

@@ -15,27 +15,27 @@ use Rattle.pdu_format.specs.Pdu.{PduValue}
 use Rattle.pdu_format.specs.declared.pdu.Header.{Header}
 use Rattle.pdu_format.specs.declared.bodies.Metadata.{Metadata}
 use Rattle.pdu_format.specs.declared.bodies.FileData.{FileData}
-use Rattle.receiver_core.specs.Reception.{Reception, State, Entry, step, state_of, metadata_of, file_data_of, added_runs, brings_more}
-use Rattle.receiver_core.specs.Reception as reception_module
-use Rattle.receiver_core.specs.Answers.{answer_at}
-use Rattle.receiver_core.specs.LegalReceptions.{BodyOpens}
-use Rattle.receiver_core.specs.Standing.{state_from, IsSound}
+use Rattle.receiver_table.specs.Reception.{Reception, State, Entry, step, state_of, metadata_of, file_data_of, added_runs, brings_more}
+use Rattle.receiver_table.specs.Reception as reception_module
+use Rattle.receiver_table.specs.Answers.{answer_at}
+use Rattle.receiver_laws.specs.LegalReceptions.{BodyOpens}
+use Rattle.receiver_core.specs.ControlBlock.{state_from, IsSound}
 use Rattle.receiver_core.specs.Offsets.{IsInside, octets_in}
-use Rattle.receiver_core.specs.Content.{received_of, with_part, end_of, IsPartOf}
+use Rattle.receiver_core.specs.ReceivedFile.{received_of, with_segment, end_of, IsSegmentOf}
 use Rattle.receiver_core.specs.declared.answer.Answer as answer_type
-use Rattle.receiver_core.specs.declared.content.Content.{Content}
-use Rattle.receiver_core.specs.declared.plan.Change.{Change}
-use Rattle.receiver_core.specs.declared.plan.Change.TheVariants as change
+use Rattle.receiver_core.specs.declared.received_file.ReceivedFile.{ReceivedFile}
+use Rattle.receiver_core.specs.declared.plan.FileChange.{FileChange}
+use Rattle.receiver_core.specs.declared.plan.FileChange.TheVariants as change
 use Rattle.receiver_core.specs.declared.plan.Plan.{Plan}
 use Rattle.receiver_core.specs.declared.receiver.ReceiverCore.{ReceiverCore}
-use Rattle.receiver_core.specs.declared.standing.Standing.{Standing}
+use Rattle.receiver_core.specs.declared.control.ControlBlock.{ControlBlock}
 
 -- what is settled when a PDU with this header opens a reception
 abbrev pub reception_by : TxnKey → ParamsValue → Header → Reception
-reception_by key params opening = record { key = key; params = params; opening = opening }
+reception_by key params header = record { key = key; params = params; header = header }
 
 abbrev pub reception_of : ReceiverCore → Reception
-reception_of core = reception_by core.key core.params core.opening
+reception_of core = reception_by core.key core.params core.header
 
 -- a PDU opens the reception of a key
 pub record MayOpen (key : TxnKey) (pdu : PduValue) : Type 0 where
@@ -45,7 +45,7 @@ pub record MayOpen (key : TxnKey) (pdu : PduValue) : Type 0 where
 
 -- what a core stands at
 abbrev pub shown : ReceiverCore → State
-shown core = state_from core.standing core.metadata (received_of core.content)
+shown core = state_from core.control core.metadata (received_of core.file)
 
 -- what the core holds is what the log gives
 abbrev pub StandsAfter : ReceiverCore → List Entry → Type 0
@@ -62,56 +62,56 @@ plan_answer plan = answer_value plan.answer
 -- ---- what an event changes in what is kept
 
 -- the Metadata after a change
-abbrev pub metadata_after : Option Metadata → Change → Option Metadata
+abbrev pub metadata_after : Option Metadata → FileChange → Option Metadata
 metadata_after metadata (change.Metadata m) = Some m
 metadata_after metadata _ = metadata
 
--- the part of the file that a change adds
-abbrev pub piece_of : Change → Option FileData
-piece_of (change.Part part) = Some part.piece
-piece_of _ = None
+-- the segment of the file that a change adds
+abbrev pub segment_of : FileChange → Option FileData
+segment_of (change.NewSegment segment) = Some segment.file_data
+segment_of _ = None
 
 -- the octets that came, after a change
-abbrev pub received_after : Content → Change → ℕ → Option ℕ
-received_after content c = with_part (received_of content) (piece_of c)
+abbrev pub received_after : ReceivedFile → FileChange → ℕ → Option ℕ
+received_after file c = with_segment (received_of file) (segment_of c)
 
 -- the offsets that came, after a change
-abbrev pub covered_after : Content → Change → ℕ → Bool
-covered_after content (change.Part part) = covered part.gaps
-covered_after content _ = covered content.gaps
+abbrev pub covered_after : ReceivedFile → FileChange → ℕ → Bool
+covered_after file (change.NewSegment segment) = covered segment.gaps
+covered_after file _ = covered file.gaps
 
--- a part is one of what is kept
-abbrev pub FitsContent : Content → Change → Type 0
-FitsContent content (change.Part part) = IsPartOf (covered content.gaps) part
-FitsContent content _ = Unit {0}
+-- a segment is one of what is kept
+abbrev pub FitsFile : ReceivedFile → FileChange → Type 0
+FitsFile file (change.NewSegment segment) = IsSegmentOf (covered file.gaps) segment
+FitsFile file _ = Unit {0}
 
 -- there is room for what a change adds
-abbrev pub HasRoom : Content → Change → Type 0
-HasRoom content (change.Part part) = end_of part ≤ vec_len content.octets
-HasRoom content _ = Unit {0}
+abbrev pub HasRoom : ReceivedFile → FileChange → Type 0
+HasRoom file (change.NewSegment segment) = end_of segment ≤ vec_len file.octets
+HasRoom file _ = Unit {0}
 
 -- what a change adds lies at its place already
-abbrev pub IsLaid : Content → Change → Type 0
-IsLaid content c = (i : ℕ) → octets_in content.octets.items (covered_after content c) i ≡ received_after content c i
+abbrev pub IsLaid : ReceivedFile → FileChange → Type 0
+IsLaid file c = (i : ℕ) → octets_in file.octets.items (covered_after file c) i ≡ received_after file c i
 
 -- what a core stands at with an event and the change that it brings, before it is answered
-abbrev pub now_state : ReceiverCore → Standing → Change → State
-now_state core now c = state_from now (metadata_after core.metadata c) (octets_in core.content.octets.items (covered_after core.content c))
+abbrev pub now_state : ReceiverCore → ControlBlock → FileChange → State
+now_state core now c = state_from now (metadata_after core.metadata c) (octets_in core.file.octets.items (covered_after core.file c))
 
 -- the new runs of a change
-abbrev pub runs_in : Change → List Run
-runs_in (change.Part part) = part.runs.items
+abbrev pub runs_in : FileChange → List Run
+runs_in (change.NewSegment segment) = segment.runs.items
 runs_in _ = []
 
 -- a change adds to the file, or is the first Metadata
-abbrev pub adds : Change → Bool
+abbrev pub adds : FileChange → Bool
 adds (change.Metadata m) = true
-adds (change.Part part) = not (length part.runs.items == 0)
+adds (change.NewSegment segment) = not (length segment.runs.items == 0)
 adds change.Nothing = false
 
 -- the offsets that came are those of octets that are kept
-abbrev pub IsCovered : Content → Change → Type 0
-IsCovered content c = IsInside (length content.octets.items) (covered_after content c)
+abbrev pub IsCovered : ReceivedFile → FileChange → Type 0
+IsCovered file c = IsInside (length file.octets.items) (covered_after file c)
 
 -- neither a PDU nor a timer
 abbrev pub is_request : What → Bool
@@ -120,21 +120,21 @@ is_request (what.Timer kind stamp) = false
 is_request _ = true
 
 -- the change that a body brings, if there is one
-pub record IsChange (core : ReceiverCore) (b : Option Body) (c : Change) : Type 0 where
+pub record IsChange (core : ReceiverCore) (b : Option Body) (c : FileChange) : Type 0 where
   pub metadata : metadata_after core.metadata c ≡ older_or core.metadata (metadata_of b)
-  pub piece : piece_of c ≡ file_data_of b
-  pub fits : FitsContent core.content c
+  pub file_data : segment_of c ≡ file_data_of b
+  pub fits : FitsFile core.file c
   pub runs : runs_in c ≡ added_runs (shown core) (file_data_of b)
   pub more : adds c ≡ brings_more (shown core) b
 
 -- a core that differs at most in its room, and in octets at offsets that did not come
 pub record IsSame (old : ReceiverCore) (new : ReceiverCore) : Type 0 where
   pub reception : reception_of new ≡ reception_of old
-  pub standing : new.standing ≡ old.standing
+  pub control : new.control ≡ old.control
   pub metadata : new.metadata ≡ old.metadata
-  pub received : (i : ℕ) → received_of new.content i ≡ received_of old.content i
-  pub gaps : (i : ℕ) → covered new.content.gaps i ≡ covered old.content.gaps i
-  pub longer : vec_len old.content.octets ≤ vec_len new.content.octets
+  pub received : (i : ℕ) → received_of new.file i ≡ received_of old.file i
+  pub gaps : (i : ℕ) → covered new.file.gaps i ≡ covered old.file.gaps i
+  pub longer : vec_len old.file.octets ≤ vec_len new.file.octets
 
 -- ---- plans
 
@@ -149,8 +149,8 @@ IsWhyNot image why = (image ≡ Err why) ⊎ ((why ≡ refusal.NoMemory) × IsOk
 -- in the core's present state the event is answered as planned, and the plan holds what follows
 pub record IsPlanOf (core : ReceiverCore) (plan : Plan) (event : What) : Type 0 where
   pub accepted : answer_at (reception_of core) (shown core) event ≡ Ok (plan_answer plan)
-  pub follows : state_from plan.next (metadata_after core.metadata plan.change) (received_after core.content plan.change)
+  pub follows : state_from plan.next (metadata_after core.metadata plan.change) (received_after core.file plan.change)
       ≡ step (shown core) (record { event = event; answer = plan_answer plan })
-  pub fits : FitsContent core.content plan.change
-  pub room : HasRoom core.content plan.change
-  pub sound : core.standing.ended ≡ false → IsSound plan.next
+  pub fits : FitsFile core.file plan.change
+  pub room : HasRoom core.file plan.change
+  pub sound : core.control.ended ≡ false → IsSound plan.next

@@ -4,7 +4,7 @@ use Rattle.cfdp_types.specs.declared.limits.TheConstants.{NAK_REQUESTS}
 use Rattle.gap_list.specs.declared.run.Run.{Run}
 use Rattle.pdu_format.specs.declared.bodies.Nak.{Nak}
 use Rattle.pdu_format.specs.declared.requests.SegmentRequest.{SegmentRequest}
-use Rattle.receiver_core.specs.Answers.{request_of, last_end}
+use Rattle.receiver_table.specs.Answers.{request_of, last_end}
 
 -- the requests for what is missing: the Metadata first, then the runs
 abbrev pub requests_for : Bool → List Run → List SegmentRequest

@@ -1,12 +1,12 @@
 //! What a reception answers, event by event.
 ghost use Rattle.std.specs.Prelude.{◌≡◌, ◌<◌, IfOk, All, map};
-ghost use Rattle.receiver_core.specs.Answers.{segment_told};
+ghost use Rattle.receiver_table.specs.Answers.{segment_told};
 
 use crate::examine::look;
-use crate::plan::Change;
+use crate::plan::FileChange;
 use crate::receiver::ReceiverCore;
-use crate::row::Row;
-use crate::standing::Standing;
+use crate::response::Response;
+use crate::control::ControlBlock;
 use cfdp_types::{ChecksumType, Class, Condition, Delivery, FileStatus, TimerKind};
 use gap_list::{Gaps, Run};
 use ind_words::{Indication, Indications};
@@ -21,33 +21,33 @@ impl ReceiverCore {
     ghost use Rattle.pdu_codec.specs.declared.event.What.TheVariants as what;
     ghost use Rattle.ind_words.specs.declared.indication.Indication.TheVariants as told;
     ghost use Rattle.pdu_codec.specs.Events.{body_of_event};
-    ghost use Rattle.receiver_core.specs.Reception.{added_runs, file_data_of};
-    ghost use Rattle.receiver_core.specs.Answers as table;
-    ghost use Rattle.receiver_core.specs.Answers.{tells, nothing, segment_told, ◌and_then◌};
-    ghost use Rattle.receiver_core.specs.Row.{IsRow};
-    ghost use Rattle.receiver_core.specs.Standing.{state_from};
+    ghost use Rattle.receiver_table.specs.Reception.{added_runs, file_data_of};
+    ghost use Rattle.receiver_table.specs.Answers as table;
+    ghost use Rattle.receiver_table.specs.Answers.{tells, nothing, segment_told, ◌and_then◌};
+    ghost use Rattle.receiver_core.specs.Response.{IsResponse};
+    ghost use Rattle.receiver_core.specs.ControlBlock.{state_from};
     ghost use Rattle.pdu_format.specs.declared.bodies.Metadata.{Metadata};
     ghost use Rattle.receiver_core.specs.Core.{shown, reception_of, metadata_after, covered_after, runs_in, now_state, is_request, IsCovered};
     ghost use Rattle.cfdp_types.specs.declared.names.Delivery.TheVariants.{Incomplete};
     ghost use Rattle.cfdp_types.specs.declared.names.FileStatus.TheVariants.{Discarded};
 
     /// Which offsets came, after a change.
-    pub(crate) fn gaps_after<'a>(&'a self, change: &'a Change) -> &'a Gaps
-        ensures { covered result.now ≡ covered_after self.now.content change.now }
+    pub(crate) fn gaps_after<'a>(&'a self, change: &'a FileChange) -> &'a Gaps
+        ensures { covered result.now ≡ covered_after self.now.file change.now }
     {
         match change {
-            Change::Part(part) => &part.gaps,
-            Change::Nothing | Change::Metadata(_) => &self.content.gaps,
+            FileChange::NewSegment(segment) => &segment.gaps,
+            FileChange::Nothing | FileChange::Metadata(_) => &self.file.gaps,
         }
     }
 
     // The file's type of checksum after a change, where the Metadata came.
-    fn checksum_type_after(&self, change: &Change) -> Option<ChecksumType>
+    fn checksum_type_after(&self, change: &FileChange) -> Option<ChecksumType>
         ensures { result ≡ option_map (λ m. m.checksum_type) (metadata_after self.now.metadata change.now) }
     {
         match change {
-            Change::Metadata(metadata) => Some(metadata.checksum_type),
-            Change::Nothing | Change::Part(_) => match &self.metadata {
+            FileChange::Metadata(metadata) => Some(metadata.checksum_type),
+            FileChange::Nothing | FileChange::NewSegment(_) => match &self.metadata {
                 None => None,
                 Some(metadata) => Some(metadata.checksum_type),
             },
@@ -55,19 +55,19 @@ impl ReceiverCore {
     }
 
     // The look at the file so far, once the user was told something.
-    fn examine(&self, inds: Indications, now: &Standing, change: &Change) -> Result<Row, AllocError>
-        requires { IsCovered self.now.content change.now }
-        ensures row { IfOk result (λ row. IsRow row (tells inds and_then table.examines (reception_of self.now) (now_state self.now now.now change.now))) }
-        ensures plain { IfOk result (λ row. row.resumes ≡ false) }
+    fn examine(&self, inds: Indications, now: &ControlBlock, change: &FileChange) -> Result<Response, AllocError>
+        requires { IsCovered self.now.file change.now }
+        ensures response { IfOk result (λ response. IsResponse response (tells inds and_then table.examines (reception_of self.now) (now_state self.now now.now change.now))) }
+        ensures plain { IfOk result (λ response. response.resumes ≡ false) }
     {
         if now.is_suspended() {
-            return Ok(Row::of(inds));
+            return Ok(Response::of(inds));
         }
         let finding = look(
             self.checksum_type_after(change),
             now,
             self.gaps_after(change),
-            self.content.octets.as_slice(),
+            self.file.octets.as_slice(),
         );
         self.answers_finding(inds, now, finding)
     }
@@ -92,92 +92,92 @@ impl ReceiverCore {
     fn on_metadata(
         &self,
         metadata: &Metadata,
-        now: &Standing,
-        change: &Change,
-    ) -> Result<Row, AllocError>
-        requires { IsCovered self.now.content change.now }
-        ensures { IfOk result (λ row. IsRow row (table.on_metadata (reception_of self.now) (shown self.now) (now_state self.now now.now change.now) metadata.now)) }
+        now: &ControlBlock,
+        change: &FileChange,
+    ) -> Result<Response, AllocError>
+        requires { IsCovered self.now.file change.now }
+        ensures { IfOk result (λ response. IsResponse response (table.on_metadata (reception_of self.now) (shown self.now) (now_state self.now now.now change.now) metadata.now)) }
     {
         let inds = self.metadata_told(metadata)?;
         self.examine(inds, now, change)
     }
 
     // What the user is told of the new octets of a change.
-    fn part_told(&self, change: &Change) -> Result<Indications, AllocError>
+    fn part_told(&self, change: &FileChange) -> Result<Indications, AllocError>
         requires { All (λ run. run.start < run.end) (runs_in change.now) }
         ensures { IfOk result (λ inds. inds ≡ map segment_told (runs_in change.now)) }
     {
         match change {
-            Change::Part(part) => segments_told(self.alloc, part.runs.as_slice()),
-            Change::Nothing | Change::Metadata(_) => Ok(Indications::new(self.alloc)),
+            FileChange::NewSegment(segment) => segments_told(self.alloc, segment.runs.as_slice()),
+            FileChange::Nothing | FileChange::Metadata(_) => Ok(Indications::new(self.alloc)),
         }
     }
 
     // The user is told of each run of new octets.
-    fn on_file_data(&self, now: &Standing, change: &Change) -> Result<Row, AllocError>
-        requires covered { IsCovered self.now.content change.now }
+    fn on_file_data(&self, now: &ControlBlock, change: &FileChange) -> Result<Response, AllocError>
+        requires covered { IsCovered self.now.file change.now }
         requires filled { All (λ run. run.start < run.end) (runs_in change.now) }
-        ensures { IfOk result (λ row. IsRow row (tells (map segment_told (runs_in change.now)) and_then table.examines (reception_of self.now) (now_state self.now now.now change.now))) }
+        ensures { IfOk result (λ response. IsResponse response (tells (map segment_told (runs_in change.now)) and_then table.examines (reception_of self.now) (now_state self.now now.now change.now))) }
     {
         let inds = self.part_told(change)?;
         self.examine(inds, now, change)
     }
 
     // Class 2 acknowledges an EOF.
-    fn acknowledges(&self, row: &mut Row, condition: Condition)
-        ensures { (wanted : table.Row) → IsRow row.old wanted → IsRow row.new (table.acknowledges (reception_of self.now) condition and_then wanted) }
+    fn acknowledges(&self, response: &mut Response, condition: Condition)
+        ensures { (wanted : table.Response) → IsResponse response.old wanted → IsResponse response.new (table.acknowledges (reception_of self.now) condition and_then wanted) }
     {
-        if self.opening.class == Class::Two {
-            row.ack = Some(condition);
+        if self.header.class == Class::Two {
+            response.ack = Some(condition);
         }
     }
 
     // What the user is told of the first EOF without an error.
     fn eof_told(&self) -> Result<Indications, AllocError>
-        ensures { IfOk result (λ inds. inds ≡ (if is_some self.now.standing.eof then [] else told.EofRecv ∷ [])) }
+        ensures { IfOk result (λ inds. inds ≡ (if is_some self.now.control.eof then [] else told.EofRecv ∷ [])) }
     {
         let mut inds = Indications::new(self.alloc);
-        if self.standing.eof.is_none() {
+        if self.control.eof.is_none() {
             inds.push(Indication::EofRecv)?;
         }
         Ok(inds)
     }
 
     // An EOF without an error, outside the closing phase.
-    fn on_good_eof(&self, now: &Standing, change: &Change) -> Result<Row, AllocError>
-        requires { IsCovered self.now.content change.now }
-        ensures { IfOk result (λ row. IsRow row (tells (if is_some self.now.standing.eof then [] else told.EofRecv ∷ []) and_then table.acknowledges (reception_of self.now) condition.no_error and_then table.examines (reception_of self.now) (now_state self.now now.now change.now))) }
+    fn on_good_eof(&self, now: &ControlBlock, change: &FileChange) -> Result<Response, AllocError>
+        requires { IsCovered self.now.file change.now }
+        ensures { IfOk result (λ response. IsResponse response (tells (if is_some self.now.control.eof then [] else told.EofRecv ∷ []) and_then table.acknowledges (reception_of self.now) condition.no_error and_then table.examines (reception_of self.now) (now_state self.now now.now change.now))) }
     {
         let inds = self.eof_told()?;
-        let mut row = self.examine(inds, now, change)?;
-        if self.opening.class == Class::Two {
-            row.ack = Some(Condition::NO_ERROR);
+        let mut response = self.examine(inds, now, change)?;
+        if self.header.class == Class::Two {
+            response.ack = Some(Condition::NO_ERROR);
         }
-        Ok(row)
+        Ok(response)
     }
 
     // An EOF with an error ends the reception.
-    fn on_bad_eof(&self, condition: Condition) -> Result<Row, AllocError>
-        ensures { IfOk result (λ row. IsRow row (tells (told.TransactionFinished condition Incomplete Discarded ∷ []) and_then table.acknowledges (reception_of self.now) condition)) }
+    fn on_bad_eof(&self, condition: Condition) -> Result<Response, AllocError>
+        ensures { IfOk result (λ response. IsResponse response (tells (told.TransactionFinished condition Incomplete Discarded ∷ []) and_then table.acknowledges (reception_of self.now) condition)) }
     {
         let told = Indication::TransactionFinished {
             condition,
             delivery: Delivery::Incomplete,
             status: FileStatus::Discarded,
         };
-        let mut row = Row::telling(self.alloc, told)?;
-        self.acknowledges(&mut row, condition);
-        Ok(row)
+        let mut response = Response::telling(self.alloc, told)?;
+        self.acknowledges(&mut response, condition);
+        Ok(response)
     }
 
-    fn on_eof(&self, eof: Eof, now: &Standing, change: &Change) -> Result<Row, AllocError>
-        requires { IsCovered self.now.content change.now }
-        ensures { IfOk result (λ row. IsRow row (table.on_eof (reception_of self.now) (shown self.now) (now_state self.now now.now change.now) eof)) }
+    fn on_eof(&self, eof: Eof, now: &ControlBlock, change: &FileChange) -> Result<Response, AllocError>
+        requires { IsCovered self.now.file change.now }
+        ensures { IfOk result (λ response. IsResponse response (table.on_eof (reception_of self.now) (shown self.now) (now_state self.now now.now change.now) eof)) }
     {
-        if self.standing.is_closing() {
-            let mut row = Row::of(Indications::new(self.alloc));
-            self.acknowledges(&mut row, eof.condition);
-            Ok(row)
+        if self.control.is_closing() {
+            let mut response = Response::of(Indications::new(self.alloc));
+            self.acknowledges(&mut response, eof.condition);
+            Ok(response)
         } else if eof.condition == Condition::NO_ERROR {
             self.on_good_eof(now, change)
         } else {
@@ -186,24 +186,24 @@ impl ReceiverCore {
     }
 
     // A NAK, unless suspended, or a Keep Alive.
-    fn on_prompt(&self, prompt: Prompt, now: &Standing) -> Row
-        ensures { (m : Option Metadata) (octets : ℕ → Option ℕ) → IsRow result (table.on_prompt (state_from now.now m octets) prompt) }
+    fn on_prompt(&self, prompt: Prompt, now: &ControlBlock) -> Response
+        ensures { (m : Option Metadata) (octets : ℕ → Option ℕ) → IsResponse result (table.on_prompt (state_from now.now m octets) prompt) }
     {
-        let mut row = Row::of(Indications::new(self.alloc));
+        let mut response = Response::of(Indications::new(self.alloc));
         match prompt {
-            Prompt::Nak => row.nak = !now.is_suspended(),
-            Prompt::KeepAlive => row.keep_alive = true,
+            Prompt::Nak => response.nak = !now.is_suspended(),
+            Prompt::KeepAlive => response.keep_alive = true,
         }
-        row
+        response
     }
 
     // The user is told the values of the Finished PDU.
-    fn ends_as_finished(&self) -> Result<Row, AllocError>
-        ensures { IfOk result (λ row. IsRow row (table.ends_as_finished (shown self.now))) }
+    fn ends_as_finished(&self) -> Result<Response, AllocError>
+        ensures { IfOk result (λ response. IsResponse response (table.ends_as_finished (shown self.now))) }
     {
-        match self.standing.finished {
-            None => Ok(Row::of(Indications::new(self.alloc))),
-            Some(finished) => Row::telling(
+        match self.control.finished {
+            None => Ok(Response::of(Indications::new(self.alloc))),
+            Some(finished) => Response::telling(
                 self.alloc,
                 Indication::TransactionFinished {
                     condition: finished.condition,
@@ -214,11 +214,11 @@ impl ReceiverCore {
         }
     }
 
-    fn on_body(&self, body: &Body, now: &Standing, change: &Change) -> Result<Row, AllocError>
-        requires covered { IsCovered self.now.content change.now }
+    fn on_body(&self, body: &Body, now: &ControlBlock, change: &FileChange) -> Result<Response, AllocError>
+        requires covered { IsCovered self.now.file change.now }
         requires filled { All (λ run. run.start < run.end) (runs_in change.now) }
         requires runs { runs_in change.now ≡ added_runs (shown self.now) (file_data_of (Some body.now)) }
-        ensures { IfOk result (λ row. IsRow row (table.on_body (reception_of self.now) (shown self.now) (now_state self.now now.now change.now) body.now)) }
+        ensures { IfOk result (λ response. IsResponse response (table.on_body (reception_of self.now) (shown self.now) (now_state self.now now.now change.now) body.now)) }
     {
         match body {
             Body::Metadata(metadata) => self.on_metadata(metadata, now, change),
@@ -227,62 +227,62 @@ impl ReceiverCore {
             Body::Prompt(prompt) => Ok(self.on_prompt(*prompt, now)),
             Body::Ack(_) => self.ends_as_finished(),
             Body::Finished(_) | Body::Nak(_) | Body::KeepAlive(_) => {
-                Ok(Row::of(Indications::new(self.alloc)))
+                Ok(Response::of(Indications::new(self.alloc)))
             }
         }
     }
 
     // Nak: the NAK once more, and at the limit a fault.
-    fn on_nak_timer(&self, now: &Standing) -> Result<Row, AllocError>
-        ensures { (m : Option Metadata) (octets : ℕ → Option ℕ) → IfOk result (λ row. IsRow row (table.on_nak_timer (reception_of self.now) (shown self.now) (state_from now.now m octets))) }
+    fn on_nak_timer(&self, now: &ControlBlock) -> Result<Response, AllocError>
+        ensures { (m : Option Metadata) (octets : ℕ → Option ℕ) → IfOk result (λ response. IsResponse response (table.on_nak_timer (reception_of self.now) (shown self.now) (state_from now.now m octets))) }
     {
         let inds = Indications::new(self.alloc);
-        if self.standing.tries.nak + 1 < u32::from(self.params.limits().nak) {
-            let mut row = Row::of(inds);
-            row.nak = true;
-            row.arms = Some(TimerKind::Nak);
-            Ok(row)
+        if self.control.tries.nak + 1 < u32::from(self.params.limits().nak) {
+            let mut response = Response::of(inds);
+            response.nak = true;
+            response.arms = Some(TimerKind::Nak);
+            Ok(response)
         } else {
-            self.faults(inds, now, Some(TimerKind::Nak), Condition::NAK_LIMIT)
+            self.fault_response(inds, now, Some(TimerKind::Nak), Condition::NAK_LIMIT)
         }
     }
 
     // Check: at the limit a fault.
-    fn on_check_timer(&self, now: &Standing) -> Result<Row, AllocError>
-        ensures { (m : Option Metadata) (octets : ℕ → Option ℕ) → IfOk result (λ row. IsRow row (table.on_check_timer (reception_of self.now) (shown self.now) (state_from now.now m octets))) }
+    fn on_check_timer(&self, now: &ControlBlock) -> Result<Response, AllocError>
+        ensures { (m : Option Metadata) (octets : ℕ → Option ℕ) → IfOk result (λ response. IsResponse response (table.on_check_timer (reception_of self.now) (shown self.now) (state_from now.now m octets))) }
     {
         let inds = Indications::new(self.alloc);
-        if self.standing.tries.check + 1 < u32::from(self.params.limits().check) {
-            let mut row = Row::of(inds);
-            row.arms = Some(TimerKind::Check);
-            Ok(row)
+        if self.control.tries.check + 1 < u32::from(self.params.limits().check) {
+            let mut response = Response::of(inds);
+            response.arms = Some(TimerKind::Check);
+            Ok(response)
         } else {
-            self.faults(inds, now, Some(TimerKind::Check), Condition::CHECK_LIMIT)
+            self.fault_response(inds, now, Some(TimerKind::Check), Condition::CHECK_LIMIT)
         }
     }
 
     // Ack: the Finished PDU once more, and at the limit the end.
-    fn on_ack_timer(&self) -> Result<Row, AllocError>
-        ensures { IfOk result (λ row. IsRow row (table.on_ack_timer (reception_of self.now) (shown self.now))) }
+    fn on_ack_timer(&self) -> Result<Response, AllocError>
+        ensures { IfOk result (λ response. IsResponse response (table.on_ack_timer (reception_of self.now) (shown self.now))) }
     {
-        if self.standing.tries.ack + 1 < u32::from(self.params.limits().ack) {
-            let mut row = Row::of(Indications::new(self.alloc));
-            row.finished = self.standing.finished;
-            row.arms = Some(TimerKind::Ack);
-            Ok(row)
+        if self.control.tries.ack + 1 < u32::from(self.params.limits().ack) {
+            let mut response = Response::of(Indications::new(self.alloc));
+            response.finished = self.control.finished;
+            response.arms = Some(TimerKind::Ack);
+            Ok(response)
         } else {
             self.ends_as_finished()
         }
     }
 
-    fn on_timer(&self, kind: TimerKind, now: &Standing) -> Result<Row, AllocError>
-        ensures { (m : Option Metadata) (octets : ℕ → Option ℕ) → IfOk result (λ row. IsRow row (table.on_timer (reception_of self.now) (shown self.now) (state_from now.now m octets) kind)) }
+    fn on_timer(&self, kind: TimerKind, now: &ControlBlock) -> Result<Response, AllocError>
+        ensures { (m : Option Metadata) (octets : ℕ → Option ℕ) → IfOk result (λ response. IsResponse response (table.on_timer (reception_of self.now) (shown self.now) (state_from now.now m octets) kind)) }
     {
         match kind {
             TimerKind::Nak => self.on_nak_timer(now),
             TimerKind::Check => self.on_check_timer(now),
             TimerKind::Ack => self.on_ack_timer(),
-            TimerKind::Inactivity => self.faults(
+            TimerKind::Inactivity => self.fault_response(
                 Indications::new(self.alloc),
                 now,
                 Some(TimerKind::Inactivity),
@@ -292,58 +292,58 @@ impl ReceiverCore {
     }
 
     // The file store keeps the file, or not.
-    fn on_stored(&self, now: &Standing, kept: bool) -> Result<Row, AllocError>
-        ensures { (m : Option Metadata) (octets : ℕ → Option ℕ) → IfOk result (λ row. IsRow row (table.on_stored (reception_of self.now) (state_from now.now m octets) kept)) }
+    fn on_stored(&self, now: &ControlBlock, kept: bool) -> Result<Response, AllocError>
+        ensures { (m : Option Metadata) (octets : ℕ → Option ℕ) → IfOk result (λ response. IsResponse response (table.on_stored (reception_of self.now) (state_from now.now m octets) kept)) }
     {
         let inds = Indications::new(self.alloc);
         if kept {
-            self.finishes(
+            self.finish_response(
                 inds,
                 Condition::NO_ERROR,
                 Delivery::Complete,
                 FileStatus::Retained,
             )
         } else {
-            self.faults(inds, now, None, Condition::FILESTORE_REJECTION)
+            self.fault_response(inds, now, None, Condition::FILESTORE_REJECTION)
         }
     }
 
     // The reception goes on, and looks at what came meanwhile.
-    fn on_resume(&self, now: &Standing, change: &Change) -> Result<Row, AllocError>
-        requires { IsCovered self.now.content change.now }
-        ensures { IfOk result (λ row. IsRow row (table.on_resume (reception_of self.now) (now_state self.now now.now change.now))) }
+    fn on_resume(&self, now: &ControlBlock, change: &FileChange) -> Result<Response, AllocError>
+        requires { IsCovered self.now.file change.now }
+        ensures { IfOk result (λ response. IsResponse response (table.on_resume (reception_of self.now) (now_state self.now now.now change.now))) }
     {
         let mut inds = Indications::new(self.alloc);
         inds.push(Indication::Resumed {
             progress: now.progress,
         })?;
-        let active = Standing {
+        let active = ControlBlock {
             paused: false,
             ..*now
         };
-        let mut row = self.examine(inds, &active, change)?;
-        row.resumes = true;
-        Ok(row)
+        let mut response = self.examine(inds, &active, change)?;
+        response.resumes = true;
+        Ok(response)
     }
 
     // What is answered to the user and to what is neither a PDU nor a timer.
-    fn on_request(&self, event: &What, now: &Standing, change: &Change) -> Result<Row, AllocError>
-        requires { IsCovered self.now.content change.now }
-        ensures { is_request event.now ≡ true → IfOk result (λ row. IsRow row (table.row_of (reception_of self.now) (shown self.now) (now_state self.now now.now change.now) event.now)) }
+    fn on_request(&self, event: &What, now: &ControlBlock, change: &FileChange) -> Result<Response, AllocError>
+        requires { IsCovered self.now.file change.now }
+        ensures { is_request event.now ≡ true → IfOk result (λ response. IsResponse response (table.response_to (reception_of self.now) (shown self.now) (now_state self.now now.now change.now) event.now)) }
     {
         let progress = now.progress;
         let inds = Indications::new(self.alloc);
         match event {
             What::Stored(_, kept) => self.on_stored(now, *kept),
-            What::Cancel => self.cancels(inds, Condition::CANCEL_REQUEST),
+            What::Cancel => self.cancel_response(inds, Condition::CANCEL_REQUEST),
             What::Suspend => {
                 let condition = Condition::SUSPEND_REQUEST;
-                Row::telling_more(inds, Indication::Suspended { condition })
+                Response::telling_more(inds, Indication::Suspended { condition })
             }
             What::Resume => self.on_resume(now, change),
             What::Report => {
                 let phase = now.phase();
-                Row::telling_more(inds, Indication::Report { phase, progress })
+                Response::telling_more(inds, Indication::Report { phase, progress })
             }
             What::Abandon => {
                 let condition = Condition::CANCEL_REQUEST;
@@ -351,24 +351,24 @@ impl ReceiverCore {
                     condition,
                     progress,
                 };
-                Row::telling_more(inds, told)
+                Response::telling_more(inds, told)
             }
-            What::Pump | What::Pdu(_) | What::Timer(_, _) => Ok(Row::of(inds)),
+            What::Pump | What::Pdu(_) | What::Timer(_, _) => Ok(Response::of(inds)),
         }
     }
 
-    /// The row of an event and the change that it brings, in the present state; `now` is the standing
+    /// The response of an event and the change that it brings, in the present state; `now` is the control block
     /// with the event.
-    pub(crate) fn row_of(
+    pub(crate) fn response_to(
         &self,
         event: &What,
-        now: &Standing,
-        change: &Change,
-    ) -> Result<Row, AllocError>
-        requires covered { IsCovered self.now.content change.now }
+        now: &ControlBlock,
+        change: &FileChange,
+    ) -> Result<Response, AllocError>
+        requires covered { IsCovered self.now.file change.now }
         requires filled { All (λ run. run.start < run.end) (runs_in change.now) }
         requires runs { runs_in change.now ≡ added_runs (shown self.now) (file_data_of (body_of_event event.now)) }
-        ensures { IfOk result (λ row. IsRow row (table.row_of (reception_of self.now) (shown self.now) (now_state self.now now.now change.now) event.now)) }
+        ensures { IfOk result (λ response. IsResponse response (table.response_to (reception_of self.now) (shown self.now) (now_state self.now now.now change.now) event.now)) }
     {
         match event {
             What::Pdu(pdu) => self.on_body(pdu.body(), now, change),

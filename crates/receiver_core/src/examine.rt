@@ -2,9 +2,9 @@
 ghost use Rattle.std.specs.Prelude.{◌≡◌, ◌≤◌, true, length};
 ghost use Rattle.gap_list.specs.Covered.{covered};
 ghost use Rattle.receiver_core.specs.Offsets.{IsInside};
-ghost use Rattle.receiver_core.specs.Examine.{looked, is_full, is_unsupported_type};
+ghost use Rattle.receiver_core.specs.Finding.{finding_of, is_full, is_unsupported_type};
 
-use crate::standing::Standing;
+use crate::control::ControlBlock;
 use cfdp_types::{ChecksumType, Condition};
 use gap_list::Gaps;
 use modular_sum::sum_of;
@@ -26,12 +26,12 @@ pub(crate) enum Finding {
 /// those that the gaps cover came.
 pub(crate) fn look(
     checksum_type: Option<ChecksumType>,
-    now: &Standing,
+    now: &ControlBlock,
     gaps: &Gaps,
     octets: &[u8],
 ) -> Finding
     requires { IsInside (length octets.now) (covered gaps.now) }
-    ensures { result ≡ looked checksum_type now.now.eof now.now.progress (covered gaps.now) octets.now }
+    ensures { result ≡ finding_of checksum_type now.now.eof now.now.progress (covered gaps.now) octets.now }
 {
     if is_unsupported(checksum_type) {
         return Finding::Faulty(Condition::UNSUPPORTED_CHECKSUM_TYPE);

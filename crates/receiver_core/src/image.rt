@@ -6,10 +6,10 @@ use std::alloc::AllocError;
 
 impl ReceiverCore {
     ghost use Rattle.std.specs.Prelude.{◌≡◌, IfOk, IfErr, List, Ok};
-    ghost use Rattle.receiver_core.specs.Reception.{Entry, state_of};
-    ghost use Rattle.receiver_core.specs.Answers.{octets_from};
-    ghost use Rattle.receiver_core.specs.Images.{image_at};
-    ghost use Rattle.receiver_core.specs.Content.{received_of};
+    ghost use Rattle.receiver_table.specs.Reception.{Entry, state_of};
+    ghost use Rattle.receiver_table.specs.Answers.{octets_from};
+    ghost use Rattle.receiver_table.specs.Images.{image_at};
+    ghost use Rattle.receiver_core.specs.ReceivedFile.{received_of};
     ghost use Rattle.receiver_core.specs.Core.{shown, StandsAfter, IsWhyNot};
 
     // The file that Metadata names, with the octets below a size.
@@ -17,13 +17,13 @@ impl ReceiverCore {
         ensures { IfOk result (λ image. image ≡ record {
           source_name = metadata.now.source_name;
           destination_name = metadata.now.destination_name;
-          octets = octets_from (received_of self.now.content) 0 size;
+          octets = octets_from (received_of self.now.file) 0 size;
         }) }
     {
         Ok(Image {
             source_name: metadata.source_name.copy()?,
             destination_name: metadata.destination_name.copy()?,
-            octets: Octets::from_vec(self.content.below(size)?),
+            octets: Octets::from_vec(self.file.below(size)?),
         })
     }
 
@@ -32,13 +32,13 @@ impl ReceiverCore {
         ensures image { IfOk result (λ image. image_at (shown self.now) stamp ≡ Ok image) }
         ensures refused { IfErr result (λ why. IsWhyNot (image_at (shown self.now) stamp) why) }
     {
-        if !self.standing.waits_for(stamp) {
+        if !self.control.waits_for(stamp) {
             return Err(Refusal::StaleStored);
         }
         let Some(metadata) = &self.metadata else {
             return Err(Refusal::StaleStored);
         };
-        let Some(eof) = self.standing.eof else {
+        let Some(eof) = self.control.eof else {
             return Err(Refusal::StaleStored);
         };
         let image = self.file(metadata, eof.size)?;

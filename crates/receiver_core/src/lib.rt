@@ -4,21 +4,20 @@
 
 mod answer;
 mod answering;
-mod content;
+mod received_file;
 mod examine;
 mod image;
 pub mod laws;
 mod nak;
-pub mod narrow;
-mod opening;
+mod first_event;
 mod pdus;
 mod plan;
 mod planning;
 mod receiver;
 mod refusals;
-mod row;
-mod rows;
-mod standing;
+mod response;
+mod responses;
+mod control;
 mod steps;
 
 pub use answer::Answer;

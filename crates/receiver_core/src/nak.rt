@@ -3,7 +3,7 @@ ghost use Rattle.std.specs.Prelude.{◌≡◌, ◌<◌, ◌≤◌, ◌^◌, ◌+
 ghost use Rattle.std.specs.List.{AllByRecursion};
 ghost use Rattle.cfdp_types.specs.declared.limits.TheConstants.{NAK_REQUESTS};
 ghost use Rattle.pdu_format.specs.Spelling.{size_octets, NakFits, RequestFits};
-ghost use Rattle.receiver_core.specs.Answers.{request_of, last_end};
+ghost use Rattle.receiver_table.specs.Answers.{request_of, last_end};
 ghost use Rattle.receiver_core.specs.Naks.{requests_for, nak_with};
 
 use cfdp_types::limits::NAK_REQUESTS;

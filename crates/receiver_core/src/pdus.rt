@@ -4,10 +4,10 @@ ghost use Rattle.pdu_format.specs.declared.bodies.TransactionStatus.TheVariants 
 ghost use Rattle.pdu_format.specs.Spelling.{IsLocation};
 
 use crate::nak::nak;
-use crate::plan::Change;
+use crate::plan::FileChange;
 use crate::receiver::ReceiverCore;
-use crate::row::Row;
-use crate::standing::Standing;
+use crate::response::Response;
+use crate::control::ControlBlock;
 use cfdp_types::{Condition, EntityId};
 use core_steps::Pdus;
 use pdu_codec::{
@@ -20,8 +20,8 @@ impl ReceiverCore {
     ghost use Rattle.pdu_format.specs.Spelling.{HeaderFits};
     ghost use Rattle.pdu_format.specs.declared.pdu.Body.{Body};
     ghost use Rattle.pdu_format.specs.declared.pdu.Body.TheVariants as body;
-    ghost use Rattle.receiver_core.specs.Answers.{pdu_to_sender, ack_of, nak_of, if_there, if_so, bodies_of};
-    ghost use Rattle.receiver_core.specs.Row.{row_value};
+    ghost use Rattle.receiver_table.specs.Answers.{pdu_to_sender, ack_of, nak_of, if_there, if_so, bodies_of};
+    ghost use Rattle.receiver_core.specs.Response.{response_value};
     ghost use Rattle.receiver_core.specs.Core.{reception_of, metadata_after, now_state, IsCovered};
 
     // The header of every PDU toward the sender.
@@ -31,7 +31,7 @@ impl ReceiverCore {
     {
         Header {
             direction: Direction::TowardSender,
-            ..self.opening
+            ..self.header
         }
     }
 
@@ -70,15 +70,15 @@ impl ReceiverCore {
     }
 
     // Whether Metadata came, with that of a change.
-    fn has_metadata_after(&self, change: &Change) -> bool
+    fn has_metadata_after(&self, change: &FileChange) -> bool
         ensures { result ≡ is_some (metadata_after self.now.metadata change.now) }
     {
-        self.metadata.is_some() || matches!(change, Change::Metadata(_))
+        self.metadata.is_some() || matches!(change, FileChange::Metadata(_))
     }
 
     // What is missing of the file.
-    fn nak(&self, now: &Standing, change: &Change) -> Result<Pdu, AllocError>
-        requires { IsCovered self.now.content change.now }
+    fn nak(&self, now: &ControlBlock, change: &FileChange) -> Result<Pdu, AllocError>
+        requires { IsCovered self.now.file change.now }
         ensures { IfOk result (λ pdu. pdu ≡ pdu_to_sender (reception_of self.now) (nak_of (now_state self.now now.now change.now))) }
     {
         let scope = now.scope();
@@ -92,10 +92,10 @@ impl ReceiverCore {
         Ok(Pdu::new(self.header(), Body::Nak(nak)))
     }
 
-    fn put_ack(&self, pdus: &mut Pdus, row: &Row, ended: bool) -> Result<(), AllocError>
-        ensures { OnOk result (pdus.new ≡ pdus.old ++ map (pdu_to_sender (reception_of self.now)) (if_there (ack_of ended) row.now.ack)) }
+    fn put_ack(&self, pdus: &mut Pdus, response: &Response, ended: bool) -> Result<(), AllocError>
+        ensures { OnOk result (pdus.new ≡ pdus.old ++ map (pdu_to_sender (reception_of self.now)) (if_there (ack_of ended) response.now.ack)) }
     {
-        match row.ack {
+        match response.ack {
             None => Ok(()),
             Some(condition) => pdus.push(self.ack(condition, ended)),
         }
@@ -104,56 +104,56 @@ impl ReceiverCore {
     fn put_nak(
         &self,
         pdus: &mut Pdus,
-        row: &Row,
-        now: &Standing,
-        change: &Change,
+        response: &Response,
+        now: &ControlBlock,
+        change: &FileChange,
     ) -> Result<(), AllocError>
-        requires { IsCovered self.now.content change.now }
-        ensures { OnOk result (pdus.new ≡ pdus.old ++ map (pdu_to_sender (reception_of self.now)) (if_so row.now.nak (nak_of (now_state self.now now.now change.now)))) }
+        requires { IsCovered self.now.file change.now }
+        ensures { OnOk result (pdus.new ≡ pdus.old ++ map (pdu_to_sender (reception_of self.now)) (if_so response.now.nak (nak_of (now_state self.now now.now change.now)))) }
     {
-        if row.nak {
+        if response.nak {
             pdus.push(self.nak(now, change)?)
         } else {
             Ok(())
         }
     }
 
-    fn put_keep_alive(&self, pdus: &mut Pdus, row: &Row, progress: u32) -> Result<(), AllocError>
-        ensures { OnOk result (pdus.new ≡ pdus.old ++ map (pdu_to_sender (reception_of self.now)) (if_so row.now.keep_alive (body.KeepAlive (record { progress = progress })))) }
+    fn put_keep_alive(&self, pdus: &mut Pdus, response: &Response, progress: u32) -> Result<(), AllocError>
+        ensures { OnOk result (pdus.new ≡ pdus.old ++ map (pdu_to_sender (reception_of self.now)) (if_so response.now.keep_alive (body.KeepAlive (record { progress = progress })))) }
     {
-        if row.keep_alive {
+        if response.keep_alive {
             pdus.push(self.keep_alive(progress))
         } else {
             Ok(())
         }
     }
 
-    fn put_finished(&self, pdus: &mut Pdus, row: &Row) -> Result<(), AllocError>
-        ensures { OnOk result (pdus.new ≡ pdus.old ++ map (pdu_to_sender (reception_of self.now)) (if_there body.Finished row.now.finished)) }
+    fn put_finished(&self, pdus: &mut Pdus, response: &Response) -> Result<(), AllocError>
+        ensures { OnOk result (pdus.new ≡ pdus.old ++ map (pdu_to_sender (reception_of self.now)) (if_there body.Finished response.now.finished)) }
     {
-        match row.finished {
+        match response.finished {
             None => Ok(()),
             Some(finished) => pdus.push(self.finished(finished)),
         }
     }
 
-    /// The PDUs of a row, where `now` is the standing with the event; an ACK says whether the
+    /// The PDUs of a response, where `now` is the control block with the event; an ACK says whether the
     /// transaction has ended.
     pub(crate) fn pdus_of(
         &self,
-        row: &Row,
-        now: &Standing,
-        change: &Change,
+        response: &Response,
+        now: &ControlBlock,
+        change: &FileChange,
         ended: bool,
     ) -> Result<Pdus, AllocError>
-        requires { IsCovered self.now.content change.now }
-        ensures { IfOk result (λ pdus. pdus ≡ map (pdu_to_sender (reception_of self.now)) (bodies_of (now_state self.now now.now change.now) ended (row_value row.now))) }
+        requires { IsCovered self.now.file change.now }
+        ensures { IfOk result (λ pdus. pdus ≡ map (pdu_to_sender (reception_of self.now)) (bodies_of (now_state self.now now.now change.now) ended (response_value response.now))) }
     {
         let mut pdus = Pdus::new(self.alloc);
-        self.put_ack(&mut pdus, row, ended)?;
-        self.put_nak(&mut pdus, row, now, change)?;
-        self.put_keep_alive(&mut pdus, row, now.progress)?;
-        self.put_finished(&mut pdus, row)?;
+        self.put_ack(&mut pdus, response, ended)?;
+        self.put_nak(&mut pdus, response, now, change)?;
+        self.put_keep_alive(&mut pdus, response, now.progress)?;
+        self.put_finished(&mut pdus, response)?;
         Ok(pdus)
     }
 }

@@ -1,18 +1,18 @@
 use crate::answer::Answer;
-use crate::content::Part;
-use crate::standing::Standing;
+use crate::received_file::NewSegment;
+use crate::control::ControlBlock;
 use pdu_codec::Metadata;
 
 /// What an event changes in what is kept of the file.
 #[derive(Debug, Drop)]
-pub(crate) enum Change {
+pub(crate) enum FileChange {
     Nothing,
     /// The first Metadata.
     Metadata(Metadata),
-    Part(Part),
+    NewSegment(NewSegment),
 }
 
-impl Change {
+impl FileChange {
     ghost use Rattle.std.specs.Prelude.{◌≡◌};
     ghost use Rattle.receiver_core.specs.Core.{adds};
 
@@ -21,9 +21,9 @@ impl Change {
         ensures { result ≡ adds self.now }
     {
         match self {
-            Change::Nothing => false,
-            Change::Metadata(_) => true,
-            Change::Part(part) => !part.runs.is_empty(),
+            FileChange::Nothing => false,
+            FileChange::Metadata(_) => true,
+            FileChange::NewSegment(segment) => !segment.runs.is_empty(),
         }
     }
 }
@@ -32,8 +32,8 @@ impl Change {
 /// in the state that it was made in.
 #[derive(Debug, Drop)]
 pub struct Plan {
-    pub(crate) next: Standing,
-    pub(crate) change: Change,
+    pub(crate) next: ControlBlock,
+    pub(crate) change: FileChange,
     pub(crate) answer: Answer,
 }
 

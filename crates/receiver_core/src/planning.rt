@@ -1,10 +1,10 @@
 //! How an event is planned.
 use crate::answer::Answer;
-use crate::plan::{Change, Plan};
+use crate::plan::{FileChange, Plan};
 use crate::receiver::ReceiverCore;
-use crate::row::Row;
-use crate::standing::Standing;
-use crate::steps::{changes, next, seen};
+use crate::response::Response;
+use crate::control::ControlBlock;
+use crate::steps::{changes, next, with_event};
 use cfdp_types::Deposit;
 use core_steps::{Changes, Clock, TimerOps, operations};
 use pdu_codec::{Body, FileData, Metadata, Refusal, What};
@@ -18,76 +18,76 @@ impl ReceiverCore {
     ghost use Rattle.pdu_codec.specs.declared.event.What.{What};
     ghost use Rattle.pdu_codec.specs.Events.{body_of_event};
     ghost use Rattle.pdu_format.specs.declared.pdu.Body.TheVariants as body;
-    ghost use Rattle.receiver_core.specs.Reception.{Entry, state_of};
-    ghost use Rattle.receiver_core.specs.Refusals.{is_too_large, is_body_too_large, refusal_at};
-    ghost use Rattle.receiver_core.specs.Answers.{answer_at};
-    ghost use Rattle.receiver_core.specs.Planned.{IsPlanned, deposit_of};
-    ghost use Rattle.receiver_core.specs.Core.{shown, reception_of, plan_answer, StandsAfter, FitsContent, HasRoom, IsLaid, IsCovered, IsChange, IsSame, IsPlanOf, IsWhy};
+    ghost use Rattle.receiver_table.specs.Reception.{Entry, state_of};
+    ghost use Rattle.receiver_table.specs.Refusals.{is_too_large, is_body_too_large, refusal_at};
+    ghost use Rattle.receiver_table.specs.Answers.{answer_at};
+    ghost use Rattle.receiver_core.specs.PlanParts.{HoldsResponse, deposit_of};
+    ghost use Rattle.receiver_core.specs.Core.{shown, reception_of, plan_answer, StandsAfter, FitsFile, HasRoom, IsLaid, IsCovered, IsChange, IsSame, IsPlanOf, IsWhy};
 
     // The change that Metadata brings: the first is kept.
-    fn change_by_metadata(&self, metadata: &Metadata) -> Result<Change, AllocError>
+    fn change_by_metadata(&self, metadata: &Metadata) -> Result<FileChange, AllocError>
         ensures { IfOk result (λ change. IsChange self.now (Some (body.Metadata metadata.now)) change) }
     {
         if self.metadata.is_some() {
-            return Ok(Change::Nothing);
+            return Ok(FileChange::Nothing);
         }
-        Ok(Change::Metadata(metadata.clone()?))
+        Ok(FileChange::Metadata(metadata.clone()?))
     }
 
-    // The change that a part of the file brings.
-    fn change_by_piece(&self, piece: &FileData) -> Result<Change, AllocError>
-        requires { is_body_too_large (body.FileData piece.now) ≡ false }
-        ensures { IfOk result (λ change. IsChange self.now (Some (body.FileData piece.now)) change) }
+    // The change that a segment of the file brings.
+    fn change_by_file_data(&self, file_data: &FileData) -> Result<FileChange, AllocError>
+        requires { is_body_too_large (body.FileData file_data.now) ≡ false }
+        ensures { IfOk result (λ change. IsChange self.now (Some (body.FileData file_data.now)) change) }
     {
-        let end = piece.offset + piece.octets.as_slice().len() as u32;
-        Ok(Change::Part(self.content.part(piece, end)?))
+        let end = file_data.offset + file_data.octets.as_slice().len() as u32;
+        Ok(FileChange::NewSegment(self.file.segment(file_data, end)?))
     }
 
     // The change that a PDU brings; what it needs of the PDU is copied.
-    fn change_by(&self, body: &Body) -> Result<Change, AllocError>
+    fn change_by(&self, body: &Body) -> Result<FileChange, AllocError>
         requires { is_body_too_large body.now ≡ false }
         ensures { IfOk result (λ change. IsChange self.now (Some body.now) change) }
     {
         match body {
             Body::Metadata(metadata) => self.change_by_metadata(metadata),
-            Body::FileData(piece) => self.change_by_piece(piece),
-            _ => Ok(Change::Nothing),
+            Body::FileData(file_data) => self.change_by_file_data(file_data),
+            _ => Ok(FileChange::Nothing),
         }
     }
 
     // The change that an event brings.
-    fn change_of(&self, event: &What) -> Result<Change, AllocError>
+    fn change_of(&self, event: &What) -> Result<FileChange, AllocError>
         requires { is_too_large event.now ≡ false }
         ensures { IfOk result (λ change. IsChange self.now (body_of_event event.now) change) }
     {
         match event {
             What::Pdu(pdu) => self.change_by(pdu.body()),
-            _ => Ok(Change::Nothing),
+            _ => Ok(FileChange::Nothing),
         }
     }
 
     // Makes room for a change, and lays its octets at their offsets where none came.
-    fn prepare(&mut self, change: &Change) -> Result<(), AllocError>
-        requires { FitsContent self.old.content change.now }
+    fn prepare(&mut self, change: &FileChange) -> Result<(), AllocError>
+        requires { FitsFile self.old.file change.now }
         ensures same { IsSame self.old self.new }
-        ensures fits { FitsContent self.new.content change.now }
-        ensures room { OnOk result (HasRoom self.new.content change.now) }
-        ensures laid { OnOk result (IsLaid self.new.content change.now) }
+        ensures fits { FitsFile self.new.file change.now }
+        ensures room { OnOk result (HasRoom self.new.file change.now) }
+        ensures laid { OnOk result (IsLaid self.new.file change.now) }
     {
         match change {
-            Change::Nothing | Change::Metadata(_) => Ok(()),
-            Change::Part(part) => self.content.prepare(part),
+            FileChange::Nothing | FileChange::Metadata(_) => Ok(()),
+            FileChange::NewSegment(segment) => self.file.prepare(segment),
         }
     }
 
-    // The deposit of a row.
-    fn deposit_of(&self, row: &Row) -> Option<Deposit>
-        ensures { result ≡ deposit_of self.now row.now }
+    // The deposit of a response.
+    fn deposit_of(&self, response: &Response) -> Option<Deposit>
+        ensures { result ≡ deposit_of self.now response.now }
     {
-        if row.deposit {
+        if response.deposit {
             Some(Deposit {
                 key: self.key,
-                stamp: self.standing.place,
+                stamp: self.control.entries,
             })
         } else {
             None
@@ -96,39 +96,39 @@ impl ReceiverCore {
 
     // The operations that tell what a step does with the timers.
     fn timer_ops(&self, changes: Changes) -> Result<TimerOps, AllocError>
-        ensures { IfOk result (λ ops. ops ≡ steps.operations self.now.key (timer_length self.now.params.timers) self.now.standing.place (effects changes) (stamp_of self.now.standing.armed)) }
+        ensures { IfOk result (λ ops. ops ≡ steps.operations self.now.key (timer_length self.now.params.timers) self.now.control.entries (effects changes) (stamp_of self.now.control.armed)) }
     {
         let clock = Clock {
             key: self.key,
             lengths: self.params.timers(),
-            place: self.standing.place,
+            place: self.control.entries,
         };
-        operations(self.alloc, &clock, changes, &self.standing.armed)
+        operations(self.alloc, &clock, changes, &self.control.armed)
     }
 
-    // The plan of an event that is answered by a row, and brings a change; `now` is the standing with
+    // The plan of an event that is answered by a response, and brings a change; `now` is the control block with
     // the event.
     fn planned(
         &self,
         event: &What,
-        now: Standing,
-        row: Row,
-        change: Change,
+        now: ControlBlock,
+        response: Response,
+        change: FileChange,
     ) -> Result<Plan, AllocError>
-        requires { IsCovered self.now.content change }
-        ensures { IfOk result (λ plan. IsPlanned self.now event.now now row change plan) }
+        requires { IsCovered self.now.file change }
+        ensures { IfOk result (λ plan. HoldsResponse self.now event.now now response change plan) }
     {
-        let deposit = self.deposit_of(&row);
-        let next = next(&self.standing, now, event, &row, deposit, change.adds());
-        let changes = changes(&next, event, &row);
-        let pdus = self.pdus_of(&row, &now, &change, row.inds.has_end())?;
+        let deposit = self.deposit_of(&response);
+        let next = next(&self.control, now, event, &response, deposit, change.adds());
+        let changes = changes(&next, event, &response);
+        let pdus = self.pdus_of(&response, &now, &change, response.inds.has_end())?;
         let timers = self.timer_ops(changes)?;
-        let armed = self.standing.armed.after(changes, self.standing.place);
+        let armed = self.control.armed.after(changes, self.control.entries);
         Ok(Plan {
-            next: Standing { armed, ..next },
+            next: ControlBlock { armed, ..next },
             change,
             answer: Answer {
-                inds: row.inds,
+                inds: response.inds,
                 pdus,
                 timers,
                 deposit,
@@ -138,16 +138,16 @@ impl ReceiverCore {
 
     // The plan of an event that is accepted, and of the change that it brings, which lies at its
     // place.
-    fn plan_change(&self, event: &What, change: Change) -> Result<Plan, AllocError>
+    fn plan_change(&self, event: &What, change: FileChange) -> Result<Plan, AllocError>
         requires taken { refusal_at (reception_of self.now) (shown self.now) event.now ≡ None }
         requires change { IsChange self.now (body_of_event event.now) change }
-        requires room { HasRoom self.now.content change }
-        requires laid { IsLaid self.now.content change }
+        requires room { HasRoom self.now.file change }
+        requires laid { IsLaid self.now.file change }
         ensures { IfOk result (λ plan. IsPlanOf self.now plan event.now) }
     {
-        let now = seen(&self.standing, event, change.adds());
-        let row = self.row_of(event, &now, &change)?;
-        self.planned(event, now, row, change)
+        let now = with_event(&self.control, event, change.adds());
+        let response = self.response_to(event, &now, &change)?;
+        self.planned(event, now, response, change)
     }
 
     // Plans an event in the present state.

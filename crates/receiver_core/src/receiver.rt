@@ -1,10 +1,10 @@
 ghost use Rattle.pdu_format.specs.Spelling.{HeaderFits};
-ghost use Rattle.receiver_core.specs.Standing.{IsSound};
+ghost use Rattle.receiver_core.specs.ControlBlock.{IsSound};
 
 use crate::answer::Answer;
-use crate::content::Content;
-use crate::plan::{Change, Plan};
-use crate::standing::Standing;
+use crate::received_file::ReceivedFile;
+use crate::plan::{FileChange, Plan};
+use crate::control::ControlBlock;
 use cfdp_types::{Params, TxnKey};
 use pdu_codec::{Header, Metadata};
 use std::alloc::Global;
@@ -16,41 +16,41 @@ pub struct ReceiverCore {
     pub(crate) key: TxnKey,
     pub(crate) params: Params,
     // of the PDU that opened the reception
-    pub(crate) opening: Header,
-    pub(crate) content: Content,
+    pub(crate) header: Header,
+    pub(crate) file: ReceivedFile,
     pub(crate) metadata: Option<Metadata>,
-    pub(crate) standing: Standing,
-    ghost fits: { HeaderFits opening },
-    ghost sound: { IsSound standing },
+    pub(crate) control: ControlBlock,
+    ghost fits: { HeaderFits header },
+    ghost sound: { IsSound control },
 }
 
 impl ReceiverCore {
     ghost use Rattle.std.specs.Prelude.{◌≡◌, ◌∷◌, ℕ, false, List};
     ghost use Rattle.pdu_codec.specs.declared.event.What.{What};
-    ghost use Rattle.receiver_core.specs.Reception.{Entry};
-    ghost use Rattle.receiver_core.specs.Content.{received_of};
-    ghost use Rattle.receiver_core.specs.Core.{shown, reception_of, IsPlanOf, StandsAfter, FitsContent, HasRoom, metadata_after, received_after, plan_answer, answer_value};
+    ghost use Rattle.receiver_table.specs.Reception.{Entry};
+    ghost use Rattle.receiver_core.specs.ReceivedFile.{received_of};
+    ghost use Rattle.receiver_core.specs.Core.{shown, reception_of, IsPlanOf, StandsAfter, FitsFile, HasRoom, metadata_after, received_after, plan_answer, answer_value};
 
     /// Whether the user was told that the transaction is over: no event follows.
     pub fn has_ended(&self) -> bool
         ensures { result ≡ (shown self.now).ended }
     {
-        self.standing.ended
+        self.control.ended
     }
 
     // Carries out a change in room that is there.
-    fn apply(&mut self, change: Change)
-        requires fits { FitsContent self.old.content change }
-        requires room { HasRoom self.old.content change }
+    fn apply(&mut self, change: FileChange)
+        requires fits { FitsFile self.old.file change }
+        requires room { HasRoom self.old.file change }
         ensures reception { reception_of self.new ≡ reception_of self.old }
-        ensures standing { self.new.standing ≡ self.old.standing }
+        ensures control { self.new.control ≡ self.old.control }
         ensures metadata { self.new.metadata ≡ metadata_after self.old.metadata change }
-        ensures received { (i : ℕ) → received_of self.new.content i ≡ received_after self.old.content change i }
+        ensures received { (i : ℕ) → received_of self.new.file i ≡ received_after self.old.file change i }
     {
         match change {
-            Change::Nothing => {}
-            Change::Metadata(metadata) => self.metadata = Some(metadata),
-            Change::Part(part) => self.content.take(part),
+            FileChange::Nothing => {}
+            FileChange::Metadata(metadata) => self.metadata = Some(metadata),
+            FileChange::NewSegment(segment) => self.file.take(segment),
         }
     }
 
@@ -69,7 +69,7 @@ impl ReceiverCore {
             answer,
         } = plan;
         self.apply(change);
-        self.standing = next;
+        self.control = next;
         answer
     }
 }

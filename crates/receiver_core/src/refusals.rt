@@ -1,6 +1,6 @@
 //! Which events a reception refuses, and why.
 ghost use Rattle.std.specs.Prelude.{◌≡◌};
-ghost use Rattle.receiver_core.specs.Refusals.{waits_for_store, is_body_too_large, is_too_large};
+ghost use Rattle.receiver_table.specs.Refusals.{waits_for_store, is_body_too_large, is_too_large};
 
 use crate::receiver::ReceiverCore;
 use cfdp_types::limits::{FILE_OCTETS, JOURNAL_ENTRIES, JOURNAL_ENTRIES_KEPT};
@@ -11,7 +11,7 @@ use pdu_codec::{Acknowledged, Body, Refusal, What};
 impl ReceiverCore {
     ghost use Rattle.std.specs.Prelude.{◌≡◌, ◌&&◌};
     ghost use Rattle.receiver_core.specs.Core.{shown, reception_of};
-    ghost use Rattle.receiver_core.specs.Refusals.{is_stale_store, is_pdu_misplaced, is_misplaced, is_full, refusal_at};
+    ghost use Rattle.receiver_table.specs.Refusals.{is_stale_store, is_pdu_misplaced, is_misplaced, is_full, refusal_at};
     ghost use Rattle.pdu_codec.specs.Events.{needs_room};
 
     // Whether the file store answers another deposit than the one that waits.
@@ -19,7 +19,7 @@ impl ReceiverCore {
         ensures { result ≡ is_stale_store (shown self.now) event.now }
     {
         match event {
-            What::Stored(stamp, _) => !self.standing.waits_for(*stamp),
+            What::Stored(stamp, _) => !self.control.waits_for(*stamp),
             _ => false,
         }
     }
@@ -27,8 +27,8 @@ impl ReceiverCore {
     fn is_pdu_misplaced(&self, body: &Body) -> bool
         ensures { result ≡ is_pdu_misplaced (reception_of self.now) (shown self.now) body.now }
     {
-        let closing = self.standing.is_closing();
-        let two = self.opening.class == Class::Two;
+        let closing = self.control.is_closing();
+        let two = self.header.class == Class::Two;
         match body {
             Body::Eof(_) => false,
             Body::Metadata(_) | Body::FileData(_) => closing,
@@ -44,13 +44,13 @@ impl ReceiverCore {
         match event {
             What::Pdu(pdu) => self.is_pdu_misplaced(pdu.body()),
             What::Pump => true,
-            What::Resume => !self.standing.is_suspended(),
+            What::Resume => !self.control.is_suspended(),
             What::Suspend => {
-                self.opening.class != Class::Two
-                    || self.standing.is_suspended()
-                    || self.standing.is_closing()
+                self.header.class != Class::Two
+                    || self.control.is_suspended()
+                    || self.control.is_closing()
             }
-            What::Cancel => self.standing.is_closing(),
+            What::Cancel => self.control.is_closing(),
             What::Report | What::Abandon | What::Timer(_, _) | What::Stored(_, _) => false,
         }
     }
@@ -58,7 +58,7 @@ impl ReceiverCore {
     fn is_full(&self) -> bool
         ensures { result ≡ is_full (shown self.now) }
     {
-        self.standing.place >= JOURNAL_ENTRIES - JOURNAL_ENTRIES_KEPT
+        self.control.entries >= JOURNAL_ENTRIES - JOURNAL_ENTRIES_KEPT
     }
 
     // Whether the journal has no room for the event.
@@ -72,13 +72,13 @@ impl ReceiverCore {
     pub(crate) fn refusal_of(&self, event: &What) -> Option<Refusal>
         ensures { result ≡ refusal_at (reception_of self.now) (shown self.now) event.now }
     {
-        if is_of_other_class(self.opening.class, event) {
+        if is_of_other_class(self.header.class, event) {
             Some(Refusal::ModeMismatch)
-        } else if is_stale_timer(&self.standing.armed, event) {
+        } else if is_stale_timer(&self.control.armed, event) {
             Some(Refusal::StaleTimer)
         } else if self.is_stale_store(event) {
             Some(Refusal::StaleStored)
-        } else if self.standing.is_storing() && waits_for_store(event) {
+        } else if self.control.is_storing() && waits_for_store(event) {
             Some(Refusal::Storing)
         } else if self.is_misplaced(event) {
             Some(Refusal::WrongState)
@@ -105,8 +105,8 @@ pub(crate) fn is_body_too_large(body: &Body) -> bool
 {
     match body {
         Body::Metadata(metadata) => metadata.size > FILE_OCTETS,
-        Body::FileData(part) => {
-            part.offset as usize + part.octets.as_slice().len() > FILE_OCTETS as usize
+        Body::FileData(segment) => {
+            segment.offset as usize + segment.octets.as_slice().len() > FILE_OCTETS as usize
         }
         Body::Eof(eof) => eof.condition == Condition::NO_ERROR && eof.size > FILE_OCTETS,
         _ => false,

@@ -4,17 +4,17 @@ ghost use Rattle.cfdp_types.specs.declared.names.TimerKind.{TimerKind};
 ghost use Rattle.cfdp_types.specs.Steps.{has_kind};
 ghost use Rattle.pdu_codec.specs.Events.{body_of_event};
 ghost use Rattle.core_steps.specs.Timers.{effects, effect_of_change};
-ghost use Rattle.receiver_core.specs.Reception.{eof_of, extent_of, file_data_of, waiting_after};
-ghost use Rattle.receiver_core.specs.Refusals.{is_too_large};
-ghost use Rattle.receiver_core.specs.Answers.{effect_of, is_sign_of_life};
-ghost use Rattle.receiver_core.specs.Standing.{bare, AreFew};
-ghost use Rattle.receiver_core.specs.Row.{arms_of, row_value};
-ghost use Rattle.receiver_core.specs.Planned.{IsSeen, IsNext, is_quiet};
+ghost use Rattle.receiver_table.specs.Reception.{eof_of, extent_of, file_data_of, waiting_after};
+ghost use Rattle.receiver_table.specs.Refusals.{is_too_large};
+ghost use Rattle.receiver_table.specs.Answers.{effect_of, is_sign_of_life};
+ghost use Rattle.receiver_core.specs.ControlBlock.{bare, AreFew};
+ghost use Rattle.receiver_core.specs.Response.{arms_of, response_value};
+ghost use Rattle.receiver_core.specs.PlanParts.{IsWithEvent, IsNext, is_quiet};
 
-use crate::row::Row;
-use crate::standing::Standing;
+use crate::response::Response;
+use crate::control::ControlBlock;
 use cfdp_types::{Condition, Deposit, TimerKind};
-use core_steps::{Anew, Change, Changes, paused_after};
+use core_steps::{Anew, Change as TimerChange, Changes, paused_after};
 use pdu_codec::{Body, Eof, Prompt, What};
 
 // The EOF without an error that an event brings.
@@ -43,12 +43,12 @@ fn extent_of(event: &What) -> u32
 {
     match event {
         What::Pdu(pdu) => match pdu.body() {
-            Body::FileData(piece) => {
-                let count = piece.octets.as_slice().len();
+            Body::FileData(file_data) => {
+                let count = file_data.octets.as_slice().len();
                 if count == 0 {
                     0
                 } else {
-                    piece.offset + count as u32
+                    file_data.offset + count as u32
                 }
             }
             _ => 0,
@@ -82,64 +82,64 @@ fn anew(more: bool) -> Anew
 
 /// Where a reception stands with an event, before it is answered; `more` says whether the event
 /// brings more of the file.
-pub(crate) fn seen(standing: &Standing, event: &What, more: bool) -> Standing
-    requires few { AreFew standing.now }
+pub(crate) fn with_event(control: &ControlBlock, event: &What, more: bool) -> ControlBlock
+    requires few { AreFew control.now }
     requires small { is_too_large event.now ≡ false }
-    ensures { IsSeen standing.now event.now more result }
+    ensures { IsWithEvent control.now event.now more result }
 {
-    Standing {
-        place: standing.place + 1,
-        progress: standing.progress.max(extent_of(event)),
-        eof: match standing.eof {
+    ControlBlock {
+        entries: control.entries + 1,
+        progress: control.progress.max(extent_of(event)),
+        eof: match control.eof {
             None => eof_in(event),
             Some(eof) => Some(eof),
         },
-        waiting: waiting_after(standing.waiting, event, None),
-        tries: standing.tries.after(event, &[], anew(more)),
-        ..*standing
+        waiting: waiting_after(control.waiting, event, None),
+        tries: control.tries.after(event, &[], anew(more)),
+        ..*control
     }
 }
 
-/// Where a reception stands after an event that is answered by a row and a deposit, but for its
-/// timers, which stay as they were; `now` is the standing with the event, before it is answered.
+/// Where a reception stands after an event that is answered by a response and a deposit, but for its
+/// timers, which stay as they were; `now` is the control block with the event, before it is answered.
 pub(crate) fn next(
-    standing: &Standing,
-    now: Standing,
+    control: &ControlBlock,
+    now: ControlBlock,
     event: &What,
-    row: &Row,
+    response: &Response,
     deposit: Option<Deposit>,
     more: bool,
-) -> Standing
-    requires few { AreFew standing.now }
-    ensures { IsNext standing.now now event.now row.now deposit more result }
+) -> ControlBlock
+    requires few { AreFew control.now }
+    ensures { IsNext control.now now event.now response.now deposit more result }
 {
-    let inds = row.inds.as_slice();
-    Standing {
-        waiting: waiting_after(standing.waiting, event, deposit),
-        finished: match row.finished {
-            None => standing.finished,
+    let inds = response.inds.as_slice();
+    ControlBlock {
+        waiting: waiting_after(control.waiting, event, deposit),
+        finished: match response.finished {
+            None => control.finished,
             Some(finished) => Some(finished),
         },
-        paused: paused_after(standing.paused, inds),
-        ended: standing.ended || row.inds.has_end(),
-        tries: standing.tries.after(event, inds, anew(more)),
+        paused: paused_after(control.paused, inds),
+        ended: control.ended || response.inds.has_end(),
+        tries: control.tries.after(event, inds, anew(more)),
         ..now
     }
 }
 
 // Whether no timer runs from here on, or none until the user or the file store says more.
-fn is_quiet(next: &Standing) -> bool
+fn is_quiet(next: &ControlBlock) -> bool
     ensures { result ≡ is_quiet next.now }
 {
     next.ended || next.is_storing() || next.is_suspended()
 }
 
-// Whether a row arms the timer of a kind.
-fn arms(row: &Row, kind: TimerKind) -> bool
-    ensures { result ≡ has_kind (arms_of row.now) kind }
+// Whether a response arms the timer of a kind.
+fn arms(response: &Response, kind: TimerKind) -> bool
+    ensures { result ≡ has_kind (arms_of response.now) kind }
 {
-    let first = row.resumes && kind == TimerKind::Inactivity;
-    match row.arms {
+    let first = response.resumes && kind == TimerKind::Inactivity;
+    match response.arms {
         None => first,
         Some(armed) => first || armed == kind,
     }
@@ -155,27 +155,27 @@ fn is_sign_of_life(event: &What) -> bool
     }
 }
 
-// What a step does with the timer of a kind, where it leads to a standing.
-fn change_of(next: &Standing, event: &What, row: &Row, kind: TimerKind) -> Change
-    ensures { effect_of_change result ≡ effect_of (row_value row.now) (bare next.now) event.now kind }
+// What a step does with the timer of a kind, where it leads to a control block.
+fn change_of(next: &ControlBlock, event: &What, response: &Response, kind: TimerKind) -> TimerChange
+    ensures { effect_of_change result ≡ effect_of (response_value response.now) (bare next.now) event.now kind }
 {
     if is_quiet(next) || (next.is_closing() && kind != TimerKind::Ack) {
-        Change::Stops
-    } else if arms(row, kind) || (kind == TimerKind::Inactivity && is_sign_of_life(event)) {
-        Change::Arms
+        TimerChange::Stops
+    } else if arms(response, kind) || (kind == TimerKind::Inactivity && is_sign_of_life(event)) {
+        TimerChange::Arms
     } else {
-        Change::Keeps
+        TimerChange::Keeps
     }
 }
 
-/// What a step does with each timer, where it leads to a standing.
-pub(crate) fn changes(next: &Standing, event: &What, row: &Row) -> Changes
-    ensures { (kind : TimerKind) → effects result kind ≡ effect_of (row_value row.now) (bare next.now) event.now kind }
+/// What a step does with each timer, where it leads to a control block.
+pub(crate) fn changes(next: &ControlBlock, event: &What, response: &Response) -> Changes
+    ensures { (kind : TimerKind) → effects result kind ≡ effect_of (response_value response.now) (bare next.now) event.now kind }
 {
     Changes {
-        ack: change_of(next, event, row, TimerKind::Ack),
-        nak: change_of(next, event, row, TimerKind::Nak),
-        check: change_of(next, event, row, TimerKind::Check),
-        inactivity: change_of(next, event, row, TimerKind::Inactivity),
+        ack: change_of(next, event, response, TimerKind::Ack),
+        nak: change_of(next, event, response, TimerKind::Nak),
+        check: change_of(next, event, response, TimerKind::Check),
+        inactivity: change_of(next, event, response, TimerKind::Inactivity),
     }
 }

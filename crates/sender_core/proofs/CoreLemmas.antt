@@ -4,7 +4,7 @@ use Rattle.std.proofs.lemmas.Bool.{lt-ltb, le-leb}
 use Rattle.gap_list.specs.declared.run.Run.{Run}
 use Rattle.gap_list.specs.Runs.{in_runs, runs_of, IsRisingFrom}
 use Rattle.gap_list.proofs.SetLemmas.{runs_of-unique}
-use Rattle.sender_core.specs.Standing.{IsInside}
+use Rattle.sender_core.specs.ControlBlock.{IsInside}
 
 and_true : (a b : Bool) → (b ≡ true → a ≡ true) → b ≡ (a && b)
 and_true true b h = refl

@@ -1,8 +1,6 @@
-pub mod RowFacts
-pub mod SendingLegal
 pub mod RemainingLemmas
 pub mod PduFits
 pub mod CoreLemmas
-pub mod RowData
+pub mod ResponseData
 pub mod PlanLemmas
 pub mod OpenLemmas

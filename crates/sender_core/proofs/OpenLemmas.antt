@@ -7,8 +7,8 @@ use Rattle.gap_list.specs.declared.run.Run.{Run}
 use Rattle.ind_words.specs.declared.indication.Indication.{Indication}
 use Rattle.pdu_format.specs.Pdu.{PduValue}
 use Rattle.pdu_codec.specs.declared.event.Refusal.TheVariants as refusal
-use Rattle.sender_core.specs.Core.{IsPlanOf, left_of, plan_answer, sending_of, shown}
-use Rattle.sender_core.specs.declared.plan.Left.TheVariants as left
+use Rattle.sender_core.specs.Core.{IsPlanOf, remainder_of, plan_answer, sending_of, shown}
+use Rattle.sender_core.specs.declared.plan.Remainder.TheVariants as remainder
 use Rattle.sender_core.specs.declared.plan.Plan.{Plan}
 use Rattle.sender_core.specs.declared.sender.SenderCore.{SenderCore}
 use Rattle.std.proofs.lemmas.Bool.Decides.{nat_tests}
@@ -16,11 +16,11 @@ use Rattle.cfdp_types.specs.declared.names.TimerKind.{TimerKind}
 use Rattle.cfdp_types.specs.declared.names.TimerKind.TheVariants.{Ack, Nak, Check, Inactivity}
 use Rattle.gap_list.specs.Runs.{in_runs}
 use Rattle.ind_words.specs.declared.indication.Indication.TheVariants as told
-use Rattle.sender_core.specs.Sending.{Sending, State, Answer, put, initial, step, state_of}
-use Rattle.sender_core.specs.Answers.{answer_at}
+use Rattle.sender_table.specs.Sending.{Sending, State, Answer, put, initial, step, state_of}
+use Rattle.sender_table.specs.Answers.{answer_at}
 use Rattle.sender_core.specs.Remaining.{whole}
-use Rattle.sender_core.specs.Standing.{state_from, first, IsInside}
-use Rattle.sender_core.specs.declared.standing.Standing.{Standing}
+use Rattle.sender_core.specs.ControlBlock.{state_from, first, IsInside}
+use Rattle.sender_core.specs.declared.control.ControlBlock.{ControlBlock}
 use Rattle.sender_core.proofs.PlanLemmas.{same_state}
 
 pub whole_has : (size i : ℕ) → in_runs (whole size) i ≡ nat_lt i size
@@ -75,16 +75,16 @@ pub put_answered : (sending : Sending) (remains : ℕ → Bool) → length sendi
 unfolding answer_at step
 put_answered sending remains small = rw (le-ltb 4194304 (length sending.request.file) small) refl
 
-pub opens : (sending : Sending) (standing : Standing) (runs : List Run) (size : ℕ) → standing ≡ first 0 → runs ≡ whole size → size ≡ length sending.request.file
-    → state_from standing (in_runs runs) ≡ state_of sending []
+pub opens : (sending : Sending) (control : ControlBlock) (runs : List Run) (size : ℕ) → control ≡ first 0 → runs ≡ whole size → size ≡ length sending.request.file
+    → state_from control (in_runs runs) ≡ state_of sending []
 unfolding state_of
-opens sending standing runs size stands are is =
+opens sending control runs size stands are is =
     ap (λ s. state_from s (in_runs runs)) stands
     ∙ ap (λ r. state_from (first 0) (in_runs r)) (are ∙ ap whole is)
     ∙ opened sending
 
-pub next_is : (standing : Standing) → standing ≡ first 0 → record standing { place = 1 } ≡ first 1
-next_is standing is = ap (λ (s : Standing). record s { place = 1 }) is
+pub next_is : (control : ControlBlock) → control ≡ first 0 → record control { entries = 1 } ≡ first 1
+next_is control is = ap (λ (s : ControlBlock). record s { entries = 1 }) is
 
 made_answer : List Indication → List PduValue → List TimerOp → Answer
 made_answer inds pdus timers = record { inds = inds; pdus = pdus; timers = timers }
@@ -98,7 +98,7 @@ answer_is : (plan : Plan) → plan.answer.inds ≡ told.Transaction ∷ [] → p
 unfolding made_answer
 answer_is plan a b c = same_answer plan.answer.inds (told.Transaction ∷ []) plan.answer.pdus [] plan.answer.timers [] a b c
 
-pub put_plan : (core : SenderCore) (plan : Plan) → core.standing ≡ first 0 → plan.next ≡ first 1 → plan.left ≡ left.Same
+pub put_plan : (core : SenderCore) (plan : Plan) → core.control ≡ first 0 → plan.next ≡ first 1 → plan.remainder ≡ remainder.Same
     → plan.answer.inds ≡ told.Transaction ∷ [] → plan.answer.pdus ≡ [] → plan.answer.timers ≡ []
     → plan.answer.deposit ≡ None → IsPlanOf core plan put
 put_plan core plan stands next is_left inds pdus timers nothing =
@@ -108,15 +108,15 @@ put_plan core plan stands next is_left inds pdus timers nothing =
     let answer : plan_answer plan ≡ empty = answer_is plan inds pdus timers in
     record {
       accepted = ap (λ st. answer_at s (state_from st remains) put) stands ∙ put_answered s remains core.small ∙ ap Ok (sym answer);
-      follows = ap (λ n. state_from n (left_of core.remaining plan.left)) next
-          ∙ ap (λ l. state_from (first 1) (left_of core.remaining l)) is_left
+      follows = ap (λ n. state_from n (remainder_of core.remaining plan.remainder)) next
+          ∙ ap (λ l. state_from (first 1) (remainder_of core.remaining l)) is_left
           ∙ put_follows s remains
           ∙ ap (λ st. step s (state_from st remains) (record { event = put; answer = empty })) (sym stands)
           ∙ ap (λ a. step s (shown core) (record { event = put; answer = a })) (sym answer);
       nothing = nothing;
-      inside = λ i has. core.inside i (ap (λ l. left_of core.remaining l i) (sym is_left) ∙ has);
+      inside = λ i has. core.inside i (ap (λ l. remainder_of core.remaining l i) (sym is_left) ∙ has);
       sound = λ runs. rw next (record {
-        few = record { place = omega arith; tries = record { ack = omega arith; nak = omega arith; check = omega arith; inactivity = omega arith } };
+        few = record { entries = omega arith; tries = record { ack = omega arith; nak = omega arith; check = omega arith; inactivity = omega arith } };
         goes_on = λ e. omega arith;
         progress = omega arith;
       });

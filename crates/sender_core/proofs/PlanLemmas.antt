@@ -29,32 +29,32 @@ use Rattle.pdu_codec.specs.declared.event.Refusal.TheVariants as refusal
 use Rattle.pdu_codec.specs.Events.{is_of_other_class, is_stale_timer, needs_room}
 use Rattle.pdu_format.specs.Pdu.{PduValue}
 use Rattle.pdu_format.specs.declared.bodies.Eof.{Eof}
-use Rattle.sender_core.specs.Sending.{Sending, State, Event, happens, Answer, Entry, step, state_of, covers, asks_for, requests_of, eof_among, extent_of}
-use Rattle.sender_core.specs.Refusals.{refusal_of, is_stale_store, is_misplaced, is_full}
-use Rattle.sender_core.specs.Answers.{Row, cancels, faults, row_of, seen, untimed, timed, accepted_at, answer_at, effect_of}
-use Rattle.sender_core.specs.Standing.{state_from, nowhere, AreFew, IsSound, IsInside}
+use Rattle.sender_table.specs.Sending.{Sending, State, Event, happens, Answer, Entry, step, state_of, covers, asks_for, requests_of, eof_among, extent_of}
+use Rattle.sender_table.specs.Refusals.{refusal_of, is_stale_store, is_misplaced, is_full}
+use Rattle.sender_table.specs.Answers.{Response, cancel_response, fault_response, response_to, with_event, without_timers, with_timers, accepted_at, answer_at, effect_of}
+use Rattle.sender_core.specs.ControlBlock.{state_from, nowhere, AreFew, IsSound, IsInside}
 use Rattle.core_steps.specs.Timers.{stamp_of, stamp_by}
-use Rattle.sender_core.specs.Core.{shown, sending_of, sent, IsRow, IsNext, IsPlanned, IsPlanOf, IsWhy, StandsAfter, effect_by, arming, left_of, remains_after, plan_answer}
-use Rattle.sender_core.specs.declared.plan.Left.{Left}
+use Rattle.sender_core.specs.Core.{shown, sending_of, pdus_of_response, IsResponse, IsNext, HoldsResponse, IsPlanOf, IsWhy, StandsAfter, effect_by, arming, remainder_of, remains_after, plan_answer}
+use Rattle.sender_core.specs.declared.plan.Remainder.{Remainder}
 use Rattle.sender_core.specs.declared.plan.Plan.{Plan}
-use Rattle.sender_core.specs.declared.row.Row as row_type
+use Rattle.sender_core.specs.declared.response.Response as response_type
 use Rattle.sender_core.specs.declared.sender.SenderCore.{SenderCore}
 
 -- ---- the event is seen before it is answered
 
-cancels_same : (sending : Sending) (a b : State) (code : Condition) (class : Class) → sending.request.class ≡ class → a.progress ≡ b.progress → cancels sending a code ≡ cancels sending b code
+cancels_same : (sending : Sending) (a b : State) (code : Condition) (class : Class) → sending.request.class ≡ class → a.progress ≡ b.progress → cancel_response sending a code ≡ cancel_response sending b code
 cancels_same sending a b code One is e = rw (is, e) refl
 cancels_same sending a b code Two is e = rw (is, e) refl
 
 faults_same : (sending : Sending) (a b : State) (kind : TimerKind) (code : Condition) (h : Handler) → handler_in sending.params.tables.send code ≡ h → a.progress ≡ b.progress
-    → faults sending a kind code ≡ faults sending b kind code
+    → fault_response sending a kind code ≡ fault_response sending b kind code
 faults_same sending a b kind code handler.Cancel is e = rw is (cancels_same sending a b code sending.request.class refl e)
 faults_same sending a b kind code handler.Suspend is e = rw is refl
 faults_same sending a b kind code handler.Ignore is e = rw (is, e) refl
 faults_same sending a b kind code handler.Abandon is e = rw (is, e) refl
 
 row_same : (sending : Sending) (front a b : State) (event : What) → a.progress ≡ b.progress → a.eof ≡ b.eof → a.paused ≡ b.paused → a.ended ≡ b.ended
-    → row_of sending front a (happens event) ≡ row_of sending front b (happens event)
+    → response_to sending front a (happens event) ≡ response_to sending front b (happens event)
 row_same sending front a b what.Pump p e s d = refl
 row_same sending front a b (what.Pdu pdu) p e s d = refl
 row_same sending front a b (what.Timer Ack stamp) p e s d = rw (faults_same sending a b Ack condition.positive_ack_limit _ refl p) refl
@@ -72,13 +72,13 @@ or_false : (b : Bool) → (b || false) ≡ b
 or_false true = refl
 or_false false = refl
 
-seen_row : (sending : Sending) (state : State) (event : What) → row_of sending state (seen sending state (happens event)) (happens event) ≡ row_of sending state state (happens event)
+with_event_response : (sending : Sending) (state : State) (event : What) → response_to sending state (with_event sending state (happens event)) (happens event) ≡ response_to sending state state (happens event)
 unfolding step
-seen_row sending state event = row_same sending state (seen sending state (happens event)) state event (omega arith) refl refl (or_false state.ended)
+with_event_response sending state event = row_same sending state (with_event sending state (happens event)) state event (omega arith) refl refl (or_false state.ended)
 
 -- ---- the answer
 
-effect_same : (r s : Row) (a b : State) (event : Event) (kind : TimerKind) → r.arms ≡ s.arms → a.ended ≡ b.ended → a.paused ≡ b.paused → a.eof ≡ b.eof → a.acknowledged ≡ b.acknowledged
+effect_same : (r s : Response) (a b : State) (event : Event) (kind : TimerKind) → r.arms ≡ s.arms → a.ended ≡ b.ended → a.paused ≡ b.paused → a.eof ≡ b.eof → a.acknowledged ≡ b.acknowledged
     → effect_of r a event kind ≡ effect_of s b event kind
 effect_same r s a b event kind x d p e k = rw (x, d, p, e, k) refl
 
@@ -89,34 +89,34 @@ same_answer : (inds inds' : List Indication) (pdus pdus' : List PduValue) (timer
     → made_answer inds pdus timers ≡ made_answer inds' pdus' timers'
 same_answer inds inds' pdus pdus' timers timers' a b c = cc
 
-effects_are : (core : SenderCore) (event : What) (row : row_type.Row) (wanted : Row) (plan : Plan) → IsRow (sending_of core) row wanted → IsNext core.standing event row plan.next
-    → effect_of wanted (step (sending_of core) (shown core) (record { event = happens event; answer = untimed (sending_of core) wanted })) (happens event) ≡ effect_by plan.next event row
+effects_are : (core : SenderCore) (event : What) (response : response_type.Response) (wanted : Response) (plan : Plan) → IsResponse (sending_of core) response wanted → IsNext core.control event response plan.next
+    → effect_of wanted (step (sending_of core) (shown core) (record { event = happens event; answer = without_timers (sending_of core) wanted })) (happens event) ≡ effect_by plan.next event response
 unfolding step
-effects_are core event row wanted plan is next =
-    fun_ext (λ kind. effect_same wanted (arming row.arms) (step (sending_of core) (shown core) (record { event = happens event; answer = untimed (sending_of core) wanted })) (state_from plan.next nowhere) (happens event) kind (sym is.arms)
-    (ap (λ inds. core.standing.ended || list_any is_end inds) (sym is.inds) ∙ sym next.ended)
-    (ap (λ inds. paused_after core.standing.paused inds) (sym is.inds) ∙ sym next.paused)
-    (ap (λ pdus. newer_or (eof_among pdus) core.standing.eof) (sym is.pdus) ∙ sym next.eof)
+effects_are core event response wanted plan is next =
+    fun_ext (λ kind. effect_same wanted (arming response.arms) (step (sending_of core) (shown core) (record { event = happens event; answer = without_timers (sending_of core) wanted })) (state_from plan.next nowhere) (happens event) kind (sym is.arms)
+    (ap (λ inds. core.control.ended || list_any is_end inds) (sym is.inds) ∙ sym next.ended)
+    (ap (λ inds. paused_after core.control.paused inds) (sym is.inds) ∙ sym next.paused)
+    (ap (λ pdus. newer_or (eof_among pdus) core.control.eof) (sym is.pdus) ∙ sym next.eof)
     (sym next.acknowledged))
 
-pub accepted_is : (core : SenderCore) (event : What) (row : row_type.Row) (left : Left) (plan : Plan)
-    → IsRow (sending_of core) row (row_of (sending_of core) (shown core) (shown core) (happens event)) → IsPlanned core event row left plan
+pub accepted_is : (core : SenderCore) (event : What) (response : response_type.Response) (remainder : Remainder) (plan : Plan)
+    → IsResponse (sending_of core) response (response_to (sending_of core) (shown core) (shown core) (happens event)) → HoldsResponse core event response remainder plan
     → accepted_at (sending_of core) (shown core) (happens event) ≡ plan_answer plan
 unfolding made_answer
-accepted_is core event row left plan is planned =
+accepted_is core event response remainder plan is planned =
     let s : Sending = sending_of core in
     let f : State = shown core in
-    let wanted : Row = row_of s f f (happens event) in
-    ap (λ (r : Row). timed s f (happens event) r (untimed s r)) (seen_row s f event)
-    ∙ same_answer wanted.inds plan.answer.inds (sent s wanted) plan.answer.pdus _ plan.answer.timers
+    let wanted : Response = response_to s f f (happens event) in
+    ap (λ (r : Response). with_timers s f (happens event) r (without_timers s r)) (with_event_response s f event)
+    ∙ same_answer wanted.inds plan.answer.inds (pdus_of_response s wanted) plan.answer.pdus _ plan.answer.timers
     (sym (planned.inds ∙ is.inds)) (sym (planned.pdus ∙ is.pdus))
-    (ap (λ e. operations s.key (timer_length s.params.timers) f.place e f.armed) (effects_are core event row wanted plan is planned.next) ∙ sym planned.timers)
+    (ap (λ e. operations s.key (timer_length s.params.timers) f.entries e f.armed) (effects_are core event response wanted plan is planned.next) ∙ sym planned.timers)
 
 -- ---- the state that follows
 
 made : ℕ → Bool → (ℕ → Bool) → ℕ → Option Eof → Bool → Bool → (TimerKind → Option ℕ) → (TimerKind → ℕ) → Bool → State
-made place metadata remains progress eof acknowledged paused armed tries ended = record {
-  place = place;
+made entries metadata remains progress eof acknowledged paused armed tries ended = record {
+  entries = entries;
   metadata_remains = metadata;
   remains = remains;
   progress = progress;
@@ -128,52 +128,52 @@ made place metadata remains progress eof acknowledged paused armed tries ended =
   ended = ended;
 }
 
-same_made : (a b : State) → a.place ≡ b.place → a.metadata_remains ≡ b.metadata_remains → a.remains ≡ b.remains → a.progress ≡ b.progress → a.eof ≡ b.eof
+same_made : (a b : State) → a.entries ≡ b.entries → a.metadata_remains ≡ b.metadata_remains → a.remains ≡ b.remains → a.progress ≡ b.progress → a.eof ≡ b.eof
     → a.acknowledged ≡ b.acknowledged → a.paused ≡ b.paused → a.armed ≡ b.armed → a.tries ≡ b.tries → a.ended ≡ b.ended
-    → made a.place a.metadata_remains a.remains a.progress a.eof a.acknowledged a.paused a.armed a.tries a.ended
-    ≡ made b.place b.metadata_remains b.remains b.progress b.eof b.acknowledged b.paused b.armed b.tries b.ended
+    → made a.entries a.metadata_remains a.remains a.progress a.eof a.acknowledged a.paused a.armed a.tries a.ended
+    ≡ made b.entries b.metadata_remains b.remains b.progress b.eof b.acknowledged b.paused b.armed b.tries b.ended
 same_made a b x1 x2 x3 x4 x5 x6 x7 x8 x9 x10 = cc
 
 -- states whose parts are the same
-pub same_state : (a b : State) → a.place ≡ b.place → a.metadata_remains ≡ b.metadata_remains → ((i : ℕ) → a.remains i ≡ b.remains i) → a.progress ≡ b.progress → a.eof ≡ b.eof
+pub same_state : (a b : State) → a.entries ≡ b.entries → a.metadata_remains ≡ b.metadata_remains → ((i : ℕ) → a.remains i ≡ b.remains i) → a.progress ≡ b.progress → a.eof ≡ b.eof
     → a.acknowledged ≡ b.acknowledged → a.paused ≡ b.paused → ((kind : TimerKind) → a.armed kind ≡ b.armed kind) → ((kind : TimerKind) → a.tries kind ≡ b.tries kind) → a.ended ≡ b.ended → a ≡ b
 unfolding made
 same_state a b x1 x2 x3 x4 x5 x6 x7 x8 x9 x10 = same_made a b x1 x2 (fun_ext x3) x4 x5 x6 x7 (fun_ext x8) (fun_ext x9) x10
 
-stamp_is : (place : ℕ) (effect : Effect) (before : Option ℕ) → stamp_by place effect before ≡ armed_by place effect before
-stamp_is place arms before = refl
-stamp_is place keeps before = refl
-stamp_is place stops before = refl
+stamp_is : (entries : ℕ) (effect : Effect) (before : Option ℕ) → stamp_by entries effect before ≡ armed_by entries effect before
+stamp_is entries arms before = refl
+stamp_is entries keeps before = refl
+stamp_is entries stops before = refl
 
-pub follows : (core : SenderCore) (event : What) (row : row_type.Row) (left : Left) (plan : Plan)
-    → IsRow (sending_of core) row (row_of (sending_of core) (shown core) (shown core) (happens event)) → IsPlanned core event row left plan
-    → ((i : ℕ) → left_of core.remaining left i ≡ remains_after (sending_of core) (shown core) event i)
-    → state_from plan.next (left_of core.remaining plan.left) ≡ step (sending_of core) (shown core) (record { event = happens event; answer = plan_answer plan })
+pub follows : (core : SenderCore) (event : What) (response : response_type.Response) (remainder : Remainder) (plan : Plan)
+    → IsResponse (sending_of core) response (response_to (sending_of core) (shown core) (shown core) (happens event)) → HoldsResponse core event response remainder plan
+    → ((i : ℕ) → remainder_of core.remaining remainder i ≡ remains_after (sending_of core) (shown core) event i)
+    → state_from plan.next (remainder_of core.remaining plan.remainder) ≡ step (sending_of core) (shown core) (record { event = happens event; answer = plan_answer plan })
 unfolding step
-follows core event row left plan is planned remains =
+follows core event response remainder plan is planned remains =
     let s : Sending = sending_of core in
     let f : State = shown core in
     let next = planned.next in
-    let pdus : option_to_list row.pdu ≡ plan.answer.pdus = sym planned.pdus in
-    let inds : row.inds ≡ plan.answer.inds = sym planned.inds in
-    same_state (state_from plan.next (left_of core.remaining plan.left)) _
-    next.place
+    let pdus : option_to_list response.pdu ≡ plan.answer.pdus = sym planned.pdus in
+    let inds : response.inds ≡ plan.answer.inds = sym planned.inds in
+    same_state (state_from plan.next (remainder_of core.remaining plan.remainder)) _
+    next.entries
     (rw pdus at next.metadata)
-    (λ i. ap (λ l. left_of core.remaining l i) planned.left_is ∙ remains i
+    (λ i. ap (λ l. remainder_of core.remaining l i) planned.remainder_is ∙ remains i
     ∙ ap (λ p. (f.remains i && not (list_any (covers i) p)) || (nat_lt i (length s.request.file) && list_any (asks_for i) (requests_of (happens event)))) (sym (planned.pdus ∙ is.pdus)))
     (rw pdus at next.progress) (rw pdus at next.eof) next.acknowledged (rw inds at next.paused)
-    (λ kind. planned.armed kind ∙ stamp_is core.standing.place (effect_by plan.next event row kind) (stamp_of core.standing.armed kind)
-    ∙ sym (armed_after-operations core.key (timer_length core.params.timers) core.standing.place (effect_by plan.next event row) (stamp_of core.standing.armed) kind)
-    ∙ ap (λ t. armed_after core.standing.place (stamp_of core.standing.armed kind) t kind) (sym planned.timers))
+    (λ kind. planned.armed kind ∙ stamp_is core.control.entries (effect_by plan.next event response kind) (stamp_of core.control.armed kind)
+    ∙ sym (armed_after-operations core.key (timer_length core.params.timers) core.control.entries (effect_by plan.next event response) (stamp_of core.control.armed) kind)
+    ∙ ap (λ t. armed_after core.control.entries (stamp_of core.control.armed kind) t kind) (sym planned.timers))
     (λ kind. rw (pdus, inds) at (next.tries kind))
     (rw inds at next.ended)
 
 -- ---- what the code can hold
 
-counted : (again expired : Bool) (t place : ℕ) → t ≤ place → (if again then 0 else if expired then t + 1 else t) ≤ place + 1
-counted true expired t place le = omega arith
-counted false true t place le = omega (arith, le)
-counted false false t place le = omega (arith, le)
+counted : (again expired : Bool) (t entries : ℕ) → t ≤ entries → (if again then 0 else if expired then t + 1 else t) ≤ entries + 1
+counted true expired t entries le = omega arith
+counted false true t entries le = omega (arith, le)
+counted false false t entries le = omega (arith, le)
 
 refused_not : {A : Type 0} (a b c d e : Bool) (v w x y z : A) → (if a then Some v else if b then Some w else if c then Some x else if d then Some y else if e then Some z else None) ≡ None
     → (c ≡ false) × (e ≡ false)
@@ -185,12 +185,12 @@ refused_not false false false false true v w x y z h = absurd cc
 refused_not false false false false false v w x y z h = (refl, refl)
 
 -- a transaction that goes on has room in its journal
-room : (sending : Sending) (front : State) (event : What) (row : row_type.Row) (b : Bool) → refusal_of sending front event ≡ None
-    → IsRow sending row (row_of sending front front (happens event)) → (b || list_any is_end row.inds) ≡ false → needs_room event ≡ true → front.place + 1 ≤ 65534
-room sending front event row b taken is goes_on needs =
+room : (sending : Sending) (front : State) (event : What) (response : response_type.Response) (b : Bool) → refusal_of sending front event ≡ None
+    → IsResponse sending response (response_to sending front front (happens event)) → (b || list_any is_end response.inds) ≡ false → needs_room event ≡ true → front.entries + 1 ≤ 65534
+room sending front event response b taken is goes_on needs =
     let full : (is_full front && needs_room event) ≡ false = (refused_not (is_of_other_class sending.request.class event) (is_stale_timer front.armed event) (is_stale_store event) (is_misplaced sending front event) (is_full front && needs_room event) refusal.ModeMismatch refusal.StaleTimer refusal.StaleStored refusal.WrongState refusal.JournalFull taken).1 in
     let open_ : (is_full front && true) ≡ false = rw needs at full in
-    let below : front.place < 65534 = leb-false 65534 front.place (sym (and_true (is_full front)) ∙ open_) in
+    let below : front.entries < 65534 = leb-false 65534 front.entries (sym (and_true (is_full front)) ∙ open_) in
     omega arith
   where
     and_true : (b : Bool) → (b && true) ≡ b
@@ -201,39 +201,39 @@ ends_true : (b : Bool) → (b || true) ≡ true
 ends_true true = refl
 ends_true false = refl
 
-goes_on : (sending : Sending) (front : State) (event : What) (row : row_type.Row) (b : Bool) → refusal_of sending front event ≡ None
-    → IsRow sending row (row_of sending front front (happens event)) → (b || list_any is_end row.inds) ≡ false → front.place + 1 ≤ 65534
-goes_on sending front (what.Pdu pdu) row b taken is e = room sending front (what.Pdu pdu) row b taken is e refl
-goes_on sending front (what.Timer kind stamp) row b taken is e = room sending front (what.Timer kind stamp) row b taken is e refl
-goes_on sending front what.Pump row b taken is e = room sending front what.Pump row b taken is e refl
-goes_on sending front what.Cancel row b taken is e = room sending front what.Cancel row b taken is e refl
-goes_on sending front what.Suspend row b taken is e = room sending front what.Suspend row b taken is e refl
-goes_on sending front what.Resume row b taken is e = room sending front what.Resume row b taken is e refl
-goes_on sending front what.Report row b taken is e = room sending front what.Report row b taken is e refl
-goes_on sending front what.Abandon row b taken is e =
+goes_on : (sending : Sending) (front : State) (event : What) (response : response_type.Response) (b : Bool) → refusal_of sending front event ≡ None
+    → IsResponse sending response (response_to sending front front (happens event)) → (b || list_any is_end response.inds) ≡ false → front.entries + 1 ≤ 65534
+goes_on sending front (what.Pdu pdu) response b taken is e = room sending front (what.Pdu pdu) response b taken is e refl
+goes_on sending front (what.Timer kind stamp) response b taken is e = room sending front (what.Timer kind stamp) response b taken is e refl
+goes_on sending front what.Pump response b taken is e = room sending front what.Pump response b taken is e refl
+goes_on sending front what.Cancel response b taken is e = room sending front what.Cancel response b taken is e refl
+goes_on sending front what.Suspend response b taken is e = room sending front what.Suspend response b taken is e refl
+goes_on sending front what.Resume response b taken is e = room sending front what.Resume response b taken is e refl
+goes_on sending front what.Report response b taken is e = room sending front what.Report response b taken is e refl
+goes_on sending front what.Abandon response b taken is e =
     let ends : (b || true) ≡ false = rw is.inds at e in
     let yes : (b || true) ≡ true = ends_true b in absurd cc
-goes_on sending front (what.Stored stamp kept) row b taken is e = let stale = (refused_not (is_of_other_class sending.request.class (what.Stored stamp kept)) (is_stale_timer front.armed (what.Stored stamp kept)) (is_stale_store (what.Stored stamp kept)) (is_misplaced sending front (what.Stored stamp kept)) (is_full front && needs_room (what.Stored stamp kept)) refusal.ModeMismatch refusal.StaleTimer refusal.StaleStored refusal.WrongState refusal.JournalFull taken).0 in absurd cc
+goes_on sending front (what.Stored stamp kept) response b taken is e = let stale = (refused_not (is_of_other_class sending.request.class (what.Stored stamp kept)) (is_stale_timer front.armed (what.Stored stamp kept)) (is_stale_store (what.Stored stamp kept)) (is_misplaced sending front (what.Stored stamp kept)) (is_full front && needs_room (what.Stored stamp kept)) refusal.ModeMismatch refusal.StaleTimer refusal.StaleStored refusal.WrongState refusal.JournalFull taken).0 in absurd cc
 
-pub sound_after : (core : SenderCore) (event : What) (row : row_type.Row) (left : Left) (plan : Plan) → refusal_of (sending_of core) (shown core) event ≡ None
-    → IsRow (sending_of core) row (row_of (sending_of core) (shown core) (shown core) (happens event)) → IsPlanned core event row left plan
-    → extent_of (option_to_list row.pdu) ≤ length core.request.file → core.standing.ended ≡ false → IsSound (length core.request.file) plan.next
-sound_after core event row left plan taken is planned inside runs =
+pub sound_after : (core : SenderCore) (event : What) (response : response_type.Response) (remainder : Remainder) (plan : Plan) → refusal_of (sending_of core) (shown core) event ≡ None
+    → IsResponse (sending_of core) response (response_to (sending_of core) (shown core) (shown core) (happens event)) → HoldsResponse core event response remainder plan
+    → extent_of (option_to_list response.pdu) ≤ length core.request.file → core.control.ended ≡ false → IsSound (length core.request.file) plan.next
+sound_after core event response remainder plan taken is planned inside runs =
     let next = planned.next in
-    let old : AreFew core.standing = core.sound.few in
-    let few : core.standing.place ≤ 65534 = core.sound.goes_on runs in
-    let place : plan.next.place ≡ core.standing.place + 1 = next.place in
+    let old : AreFew core.control = core.sound.few in
+    let few : core.control.entries ≤ 65534 = core.sound.goes_on runs in
+    let entries : plan.next.entries ≡ core.control.entries + 1 = next.entries in
     record {
       few = record {
-        place = omega (arith, place, few);
+        entries = omega (arith, entries, few);
         tries = record {
-          ack = rw (next.tries Ack, place) (counted _ _ core.standing.tries.ack core.standing.place old.tries.ack);
-          nak = rw (next.tries Nak, place) (counted _ _ core.standing.tries.nak core.standing.place old.tries.nak);
-          check = rw (next.tries Check, place) (counted _ _ core.standing.tries.check core.standing.place old.tries.check);
-          inactivity = rw (next.tries Inactivity, place) (counted _ _ core.standing.tries.inactivity core.standing.place old.tries.inactivity);
+          ack = rw (next.tries Ack, entries) (counted _ _ core.control.tries.ack core.control.entries old.tries.ack);
+          nak = rw (next.tries Nak, entries) (counted _ _ core.control.tries.nak core.control.entries old.tries.nak);
+          check = rw (next.tries Check, entries) (counted _ _ core.control.tries.check core.control.entries old.tries.check);
+          inactivity = rw (next.tries Inactivity, entries) (counted _ _ core.control.tries.inactivity core.control.entries old.tries.inactivity);
         };
       };
-      goes_on = λ e. rw place (goes_on (sending_of core) (shown core) event row core.standing.ended taken is (sym next.ended ∙ e));
+      goes_on = λ e. rw entries (goes_on (sending_of core) (shown core) event response core.control.ended taken is (sym next.ended ∙ e));
       progress = omega (arith, next.progress, inside, core.sound.progress);
     }
 
@@ -242,25 +242,25 @@ inside_after true lt covered asked e = inl refl
 inside_after false true covered asked e = inr refl
 inside_after false false covered asked e = absurd cc
 
-pub still_inside : (core : SenderCore) (event : What) (left : Left) → ((i : ℕ) → left_of core.remaining left i ≡ remains_after (sending_of core) (shown core) event i)
-    → IsInside (length core.request.file) (left_of core.remaining left)
-still_inside core event left is i has =
+pub still_inside : (core : SenderCore) (event : What) (remainder : Remainder) → ((i : ℕ) → remainder_of core.remaining remainder i ≡ remains_after (sending_of core) (shown core) event i)
+    → IsInside (length core.request.file) (remainder_of core.remaining remainder)
+still_inside core event remainder is i has =
     elim (inside_after (in_runs core.remaining i) (nat_lt i (length core.request.file)) _ _ (sym (is i) ∙ has)) [
       | inl kept ↦ core.inside i kept
       | inr below ↦ ltb-true i (length core.request.file) below
     ]
 
-pub is_plan : (core : SenderCore) (event : What) (row : row_type.Row) (left : Left) (plan : Plan) → refusal_of (sending_of core) (shown core) event ≡ None
-    → IsRow (sending_of core) row (row_of (sending_of core) (shown core) (shown core) (happens event)) → IsPlanned core event row left plan
-    → ((i : ℕ) → left_of core.remaining left i ≡ remains_after (sending_of core) (shown core) event i)
-    → extent_of (option_to_list row.pdu) ≤ length core.request.file → IsPlanOf core plan (happens event)
+pub is_plan : (core : SenderCore) (event : What) (response : response_type.Response) (remainder : Remainder) (plan : Plan) → refusal_of (sending_of core) (shown core) event ≡ None
+    → IsResponse (sending_of core) response (response_to (sending_of core) (shown core) (shown core) (happens event)) → HoldsResponse core event response remainder plan
+    → ((i : ℕ) → remainder_of core.remaining remainder i ≡ remains_after (sending_of core) (shown core) event i)
+    → extent_of (option_to_list response.pdu) ≤ length core.request.file → IsPlanOf core plan (happens event)
 unfolding answer_at
-is_plan core event row left plan taken is planned remains inside = record {
-  accepted = rw taken (ap Ok (accepted_is core event row left plan is planned));
-  follows = follows core event row left plan is planned remains;
+is_plan core event response remainder plan taken is planned remains inside = record {
+  accepted = rw taken (ap Ok (accepted_is core event response remainder plan is planned));
+  follows = follows core event response remainder plan is planned remains;
   nothing = planned.nothing;
-  inside = λ i has. still_inside core event left remains i (ap (λ l. left_of core.remaining l i) (sym planned.left_is) ∙ has);
-  sound = sound_after core event row left plan taken is planned inside;
+  inside = λ i has. still_inside core event remainder remains i (ap (λ l. remainder_of core.remaining l i) (sym planned.remainder_is) ∙ has);
+  sound = sound_after core event response remainder plan taken is planned inside;
 }
 
 pub refused_is : (sending : Sending) (state : State) (event : What) (why : Refusal) → refusal_of sending state event ≡ Some why → answer_at sending state (happens event) ≡ Err why

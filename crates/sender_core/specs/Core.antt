@@ -11,24 +11,24 @@ use Rattle.ind_words.specs.Words.{is_end}
 use Rattle.std.specs.List.{list_any}
 use Rattle.pdu_codec.specs.declared.event.What.{What}
 use Rattle.core_steps.specs.Timers.{tries_of, stamp_of, stamp_by}
-use Rattle.sender_core.specs.declared.standing.Standing.{Standing}
+use Rattle.sender_core.specs.declared.control.ControlBlock.{ControlBlock}
 use Rattle.cfdp_types.specs.Put.{PutValue}
 use Rattle.gap_list.specs.declared.run.Run.{Run}
 use Rattle.gap_list.specs.Runs.{in_runs}
 use Rattle.pdu_format.specs.Pdu.{PduValue}
 use Rattle.pdu_codec.specs.declared.event.Refusal.{Refusal}
 use Rattle.pdu_codec.specs.declared.event.Refusal.TheVariants as refusal
-use Rattle.sender_core.specs.Sending.{Sending, Event, happens, State, Entry, state_of, step, is_metadata, asks_for_metadata, requests_of, extent_of, eof_among, acknowledges_eof, tries_after, covers, asks_for}
-use Rattle.sender_core.specs.Sending as sending_module
-use Rattle.sender_core.specs.Answers.{answer_at, header_of}
-use Rattle.sender_core.specs.Answers as table
+use Rattle.sender_table.specs.Sending.{Sending, Event, happens, State, Entry, state_of, step, is_metadata, asks_for_metadata, requests_of, extent_of, eof_among, acknowledges_eof, tries_after, covers, asks_for}
+use Rattle.sender_table.specs.Sending as sending_module
+use Rattle.sender_table.specs.Answers.{answer_at, header_of}
+use Rattle.sender_table.specs.Answers as table
 use Rattle.sender_core.specs.Remaining.{without_first}
-use Rattle.sender_core.specs.Standing.{state_from, nowhere, IsSound, IsInside}
+use Rattle.sender_core.specs.ControlBlock.{state_from, nowhere, IsSound, IsInside}
 use Rattle.sender_core.specs.declared.answer.Answer as answer_type
-use Rattle.sender_core.specs.declared.plan.Left.{Left}
-use Rattle.sender_core.specs.declared.plan.Left.TheVariants as left
+use Rattle.sender_core.specs.declared.plan.Remainder.{Remainder}
+use Rattle.sender_core.specs.declared.plan.Remainder.TheVariants as remainder
 use Rattle.sender_core.specs.declared.plan.Plan.{Plan}
-use Rattle.sender_core.specs.declared.row.Row as row_type
+use Rattle.sender_core.specs.declared.response.Response as response_type
 use Rattle.sender_core.specs.declared.sender.SenderCore.{SenderCore}
 
 -- what is settled when a file is put
@@ -40,7 +40,7 @@ sending_of core = sending_by core.key core.params core.request
 
 -- what a core stands at
 abbrev pub shown : SenderCore → State
-shown core = state_from core.standing (in_runs core.remaining)
+shown core = state_from core.control (in_runs core.remaining)
 
 -- what the core holds is what the log gives
 abbrev pub StandsAfter : SenderCore → List Entry → Type 0
@@ -55,68 +55,68 @@ abbrev pub plan_answer : Plan → sending_module.Answer
 plan_answer plan = answer_value plan.answer
 
 -- the offsets that are to be sent after a plan
-abbrev pub left_of : List Run → Left → ℕ → Bool
-left_of runs left.Same = in_runs runs
-left_of runs (left.Without count) = in_runs (without_first count runs)
-left_of runs (left.Anew others) = in_runs others
+abbrev pub remainder_of : List Run → Remainder → ℕ → Bool
+remainder_of runs remainder.Same = in_runs runs
+remainder_of runs (remainder.Without count) = in_runs (without_first count runs)
+remainder_of runs (remainder.Anew others) = in_runs others
 
--- the PDU and the rest of a row of the table
-abbrev pub sent : Sending → table.Row → List PduValue
-sent sending row = map (λ b. record { header = header_of sending; body = b }) row.bodies
+-- the PDU and the rest of a response of the table
+abbrev pub pdus_of_response : Sending → table.Response → List PduValue
+pdus_of_response sending response = map (λ b. record { header = header_of sending; body = b }) response.bodies
 
--- a row is the one that the table wants
-pub record IsRow (sending : Sending) (row : row_type.Row) (wanted : table.Row) : Type 0 where
-  pub inds : row.inds ≡ wanted.inds
-  pub pdus : option_to_list row.pdu ≡ sent sending wanted
-  pub arms : option_to_list row.arms ≡ wanted.arms
+-- a response is the one that the table wants
+pub record IsResponse (sending : Sending) (response : response_type.Response) (wanted : table.Response) : Type 0 where
+  pub inds : response.inds ≡ wanted.inds
+  pub pdus : option_to_list response.pdu ≡ pdus_of_response sending wanted
+  pub arms : option_to_list response.arms ≡ wanted.arms
 
 -- the last EOF once more
-abbrev pub eof_again : State → table.Row
+abbrev pub eof_again : State → table.Response
 eof_again state = record { inds = []; bodies = table.last_eof state.eof; arms = Ack ∷ [] }
 
 -- whether an offset is to be sent after an event
 abbrev pub remains_after : Sending → State → What → ℕ → Bool
 remains_after sending state event i =
-    (state.remains i && not (list_any (covers i) (sent sending (table.row_of sending state state (happens event)))))
+    (state.remains i && not (list_any (covers i) (pdus_of_response sending (table.response_to sending state state (happens event)))))
     || (nat_lt i (length sending.request.file) && list_any (asks_for i) (requests_of (happens event)))
 
--- an event and a row, but for the timers
-abbrev pub untimed_entry : What → row_type.Row → Entry
-untimed_entry event row = record {
+-- an event and a response, but for the timers
+abbrev pub entry_without_timers : What → response_type.Response → Entry
+entry_without_timers event response = record {
   event = happens event;
-  answer = record { inds = row.inds; pdus = option_to_list row.pdu; timers = [] };
+  answer = record { inds = response.inds; pdus = option_to_list response.pdu; timers = [] };
 }
 
--- a row of which only the timer that it arms is known
-abbrev pub arming : Option TimerKind → table.Row
+-- a response of which only the timer that it arms is known
+abbrev pub arming : Option TimerKind → table.Response
 arming arms = record { inds = []; bodies = []; arms = option_to_list arms }
 
--- a standing follows another by an event and its row, but for the timers that run
-pub record IsNext (standing : Standing) (event : What) (row : row_type.Row) (next : Standing) : Type 0 where
-  pub place : next.place ≡ standing.place + 1
+-- a control block follows another by an event and its response, but for the timers that run
+pub record IsNext (control : ControlBlock) (event : What) (response : response_type.Response) (next : ControlBlock) : Type 0 where
+  pub entries : next.entries ≡ control.entries + 1
   pub metadata : next.metadata_remains
-      ≡ ((standing.metadata_remains && not (list_any is_metadata (option_to_list row.pdu))) || list_any asks_for_metadata (requests_of (happens event)))
-  pub progress : next.progress ≡ max standing.progress (extent_of (option_to_list row.pdu))
-  pub eof : next.eof ≡ newer_or (eof_among (option_to_list row.pdu)) standing.eof
-  pub acknowledged : next.acknowledged ≡ (standing.acknowledged || acknowledges_eof (happens event))
-  pub paused : next.paused ≡ paused_after standing.paused row.inds
-  pub ended : next.ended ≡ (standing.ended || list_any is_end row.inds)
-  pub tries : (kind : TimerKind) → tries_of next.tries kind ≡ tries_after (state_from standing nowhere) (untimed_entry event row) kind
+      ≡ ((control.metadata_remains && not (list_any is_metadata (option_to_list response.pdu))) || list_any asks_for_metadata (requests_of (happens event)))
+  pub progress : next.progress ≡ max control.progress (extent_of (option_to_list response.pdu))
+  pub eof : next.eof ≡ newer_or (eof_among (option_to_list response.pdu)) control.eof
+  pub acknowledged : next.acknowledged ≡ (control.acknowledged || acknowledges_eof (happens event))
+  pub paused : next.paused ≡ paused_after control.paused response.inds
+  pub ended : next.ended ≡ (control.ended || list_any is_end response.inds)
+  pub tries : (kind : TimerKind) → tries_of next.tries kind ≡ tries_after (state_from control nowhere) (entry_without_timers event response) kind
 
--- what a step does with the timers, by the standing that it leads to
-abbrev pub effect_by : Standing → What → row_type.Row → TimerKind → Effect
-effect_by next event row kind = table.effect_of (arming row.arms) (state_from next nowhere) (happens event) kind
+-- what a step does with the timers, by the control block that it leads to
+abbrev pub effect_by : ControlBlock → What → response_type.Response → TimerKind → Effect
+effect_by next event response kind = table.effect_of (arming response.arms) (state_from next nowhere) (happens event) kind
 
--- a plan made of a row, and of what is left to send
-pub record IsPlanned (core : SenderCore) (event : What) (row : row_type.Row) (left : Left) (plan : Plan) : Type 0 where
-  pub inds : plan.answer.inds ≡ row.inds
-  pub pdus : plan.answer.pdus ≡ option_to_list row.pdu
+-- a plan made of a response, and of what is left to send
+pub record HoldsResponse (core : SenderCore) (event : What) (response : response_type.Response) (remainder : Remainder) (plan : Plan) : Type 0 where
+  pub inds : plan.answer.inds ≡ response.inds
+  pub pdus : plan.answer.pdus ≡ option_to_list response.pdu
   pub timers : plan.answer.timers
-      ≡ operations core.key (timer_length core.params.timers) core.standing.place (effect_by plan.next event row) (stamp_of core.standing.armed)
-  pub left_is : plan.left ≡ left
+      ≡ operations core.key (timer_length core.params.timers) core.control.entries (effect_by plan.next event response) (stamp_of core.control.armed)
+  pub remainder_is : plan.remainder ≡ remainder
   pub nothing : plan.answer.deposit ≡ None
-  pub next : IsNext core.standing event row plan.next
-  pub armed : (kind : TimerKind) → stamp_of plan.next.armed kind ≡ stamp_by core.standing.place (effect_by plan.next event row kind) (stamp_of core.standing.armed kind)
+  pub next : IsNext core.control event response plan.next
+  pub armed : (kind : TimerKind) → stamp_of plan.next.armed kind ≡ stamp_by core.control.entries (effect_by plan.next event response kind) (stamp_of core.control.armed kind)
 
 -- why an event was not planned: the table refuses it so, or it is answered and memory ran out
 abbrev pub IsWhy : Result sending_module.Answer Refusal → Refusal → Type 0
@@ -126,7 +126,7 @@ IsWhy answer why = (answer ≡ Err why) ⊎ ((why ≡ refusal.NoMemory) × IsOk 
 -- what follows
 pub record IsPlanOf (core : SenderCore) (plan : Plan) (event : Event) : Type 0 where
   pub accepted : answer_at (sending_of core) (shown core) event ≡ Ok (plan_answer plan)
-  pub follows : state_from plan.next (left_of core.remaining plan.left) ≡ step (sending_of core) (shown core) (record { event = event; answer = plan_answer plan })
+  pub follows : state_from plan.next (remainder_of core.remaining plan.remainder) ≡ step (sending_of core) (shown core) (record { event = event; answer = plan_answer plan })
   pub nothing : plan.answer.deposit ≡ None
-  pub inside : IsInside (length core.request.file) (left_of core.remaining plan.left)
-  pub sound : core.standing.ended ≡ false → IsSound (length core.request.file) plan.next
+  pub inside : IsInside (length core.request.file) (remainder_of core.remaining plan.remainder)
+  pub sound : core.control.ended ≡ false → IsSound (length core.request.file) plan.next

@@ -1,12 +1,3 @@
-pub mod Sending
-pub mod Refusals
-pub mod Answers
-pub mod LegalSendings
-pub mod SendingRows
-pub mod SendingPduRows
-pub mod SendingRefusalRows
-pub mod SendingTimerRows
-pub mod SendingLaws
 pub mod Remaining
-pub mod Standing
+pub mod ControlBlock
 pub mod Core

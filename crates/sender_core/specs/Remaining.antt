@@ -3,7 +3,7 @@ use Rattle.std.specs.Prelude.{ℕ, ◌+◌, ◌-◌, ◌<◌, Bool, ◌||◌, �
 use Rattle.std.specs.List.{list_any}
 use Rattle.gap_list.specs.declared.run.Run.{Run}
 use Rattle.pdu_format.specs.declared.requests.SegmentRequest.{SegmentRequest}
-use Rattle.sender_core.specs.Sending.{asks_for}
+use Rattle.sender_table.specs.Sending.{asks_for}
 
 -- every offset of a file
 abbrev pub whole : ℕ → List Run

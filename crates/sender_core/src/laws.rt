@@ -1,8 +1,3 @@
 //! What holds of every sender, over its definitions alone.
 
-ghost use Rattle.sender_core.specs.SendingLaws.{TellsWords};
-
-/// What a sender tells its user is a beginning of a sender's word, and a word once it has ended.
-pub fn words()
-    ensures { TellsWords }
-{}
+pub use sender_laws::words;

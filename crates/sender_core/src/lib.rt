@@ -4,17 +4,17 @@
 
 mod answer;
 pub mod laws;
-mod left;
-mod opening;
+mod remainder;
+mod first_event;
 mod pdus;
 mod plan;
 mod planning;
 mod refusals;
 mod remaining;
-mod row;
-mod rows;
+mod response;
+mod responses;
 mod sender;
-mod standing;
+mod control;
 mod steps;
 
 pub use answer::Answer;

@@ -6,8 +6,8 @@ ghost use Rattle.pdu_format.specs.Spelling.{HeaderFits, Fits, IsLocation};
 ghost use Rattle.pdu_format.specs.declared.pdu.Body.TheVariants as body;
 ghost use Rattle.pdu_format.specs.declared.bodies.Acknowledged.TheVariants as acknowledged;
 ghost use Rattle.pdu_format.specs.declared.bodies.TransactionStatus.TheVariants.{Terminated};
-ghost use Rattle.sender_core.specs.Answers.{octets_for, header_of, metadata_of, file_data_of};
-ghost use Rattle.sender_core.specs.Sending.{Sending};
+ghost use Rattle.sender_table.specs.Answers.{octets_for, header_of, metadata_of, file_data_of};
+ghost use Rattle.sender_table.specs.Sending.{Sending};
 
 use cfdp_types::{ChecksumType, Condition, EntityId, Octets, Params, PutRequest, TxnKey};
 use pdu_codec::{

@@ -1,10 +1,10 @@
 use crate::answer::Answer;
 use crate::remaining::Remaining;
-use crate::standing::Standing;
+use crate::control::ControlBlock;
 
 /// What an event makes of the offsets that are still to be sent.
 #[derive(Debug, Drop)]
-pub(crate) enum Left {
+pub(crate) enum Remainder {
     /// They are the same.
     Same,
     /// So many of the first offsets of the lowest run are sent.
@@ -17,8 +17,8 @@ pub(crate) enum Left {
 /// in the state that it was made in.
 #[derive(Debug, Drop)]
 pub struct Plan {
-    pub(crate) next: Standing,
-    pub(crate) left: Left,
+    pub(crate) next: ControlBlock,
+    pub(crate) remainder: Remainder,
     pub(crate) answer: Answer,
 }
 

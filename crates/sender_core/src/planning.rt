@@ -3,10 +3,10 @@ ghost use Rattle.std.specs.Prelude.{◌≡◌, IfOk};
 ghost use Rattle.std.specs.Option.{option_to_list};
 
 use crate::answer::Answer;
-use crate::plan::{Left, Plan};
-use crate::row::Row;
+use crate::plan::{Remainder, Plan};
+use crate::response::Response;
 use crate::sender::SenderCore;
-use crate::standing::Standing;
+use crate::control::ControlBlock;
 use crate::steps::{changes, next};
 use core_steps::{Changes, Clock, Pdus, TimerOps, operations};
 use pdu_codec::{Pdu, Refusal, What};
@@ -18,38 +18,38 @@ impl SenderCore {
     ghost use Rattle.cfdp_types.specs.declared.limits.TheConstants.{FILE_OCTETS};
     ghost use Rattle.cfdp_types.specs.Steps as steps;
     ghost use Rattle.cfdp_types.specs.Params.{timer_length};
-    ghost use Rattle.sender_core.specs.Sending.{Entry, happens, extent_of, state_of};
-    ghost use Rattle.sender_core.specs.Answers.{answer_at};
+    ghost use Rattle.sender_table.specs.Sending.{Entry, happens, extent_of, state_of};
+    ghost use Rattle.sender_table.specs.Answers.{answer_at};
     ghost use Rattle.core_steps.specs.Timers.{effects, stamp_of};
-    ghost use Rattle.sender_core.specs.Core.{shown, sending_of, plan_answer, StandsAfter, IsPlanned, IsPlanOf, IsWhy};
+    ghost use Rattle.sender_core.specs.Core.{shown, sending_of, plan_answer, StandsAfter, HoldsResponse, IsPlanOf, IsWhy};
 
     // The operations that tell what a step does with the timers.
     fn timer_ops(&self, changes: Changes) -> Result<TimerOps, AllocError>
-        ensures { IfOk result (λ ops. ops ≡ steps.operations self.now.key (timer_length self.now.params.timers) self.now.standing.place (effects changes) (stamp_of self.now.standing.armed)) }
+        ensures { IfOk result (λ ops. ops ≡ steps.operations self.now.key (timer_length self.now.params.timers) self.now.control.entries (effects changes) (stamp_of self.now.control.armed)) }
     {
         let clock = Clock {
             key: self.key,
             lengths: self.params.timers(),
-            place: self.standing.place,
+            place: self.control.entries,
         };
-        operations(self.alloc, &clock, changes, &self.standing.armed)
+        operations(self.alloc, &clock, changes, &self.control.armed)
     }
 
-    // The plan of an event that is answered by a row, and leaves so much to be sent.
-    fn planned(&self, event: &What, row: Row, left: Left) -> Result<Plan, AllocError>
-        requires { extent_of (option_to_list row.pdu) ≤ FILE_OCTETS }
-        ensures { IfOk result (λ plan. IsPlanned self.now event.now row left plan) }
+    // The plan of an event that is answered by a response, and leaves so much to be sent.
+    fn planned(&self, event: &What, response: Response, remainder: Remainder) -> Result<Plan, AllocError>
+        requires { extent_of (option_to_list response.pdu) ≤ FILE_OCTETS }
+        ensures { IfOk result (λ plan. HoldsResponse self.now event.now response remainder plan) }
     {
-        let next = next(&self.standing, event, &row);
-        let changes = changes(&next, event, row.arms);
+        let next = next(&self.control, event, &response);
+        let changes = changes(&next, event, response.arms);
         let timers = self.timer_ops(changes)?;
-        let pdus = listed(self.alloc, row.pdu)?;
-        let armed = self.standing.armed.after(changes, self.standing.place);
+        let pdus = listed(self.alloc, response.pdu)?;
+        let armed = self.control.armed.after(changes, self.control.entries);
         Ok(Plan {
-            next: Standing { armed, ..next },
-            left,
+            next: ControlBlock { armed, ..next },
+            remainder,
             answer: Answer {
-                inds: row.inds,
+                inds: response.inds,
                 pdus,
                 timers,
                 deposit: None,
@@ -65,9 +65,9 @@ impl SenderCore {
         if let Some(refusal) = self.refusal_of(event) {
             return Err(refusal);
         }
-        let row = self.row_of(event)?;
-        let left = self.left(event)?;
-        let plan = self.planned(event, row, left)?;
+        let response = self.response_to(event)?;
+        let remainder = self.remainder(event)?;
+        let plan = self.planned(event, response, remainder)?;
         Ok(plan)
     }
 

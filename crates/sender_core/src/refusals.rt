@@ -1,6 +1,6 @@
 //! Which events a sender refuses, and why.
 ghost use Rattle.std.specs.Prelude.{◌≡◌};
-ghost use Rattle.sender_core.specs.Refusals.{is_last_eof};
+ghost use Rattle.sender_table.specs.Refusals.{is_last_eof};
 
 use crate::sender::SenderCore;
 use cfdp_types::limits::{JOURNAL_ENTRIES, JOURNAL_ENTRIES_KEPT};
@@ -11,7 +11,7 @@ use pdu_codec::{Body, Eof, Pdu, Refusal, What};
 impl SenderCore {
     ghost use Rattle.std.specs.Prelude.{◌≡◌, nat_lt, length};
     ghost use Rattle.sender_core.specs.Core.{shown, sending_of};
-    ghost use Rattle.sender_core.specs.Refusals.{runs_to_send, has_more_to_send, has_no_place, is_pdu_misplaced, is_misplaced, is_full, refusal_of};
+    ghost use Rattle.sender_table.specs.Refusals.{runs_to_send, has_more_to_send, has_no_place, is_pdu_misplaced, is_misplaced, is_full, refusal_of};
 
     // Whether octets of the file are to be sent.
     fn has_octets(&self) -> bool
@@ -27,7 +27,7 @@ impl SenderCore {
     fn has_more_to_send(&self) -> bool
         ensures { result ≡ has_more_to_send (sending_of self.now) (shown self.now) }
     {
-        self.standing.metadata_remains || self.has_octets() || self.standing.eof.is_none()
+        self.control.metadata_remains || self.has_octets() || self.control.eof.is_none()
     }
 
     // An ACK of another EOF than the last that was sent; NAK and Keep Alive in the closing phase.
@@ -35,8 +35,8 @@ impl SenderCore {
         ensures { result ≡ has_no_place (shown self.now) body.now }
     {
         match body {
-            Body::Ack(ack) => !is_last_eof(self.standing.eof, ack.condition),
-            Body::Nak(_) | Body::KeepAlive(_) => self.standing.is_closing(),
+            Body::Ack(ack) => !is_last_eof(self.control.eof, ack.condition),
+            Body::Nak(_) | Body::KeepAlive(_) => self.control.is_closing(),
             _ => false,
         }
     }
@@ -55,13 +55,13 @@ impl SenderCore {
         match event {
             What::Pdu(pdu) => self.is_pdu_misplaced(pdu),
             What::Pump => {
-                self.standing.is_suspended()
-                    || self.standing.is_closing()
+                self.control.is_suspended()
+                    || self.control.is_closing()
                     || !self.has_more_to_send()
             }
-            What::Resume => !self.standing.is_suspended(),
-            What::Suspend => self.standing.is_suspended() || self.standing.is_closing(),
-            What::Cancel => self.standing.is_closing(),
+            What::Resume => !self.control.is_suspended(),
+            What::Suspend => self.control.is_suspended() || self.control.is_closing(),
+            What::Cancel => self.control.is_closing(),
             What::Report | What::Abandon | What::Timer(_, _) | What::Stored(_, _) => false,
         }
     }
@@ -69,7 +69,7 @@ impl SenderCore {
     fn is_full(&self) -> bool
         ensures { result ≡ is_full (shown self.now) }
     {
-        self.standing.place >= JOURNAL_ENTRIES - JOURNAL_ENTRIES_KEPT
+        self.control.entries >= JOURNAL_ENTRIES - JOURNAL_ENTRIES_KEPT
     }
 
     /// Why an event is refused in the present state, if it is.
@@ -78,7 +78,7 @@ impl SenderCore {
     {
         if is_of_other_class(self.request.class(), event) {
             Some(Refusal::ModeMismatch)
-        } else if is_stale_timer(&self.standing.armed, event) {
+        } else if is_stale_timer(&self.control.armed, event) {
             Some(Refusal::StaleTimer)
         } else if matches!(event, What::Stored(_, _)) {
             Some(Refusal::StaleStored)

@@ -2,14 +2,14 @@ ghost use Rattle.std.specs.Prelude.{◌≡◌, ◌≤◌, length};
 ghost use Rattle.cfdp_types.specs.declared.limits.TheConstants.{FILE_OCTETS};
 ghost use Rattle.pdu_format.specs.Spelling.{HeaderFits};
 ghost use Rattle.gap_list.specs.Runs.{in_runs};
-ghost use Rattle.sender_core.specs.Answers.{header_of};
-ghost use Rattle.sender_core.specs.Standing.{IsSound, IsInside};
+ghost use Rattle.sender_table.specs.Answers.{header_of};
+ghost use Rattle.sender_core.specs.ControlBlock.{IsSound, IsInside};
 
 use crate::answer::Answer;
-use crate::left::leave;
+use crate::remainder::apply_remainder;
 use crate::plan::Plan;
 use crate::remaining::Remaining;
-use crate::standing::Standing;
+use crate::control::ControlBlock;
 use cfdp_types::{Params, PutRequest, TxnKey};
 use pdu_codec::Header;
 use std::alloc::Global;
@@ -24,26 +24,26 @@ pub struct SenderCore {
     // of every PDU
     pub(crate) header: Header,
     pub(crate) remaining: Remaining,
-    pub(crate) standing: Standing,
+    pub(crate) control: ControlBlock,
     ghost headed: { header ≡ header_of (record { key = key; params = params; request = request }) },
     ghost fits: { HeaderFits header },
     ghost small: { length request.file ≤ FILE_OCTETS },
     ghost inside: { IsInside (length request.file) (in_runs remaining) },
-    ghost sound: { IsSound (length request.file) standing },
+    ghost sound: { IsSound (length request.file) control },
 }
 
 impl SenderCore {
     ghost use Rattle.std.specs.Prelude.{◌≡◌, ◌<◌, ◌∷◌, [], None, false, List, IfOk, IfErr, length};
     ghost use Rattle.cfdp_types.specs.declared.limits.TheConstants.{FILE_OCTETS};
     ghost use Rattle.pdu_codec.specs.declared.event.Refusal.TheVariants as refusal;
-    ghost use Rattle.sender_core.specs.Sending.{Event, Entry};
+    ghost use Rattle.sender_table.specs.Sending.{Event, Entry};
     ghost use Rattle.sender_core.specs.Core.{shown, sending_of, IsPlanOf, StandsAfter, plan_answer, answer_value};
 
     /// Whether the user was told that the transaction is over: no event follows.
     pub fn has_ended(&self) -> bool
         ensures { result ≡ (shown self.now).ended }
     {
-        self.standing.ended
+        self.control.ended
     }
 
     /// Carries out a plan that was made in the present state, and hands out its answer.
@@ -56,9 +56,9 @@ impl SenderCore {
         ensures stands { (event : Event) (log : List Entry) → IsPlanOf self.old plan event → StandsAfter self.old log
             → StandsAfter self.new (record { event = event; answer = plan_answer plan } ∷ log) }
     {
-        let Plan { next, left, answer } = plan;
-        leave(&mut self.remaining, left);
-        self.standing = next;
+        let Plan { next, remainder, answer } = plan;
+        apply_remainder(&mut self.remaining, remainder);
+        self.control = next;
         answer
     }
 }

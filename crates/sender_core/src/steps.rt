@@ -5,15 +5,15 @@ ghost use Rattle.std.specs.List.{list_any};
 ghost use Rattle.cfdp_types.specs.declared.limits.TheConstants.{FILE_OCTETS};
 ghost use Rattle.cfdp_types.specs.declared.names.TimerKind.{TimerKind};
 ghost use Rattle.cfdp_types.specs.Steps.{is_kind};
-ghost use Rattle.sender_core.specs.Sending as sending_of_file;
-ghost use Rattle.sender_core.specs.Sending.{is_suspended, happens, begins_phase, eof_among, extent_of, acknowledges_eof, requests_of, asks_for_metadata, tries_after};
-ghost use Rattle.sender_core.specs.Answers.{effect_of};
-ghost use Rattle.sender_core.specs.Standing.{state_from, nowhere, AreFew};
-ghost use Rattle.sender_core.specs.Core.{IsNext, untimed_entry, arming};
+ghost use Rattle.sender_table.specs.Sending as sending_of_file;
+ghost use Rattle.sender_table.specs.Sending.{is_suspended, happens, begins_phase, eof_among, extent_of, acknowledges_eof, requests_of, asks_for_metadata, tries_after};
+ghost use Rattle.sender_table.specs.Answers.{effect_of};
+ghost use Rattle.sender_core.specs.ControlBlock.{state_from, nowhere, AreFew};
+ghost use Rattle.sender_core.specs.Core.{IsNext, entry_without_timers, arming};
 ghost use Rattle.core_steps.specs.Timers.{effects, effect_of_change, tries_of};
 
-use crate::row::Row;
-use crate::standing::Standing;
+use crate::response::Response;
+use crate::control::ControlBlock;
 use cfdp_types::{Condition, TimerKind};
 use core_steps::{Anew, Change, Changes, Tries, is_pdu, paused_after};
 use pdu_codec::{Acknowledged, Body, Eof, Pdu, SegmentRequest, What};
@@ -113,44 +113,44 @@ fn acknowledges(event: &What) -> bool
     }
 }
 
-// The expirations that are counted after an event that is answered by a row.
-fn tries_after(standing: &Standing, event: &What, row: &Row) -> Tries
-    requires { AreFew standing.now }
-    ensures { (kind : TimerKind) → tries_of result kind ≡ tries_after (state_from standing.now nowhere) (untimed_entry event.now row.now) kind }
+// The expirations that are counted after an event that is answered by a response.
+fn tries_after(control: &ControlBlock, event: &What, response: &Response) -> Tries
+    requires { AreFew control.now }
+    ensures { (kind : TimerKind) → tries_of result kind ≡ tries_after (state_from control.now nowhere) (entry_without_timers event.now response.now) kind }
 {
     let anew = Anew {
-        ack: begins_phase(standing.eof, eof_in(&row.pdu)),
+        ack: begins_phase(control.eof, eof_in(&response.pdu)),
         nak: false,
     };
-    standing.tries.after(event, row.inds.as_slice(), anew)
+    control.tries.after(event, response.inds.as_slice(), anew)
 }
 
-/// Where a sender stands after an event that is answered by a row, but for its timers, which stay as
+/// Where a sender stands after an event that is answered by a response, but for its timers, which stay as
 /// they were.
-pub(crate) fn next(standing: &Standing, event: &What, row: &Row) -> Standing
-    requires few { AreFew standing.now }
-    requires inside { extent_of (option_to_list row.now.pdu) ≤ FILE_OCTETS }
-    ensures next { IsNext standing.now event.now row.now result }
+pub(crate) fn next(control: &ControlBlock, event: &What, response: &Response) -> ControlBlock
+    requires few { AreFew control.now }
+    requires inside { extent_of (option_to_list response.now.pdu) ≤ FILE_OCTETS }
+    ensures next { IsNext control.now event.now response.now result }
 {
-    Standing {
-        place: standing.place + 1,
-        metadata_remains: (standing.metadata_remains && !is_metadata(&row.pdu))
+    ControlBlock {
+        entries: control.entries + 1,
+        metadata_remains: (control.metadata_remains && !is_metadata(&response.pdu))
             || asks_for_metadata(event),
-        progress: standing.progress.max(extent_of(&row.pdu)),
-        eof: match eof_in(&row.pdu) {
-            None => standing.eof,
+        progress: control.progress.max(extent_of(&response.pdu)),
+        eof: match eof_in(&response.pdu) {
+            None => control.eof,
             Some(eof) => Some(eof),
         },
-        acknowledged: standing.acknowledged || acknowledges(event),
-        paused: paused_after(standing.paused, row.inds.as_slice()),
-        ended: standing.ended || row.inds.has_end(),
-        armed: standing.armed,
-        tries: tries_after(standing, event, row),
+        acknowledged: control.acknowledged || acknowledges(event),
+        paused: paused_after(control.paused, response.inds.as_slice()),
+        ended: control.ended || response.inds.has_end(),
+        armed: control.armed,
+        tries: tries_after(control, event, response),
     }
 }
 
 // Whether no timer runs from here on, or none as long as the transaction is suspended.
-fn is_over(next: &Standing) -> bool
+fn is_over(next: &ControlBlock) -> bool
     ensures { result ≡ (next.now.ended || is_suspended (state_from next.now nowhere)) }
 {
     next.ended || next.is_suspended()
@@ -166,8 +166,8 @@ fn is_armed(arms: Option<TimerKind>, kind: TimerKind) -> bool
     }
 }
 
-// What a step does with the timer of a kind, where it leads to a standing.
-fn change_of(next: &Standing, event: &What, arms: Option<TimerKind>, kind: TimerKind) -> Change
+// What a step does with the timer of a kind, where it leads to a control block.
+fn change_of(next: &ControlBlock, event: &What, arms: Option<TimerKind>, kind: TimerKind) -> Change
     ensures { effect_of_change result ≡ effect_of (arming arms) (state_from next.now nowhere) (happens event.now) kind }
 {
     let is_ack = kind == TimerKind::Ack;
@@ -184,8 +184,8 @@ fn change_of(next: &Standing, event: &What, arms: Option<TimerKind>, kind: Timer
     }
 }
 
-/// What a step does with each timer, where it leads to a standing.
-pub(crate) fn changes(next: &Standing, event: &What, arms: Option<TimerKind>) -> Changes
+/// What a step does with each timer, where it leads to a control block.
+pub(crate) fn changes(next: &ControlBlock, event: &What, arms: Option<TimerKind>) -> Changes
     ensures { (kind : TimerKind) → effects result kind ≡ effect_of (arming arms) (state_from next.now nowhere) (happens event.now) kind }
 {
     Changes {

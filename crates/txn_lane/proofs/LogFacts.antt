@@ -15,16 +15,16 @@ use Rattle.ind_words.specs.Words.{IsBegunOf, IsWordOf, is_transaction}
 use Rattle.ind_words.specs.LaneLists.{side_by, IsBegunGroup, IsWordGroup}
 use Rattle.ind_words.specs.declared.indication.Indication.TheVariants as told
 use Rattle.ind_words.proofs.WordLemmas.{opens_sender}
-use Rattle.sender_core.specs.Sending as sender
-use Rattle.sender_core.specs.Sending.{initial, state_of}
-use Rattle.sender_core.specs.Answers as sender_answers
-use Rattle.sender_core.specs.Answers.{answer_at}
-use Rattle.sender_core.specs.LegalSendings as sender_logs
-use Rattle.sender_core.proofs.SendingLegal.{tells_words}
-use Rattle.receiver_core.specs.Reception as receiver
-use Rattle.receiver_core.specs.Answers as receiver_answers
-use Rattle.receiver_core.specs.LegalReceptions as receiver_logs
-use Rattle.receiver_core.proofs.ReceptionLegal.{tells_whole_words}
+use Rattle.sender_table.specs.Sending as sender
+use Rattle.sender_table.specs.Sending.{initial, state_of}
+use Rattle.sender_table.specs.Answers as sender_answers
+use Rattle.sender_table.specs.Answers.{answer_at}
+use Rattle.sender_laws.specs.LegalSendings as sender_logs
+use Rattle.sender_laws.proofs.SendingLegal.{tells_words}
+use Rattle.receiver_table.specs.Reception as receiver
+use Rattle.receiver_table.specs.Answers as receiver_answers
+use Rattle.receiver_laws.specs.LegalReceptions as receiver_logs
+use Rattle.receiver_laws.proofs.ReceptionLegal.{tells_words}
 use Rattle.txn_lane.specs.declared.event.Event.{Event}
 use Rattle.txn_lane.specs.declared.event.Event.TheVariants.{Put, On}
 use Rattle.txn_lane.specs.declared.lane_side.LaneSide.{LaneSide}
@@ -155,7 +155,7 @@ pub first_place : (side : LaneSide) (key : TxnKey) (event : Event) → IsOfPdu e
     → IfOpened (opened_by side key event) (λ transaction. HasPlace (log_by transaction []) event)
 first_place (Sending numbers greatest) key (Put request params) keyed = tt
 first_place (Receiving params) key (On named (what.Pdu pdu)) keyed =
-    if_opens (body_opens pdu.body) (receives (record { key = key; params = params; opening = pdu.header }))
+    if_opens (body_opens pdu.body) (receives (record { key = key; params = params; opened_log = pdu.header }))
     (λ transaction. HasPlace (log_by transaction []) (On named (what.Pdu pdu)))
     (λ opens. (opening_body pdu.body opens, refl, keyed.0, keyed.1))
 first_place (Sending numbers greatest) key (On named event) keyed = tt
@@ -197,9 +197,9 @@ pub later_place : (side : LaneSide) (key named : TxnKey) (first : Event) (later 
     → IfOpened (opened_by side key first) (λ transaction. HasPlace (log_by transaction (first ∷ later)) (On named event))
 later_place (Sending numbers greatest) key named (Put request params) later event = place_in_sent (record { key = key; params = params; request = request }) sender.put (map to_sender later) event
 later_place (Receiving params) key named (On other (what.Pdu pdu)) later event =
-    if_opens (body_opens pdu.body) (receives (record { key = key; params = params; opening = pdu.header }))
+    if_opens (body_opens pdu.body) (receives (record { key = key; params = params; opened_log = pdu.header }))
     (λ transaction. HasPlace (log_by transaction (On other (what.Pdu pdu) ∷ later)) (On named event))
-    (λ opens. place_in_received (record { key = key; params = params; opening = pdu.header }) (what.Pdu pdu) (to_receiver later) event)
+    (λ opens. place_in_received (record { key = key; params = params; opened_log = pdu.header }) (what.Pdu pdu) (to_receiver later) event)
 later_place (Sending numbers greatest) key named (On other first) later event = tt
 later_place (Receiving params) key named (Put request others) later event = tt
 later_place (Receiving params) key named (On other what.Cancel) later event = tt
@@ -215,7 +215,7 @@ later_place (Receiving params) key named (On other (what.Stored stamp kept)) lat
 
 pub lane_words : TellsWords
 lane_words (sent sending log) legal = tells_words sending log legal
-lane_words (received reception log) legal = tells_whole_words reception log legal
+lane_words (received reception log) legal = tells_words reception log legal
 
 sender_side : (first : Indication) → is_transaction first ≡ true → side_by first ≡ Sender
 sender_side told.Transaction is = refl

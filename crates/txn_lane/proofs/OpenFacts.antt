@@ -1,7 +1,7 @@
 -- A Put that a sender plans is one that it answers.
 use Rattle.std.proofs.Common.{◌≡◌, [], Ok, IsOk, subst}
-use Rattle.sender_core.specs.Sending.{Sending, put, initial, state_of}
-use Rattle.sender_core.specs.Answers.{answer_at}
+use Rattle.sender_table.specs.Sending.{Sending, put, initial, state_of}
+use Rattle.sender_table.specs.Answers.{answer_at}
 use Rattle.sender_core.specs.Core.{sending_of, StandsAfter, IsPlanOf, plan_answer}
 use Rattle.sender_core.specs.declared.plan.Plan.{Plan}
 use Rattle.sender_core.specs.declared.sender.SenderCore.{SenderCore}

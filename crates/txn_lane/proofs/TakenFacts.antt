@@ -9,8 +9,8 @@ use Rattle.ind_words.specs.declared.indication.Indication.{Indication}
 use Rattle.pdu_codec.specs.Refusal.{unless_refused}
 use Rattle.pdu_codec.specs.declared.event.Refusal.{Refusal}
 use Rattle.pdu_codec.specs.declared.event.What.{What}
-use Rattle.sender_core.specs.Sending as sender
-use Rattle.sender_core.specs.Answers.{answer_at}
+use Rattle.sender_table.specs.Sending as sender
+use Rattle.sender_table.specs.Answers.{answer_at}
 use Rattle.sender_core.specs.Core.{shown, sending_of, StandsAfter}
 use Rattle.txn_lane.specs.declared.done.Done.{Done}
 use Rattle.txn_lane.specs.declared.event.Event.{Event}
@@ -22,7 +22,7 @@ use Rattle.txn_lane.specs.Lane.{State, key_at, key_of, log_of, goes_on, is_runni
 use Rattle.txn_lane.specs.LaneCode.{Stands, IsHeld}
 use Rattle.txn_lane.specs.Logs.{Log, sent, received, to_sender, without_deposit}
 use Rattle.txn_lane.specs.Stepping.{IsOffered, IsWhyNot, IsNotCarried}
-use Rattle.txn_lane.specs.Steps.{IsKeyed, opening, log_before, is_foreign, is_new, is_old, is_unknown, plainly, refused_by_end, refused_by_lane, refusal_at, stepped, stepped_by, answer_in, answer_of, IsDone}
+use Rattle.txn_lane.specs.Steps.{IsKeyed, opened_log, log_before, is_foreign, is_new, is_old, is_unknown, plainly, refused_by_end, refused_by_lane, refusal_at, stepped, stepped_by, answer_in, answer_of, IsDone}
 use Rattle.txn_lane.proofs.HandFacts.{may_hand_over}
 use Rattle.txn_lane.proofs.HeldFacts.{taken_by_both}
 use Rattle.txn_lane.proofs.LogFacts.{log_with}
@@ -35,7 +35,7 @@ pub record Meets (state : State) (event : Event) (key : TxnKey) (sending : sende
   pub sound : IsSound state
   pub keyed : IsKeyed event
   pub passed : refused_by_lane state event ≡ None
-  pub before : log_before state (opening state event) ≡ Some (sent sending front)
+  pub before : log_before state (opened_log state event) ≡ Some (sent sending front)
   pub key_is : key_of (stepped state event) ≡ Some key
 
 -- what its end says to it
@@ -118,7 +118,7 @@ pub offered_then : {A : Type 0} (takes : A → Bundle → A → Type 0) (old new
     → IsOffered takes old new (bundle_of (stepped state event))
 offered_then takes old new state event key sending front answer meets is user lane of_user of_lane handed =
     let next : State = stepped state event in
-    let same : IsSame state next = same_by state event (opening state event) in
+    let same : IsSame state next = same_by state event (opened_log state event) in
     subst (IsOffered takes old new)
     (sym (bundle_then next key answer.inds meets.key_is (ap (λ a. a.inds) (answer_then state event key sending front answer meets is))))
     (offered_by takes old new next user lane key answer.inds (of_user ∙ sym same.user) (of_lane ∙ sym same.lane) handed)
@@ -134,7 +134,7 @@ refused_then : (state : State) (event : Event) (key : TxnKey) (sending : sender.
     → Meets state event key sending front → says sending front event ≡ Err why → refusal_at state event ≡ Some (plainly why)
 unfolding answer_at
 refused_then state event key sending front why meets is =
-    ap (λ o. option_or o (option_map plainly (refused_by_end (log_before state (opening state event)) event))) meets.passed
+    ap (λ o. option_or o (option_map plainly (refused_by_end (log_before state (opened_log state event)) event))) meets.passed
     ∙ ap (λ o. option_map plainly (refused_by_end o event)) meets.before
     ∙ ap (option_map plainly) (refused_parts _ _ why is)
 
@@ -217,13 +217,13 @@ pub record IsOfLast (state : State) (key : TxnKey) : Type 0 where
   pub runs : is_running state ≡ true
   pub key_is : key_of state ≡ Some key
 
-pub of_last : (state : State) (key : TxnKey) (event : What) → opening state (On key event) ≡ None → refused_by_lane state (On key event) ≡ None → IsOfLast state key
+pub of_last : (state : State) (key : TxnKey) (event : What) → opened_log state (On key event) ≡ None → refused_by_lane state (On key event) ≡ None → IsOfLast state key
 of_last state key event none passed =
     let one = if_none (is_unknown state (On key event)) _ _ passed in
     let two = if_none (is_old state (On key event)) _ _ one.1 in
-    let found : is_some (opening state (On key event)) ≡ false = ap is_some none in
-    let known = both_false (is_foreign state (On key event)) (is_new state (On key event) && not (is_some (opening state (On key event)))) one.0 in
-    let reached : is_new state (On key event) ≡ false = new_false (is_new state (On key event)) (is_some (opening state (On key event))) found known.1 in
+    let found : is_some (opened_log state (On key event)) ≡ false = ap is_some none in
+    let known = both_false (is_foreign state (On key event)) (is_new state (On key event) && not (is_some (opened_log state (On key event)))) one.0 in
+    let reached : is_new state (On key event) ≡ false = new_false (is_new state (On key event)) (is_some (opened_log state (On key event))) found known.1 in
     let stamped = both_true (is_stamp state.last key.seq) (is_running state)
     (is_true (is_stamp state.last key.seq && is_running state) (old_false (is_new state (On key event)) _ reached two.0)) in
     let source = same_source key.source state.source known.0 in
@@ -245,7 +245,7 @@ of_last state key event none passed =
     stamp_is None number e = absurd (false≢true e)
     stamp_is (Some kept) number e = ap Some (eqb-true kept number e)
 
-pub meets_last : (state : State) (key : TxnKey) (event : What) (running : Running) → opening state (On key event) ≡ None
+pub meets_last : (state : State) (key : TxnKey) (event : What) (running : Running) → opened_log state (On key event) ≡ None
     → IsSound state → IsKeyed (On key event) → refused_by_lane state (On key event) ≡ None
     → (found : IsFound running (log_of state)) → Meets state (On key event) key found.sending found.front
 meets_last state key event running none sound keyed passed found = record {

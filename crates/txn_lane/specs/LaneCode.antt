@@ -6,7 +6,7 @@ use Rattle.cfdp_types.specs.declared.key.TxnKey.{TxnKey}
 use Rattle.pdu_codec.specs.declared.event.What.{What}
 use Rattle.pdu_codec.specs.declared.event.Refusal.TheVariants as refusal
 use Rattle.sender_core.specs.Core.{sending_of, StandsAfter}
-use Rattle.sender_core.specs.Sending.{issued}
+use Rattle.sender_table.specs.Sending.{issued}
 use Rattle.txn_lane.specs.declared.running.Running.{Running}
 use Rattle.txn_lane.specs.declared.event.Event.{Event}
 use Rattle.txn_lane.specs.declared.event.Event.TheVariants.{On}

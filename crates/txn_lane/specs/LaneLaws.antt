@@ -7,8 +7,8 @@ use Rattle.ind_words.specs.declared.indication.Indication.TheVariants as told
 use Rattle.ind_words.specs.declared.bundle.Bundle.{Bundle}
 use Rattle.ind_words.specs.LaneLists.{IsLaneList}
 use Rattle.ind_words.specs.Words.{IsBegunOf, IsWordOf}
-use Rattle.receiver_core.specs.Reception.{Reception, Entry, state_of}
-use Rattle.receiver_core.specs.LegalReceptions.{IsGood}
+use Rattle.receiver_table.specs.Reception.{Reception, Entry, state_of}
+use Rattle.receiver_laws.specs.LegalReceptions.{IsGood}
 use Rattle.txn_lane.specs.declared.event.Event.{Event}
 use Rattle.txn_lane.specs.declared.lane_side.LaneSide.{LaneSide}
 use Rattle.txn_lane.specs.Lane.{State, idle, IsNumbered, IsSound}

@@ -7,5 +7,3 @@ pub mod LaneCode
 pub mod Handing
 pub mod Stepping
 pub mod RunningCode
-pub mod ReceivingLaneRows
-pub mod SendingLaneRows

@@ -11,14 +11,14 @@ use Rattle.pdu_format.specs.declared.pdu.Body.TheVariants as body
 use Rattle.ind_words.specs.declared.indication.Indication.{Indication}
 use Rattle.ind_words.specs.declared.side.Side.{Side}
 use Rattle.ind_words.specs.declared.side.Side.TheVariants.{Sender, Receiver}
-use Rattle.sender_core.specs.Sending as sender
-use Rattle.sender_core.specs.Refusals as sender_refusals
-use Rattle.sender_core.specs.LegalSendings as sender_logs
-use Rattle.receiver_core.specs.Reception as receiver
-use Rattle.receiver_core.specs.Refusals as receiver_refusals
-use Rattle.receiver_core.specs.Answers as receiver_answers
-use Rattle.receiver_core.specs.LegalReceptions as receiver_logs
-use Rattle.receiver_core.specs.Images.{image_at}
+use Rattle.sender_table.specs.Sending as sender
+use Rattle.sender_table.specs.Refusals as sender_refusals
+use Rattle.sender_laws.specs.LegalSendings as sender_logs
+use Rattle.receiver_table.specs.Reception as receiver
+use Rattle.receiver_table.specs.Refusals as receiver_refusals
+use Rattle.receiver_table.specs.Answers as receiver_answers
+use Rattle.receiver_laws.specs.LegalReceptions as receiver_logs
+use Rattle.receiver_table.specs.Images.{image_at}
 use Rattle.txn_lane.specs.declared.event.Event.{Event}
 use Rattle.txn_lane.specs.declared.event.Event.TheVariants.{Put, On}
 use Rattle.txn_lane.specs.declared.lane_side.LaneSide.{LaneSide}
@@ -51,7 +51,7 @@ body_opens _ = false
 abbrev pub opened_by : LaneSide → TxnKey → Event → Option Transaction
 opened_by (Sending numbers greatest) key (Put request params) = Some (sends (record { key = key; params = params; request = request }))
 opened_by (Receiving params) key (On named (what.Pdu pdu)) =
-    if body_opens pdu.body then Some (receives (record { key = key; params = params; opening = pdu.header })) else None
+    if body_opens pdu.body then Some (receives (record { key = key; params = params; opened_log = pdu.header })) else None
 opened_by side key event = None
 
 -- ---- events as the ends see them

@@ -5,7 +5,7 @@ use Rattle.ind_words.specs.declared.bundle.Bundle.{Bundle}
 use Rattle.pdu_codec.specs.declared.event.Refusal.{Refusal}
 use Rattle.pdu_codec.specs.declared.event.Refusal.TheVariants as refusal
 use Rattle.sender_core.specs.Core.{IsWhy}
-use Rattle.sender_core.specs.Sending as sender
+use Rattle.sender_table.specs.Sending as sender
 use Rattle.txn_lane.specs.declared.done.Done.{Done}
 use Rattle.txn_lane.specs.declared.event.Event.{Event}
 use Rattle.txn_lane.specs.declared.refused.Refused.{Refused}

@@ -30,8 +30,8 @@ pub(crate) struct Step {
 impl Running {
     ghost use Rattle.std.specs.Prelude.{◌≡◌, ◌∷◌, ◌++◌, [], false, List, IfOk, IfErr};
     ghost use Rattle.pdu_codec.specs.declared.event.Refusal.TheVariants as refusal;
-    ghost use Rattle.sender_core.specs.Sending.{Entry, put, happens, initial};
-    ghost use Rattle.sender_core.specs.Answers.{answer_at};
+    ghost use Rattle.sender_table.specs.Sending.{Entry, put, happens, initial};
+    ghost use Rattle.sender_table.specs.Answers.{answer_at};
     ghost use Rattle.sender_core.specs.Core.{shown, sending_of, sending_by, StandsAfter, IsPlanOf, IsWhy, plan_answer, answer_value};
     ghost use Rattle.txn_lane.specs.declared.event.Event.{Event as EventValue};
     ghost use Rattle.txn_lane.specs.declared.event.Event.TheVariants.{Put, On};

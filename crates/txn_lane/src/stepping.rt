@@ -2,8 +2,8 @@
 //! then does the transaction go on.
 ghost use Rattle.std.specs.Prelude.{◌≡◌, ◌∷◌, ◌++◌, [], false, List, Ok, IfOk, IfErr, OnOk, OnErr, IsSome};
 ghost use Rattle.pdu_codec.specs.declared.event.Refusal.TheVariants as refusal;
-ghost use Rattle.sender_core.specs.Sending.{Entry, Answer as AnswerValue, put, happens, initial};
-ghost use Rattle.sender_core.specs.Answers.{answer_at};
+ghost use Rattle.sender_table.specs.Sending.{Entry, Answer as AnswerValue, put, happens, initial};
+ghost use Rattle.sender_table.specs.Answers.{answer_at};
 ghost use Rattle.sender_core.specs.Core.{shown, sending_of, sending_by, StandsAfter, IsWhy, plan_answer, answer_value};
 ghost use Rattle.txn_lane.specs.declared.event.Event.{Event as EventValue};
 ghost use Rattle.txn_lane.specs.declared.event.Event.TheVariants.{Put, On};

@@ -1,5 +1,5 @@
 use Rattle.gap_list.specs.Covered.{covered}
-use Rattle.receiver_core.proofs.ExamineLemmas.{full_test}
+use Rattle.receiver_core.proofs.FindingLemmas.{full_test}
 use Rattle.receiver_core.proofs.examine.is_full.Goals as goal
 
 pub returns-clause-full : goal.returns-clause-full

@@ -1,7 +1,7 @@
 use Rattle.std.proofs.Common.{◌≡◌, ◌++◌, take, map}
 use Rattle.std.specs.List.{AllByRecursion}
 use Rattle.pdu_format.specs.Spelling.{size_octets, RequestFits}
-use Rattle.receiver_core.specs.Answers.{request_of}
+use Rattle.receiver_table.specs.Answers.{request_of}
 use Rattle.receiver_core.proofs.nak.put_requests.Given as goal
 
 abbrev pub invariant-loop-run : goal.invariant-loop-run

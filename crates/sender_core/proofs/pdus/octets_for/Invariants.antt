@@ -1,6 +1,6 @@
 use Rattle.std.proofs.Common.{◌≡◌, ◌≤◌, ◌-◌}
 use Rattle.pdu_format.specs.Tlvs.{width_from}
-use Rattle.sender_core.specs.Answers.{octets_for}
+use Rattle.sender_table.specs.Answers.{octets_for}
 use Rattle.sender_core.proofs.pdus.octets_for.Given as goal
 
 abbrev pub invariant-loop-octets : goal.invariant-loop-octets

@@ -1,8 +1,8 @@
 use Rattle.std.proofs.Common.{◌≡◌, ◌∷◌, List, Ok, inl, inr, refl, sym, ap, ◌∙◌, subst, IsSome}
 use Rattle.std.proofs.lemmas.Result.{err_from_is_err_and, IfOk-weaker, IfErr-weaker}
-use Rattle.sender_core.specs.Answers.{answer_at}
+use Rattle.sender_table.specs.Answers.{answer_at}
 use Rattle.sender_core.specs.Core.{shown, sending_of, StandsAfter, plan_answer, answer_value}
-use Rattle.sender_core.specs.Sending.{Entry, happens}
+use Rattle.sender_table.specs.Sending.{Entry, happens}
 use Rattle.txn_lane.specs.Logs.{to_sender}
 use Rattle.txn_lane.proofs.CarryFacts.{both_ok}
 use Rattle.txn_lane.proofs.stepping.advance.Goals as goal

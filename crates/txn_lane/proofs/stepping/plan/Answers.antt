@@ -1,8 +1,8 @@
 use Rattle.std.proofs.Common.{◌≡◌, Ok, inr, subst}
 use Rattle.std.proofs.lemmas.Result.{err_from_is_err_and}
-use Rattle.sender_core.specs.Answers.{answer_at}
+use Rattle.sender_table.specs.Answers.{answer_at}
 use Rattle.sender_core.specs.Core.{shown, sending_of, plan_answer}
-use Rattle.sender_core.specs.Sending.{happens}
+use Rattle.sender_table.specs.Sending.{happens}
 use Rattle.txn_lane.proofs.CarryFacts.{is_ok_of}
 use Rattle.txn_lane.proofs.stepping.plan.Goals as goal
 

@@ -3,7 +3,7 @@ use Rattle.pdu_format.specs.declared.pdu.Body.TheVariants as body
 use Rattle.pdu_format.specs.declared.bodies.Acknowledged.TheVariants as acknowledged
 use Rattle.pdu_format.specs.declared.bodies.TransactionStatus.{TransactionStatus}
 use Rattle.pdu_format.proofs.FitLaws.{ack_fits}
-use Rattle.receiver_core.specs.Answers.{pdu_to_sender}
+use Rattle.receiver_table.specs.Answers.{pdu_to_sender}
 use Rattle.receiver_core.specs.Core.{reception_of}
 use Rattle.receiver_core.proofs.receiver.ReceiverCore.ack.Goals as goal
 

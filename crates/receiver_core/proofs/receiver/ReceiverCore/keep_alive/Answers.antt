@@ -1,7 +1,7 @@
 use Rattle.std.proofs.Common.{ℕ, sym, ap, ◌∙◌, arith}
 use Rattle.pdu_format.specs.declared.pdu.Body.TheVariants as body
 use Rattle.pdu_format.proofs.FitLaws.{keep_alive_fits}
-use Rattle.receiver_core.specs.Answers.{pdu_to_sender}
+use Rattle.receiver_table.specs.Answers.{pdu_to_sender}
 use Rattle.receiver_core.specs.Core.{reception_of}
 use Rattle.receiver_core.proofs.receiver.ReceiverCore.keep_alive.Goals as goal
 

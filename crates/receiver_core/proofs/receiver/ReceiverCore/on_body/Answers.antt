@@ -5,4 +5,4 @@ use Rattle.receiver_core.proofs.receiver.ReceiverCore.on_body.Goals as goal
 pub returns-in-Prompt : goal.returns-in-Prompt
 returns-in-Prompt c =
     let core = c.args.self.now in
-    rw c.in-Prompt.is (c.on_prompt.ensures (metadata_after core.metadata c.args.change.now) (octets_in core.content.octets.items (covered_after core.content c.args.change.now)))
+    rw c.in-Prompt.is (c.on_prompt.ensures (metadata_after core.metadata c.args.change.now) (octets_in core.file.octets.items (covered_after core.file c.args.change.now)))

@@ -5,4 +5,4 @@ use Rattle.receiver_core.proofs.receiver.ReceiverCore.on_request.Goals as goal
 pub returns-in-Stored : goal.returns-in-Stored
 returns-in-Stored c request =
     let core = c.args.self.now in
-    rw c.in-Stored.is (c.on_stored.ensures (metadata_after core.metadata c.args.change.now) (octets_in core.content.octets.items (covered_after core.content c.args.change.now)))
+    rw c.in-Stored.is (c.on_stored.ensures (metadata_after core.metadata c.args.change.now) (octets_in core.file.octets.items (covered_after core.file c.args.change.now)))

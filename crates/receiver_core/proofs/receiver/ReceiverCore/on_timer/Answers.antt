@@ -1,10 +1,10 @@
 use Rattle.std.proofs.Common.{[], ◌∷◌}
 use Rattle.cfdp_types.specs.Condition as condition
 use Rattle.cfdp_types.specs.declared.names.TimerKind.TheVariants.{Inactivity}
-use Rattle.receiver_core.specs.Answers.{faults}
-use Rattle.receiver_core.specs.Standing.{state_from}
+use Rattle.receiver_table.specs.Answers.{fault_response}
+use Rattle.receiver_core.specs.ControlBlock.{state_from}
 use Rattle.receiver_core.specs.Core.{reception_of}
-use Rattle.receiver_core.proofs.RowLemmas.{alone}
+use Rattle.receiver_core.proofs.ResponseLemmas.{alone}
 use Rattle.receiver_core.proofs.receiver.ReceiverCore.on_timer.Goals as goal
 
 pub returns-in-Nak : goal.returns-in-Nak
@@ -16,4 +16,4 @@ returns-in-Check c m octets = rw c.in-Check.is (c.on_check_timer.ensures m octet
 pub returns-in-Inactivity : goal.returns-in-Inactivity
 returns-in-Inactivity c m octets =
     rw c.in-Inactivity.is
-    (alone c.faults.result c.new.result (faults (reception_of c.args.self.now) (state_from c.args.now.now m octets) (Inactivity ∷ []) condition.inactivity) c.new.ensures (c.faults.ensures.row m octets))
+    (alone c.fault_response.result c.new.result (fault_response (reception_of c.args.self.now) (state_from c.args.now.now m octets) (Inactivity ∷ []) condition.inactivity) c.new.ensures (c.fault_response.ensures.response m octets))

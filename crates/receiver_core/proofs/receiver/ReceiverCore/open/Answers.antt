@@ -1,7 +1,7 @@
 use Rattle.std.proofs.Common.{◌≡◌, false, [], sym, ap, ◌∙◌, inl, inr, true}
 use Rattle.std.proofs.lemmas.Result.{err_from_is_err_and}
-use Rattle.receiver_core.specs.Reception.{State, initial, state_of}
-use Rattle.receiver_core.specs.Refusals.{is_body_too_large}
+use Rattle.receiver_table.specs.Reception.{State, initial, state_of}
+use Rattle.receiver_table.specs.Refusals.{is_body_too_large}
 use Rattle.receiver_core.proofs.FirstLemmas.{first_refused, first_taken}
 use Rattle.receiver_core.proofs.receiver.ReceiverCore.open.Goals as goal
 

@@ -1,6 +1,6 @@
 use Rattle.std.proofs.Common.{◌≡◌, None, sym, ◌∙◌, inl, inr, rules}
 use Rattle.std.proofs.lemmas.Result.{err_from_is_err_and}
-use Rattle.receiver_core.specs.Refusals.{refusal_at}
+use Rattle.receiver_table.specs.Refusals.{refusal_at}
 use Rattle.receiver_core.specs.Core.{shown, reception_of}
 use Rattle.receiver_core.proofs.PlanLemmas.{refused_is, answered_is}
 use Rattle.receiver_core.proofs.receiver.ReceiverCore.plan_now.Goals as goal

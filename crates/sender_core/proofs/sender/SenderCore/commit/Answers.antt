@@ -1,6 +1,6 @@
 use Rattle.std.proofs.Common.{ap, ◌∙◌, sym}
-use Rattle.sender_core.specs.Sending.{step, state_of}
-use Rattle.sender_core.specs.Standing.{state_from}
+use Rattle.sender_table.specs.Sending.{step, state_of}
+use Rattle.sender_core.specs.ControlBlock.{state_from}
 use Rattle.sender_core.specs.Core.{sending_of, plan_answer}
 use Rattle.sender_core.proofs.sender.SenderCore.commit.Goals as goal
 
@@ -12,13 +12,13 @@ invariant_of-self c =
       headed = old.headed;
       fits = old.fits;
       small = old.small;
-      inside = λ i has. planned.inside i (sym (ap (λ r. r i) c.leave.ensures) ∙ has);
+      inside = λ i has. planned.inside i (sym (ap (λ r. r i) c.apply_remainder.ensures) ∙ has);
       sound = planned.sound c.requires.runs;
     }
 
 pub returns-clause-stands : goal.returns-clause-stands
 unfolding state_of
 returns-clause-stands c event log planned stood =
-    ap (λ r. state_from c.args.plan.next r) c.leave.ensures
+    ap (λ r. state_from c.args.plan.next r) c.apply_remainder.ensures
     ∙ planned.follows
     ∙ ap (λ s. step (sending_of c.args.self.now) s (record { event = event; answer = plan_answer c.args.plan })) stood

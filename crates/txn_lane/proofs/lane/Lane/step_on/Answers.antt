@@ -1,7 +1,7 @@
 use Rattle.std.proofs.Common.{◌++◌, Some, sym, ap, ◌∙◌, subst}
 use Rattle.std.proofs.lemmas.Result.{err_from_is_err_and}
 use Rattle.sender_core.specs.Core.{answer_value}
-use Rattle.sender_core.specs.Sending.{happens}
+use Rattle.sender_table.specs.Sending.{happens}
 use Rattle.txn_lane.specs.Keeping.{bundle_of}
 use Rattle.txn_lane.specs.LaneCode.{IsHeld}
 use Rattle.txn_lane.specs.Stepping.{IsOffered, IsNotCarried}

@@ -1,0 +1,2 @@
+pub mod ReceivingLaneRows
+pub mod SendingLaneRows

@@ -1,0 +1,313 @@
+-- Worked steps of a lane that receives, computed.
+use Rattle.std.specs.Prelude.{◌≡◌, ℕ, Bool, true, not, ◌&&◌, is_some, List, [], ◌∷◌, ◌++◌, map, Option, Some, None, Err, Ok, refl}
+use Rattle.std.specs.Option.{option_to_list}
+use Rattle.cfdp_types.specs.Reference.{reference}
+use Rattle.cfdp_types.specs.declared.image.Image.{Image}
+use Rattle.cfdp_types.specs.declared.key.TxnKey.{TxnKey}
+use Rattle.cfdp_types.specs.declared.names.Class.{Class}
+use Rattle.cfdp_types.specs.declared.names.Class.TheVariants.{One, Two}
+use Rattle.cfdp_types.specs.declared.names.Delivery.TheVariants.{Complete, Incomplete}
+use Rattle.cfdp_types.specs.declared.names.FileStatus.TheVariants.{Discarded, Retained}
+use Rattle.cfdp_types.specs.declared.names.TimerKind.TheVariants.{Inactivity}
+use Rattle.cfdp_types.specs.declared.timer_op.TimerOp.TheVariants as op
+use Rattle.gap_list.specs.Runs.{runs_of, runs_from}
+use Rattle.pdu_codec.specs.declared.event.What.{What}
+use Rattle.pdu_codec.specs.declared.event.What.TheVariants as what
+use Rattle.pdu_codec.specs.declared.event.Refusal.{Refusal}
+use Rattle.pdu_codec.specs.declared.event.Refusal.TheVariants as refusal
+use Rattle.pdu_format.specs.Numbers.{digits}
+use Rattle.pdu_format.specs.Spelling.{spelling, written}
+use Rattle.pdu_format.specs.Tlvs.{width_from}
+use Rattle.pdu_format.specs.declared.pdu.Body.{Body}
+use Rattle.pdu_format.specs.declared.pdu.Body.TheVariants as body
+use Rattle.pdu_format.specs.declared.bodies.Prompt.TheVariants as prompt
+use Rattle.ind_words.specs.declared.indication.Indication.TheVariants as told
+use Rattle.receiver_table.specs.Reception.{initial, step, state_of}
+use Rattle.receiver_rows.specs.ReceptionRows.{header, metadata_value, eof_value, abc, finished_acknowledged}
+use Rattle.sender_rows.specs.SendingRows as sender_rows
+use Rattle.txn_lane.specs.declared.event.Event.{Event}
+use Rattle.txn_lane.specs.declared.event.Event.TheVariants.{Put, On}
+use Rattle.txn_lane.specs.declared.lane_side.LaneSide.TheVariants.{Receiving}
+use Rattle.txn_lane.specs.declared.refused.Refused.{Refused}
+use Rattle.txn_lane.specs.Lane.{State, idle, key_of, is_running, issued_by}
+use Rattle.txn_lane.specs.Steps.{refusal_at, stepped, answer_of, image_of}
+
+-- ---- the lane
+
+-- lane 2 of user 0, for what comes from entity 1
+abbrev pub fresh : State
+fresh = idle (Receiving reference) 0 2 (record { 0 = 1 })
+
+-- the key of a number
+abbrev pub key : ℕ → TxnKey
+key number = record { source = record { 0 = 1 }; seq = number }
+
+-- a PDU that came
+abbrev pub pdu : Class → ℕ → Body → Event
+pdu class number b = On (key number) (what.Pdu (record { header = record (header class) { sequence = number }; body = b }))
+
+-- the Metadata of "abc"
+abbrev pub metadata : Class → ℕ → Event
+metadata class number = pdu class number (body.Metadata (metadata_value 0 3))
+
+-- its octets
+abbrev pub part : Class → ℕ → Event
+part class number = pdu class number (body.FileData (record { offset = 0; octets = abc }))
+
+-- its EOF
+abbrev pub eof : Class → ℕ → Event
+eof class number = pdu class number (body.Eof (eof_value 0 0x6162_6300 3))
+
+-- what else happens to a transaction
+abbrev pub on : ℕ → What → Event
+on number event = On (key number) event
+
+-- ---- what a step shows
+
+-- the lane after these events
+abbrev pub after : State → List Event → State
+after state [] = state
+after state (event ∷ events) = after (stepped state event) events
+
+-- each of these events is taken
+abbrev pub are_taken : State → List Event → Bool
+are_taken state [] = true
+are_taken state (event ∷ events) = not (is_some (refusal_at state event)) && are_taken (stepped state event) events
+
+-- the echo of a refusal, as octets
+abbrev pub echoed : Option Refused → List (List ℕ)
+echoed None = []
+echoed (Some refused) = map written (option_to_list refused.echo)
+
+-- a refusal without an echo
+abbrev pub plain : Refusal → Option Refused
+plain why = Some (record { why = why; echo = None })
+
+-- ---- the first transaction
+
+-- its Metadata opens it
+pub metadata_opens : refusal_at fresh (metadata One 5) ≡ None
+unfolding initial step state_of
+metadata_opens = refl
+
+pub metadata_opens_key : key_of (after fresh (metadata One 5 ∷ [])) ≡ Some (key 5)
+metadata_opens_key = refl
+
+pub metadata_told : (answer_of (after fresh (metadata One 5 ∷ []))).inds ≡ told.MetadataRecv (record { 0 = 1 }) 3 (97 ∷ []) (98 ∷ []) [] ∷ []
+unfolding initial step state_of runs_of runs_from
+metadata_told = refl
+
+-- so do File Data and EOF, and nothing else does
+pub part_opens : refusal_at fresh (part Two 5) ≡ None
+unfolding initial step state_of
+part_opens = refl
+
+pub eof_opens : refusal_at fresh (eof Two 5) ≡ None
+unfolding initial step state_of
+eof_opens = refl
+
+pub prompt_opens_not : refusal_at fresh (pdu Two 5 (body.Prompt prompt.Nak)) ≡ plain refusal.NoTransaction
+prompt_opens_not = refl
+
+pub report_opens_not : refusal_at fresh (on 5 what.Report) ≡ plain refusal.NoTransaction
+report_opens_not = refl
+
+pub put_opens_not : refusal_at fresh (Put (sender_rows.two.request) reference) ≡ plain refusal.NoTransaction
+put_opens_not = refl
+
+-- Metadata of a file that is too large
+pub too_large_opens_not : refusal_at fresh (pdu One 5 (body.Metadata (metadata_value 0 4194305))) ≡ plain refusal.TooLarge
+unfolding initial step state_of
+too_large_opens_not = refl
+
+-- from another source
+pub other_source : refusal_at fresh (On (record { source = record { 0 = 3 }; seq = 5 }) what.Report) ≡ plain refusal.NoTransaction
+other_source = refl
+
+-- ---- while it runs
+
+-- the lane that runs number 5
+abbrev pub running : Class → State
+running class = after fresh (metadata class 5 ∷ [])
+
+-- what opens a higher number has to wait, and what opens none is unknown
+pub higher_is_busy : refusal_at (running One) (metadata One 7) ≡ plain refusal.LaneBusy
+unfolding initial step state_of runs_of runs_from
+higher_is_busy = refl
+
+-- also where its file is too large
+pub higher_is_busy_before_too_large : refusal_at (running One) (pdu One 7 (body.Metadata (metadata_value 0 4194305))) ≡ plain refusal.LaneBusy
+unfolding initial step state_of runs_of runs_from
+higher_is_busy_before_too_large = refl
+
+pub higher_is_unknown : refusal_at (running One) (on 7 what.Report) ≡ plain refusal.NoTransaction
+unfolding initial step state_of runs_of runs_from
+higher_is_unknown = refl
+
+-- a lower number is old, also one that was never opened: a class 2 EOF has its echo, Metadata has none
+pub lower_is_old : refusal_at (running One) (metadata Two 3) ≡ plain refusal.OldTransaction
+unfolding initial step state_of runs_of runs_from
+lower_is_old = refl
+
+pub lower_eof_is_echoed : echoed (refusal_at (running One) (eof Two 3)) ≡ digits 10 0x28000300010302064002 ∷ []
+unfolding initial step state_of runs_of runs_from written spelling digits width_from
+lower_eof_is_echoed = refl
+
+pub lower_class_one_eof_is_not : refusal_at (running One) (eof One 3) ≡ plain refusal.OldTransaction
+unfolding initial step state_of runs_of runs_from
+lower_class_one_eof_is_not = refl
+
+pub lower_report_is_old : refusal_at (running One) (on 3 what.Report) ≡ plain refusal.OldTransaction
+unfolding initial step state_of runs_of runs_from
+lower_report_is_old = refl
+
+-- an EOF from another source
+abbrev pub foreign_eof : Class → ℕ → Event
+foreign_eof class number = On (record { source = record { 0 = 3 }; seq = number }) (what.Pdu (record {
+  header = record (header class) { source = record { 0 = 3 }; sequence = number };
+  body = body.Eof (eof_value 0 0x6162_6300 3);
+}))
+
+-- it is unknown, also with the number that runs, and has no echo
+pub foreign_running_eof : refusal_at (running Two) (foreign_eof Two 5) ≡ plain refusal.NoTransaction
+unfolding initial step state_of runs_of runs_from
+foreign_running_eof = refl
+
+-- and so it is with a lower number
+pub foreign_lower_eof : refusal_at (running Two) (foreign_eof Two 3) ≡ plain refusal.NoTransaction
+unfolding initial step state_of runs_of runs_from
+foreign_lower_eof = refl
+
+-- what the end itself refuses
+pub other_mode : refusal_at (running One) (part Two 5) ≡ plain refusal.ModeMismatch
+unfolding initial step state_of runs_of runs_from
+other_mode = refl
+
+pub nothing_stored : refusal_at (running One) (on 5 (what.Stored 0 true)) ≡ plain refusal.StaleStored
+unfolding initial step state_of runs_of runs_from
+nothing_stored = refl
+
+-- ---- one transaction after the other
+
+-- number 5 is cancelled
+abbrev pub cancelled : List Event
+cancelled = metadata One 5 ∷ on 5 what.Cancel ∷ []
+
+pub cancelled_told : issued_by (after fresh cancelled)
+    ≡ told.MetadataRecv (record { 0 = 1 }) 3 (97 ∷ []) (98 ∷ []) [] ∷ told.TransactionFinished 15 Incomplete Discarded ∷ []
+unfolding initial step state_of runs_of runs_from
+cancelled_told = refl
+
+pub cancelled_runs_not : not (is_running (after fresh cancelled)) ≡ true
+unfolding initial step state_of runs_of runs_from
+cancelled_runs_not = refl
+
+-- then number 7 opens, number 5 is old, and so is 6, which never came
+pub next_opens : are_taken fresh (cancelled ++ metadata One 7 ∷ part One 7 ∷ []) ≡ true
+unfolding initial step state_of runs_of runs_from
+next_opens = refl
+
+-- after class 1 there may be class 2
+pub other_class_opens : are_taken fresh (cancelled ++ metadata Two 7 ∷ part Two 7 ∷ []) ≡ true
+unfolding initial step state_of runs_of runs_from
+other_class_opens = refl
+
+-- and the new class is the one that counts then
+pub first_class_then_mismatches : refusal_at (after fresh (cancelled ++ metadata Two 7 ∷ [])) (part One 7) ≡ plain refusal.ModeMismatch
+unfolding initial step state_of runs_of runs_from
+first_class_then_mismatches = refl
+
+pub next_key : key_of (after fresh (cancelled ++ metadata One 7 ∷ [])) ≡ Some (key 7)
+unfolding initial step state_of runs_of runs_from
+next_key = refl
+
+pub next_before : (after fresh (cancelled ++ metadata One 7 ∷ [])).before ≡ Some 5
+unfolding initial step state_of runs_of runs_from
+next_before = refl
+
+pub next_journal : (after fresh (cancelled ++ metadata One 7 ∷ part One 7 ∷ [])).journal ≡ metadata One 7 ∷ part One 7 ∷ []
+unfolding initial step state_of runs_of runs_from
+next_journal = refl
+
+pub first_is_old : refusal_at (after fresh (cancelled ++ metadata One 7 ∷ [])) (metadata One 5) ≡ plain refusal.OldTransaction
+unfolding initial step state_of runs_of runs_from
+first_is_old = refl
+
+pub never_opened_is_old : refusal_at (after fresh (cancelled ++ metadata One 7 ∷ [])) (metadata One 6) ≡ plain refusal.OldTransaction
+unfolding initial step state_of runs_of runs_from
+never_opened_is_old = refl
+
+-- what has ended is not opened again
+pub ended_is_old : refusal_at (after fresh cancelled) (metadata One 5) ≡ plain refusal.OldTransaction
+unfolding initial step state_of runs_of runs_from
+ended_is_old = refl
+
+-- ---- a whole transaction of class 2
+
+-- the file comes and is kept, and the Finished PDU is acknowledged
+abbrev pub whole : List Event
+whole = metadata Two 5 ∷ part Two 5 ∷ eof Two 5 ∷ on 5 (what.Stored 2 true) ∷ on 5 (finished_acknowledged 0) ∷ []
+
+pub whole_taken : are_taken fresh whole ≡ true
+unfolding initial step state_of runs_of runs_from
+whole_taken = refl
+
+pub whole_told : issued_by (after fresh whole)
+    ≡ told.MetadataRecv (record { 0 = 1 }) 3 (97 ∷ []) (98 ∷ []) [] ∷ told.FileSegmentRecv 0 3 ∷ told.EofRecv ∷ told.TransactionFinished 0 Complete Retained ∷ []
+unfolding initial step state_of runs_of runs_from
+whole_told = refl
+
+-- then its EOF is echoed, and its Metadata is not
+pub eof_again_is_echoed : echoed (refusal_at (after fresh whole) (eof Two 5)) ≡ digits 10 0x28000300010502064002 ∷ []
+unfolding initial step state_of runs_of runs_from written spelling digits width_from
+eof_again_is_echoed = refl
+
+pub metadata_again_is_not : refusal_at (after fresh whole) (metadata Two 5) ≡ plain refusal.OldTransaction
+unfolding initial step state_of runs_of runs_from
+metadata_again_is_not = refl
+
+-- ---- what a step gives
+
+-- Metadata arms Inactivity, at its place in the journal
+pub metadata_timers : (answer_of (running Two)).timers ≡ op.Arm (key 5) Inactivity 0 1000 ∷ []
+unfolding initial step state_of runs_of runs_from
+metadata_timers = refl
+
+-- the EOF of class 2 is acknowledged
+pub eof_pdus : map written (answer_of (after (running Two) (part Two 5 ∷ eof Two 5 ∷ []))).pdus ≡ digits 10 0x28000300010502064001 ∷ []
+unfolding initial step state_of runs_of runs_from written spelling digits width_from
+eof_pdus = refl
+
+-- ---- the file that waits for the file store
+
+-- the lane that asks the file store
+abbrev pub storing : State
+storing = after fresh (metadata One 5 ∷ part One 5 ∷ eof One 5 ∷ [])
+
+-- its deposit has the key of the transaction and the place of the EOF
+pub deposit_given : (answer_of storing).deposit ≡ Some (record { key = key 5; stamp = 2 })
+unfolding initial step state_of runs_of runs_from
+deposit_given = refl
+
+abbrev pub image : Image
+image = record { source_name = 97 ∷ []; destination_name = 98 ∷ []; octets = abc }
+
+pub image_waits : image_of storing (key 5) 2 ≡ Ok image
+unfolding initial step state_of runs_of runs_from
+image_waits = refl
+
+pub other_stamp : image_of storing (key 5) 1 ≡ Err refusal.StaleStored
+unfolding initial step state_of runs_of runs_from
+other_stamp = refl
+
+pub other_key : image_of storing (key 6) 2 ≡ Err refusal.StaleStored
+unfolding initial step state_of runs_of runs_from
+other_key = refl
+
+-- the right number and stamp, but another source
+pub other_source_of_image : image_of storing (record { source = record { 0 = 3 }; seq = 5 }) 2 ≡ Err refusal.StaleStored
+unfolding initial step state_of runs_of runs_from
+other_source_of_image = refl
+
+pub nothing_waits : image_of fresh (key 5) 0 ≡ Err refusal.StaleStored
+nothing_waits = refl

@@ -1,0 +1,209 @@
+-- Worked steps of a lane that sends, computed.
+use Rattle.std.specs.Prelude.{◌≡◌, ℕ, true, List, [], ◌∷◌, map, Some, None, Err, refl}
+use Rattle.cfdp_types.specs.Reference.{reference}
+use Rattle.cfdp_types.specs.declared.key.TxnKey.{TxnKey}
+use Rattle.cfdp_types.specs.declared.names.Class.{Class}
+use Rattle.cfdp_types.specs.declared.names.Class.TheVariants.{One, Two}
+use Rattle.cfdp_types.specs.declared.names.Delivery.TheVariants.{Complete}
+use Rattle.cfdp_types.specs.declared.names.FileStatus.TheVariants.{Retained}
+use Rattle.cfdp_types.specs.declared.names.TimerKind.TheVariants.{Ack}
+use Rattle.cfdp_types.specs.declared.timer_op.TimerOp.TheVariants as op
+use Rattle.gap_list.specs.Runs.{runs_of, runs_from}
+use Rattle.pdu_codec.specs.declared.event.What.{What}
+use Rattle.pdu_codec.specs.declared.event.What.TheVariants as what
+use Rattle.pdu_codec.specs.declared.event.Refusal.TheVariants as refusal
+use Rattle.pdu_format.specs.Numbers.{digits}
+use Rattle.pdu_format.specs.Spelling.{spelling, written}
+use Rattle.pdu_format.specs.Tlvs.{width_from}
+use Rattle.pdu_format.specs.Pdu.{PduValue}
+use Rattle.pdu_format.specs.declared.pdu.Body.TheVariants as body
+use Rattle.pdu_format.specs.declared.pdu.Direction.TheVariants.{TowardSender}
+use Rattle.ind_words.specs.declared.indication.Indication.TheVariants as told
+use Rattle.sender_table.specs.Sending.{initial, step, state_of}
+use Rattle.sender_rows.specs.SendingRows as rows
+use Rattle.txn_lane.specs.declared.event.Event.{Event}
+use Rattle.txn_lane.specs.declared.event.Event.TheVariants.{Put, On}
+use Rattle.txn_lane.specs.declared.lane_side.LaneSide.TheVariants.{Sending}
+use Rattle.txn_lane.specs.Lane.{State, idle, key_of, issued_by}
+use Rattle.txn_lane.specs.Steps.{refusal_at, next_number, answer_of, image_of}
+use Rattle.lane_rows.specs.ReceivingLaneRows.{after, are_taken, echoed, plain}
+
+-- ---- the lane
+
+-- a lane of entity 2, where each of two users has two lanes, and numbers have one octet
+abbrev pub sending_lane : ℕ → ℕ → ℕ → State
+sending_lane first user lane = idle (Sending (record { first = first; lanes = 2; users = 2 }) 255) user lane (record { 0 = 2 })
+
+-- lane 0 of user 0, which counts from one
+abbrev pub fresh : State
+fresh = sending_lane 1 0 0
+
+-- the key of a number
+abbrev pub key : ℕ → TxnKey
+key number = record { source = record { 0 = 2 }; seq = number }
+
+-- a file is put
+abbrev pub puts : Class → List ℕ → Event
+puts class file = Put ((rows.sending class 4 file).request) reference
+
+-- "abc" is put
+abbrev pub put : Class → Event
+put class = puts class rows.abc
+
+-- what else happens to a transaction
+abbrev pub on : ℕ → What → Event
+on number event = On (key number) event
+
+-- ---- numbers
+
+pub number_of_alice : next_number fresh ≡ 4
+number_of_alice = refl
+
+pub number_of_bob : next_number (sending_lane 1 1 0) ≡ 5
+number_of_bob = refl
+
+pub number_of_second_lane : next_number (sending_lane 1 0 1) ≡ 6
+number_of_second_lane = refl
+
+-- the next ones of the lane
+pub next_numbers : next_number (after fresh (put One ∷ on 4 what.Cancel ∷ [])) ≡ 8
+unfolding initial step state_of runs_of runs_from
+next_numbers = refl
+
+pub next_numbers_again : next_number (after fresh (put One ∷ on 4 what.Cancel ∷ put One ∷ on 8 what.Cancel ∷ [])) ≡ 12
+unfolding initial step state_of runs_of runs_from
+next_numbers_again = refl
+
+-- ---- a Put opens
+
+pub put_taken : refusal_at fresh (put One) ≡ None
+unfolding initial step state_of runs_of runs_from
+put_taken = refl
+
+pub put_key : key_of (after fresh (put One ∷ [])) ≡ Some (key 4)
+put_key = refl
+
+pub put_told : (answer_of (after fresh (put One ∷ []))).inds ≡ told.Transaction ∷ []
+unfolding initial step state_of runs_of runs_from
+put_told = refl
+
+-- another Put has to wait
+pub put_is_busy : refusal_at (after fresh (put One ∷ [])) (puts One []) ≡ plain refusal.LaneBusy
+unfolding initial step state_of runs_of runs_from
+put_is_busy = refl
+
+-- nothing else opens
+pub nothing_else_opens : refusal_at fresh (on 4 what.Pump) ≡ plain refusal.NoTransaction
+nothing_else_opens = refl
+
+pub number_above_is_unknown : refusal_at (after fresh (put One ∷ [])) (on 8 what.Pump) ≡ plain refusal.NoTransaction
+unfolding initial step state_of runs_of runs_from
+number_above_is_unknown = refl
+
+-- ---- a whole transaction of class 2
+
+-- the receiver's Finished PDU
+abbrev pub finished : ℕ → PduValue
+finished number = record {
+  header = record {
+    direction = TowardSender;
+    class = Two;
+    entity_octets = 1;
+    sequence_octets = 1;
+    source = record { 0 = 2 };
+    sequence = number;
+    destination = record { 0 = 1 };
+  };
+  body = body.Finished (record { condition = 0; delivery = Complete; status = Retained; location = None });
+}
+
+abbrev pub whole : List Event
+whole = put Two ∷ on 4 what.Pump ∷ on 4 what.Pump ∷ on 4 what.Pump ∷ on 4 (what.Pdu (finished 4)) ∷ []
+
+pub whole_taken : are_taken fresh whole ≡ true
+unfolding initial step state_of runs_of runs_from
+whole_taken = refl
+
+pub whole_told : issued_by (after fresh whole) ≡ told.Transaction ∷ told.EofSent ∷ told.TransactionFinished 0 Complete Retained ∷ []
+unfolding initial step state_of runs_of runs_from
+whole_told = refl
+
+-- then the Finished PDU is echoed
+pub finished_again_is_echoed : echoed (refusal_at (after fresh whole) (on 4 (what.Pdu (finished 4)))) ≡ digits 10 0x20000300020401065102 ∷ []
+unfolding initial step state_of runs_of runs_from written spelling digits width_from
+finished_again_is_echoed = refl
+
+-- one with a number above the last is unknown, and has no echo
+pub finished_above_is_unknown : refusal_at (after fresh whole) (on 8 (what.Pdu (finished 8))) ≡ plain refusal.NoTransaction
+unfolding initial step state_of runs_of runs_from
+finished_above_is_unknown = refl
+
+-- so it is while the transaction runs
+pub finished_above_is_unknown_before : refusal_at (after fresh (put Two ∷ [])) (on 8 (what.Pdu (finished 8))) ≡ plain refusal.NoTransaction
+unfolding initial step state_of runs_of runs_from
+finished_above_is_unknown_before = refl
+
+pub pump_is_old : refusal_at (after fresh whole) (on 4 what.Pump) ≡ plain refusal.OldTransaction
+unfolding initial step state_of runs_of runs_from
+pump_is_old = refl
+
+-- a sender has no file for the file store
+pub no_image : image_of (after fresh (put One ∷ [])) (key 4) 0 ≡ Err refusal.StaleStored
+unfolding initial step state_of runs_of runs_from
+no_image = refl
+
+-- ---- what a step gives
+
+-- the first Pump sends the Metadata
+pub metadata_sent : map written (answer_of (after fresh (put One ∷ on 4 what.Pump ∷ []))).pdus ≡ digits 17 0x24000a000204010700000000030161_0162 ∷ []
+unfolding initial step state_of runs_of runs_from written spelling digits width_from
+metadata_sent = refl
+
+-- the third one sends the EOF, which class 2 arms Ack for, at its place in the journal
+pub eof_timers : (answer_of (after fresh (put Two ∷ on 4 what.Pump ∷ on 4 what.Pump ∷ on 4 what.Pump ∷ []))).timers ≡ op.Arm (key 4) Ack 3 1000 ∷ []
+unfolding initial step state_of runs_of runs_from
+eof_timers = refl
+
+-- ---- the end of the numbers
+
+-- a lane that counts from 63 has one number left
+abbrev pub last_number : State
+last_number = sending_lane 63 0 0
+
+pub last_is_taken : refusal_at last_number (puts One []) ≡ None
+unfolding initial step state_of runs_of runs_from
+last_is_taken = refl
+
+pub last_key : key_of (after last_number (puts One [] ∷ [])) ≡ Some (key 252)
+last_key = refl
+
+pub then_exhausted : refusal_at (after last_number (puts One [] ∷ on 252 what.Cancel ∷ [])) (puts One []) ≡ plain refusal.SeqExhausted
+unfolding initial step state_of runs_of runs_from
+then_exhausted = refl
+
+-- while the last one runs the lane is busy
+pub busy_before_exhausted : refusal_at (after last_number (puts One [] ∷ [])) (puts One []) ≡ plain refusal.LaneBusy
+unfolding initial step state_of runs_of runs_from
+busy_before_exhausted = refl
+
+-- lane 1 of user 1, which has the greatest number left
+abbrev pub greatest_number : State
+greatest_number = sending_lane 63 1 1
+
+-- it is the greatest of one octet
+pub greatest_is_next : next_number greatest_number ≡ 255
+greatest_is_next = refl
+
+-- a Put is taken
+pub greatest_is_taken : refusal_at greatest_number (puts One []) ≡ None
+unfolding initial step state_of runs_of runs_from
+greatest_is_taken = refl
+
+-- under that number
+pub greatest_key : key_of (after greatest_number (puts One [] ∷ [])) ≡ Some (key 255)
+greatest_key = refl
+
+-- the next Put finds none
+pub exhausted_after_greatest : refusal_at (after greatest_number (puts One [] ∷ on 255 what.Cancel ∷ [])) (puts One []) ≡ plain refusal.SeqExhausted
+unfolding initial step state_of runs_of runs_from
+exhausted_after_greatest = refl

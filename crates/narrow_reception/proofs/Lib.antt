@@ -1,0 +1,7 @@
+pub mod States
+pub mod Parts
+pub mod Looks
+pub mod Planned
+pub mod Committed
+pub mod Telling
+pub mod Legal

@@ -1,8 +1,0 @@
-use Rattle.receiver_core.specs.Offsets.{octets_in}
-use Rattle.receiver_core.specs.Core.{metadata_after, covered_after}
-use Rattle.receiver_core.proofs.receiver.ReceiverCore.row_of.Goals as goal
-
-pub returns-in-Timer : goal.returns-in-Timer
-returns-in-Timer c =
-    let core = c.args.self.now in
-    rw c.in-Timer.is (c.on_timer.ensures (metadata_after core.metadata c.args.change.now) (octets_in core.content.octets.items (covered_after core.content c.args.change.now)))

@@ -1,0 +1,80 @@
+//! How a reception is opened.
+ghost use Rattle.std.specs.Prelude.{◌↔◌, IsTrue};
+ghost use Rattle.receiver_laws.specs.LegalReceptions.{BodyOpens};
+
+use crate::received_file::ReceivedFile;
+use crate::plan::Plan;
+use crate::receiver::ReceiverCore;
+use crate::refusals::is_body_too_large;
+use crate::control::ControlBlock;
+use cfdp_types::{Params, TxnKey};
+use pdu_codec::{Body, Header, Pdu, Refusal, What};
+use std::alloc::Global;
+
+impl ReceiverCore {
+    ghost use Rattle.std.specs.Prelude.{◌≡◌, ◌↔◌, false, [], IfOk, IfErr, IsTrue};
+    ghost use Rattle.pdu_codec.specs.declared.event.What.TheVariants as what;
+    ghost use Rattle.pdu_format.specs.Spelling.{HeaderFits};
+    ghost use Rattle.receiver_table.specs.Reception.{initial};
+    ghost use Rattle.receiver_table.specs.Answers.{answer_at};
+    ghost use Rattle.receiver_laws.specs.LegalReceptions.{Opens};
+    ghost use Rattle.receiver_core.specs.Core.{shown, reception_of, reception_by, MayOpen, StandsAfter, IsPlanOf, IsWhy};
+
+    /// Whether a PDU opens the reception of a key: its own key is that one, and it is Metadata, File
+    /// Data or an EOF.
+    pub fn may_open(key: TxnKey, pdu: &Pdu) -> bool
+        ensures { IsTrue result ↔ MayOpen key pdu.now }
+    {
+        let header = pdu.header();
+        opens(pdu.body()) && header.source == key.source && header.sequence == key.seq
+    }
+
+    // Before the first event.
+    fn empty(alloc: Global, key: TxnKey, header: Header, params: Params) -> ReceiverCore
+        requires { HeaderFits header }
+        ensures reception { reception_of result ≡ reception_by key params header }
+        ensures stands { shown result ≡ initial }
+    {
+        ReceiverCore {
+            alloc,
+            key,
+            params,
+            header,
+            file: ReceivedFile::new(alloc),
+            metadata: None,
+            control: ControlBlock::first(),
+        }
+    }
+
+    /// The reception that a PDU opens, with the plan of this PDU as its first event.
+    pub fn open(
+        alloc: Global,
+        key: TxnKey,
+        pdu: &Pdu,
+        params: Params,
+    ) -> Result<(ReceiverCore, Plan), Refusal>
+        requires opens { MayOpen key pdu.now }
+        ensures reception { IfOk result (λ opened. reception_of opened.0 ≡ reception_by key params pdu.now.header) }
+        ensures opens { IfOk result (λ opened. Opens (reception_of opened.0) (what.Pdu pdu.now)) }
+        ensures stands { IfOk result (λ opened. StandsAfter opened.0 []) }
+        ensures runs { IfOk result (λ opened. (shown opened.0).ended ≡ false) }
+        ensures planned { IfOk result (λ opened. IsPlanOf opened.0 opened.1 (what.Pdu pdu.now)) }
+        ensures refused { IfErr result (λ why. IsWhy (answer_at (reception_by key params pdu.now.header) initial (what.Pdu pdu.now)) why) }
+    {
+        if is_body_too_large(pdu.body()) {
+            return Err(Refusal::TooLarge);
+        }
+        let (header, _) = pdu.parts();
+        let mut core = ReceiverCore::empty(alloc, key, *header, params);
+        let event = What::Pdu(pdu.clone()?);
+        let plan = core.plan(&event)?;
+        Ok((core, plan))
+    }
+}
+
+// Whether a body opens a reception.
+fn opens(body: &Body) -> bool
+    ensures { IsTrue result ↔ BodyOpens body.now }
+{
+    matches!(body, Body::Metadata(_) | Body::FileData(_) | Body::Eof(_))
+}

@@ -1,0 +1,182 @@
+//! What a reception answers, response by response.
+ghost use Rattle.std.specs.Prelude.{◌≡◌};
+ghost use Rattle.receiver_table.specs.Answers as table;
+
+use crate::examine::Finding;
+use crate::receiver::ReceiverCore;
+use crate::response::Response;
+use crate::control::ControlBlock;
+use cfdp_types::{Class, Condition, Delivery, EntityId, FileStatus, Handler, Role, TimerKind};
+use ind_words::{Indication, Indications};
+use pdu_codec::Finished;
+use std::alloc::AllocError;
+
+impl ReceiverCore {
+    ghost use Rattle.std.specs.Prelude.{◌≡◌, ℕ, IfOk, false, Option};
+    ghost use Rattle.std.specs.Option.{option_to_list};
+    ghost use Rattle.pdu_format.specs.declared.bodies.Metadata.{Metadata};
+    ghost use Rattle.receiver_table.specs.Answers as table;
+    ghost use Rattle.receiver_table.specs.Answers.{tells, ◌and_then◌};
+    ghost use Rattle.receiver_core.specs.ControlBlock.{state_from};
+    ghost use Rattle.receiver_core.specs.Response.{IsResponse};
+    ghost use Rattle.receiver_core.specs.Finding.{found_response};
+    ghost use Rattle.receiver_core.specs.Core.{reception_of};
+
+    // The fault location of a Finished PDU: this entity, where there was a fault.
+    fn location_of(&self, condition: Condition) -> Option<EntityId>
+        ensures { result ≡ table.location_of (reception_of self.now) condition }
+    {
+        if condition == Condition::NO_ERROR || condition == Condition::UNSUPPORTED_CHECKSUM_TYPE {
+            None
+        } else {
+            Some(self.params.local())
+        }
+    }
+
+    /// The end of the file's delivery, once the user was told something.
+    pub(crate) fn finish_response(
+        &self,
+        inds: Indications,
+        condition: Condition,
+        delivery: Delivery,
+        status: FileStatus,
+    ) -> Result<Response, AllocError>
+        ensures response { IfOk result (λ response. IsResponse response (tells inds and_then table.finish_response (reception_of self.now) condition delivery status)) }
+        ensures plain { IfOk result (λ response. response.resumes ≡ false) }
+    {
+        let mut response = Response::of(inds);
+        match self.header.class {
+            Class::One => response.inds.push(Indication::TransactionFinished {
+                condition,
+                delivery,
+                status,
+            })?,
+            Class::Two => {
+                response.finished = Some(Finished {
+                    condition,
+                    delivery,
+                    status,
+                    location: self.location_of(condition),
+                });
+                response.arms = Some(TimerKind::Ack);
+            }
+        }
+        Ok(response)
+    }
+
+    /// A fault with handler Cancel.
+    pub(crate) fn cancel_response(&self, inds: Indications, condition: Condition) -> Result<Response, AllocError>
+        ensures response { IfOk result (λ response. IsResponse response (tells inds and_then table.cancel_response (reception_of self.now) condition)) }
+        ensures plain { IfOk result (λ response. response.resumes ≡ false) }
+    {
+        self.finish_response(inds, condition, Delivery::Incomplete, status_of(condition))
+    }
+
+    fn handler_of(&self, condition: Condition) -> Handler
+        ensures { result ≡ table.handler_of (reception_of self.now) condition }
+    {
+        self.params
+            .tables()
+            .of(role_of(self.header.class))
+            .action(condition)
+    }
+
+    /// A fault, by its handler, once the user was told something.
+    pub(crate) fn fault_response(
+        &self,
+        inds: Indications,
+        now: &ControlBlock,
+        arms: Option<TimerKind>,
+        condition: Condition,
+    ) -> Result<Response, AllocError>
+        ensures response { (m : Option Metadata) (octets : ℕ → Option ℕ) → IfOk result (λ response. IsResponse response (tells inds and_then table.fault_response (reception_of self.now) (state_from now.now m octets) (option_to_list arms) condition)) }
+        ensures plain { IfOk result (λ response. response.resumes ≡ false) }
+    {
+        let progress = now.progress;
+        match self.handler_of(condition) {
+            Handler::Cancel => self.cancel_response(inds, condition),
+            Handler::Suspend => Response::telling_more(inds, Indication::Suspended { condition }),
+            Handler::Ignore => {
+                let told = Indication::Fault {
+                    condition,
+                    progress,
+                };
+                let mut response = Response::telling_more(inds, told)?;
+                response.arms = arms;
+                Ok(response)
+            }
+            Handler::Abandon => Response::telling_more(
+                inds,
+                Indication::Abandoned {
+                    condition,
+                    progress,
+                },
+            ),
+        }
+    }
+
+    // The rest of the file is waited for, by the timer of the class.
+    fn waits_for_rest(&self, inds: Indications, now: &ControlBlock) -> Response
+        ensures response { (m : Option Metadata) (octets : ℕ → Option ℕ) → IsResponse result (tells inds and_then table.waits_for_rest (reception_of self.now) (state_from now.now m octets)) }
+        ensures plain { result.resumes ≡ false }
+    {
+        let mut response = Response::of(inds);
+        match self.header.class {
+            Class::One => {
+                if now.armed.check.is_none() {
+                    response.arms = Some(TimerKind::Check);
+                }
+            }
+            Class::Two => {
+                if now.armed.nak.is_none() {
+                    response.nak = true;
+                    response.arms = Some(TimerKind::Nak);
+                }
+            }
+        }
+        response
+    }
+
+    /// What a look at the file finds, once the user was told something.
+    pub(crate) fn answers_finding(
+        &self,
+        inds: Indications,
+        now: &ControlBlock,
+        finding: Finding,
+    ) -> Result<Response, AllocError>
+        ensures response { (m : Option Metadata) (octets : ℕ → Option ℕ) → IfOk result (λ response. IsResponse response (tells inds and_then found_response (reception_of self.now) (state_from now.now m octets) finding)) }
+        ensures plain { IfOk result (λ response. response.resumes ≡ false) }
+    {
+        match finding {
+            Finding::Nothing => Ok(Response::of(inds)),
+            Finding::Faulty(condition) => self.fault_response(inds, now, None, condition),
+            Finding::Whole => {
+                let mut response = Response::of(inds);
+                response.deposit = true;
+                Ok(response)
+            }
+            Finding::Waits => Ok(self.waits_for_rest(inds, now)),
+        }
+    }
+}
+
+// The role whose handlers count.
+fn role_of(class: Class) -> Role
+    ensures { result ≡ table.role_of class }
+{
+    match class {
+        Class::One => Role::RecvOne,
+        Class::Two => Role::RecvTwo,
+    }
+}
+
+// What became of the file where a fault ends the reception.
+fn status_of(condition: Condition) -> FileStatus
+    ensures { result ≡ table.status_of condition }
+{
+    if condition == Condition::FILESTORE_REJECTION {
+        FileStatus::Rejected
+    } else {
+        FileStatus::Discarded
+    }
+}

@@ -1,0 +1,7 @@
+pub mod ReceptionSteps
+pub mod ReceptionFacts
+pub mod ReceptionLate
+pub mod ReceptionTelling
+pub mod ReceptionEvents
+pub mod ReceptionLegal
+pub mod ReceptionDeposits

@@ -1,0 +1,58 @@
+-- Which logs a reception of either class can have, and when its file is good.
+use Rattle.std.specs.Prelude.{◌≡◌, ℕ, ◌<◌, false, IsSome, List, [], ◌∷◌, Some, Ok}
+use Rattle.cfdp_types.specs.ChecksumType as checksum
+use Rattle.pdu_codec.specs.declared.event.What.{What}
+use Rattle.pdu_codec.specs.declared.event.What.TheVariants as what
+use Rattle.pdu_format.specs.declared.pdu.Body.{Body}
+use Rattle.pdu_format.specs.declared.pdu.Body.TheVariants as body
+use Rattle.pdu_format.specs.declared.bodies.Metadata.{Metadata}
+use Rattle.pdu_format.specs.declared.bodies.Eof.{Eof}
+use Rattle.modular_sum.specs.Sum.{sum}
+use Rattle.receiver_table.specs.Reception.{Reception, Entry, State, state_of}
+use Rattle.receiver_table.specs.Answers.{accepted_at, answer_at, octets_from}
+
+-- Metadata, File Data and EOF open a reception
+abbrev pub BodyOpens : Body → Type 0
+BodyOpens (body.Metadata m) = Unit {0}
+BodyOpens (body.FileData d) = Unit {0}
+BodyOpens (body.Eof e) = Unit {0}
+BodyOpens _ = ⊥
+
+-- the event opens this reception: a PDU of its key, whose header it takes over
+abbrev pub Opens : Reception → What → Type 0
+Opens reception (what.Pdu pdu) =
+    BodyOpens pdu.body × (pdu.header ≡ reception.header) × (pdu.header.source ≡ reception.key.source) × (pdu.header.sequence ≡ reception.key.seq)
+Opens reception _ = ⊥
+
+-- the first event opens, and the others may be any
+abbrev pub HasItsPlace : Reception → List Entry → What → Type 0
+HasItsPlace reception [] event = Opens reception event
+HasItsPlace reception (entry ∷ front) event = Unit {0}
+
+-- each event was accepted, each answer is that of the table, and nothing follows an end
+abbrev pub IsLegal : Reception → List Entry → Type 0
+IsLegal reception [] = Unit {0}
+IsLegal reception (entry ∷ front) =
+    ((state_of front).ended ≡ false) × HasItsPlace reception front entry.event × (answer_at reception (state_of front) entry.event ≡ Ok entry.answer)
+    × IsLegal reception front
+
+-- the one log that these events have, the oldest first, behind a front
+abbrev pub log_after : Reception → List Entry → List What → List Entry
+log_after reception front [] = front
+log_after reception front (event ∷ events) =
+    log_after reception (record { event = event; answer = accepted_at reception (state_of front) event } ∷ front) events
+
+-- a journal's log
+abbrev pub log_of : Reception → List What → List Entry
+log_of reception journal = log_after reception [] journal
+
+-- a file is there as its Metadata and its EOF describe it
+pub record IsGood (state : State) : Type 0 where
+  pub metadata : Metadata
+  pub eof : Eof
+  pub metadata_came : state.metadata ≡ Some metadata
+  pub eof_came : state.eof ≡ Some eof
+  pub modular : metadata.checksum_type ≡ checksum.modular
+  pub none_missing : (i : ℕ) → i < eof.size → IsSome (state.received i)
+  pub none_beyond : (i : ℕ) → IsSome (state.received i) → i < eof.size
+  pub agrees : sum (octets_from state.received 0 eof.size) ≡ eof.checksum

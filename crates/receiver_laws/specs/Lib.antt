@@ -1,0 +1,2 @@
+pub mod LegalReceptions
+pub mod ReceptionLaws

@@ -1,0 +1,23 @@
+//! What holds of every reception, over its definitions alone.
+#![tactic(auto)]
+
+ghost use Rattle.receiver_laws.specs.ReceptionLaws.{TellsWords, CompletesGood, DepositsGood};
+
+/// What a reception tells its user is a beginning of a receiver's word, and a word once the reception has
+/// ended: with any parameters, also where it is suspended and resumed, where timers expire, where the
+/// user asks and where faults have handlers.
+pub fn words()
+    ensures { TellsWords }
+{}
+
+/// A user is told of a complete delivery only where Metadata and EOF came, every octet below the EOF's
+/// size was received and none at or above it, and the modular checksum agrees.
+pub fn complete()
+    ensures { CompletesGood }
+{}
+
+/// While a deposit waits, the file is good as in [`complete`], and its image has the names of its
+/// Metadata and, at each offset below the EOF's size, the octet that was received there.
+pub fn deposits()
+    ensures { DepositsGood }
+{}

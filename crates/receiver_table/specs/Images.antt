@@ -1,0 +1,27 @@
+-- What the file store is given.
+use Rattle.std.specs.Prelude.{ℕ, if◌then◌else◌, Option, Some, None, Result, Ok, Err}
+use Rattle.cfdp_types.specs.Steps.{is_stamp}
+use Rattle.cfdp_types.specs.declared.image.Image.{Image}
+use Rattle.pdu_codec.specs.declared.event.Refusal.{Refusal}
+use Rattle.pdu_codec.specs.declared.event.Refusal.TheVariants.{StaleStored}
+use Rattle.pdu_format.specs.declared.bodies.Metadata.{Metadata}
+use Rattle.pdu_format.specs.declared.bodies.Eof.{Eof}
+use Rattle.receiver_table.specs.Reception.{State}
+use Rattle.receiver_table.specs.Answers.{octets_from}
+
+-- a file as its Metadata names it, with the octets below its EOF's size, each as it came first
+abbrev pub image_of : (ℕ → Option ℕ) → Option Metadata → Option Eof → Option Image
+image_of received (Some m) (Some e) = Some (record {
+  source_name = m.source_name;
+  destination_name = m.destination_name;
+  octets = octets_from received 0 e.size;
+})
+image_of received _ _ = None
+
+abbrev pub or_stale : Option Image → Result Image Refusal
+or_stale (Some image) = Ok image
+or_stale None = Err StaleStored
+
+-- the file of the deposit that waits, by its stamp
+abbrev pub image_at : State → ℕ → Result Image Refusal
+image_at state stamp = if is_stamp state.waiting stamp then or_stale (image_of state.received state.metadata state.eof) else Err StaleStored

@@ -1,0 +1,9 @@
+pub mod Reception
+pub mod Refusals
+pub mod Answers
+pub mod Images
+pub use Rattle.cfdp_types.specs.Condition
+pub use Rattle.cfdp_types.specs.ChecksumType
+pub use Rattle.pdu_format.specs.Pdu
+pub use Rattle.ind_words.specs.Words
+pub use Rattle.modular_sum.specs.Sum

@@ -1,0 +1,75 @@
+-- Which events a reception refuses, and why: the first reason that applies, in the order of their numbers.
+use Rattle.std.specs.Prelude.{◌+◌, ◌-◌, Bool, true, false, not, ◌||◌, ◌&&◌, nat_le, nat_lt, ◌==◌, if◌then◌else◌, length, Option, Some, None}
+use Rattle.cfdp_types.specs.Condition as condition
+use Rattle.cfdp_types.specs.declared.limits.TheConstants.{FILE_OCTETS, JOURNAL_ENTRIES, JOURNAL_ENTRIES_KEPT}
+use Rattle.pdu_codec.specs.declared.event.What.{What}
+use Rattle.pdu_codec.specs.declared.event.What.TheVariants as what
+use Rattle.pdu_codec.specs.declared.event.Refusal.{Refusal}
+use Rattle.pdu_codec.specs.declared.event.Refusal.TheVariants as refusal
+use Rattle.pdu_format.specs.declared.pdu.Body.{Body}
+use Rattle.pdu_format.specs.declared.pdu.Body.TheVariants as body
+use Rattle.pdu_format.specs.Pdu.{ack_is_toward_sender}
+use Rattle.pdu_codec.specs.Events.{is_two, is_of_other_class, is_stale_timer, needs_room}
+use Rattle.cfdp_types.specs.Steps.{is_stamp}
+use Rattle.receiver_table.specs.Reception.{Reception, State, is_closing, is_storing, is_suspended}
+
+-- StaleStored: no deposit waits, or another one
+abbrev pub is_stale_store : State → What → Bool
+is_stale_store state (what.Stored stamp kept) = not (is_stamp state.waiting stamp)
+is_stale_store state _ = false
+
+-- Storing: while the file store is asked, only its answer and Report are taken
+abbrev pub waits_for_store : What → Bool
+waits_for_store (what.Stored stamp kept) = false
+waits_for_store what.Report = false
+waits_for_store _ = true
+
+-- WrongState, for PDUs: what goes toward the sender; Prompt and ACK in class 1; an ACK (Finished) before
+-- there was a Finished; and in the closing phase all but EOF and ACK (Finished)
+abbrev pub is_pdu_misplaced : Reception → State → Body → Bool
+is_pdu_misplaced reception state (body.Metadata m) = is_closing state
+is_pdu_misplaced reception state (body.FileData d) = is_closing state
+is_pdu_misplaced reception state (body.Eof e) = false
+is_pdu_misplaced reception state (body.Prompt p) = not (is_two reception.header.class) || is_closing state
+is_pdu_misplaced reception state (body.Ack a) = ack_is_toward_sender a.of || not (is_two reception.header.class) || not (is_closing state)
+is_pdu_misplaced reception state (body.Finished f) = true
+is_pdu_misplaced reception state (body.Nak n) = true
+is_pdu_misplaced reception state (body.KeepAlive k) = true
+
+-- WrongState: Pump is the sender's; Resume only where the reception is suspended; Suspend not in class 1,
+-- where it is suspended, or in the closing phase; Cancel not in the closing phase
+abbrev pub is_misplaced : Reception → State → What → Bool
+is_misplaced reception state (what.Pdu pdu) = is_pdu_misplaced reception state pdu.body
+is_misplaced reception state what.Pump = true
+is_misplaced reception state what.Resume = not (is_suspended state)
+is_misplaced reception state what.Suspend = not (is_two reception.header.class) || is_suspended state || is_closing state
+is_misplaced reception state what.Cancel = is_closing state
+is_misplaced reception state _ = false
+
+-- TooLarge: the size of Metadata, the end of File Data, and the size of an EOF without an error
+abbrev pub is_body_too_large : Body → Bool
+is_body_too_large (body.Metadata m) = nat_lt FILE_OCTETS m.size
+is_body_too_large (body.FileData d) = nat_lt FILE_OCTETS (d.offset + length d.octets)
+is_body_too_large (body.Eof e) = e.condition == condition.no_error && nat_lt FILE_OCTETS e.size
+is_body_too_large _ = false
+
+-- an event whose body is too large
+abbrev pub is_too_large : What → Bool
+is_too_large (what.Pdu pdu) = is_body_too_large pdu.body
+is_too_large _ = false
+
+-- JournalFull: the last entries are kept for the file store's answer and for Abandon
+abbrev pub is_full : State → Bool
+is_full state = nat_le (JOURNAL_ENTRIES - JOURNAL_ENTRIES_KEPT) state.entries
+
+-- why an event is refused, if it is
+abbrev pub refusal_at : Reception → State → What → Option Refusal
+refusal_at reception state event =
+    if is_of_other_class reception.header.class event then Some refusal.ModeMismatch
+    else if is_stale_timer state.armed event then Some refusal.StaleTimer
+    else if is_stale_store state event then Some refusal.StaleStored
+    else if is_storing state && waits_for_store event then Some refusal.Storing
+    else if is_misplaced reception state event then Some refusal.WrongState
+    else if is_too_large event then Some refusal.TooLarge
+    else if is_full state && needs_room event then Some refusal.JournalFull
+    else None

@@ -1,0 +1,213 @@
+-- What the responses of the table send of the file.
+use Rattle.std.proofs.Common.{◌≡◌, ℕ, ◌+◌, ◌-◌, ◌<◌, ◌≤◌, min, max, Bool, true, false, not, ◌&&◌, ◌||◌, nat_lt, if◌then◌else◌, List, [], ◌∷◌, length, take, drop, Option, Some, None, eqb, refl, sym, ap, ◌∙◌, arith, inl, inr, cond}
+use Rattle.std.specs.List.{list_any}
+use Rattle.std.proofs.lemmas.List.{length-take, length-drop}
+use Rattle.std.proofs.lemmas.Bool.{cases_Bool, ltb-false}
+use Rattle.std.proofs.lemmas.Bool.Decides.{nat_tests}
+use Rattle.cfdp_types.specs.Handlers.{handler_in}
+use Rattle.cfdp_types.specs.Condition as condition
+use Rattle.cfdp_types.specs.declared.condition.Condition.{Condition}
+use Rattle.cfdp_types.specs.declared.names.Class.{Class}
+use Rattle.cfdp_types.specs.declared.names.Class.TheVariants.{One, Two}
+use Rattle.cfdp_types.specs.declared.names.Handler.{Handler}
+use Rattle.cfdp_types.specs.declared.names.Handler.TheVariants as handler
+use Rattle.cfdp_types.specs.declared.names.TimerKind.{TimerKind}
+use Rattle.cfdp_types.specs.declared.names.TimerKind.TheVariants.{Ack, Nak, Check, Inactivity}
+use Rattle.gap_list.specs.declared.run.Run.{Run}
+use Rattle.gap_list.specs.Runs.{is_within, in_runs, IsRisingFrom}
+use Rattle.gap_list.proofs.SetLemmas.{below_rising}
+use Rattle.pdu_codec.specs.declared.event.What.{What}
+use Rattle.pdu_codec.specs.declared.event.What.TheVariants as what
+use Rattle.pdu_format.specs.Pdu.{PduValue}
+use Rattle.pdu_format.specs.declared.pdu.Body.{Body}
+use Rattle.pdu_format.specs.declared.pdu.Body.TheVariants as body
+use Rattle.pdu_format.specs.declared.bodies.Eof.{Eof}
+use Rattle.sender_table.specs.Sending.{Sending, State, happens, covers, extent_of, asks_for, requests_of, is_closing}
+use Rattle.sender_table.specs.Refusals.{runs_to_send}
+use Rattle.sender_table.specs.Answers.{Response, cancel_response, fault_response, sends_eof, sends_next, on_pump, on_body, on_timer, response_to, last_eof, ends_unreported, nothing}
+use Rattle.sender_core.specs.Remaining.{without_first, with_requests}
+use Rattle.sender_core.specs.Core.{pdus_of_response, remains_after}
+
+-- no octet of the file is sent
+pub record NoData (pdus : List PduValue) : Type 0 where
+  pub covers : (i : ℕ) → list_any (covers i) pdus ≡ false
+  pub extent : extent_of pdus ≡ 0
+
+chosen : (sending : Sending) (b : Bool) (x y : Response) → NoData (pdus_of_response sending x) → NoData (pdus_of_response sending y) → NoData (pdus_of_response sending (if b then x else y))
+chosen sending true x y p q = p
+chosen sending false x y p q = q
+
+no_data_cancels : (sending : Sending) (state : State) (code : Condition) (class : Class) → sending.request.class ≡ class → NoData (pdus_of_response sending (cancel_response sending state code))
+no_data_cancels sending state code One is = rw is (record { covers = λ i. refl; extent = refl })
+no_data_cancels sending state code Two is = rw is (record { covers = λ i. refl; extent = refl })
+
+no_data_faults : (sending : Sending) (state : State) (kind : TimerKind) (code : Condition) (h : Handler) → handler_in sending.params.tables.send code ≡ h
+    → NoData (pdus_of_response sending (fault_response sending state kind code))
+no_data_faults sending state kind code handler.Cancel is = rw is (no_data_cancels sending state code sending.request.class refl)
+no_data_faults sending state kind code handler.Suspend is = rw is (record { covers = λ i. refl; extent = refl })
+no_data_faults sending state kind code handler.Ignore is = rw is (record { covers = λ i. refl; extent = refl })
+no_data_faults sending state kind code handler.Abandon is = rw is (record { covers = λ i. refl; extent = refl })
+
+no_data_eof : (sending : Sending) (class : Class) → sending.request.class ≡ class → NoData (pdus_of_response sending (sends_eof sending))
+no_data_eof sending One is = rw is (record { covers = λ i. refl; extent = refl })
+no_data_eof sending Two is = rw is (record { covers = λ i. refl; extent = refl })
+
+no_data_again : (sending : Sending) (o : Option Eof) → NoData (pdus_of_response sending (record nothing { bodies = last_eof o; arms = Ack ∷ [] }))
+no_data_again sending None = record { covers = λ i. refl; extent = refl }
+no_data_again sending (Some e) = record { covers = λ i. refl; extent = refl }
+
+no_data_body : (sending : Sending) (state : State) (b : Body) → NoData (pdus_of_response sending (on_body state b))
+no_data_body sending state (body.Ack a) = chosen sending (is_closing state) (ends_unreported a.condition) nothing (record { covers = λ i. refl; extent = refl }) (record { covers = λ i. refl; extent = refl })
+no_data_body sending state (body.Finished f) = record { covers = λ i. refl; extent = refl }
+no_data_body sending state (body.Metadata m) = record { covers = λ i. refl; extent = refl }
+no_data_body sending state (body.FileData d) = record { covers = λ i. refl; extent = refl }
+no_data_body sending state (body.Eof e) = record { covers = λ i. refl; extent = refl }
+no_data_body sending state (body.Nak n) = record { covers = λ i. refl; extent = refl }
+no_data_body sending state (body.Prompt p) = record { covers = λ i. refl; extent = refl }
+no_data_body sending state (body.KeepAlive k) = record { covers = λ i. refl; extent = refl }
+
+no_data_timer : (sending : Sending) (state : State) (kind : TimerKind) → NoData (pdus_of_response sending (on_timer sending state state kind))
+no_data_timer sending state Ack =
+    chosen sending (nat_lt (state.tries Ack + 1) sending.params.limits.ack) _ _ (no_data_again sending state.eof)
+    (chosen sending (is_closing state) _ _ (record { covers = λ i. refl; extent = refl })
+    (no_data_faults sending state Ack condition.positive_ack_limit _ refl))
+no_data_timer sending state Inactivity = no_data_faults sending state Inactivity condition.inactivity _ refl
+no_data_timer sending state Nak = record { covers = λ i. refl; extent = refl }
+no_data_timer sending state Check = record { covers = λ i. refl; extent = refl }
+
+abbrev pub is_pump : What → Bool
+is_pump what.Pump = true
+is_pump _ = false
+
+-- no response but that of Pump sends octets of the file
+pub no_data : (sending : Sending) (state : State) (event : What) → is_pump event ≡ false → NoData (pdus_of_response sending (response_to sending state state (happens event)))
+no_data sending state (what.Pdu pdu) other = no_data_body sending state pdu.body
+no_data sending state (what.Timer kind stamp) other = no_data_timer sending state kind
+no_data sending state what.Cancel other = no_data_cancels sending state condition.cancel_request _ refl
+no_data sending state what.Suspend other = record { covers = λ i. refl; extent = refl }
+no_data sending state what.Resume other = record { covers = λ i. refl; extent = refl }
+no_data sending state what.Report other = record { covers = λ i. refl; extent = refl }
+no_data sending state what.Abandon other = record { covers = λ i. refl; extent = refl }
+no_data sending state (what.Stored stamp kept) other = record { covers = λ i. refl; extent = refl }
+no_data sending state what.Pump other = absurd cc
+
+part_extent : (file : List ℕ) (start n : ℕ) → max (cond (eqb (length (take n (drop start file))) 0) 0 (start + length (take n (drop start file)))) 0 ≤ length file
+part_extent file start n =
+    elim (cases_Bool (eqb (length (take n (drop start file))) 0)) [
+      | inl none ↦ rw none (omega arith)
+      | inr some ↦ rw some (grind (arith, nat_tests, some, length-take n (drop start file), length-drop start file))
+    ]
+
+next_extent : (sending : Sending) (runs : List Run) → extent_of (pdus_of_response sending (sends_next sending runs)) ≤ length sending.request.file
+next_extent sending [] = rw (no_data_eof sending _ refl).extent (omega arith)
+next_extent sending (run ∷ runs) = part_extent sending.request.file run.start (min sending.params.segment_octets (run.end - run.start))
+
+pump_extent : (sending : Sending) (state : State) (b : Bool) → state.metadata_remains ≡ b → extent_of (pdus_of_response sending (on_pump sending state)) ≤ length sending.request.file
+pump_extent sending state true is = rw is (omega arith)
+pump_extent sending state false is = rw is (next_extent sending (runs_to_send sending state))
+
+-- nothing is sent that is not in the file
+pub extent_inside : (sending : Sending) (state : State) (event : What) → extent_of (pdus_of_response sending (response_to sending state state (happens event))) ≤ length sending.request.file
+extent_inside sending state event =
+    elim (cases_Bool (is_pump event)) [
+      | inl is ↦ at_pump event is
+      | inr other ↦ rw (no_data sending state event other).extent (omega arith)
+    ]
+  where
+    at_pump : (event : What) → is_pump event ≡ true → extent_of (pdus_of_response sending (response_to sending state state (happens event))) ≤ length sending.request.file
+    at_pump what.Pump is = pump_extent sending state state.metadata_remains refl
+    at_pump (what.Pdu pdu) is = absurd cc
+    at_pump (what.Timer kind stamp) is = absurd cc
+    at_pump what.Cancel is = absurd cc
+    at_pump what.Suspend is = absurd cc
+    at_pump what.Resume is = absurd cc
+    at_pump what.Report is = absurd cc
+    at_pump what.Abandon is = absurd cc
+    at_pump (what.Stored stamp kept) is = absurd cc
+
+-- ---- what is left to send
+
+nothing_new : (set covered below asked : Bool) → covered ≡ false → asked ≡ false → set ≡ ((set && not covered) || (below && asked))
+nothing_new true covered below asked none nor = rw none refl
+nothing_new false covered true asked none nor = sym nor
+nothing_new false covered false asked none nor = refl
+
+pub left_same : (sending : Sending) (state : State) (event : What) (i : ℕ) → is_pump event ≡ false → requests_of (happens event) ≡ []
+    → state.remains i ≡ remains_after sending state event i
+left_same sending state event i other none =
+    nothing_new (state.remains i) _ (nat_lt i (length sending.request.file)) (list_any (asks_for i) (requests_of (happens event)))
+    ((no_data sending state event other).covers i) (rw none refl)
+
+new_asked : (set covered more : Bool) → covered ≡ false → (set || more) ≡ ((set && not covered) || more)
+new_asked true covered more none = rw none refl
+new_asked false covered more none = refl
+
+pub left_anew : (sending : Sending) (state : State) (event : What) (i : ℕ) → is_pump event ≡ false
+    → with_requests state.remains (requests_of (happens event)) (length sending.request.file) i ≡ remains_after sending state event i
+left_anew sending state event i other =
+    new_asked (state.remains i) _ (nat_lt i (length sending.request.file) && list_any (asks_for i) (requests_of (happens event)))
+    ((no_data sending state event other).covers i)
+
+pub left_by_metadata : (sending : Sending) (state : State) (i : ℕ) → state.metadata_remains ≡ true → state.remains i ≡ remains_after sending state what.Pump i
+left_by_metadata sending state i remains =
+    nothing_new (state.remains i) _ (nat_lt i (length sending.request.file)) false (rw remains refl) refl
+
+pub left_by_eof : (sending : Sending) (state : State) (i : ℕ) → state.metadata_remains ≡ false → runs_to_send sending state ≡ [] → state.remains i ≡ remains_after sending state what.Pump i
+left_by_eof sending state i remains none =
+    nothing_new (state.remains i) _ (nat_lt i (length sending.request.file)) false (rw (remains, none) ((no_data_eof sending _ refl).covers i)) refl
+
+and_false : (b : Bool) → (b && false) ≡ false
+and_false true = refl
+and_false false = refl
+
+and_true : (b : Bool) → (b && true) ≡ b
+and_true true = refl
+and_true false = refl
+
+or_false : (b : Bool) → (b || false) ≡ b
+or_false true = refl
+or_false false = refl
+
+-- the first octets of the lowest run are taken
+without_first_has : (n : ℕ) (run : Run) (later : List Run) (i : ℕ) → n ≤ run.end - run.start → run.start < run.end → IsRisingFrom (run.end + 1) later
+    → in_runs (without_first n (run ∷ later)) i ≡ (in_runs (run ∷ later) i && not (is_within run.start (run.start + n) i))
+without_first_has n run later i few filled rising =
+    elim (cases_Bool (is_within run.start (run.start + n) i)) [
+      | inl here ↦
+          let below : i < run.end = grind (arith, nat_tests, here) in
+          let none : in_runs later i ≡ false = below_rising (run.end + 1) later i rising (omega arith) in
+          elim (cases_Bool (nat_lt n (run.end - run.start))) [
+            | inl part ↦
+                let gone : is_within (run.start + n) run.end i ≡ false = grind (arith, nat_tests, here) in
+                rw (part, here, none, gone) (sym (and_false _))
+            | inr whole ↦ rw (whole, here, none) (sym (and_false _))
+          ]
+      | inr there ↦
+          elim (cases_Bool (nat_lt n (run.end - run.start))) [
+            | inl part ↦
+                let same : is_within (run.start + n) run.end i ≡ is_within run.start run.end i = grind (arith, nat_tests, there) in
+                rw (part, there, same) (sym (and_true _))
+            | inr whole ↦
+                let all : run.start + n ≡ run.end = omega (arith, ltb-false n (run.end - run.start) whole) in
+                let gone : is_within run.start run.end i ≡ false = rw all at there in
+                rw (whole, there, gone) (sym (and_true _))
+          ]
+    ]
+
+part_taken : (set within covered below : Bool) → covered ≡ within → (set && not within) ≡ ((set && not covered) || (below && false))
+part_taken set within covered below is =
+    rw is (sym (ap (λ b. (set && not within) || b) (and_false below) ∙ or_false (set && not within)))
+
+-- the first octets of the lowest run are sent
+pub left_by_part : (sending : Sending) (state : State) (n : ℕ) (run : Run) (later : List Run) (i : ℕ) → state.metadata_remains ≡ false → runs_to_send sending state ≡ run ∷ later
+    → state.remains i ≡ in_runs (run ∷ later) i → n ≡ min sending.params.segment_octets (run.end - run.start) → IsRisingFrom 0 (run ∷ later) → run.end ≤ length sending.request.file
+    → in_runs (without_first n (run ∷ later)) i ≡ remains_after sending state what.Pump i
+left_by_part sending state n run later i remains runs has part rising inside =
+    let file : List ℕ = sending.request.file in
+    let m : ℕ = min sending.params.segment_octets (run.end - run.start) in
+    let long : length (take m (drop run.start file)) ≡ n = omega (arith, length-take m (drop run.start file), length-drop run.start file, part, rising.1, inside) in
+    let covered : list_any (covers i) (pdus_of_response sending (response_to sending state state (happens what.Pump))) ≡ is_within run.start (run.start + n) i =
+    rw (remains, runs) (or_false (is_within run.start (run.start + length (take m (drop run.start file))) i) ∙ ap (λ k. is_within run.start (run.start + k) i) long) in
+    without_first_has n run later i (omega (arith, part)) rising.1 rising.2
+    ∙ ap (λ b. b && not (is_within run.start (run.start + n) i)) (sym has)
+    ∙ part_taken (state.remains i) _ _ (nat_lt i (length file)) covered

@@ -1,0 +1,54 @@
+-- How the code keeps where a sender stands.
+use Rattle.std.specs.Prelude.{◌≡◌, ℕ, ◌-◌, ◌<◌, ◌≤◌, Bool, true, false, None}
+use Rattle.cfdp_types.specs.declared.limits.TheConstants.{JOURNAL_ENTRIES, JOURNAL_ENTRIES_KEPT}
+use Rattle.sender_table.specs.Sending.{State}
+use Rattle.core_steps.specs.Timers.{stamp_of, tries_of, AreUpTo}
+use Rattle.sender_core.specs.declared.control.ControlBlock.{ControlBlock}
+
+-- what a sender stands at that has these offsets still to send
+abbrev pub state_from : ControlBlock → (ℕ → Bool) → State
+state_from control remains = record {
+  entries = control.entries;
+  metadata_remains = control.metadata_remains;
+  remains = remains;
+  progress = control.progress;
+  eof = control.eof;
+  acknowledged = control.acknowledged;
+  paused = control.paused;
+  armed = stamp_of control.armed;
+  tries = tries_of control.tries;
+  ended = control.ended;
+}
+
+-- nothing happened but so many events that change nothing else
+abbrev pub first : ℕ → ControlBlock
+first entries = record {
+  entries = entries;
+  metadata_remains = true;
+  progress = 0;
+  eof = None;
+  acknowledged = false;
+  paused = false;
+  ended = false;
+  armed = record { ack = None; nak = None; check = None; inactivity = None };
+  tries = record { ack = 0; nak = 0; check = 0; inactivity = 0 };
+}
+
+-- no offset
+abbrev pub nowhere : ℕ → Bool
+nowhere i = false
+
+-- numbers that can be counted up: no timer expired more often than there were events
+pub record AreFew (control : ControlBlock) : Type 0 where
+  pub entries : control.entries ≤ JOURNAL_ENTRIES
+  pub tries : AreUpTo control.entries control.tries
+
+-- besides, the journal has room where the transaction goes on, and nothing was sent that is not in the file
+pub record IsSound (size : ℕ) (control : ControlBlock) : Type 0 where
+  pub few : AreFew control
+  pub goes_on : control.ended ≡ false → control.entries ≤ JOURNAL_ENTRIES - JOURNAL_ENTRIES_KEPT
+  pub progress : control.progress ≤ size
+
+-- only offsets of the file are still to be sent
+abbrev pub IsInside : ℕ → (ℕ → Bool) → Type 0
+IsInside size remains = (i : ℕ) → remains i ≡ true → i < size

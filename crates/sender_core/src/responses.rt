@@ -1,0 +1,312 @@
+//! What a sender answers, response by response.
+ghost use Rattle.std.specs.Prelude.{◌≡◌, IfOk};
+
+use crate::pdus;
+use crate::response::Response;
+use crate::sender::SenderCore;
+use cfdp_types::{Class, Condition, Delivery, FileStatus, Handler, TimerKind};
+use gap_list::Run;
+use ind_words::{Indication, Indications};
+use modular_sum::sum_of;
+use pdu_codec::{Ack, Body, Eof, Finished, What};
+use std::alloc::AllocError;
+
+impl SenderCore {
+    ghost use Rattle.sender_table.specs.Refusals.{runs_to_send};
+    ghost use Rattle.cfdp_types.specs.declared.limits.TheConstants.{SEGMENT_OCTETS_MOST};
+    ghost use Rattle.std.specs.Prelude.{◌≡◌, ◌≤◌, IfOk, ◌-◌, min, [], ◌∷◌, None, Some};
+    ghost use Rattle.pdu_codec.specs.declared.event.What.TheVariants as what;
+    ghost use Rattle.pdu_format.specs.declared.pdu.Body.TheVariants as body;
+    ghost use Rattle.ind_words.specs.declared.indication.Indication.TheVariants as told;
+    ghost use Rattle.sender_table.specs.Sending.{happens};
+    ghost use Rattle.std.specs.Option.{option_to_list};
+    ghost use Rattle.sender_core.specs.Core.{shown, sending_of, IsResponse, eof_again};
+    ghost use Rattle.sender_table.specs.Answers.{cancel_eof, whole_eof, cancel_response, fault_response, sends_eof, sends_next, on_pump, on_ack, on_body, on_ack_timer, on_timer, waiting_timer, response_to, ends_unreported};
+
+    // Nothing is known of the file at the receiver.
+    fn ends_unreported(&self, condition: Condition) -> Result<Response, AllocError>
+        ensures { IfOk result (λ response. IsResponse (sending_of self.now) response (ends_unreported condition)) }
+    {
+        Response::telling(self.alloc, unreported(condition))
+    }
+
+    // The EOF of the whole file.
+    fn whole_eof(&self) -> Eof
+        ensures { result ≡ whole_eof (sending_of self.now) }
+    {
+        let file = self.request.file().as_slice();
+        Eof {
+            condition: Condition::NO_ERROR,
+            checksum: sum_of(file),
+            size: file.len() as u32,
+            location: None,
+        }
+    }
+
+    // The EOF that cancels.
+    fn cancel_eof(&self, condition: Condition) -> Eof
+        ensures { result ≡ cancel_eof (sending_of self.now) (shown self.now) condition }
+    {
+        let progress = self.control.progress;
+        let pdus_of_response = &self.request.file().as_slice()[..progress as usize];
+        Eof {
+            condition,
+            checksum: sum_of(pdus_of_response),
+            size: progress,
+            location: Some(self.params.local()),
+        }
+    }
+
+    // The transaction is cancelled.
+    fn cancel_response(&self, condition: Condition) -> Result<Response, AllocError>
+        ensures { IfOk result (λ response. IsResponse (sending_of self.now) response (cancel_response (sending_of self.now) (shown self.now) condition)) }
+    {
+        let pdu = pdus::eof(self.header, self.cancel_eof(condition));
+        let mut inds = Indications::new(self.alloc);
+        match self.request.class() {
+            Class::One => {
+                inds.push(unreported(condition))?;
+                Ok(Response {
+                    inds,
+                    pdu: Some(pdu),
+                    arms: None,
+                })
+            }
+            Class::Two => Ok(Response {
+                inds,
+                pdu: Some(pdu),
+                arms: Some(TimerKind::Ack),
+            }),
+        }
+    }
+
+    // A fault, by its handler.
+    fn fault_response(&self, kind: TimerKind, condition: Condition) -> Result<Response, AllocError>
+        ensures { IfOk result (λ response. IsResponse (sending_of self.now) response (fault_response (sending_of self.now) (shown self.now) kind condition)) }
+    {
+        let progress = self.control.progress;
+        match self.params.tables().send.action(condition) {
+            Handler::Cancel => self.cancel_response(condition),
+            Handler::Suspend => Response::telling(self.alloc, Indication::Suspended { condition }),
+            Handler::Ignore => {
+                let told = Indication::Fault {
+                    condition,
+                    progress,
+                };
+                let mut response = Response::telling(self.alloc, told)?;
+                response.arms = Some(kind);
+                Ok(response)
+            }
+            Handler::Abandon => {
+                let told = Indication::Abandoned {
+                    condition,
+                    progress,
+                };
+                Response::telling(self.alloc, told)
+            }
+        }
+    }
+
+    // The EOF, where all else was sent.
+    fn sends_eof(&self) -> Result<Response, AllocError>
+        ensures { IfOk result (λ response. IsResponse (sending_of self.now) response (sends_eof (sending_of self.now))) }
+    {
+        let pdu = pdus::eof(self.header, self.whole_eof());
+        let mut inds = Indications::new(self.alloc);
+        inds.push(Indication::EofSent)?;
+        match self.request.class() {
+            Class::One => {
+                inds.push(unreported(Condition::NO_ERROR))?;
+                Ok(Response {
+                    inds,
+                    pdu: Some(pdu),
+                    arms: None,
+                })
+            }
+            Class::Two => Ok(Response {
+                inds,
+                pdu: Some(pdu),
+                arms: Some(TimerKind::Ack),
+            }),
+        }
+    }
+
+    // What to send of the lowest run: as many octets as a part may hold.
+    pub(crate) fn part_of(&self, run: Run) -> u32
+        ensures part { result ≡ min self.now.params.segment_octets (run.end - run.start) }
+        ensures most { result ≤ SEGMENT_OCTETS_MOST }
+    {
+        u32::from(self.params.segment_octets()).min(run.end.saturating_sub(run.start))
+    }
+
+    // What remains of the file, and then the EOF.
+    fn sends_next(&self) -> Result<Response, AllocError>
+        ensures runs { runs_to_send (sending_of self.now) (shown self.now) ≡ self.now.remaining }
+        ensures response { IfOk result (λ response. IsResponse (sending_of self.now) response (sends_next (sending_of self.now) self.now.remaining)) }
+    {
+        match self.remaining.first() {
+            None => self.sends_eof(),
+            Some(run) => {
+                let pdu = pdus::file_data(
+                    self.alloc,
+                    self.header,
+                    self.request.file().as_slice(),
+                    run.start,
+                    self.part_of(run),
+                )?;
+                Ok(Response::sending(self.alloc, pdu))
+            }
+        }
+    }
+
+    // The Metadata first.
+    fn on_pump(&self) -> Result<Response, AllocError>
+        ensures { IfOk result (λ response. IsResponse (sending_of self.now) response (on_pump (sending_of self.now) (shown self.now))) }
+    {
+        if self.control.metadata_remains {
+            let pdu = pdus::metadata(self.header, &self.request)?;
+            Ok(Response::sending(self.alloc, pdu))
+        } else {
+            self.sends_next()
+        }
+    }
+
+    // An ACK of an EOF that cancels ends the transaction.
+    fn on_ack(&self, ack: Ack) -> Result<Response, AllocError>
+        ensures { IfOk result (λ response. IsResponse (sending_of self.now) response (on_ack (shown self.now) ack)) }
+    {
+        if self.control.is_closing() {
+            self.ends_unreported(ack.condition)
+        } else {
+            Ok(Response::nothing(self.alloc))
+        }
+    }
+
+    fn on_body(&self, body: &Body) -> Result<Response, AllocError>
+        ensures { IfOk result (λ response. IsResponse (sending_of self.now) response (on_body (shown self.now) body.now)) }
+    {
+        match body {
+            Body::Ack(ack) => self.on_ack(*ack),
+            Body::Finished(finished) => self.on_finished(*finished),
+            _ => Ok(Response::nothing(self.alloc)),
+        }
+    }
+
+    // The receiver says how it went, and is told that this came.
+    fn on_finished(&self, finished: Finished) -> Result<Response, AllocError>
+        ensures { IfOk result (λ response. IsResponse (sending_of self.now) response (on_body (shown self.now) (body.Finished finished))) }
+    {
+        let told = Indication::TransactionFinished {
+            condition: finished.condition,
+            delivery: finished.delivery,
+            status: finished.status,
+        };
+        let mut response = Response::telling(self.alloc, told)?;
+        response.pdu = Some(pdus::ack(self.header, finished.condition));
+        Ok(response)
+    }
+
+    // Ack: the EOF once more; at the limit a fault, or in the closing phase the end.
+    fn on_ack_timer(&self) -> Result<Response, AllocError>
+        ensures { IfOk result (λ response. IsResponse (sending_of self.now) response (on_ack_timer (sending_of self.now) (shown self.now) (shown self.now))) }
+    {
+        if self.control.tries.ack + 1 < u32::from(self.params.limits().ack) {
+            Ok(self.sends_eof_again())
+        } else if self.control.is_closing() {
+            self.ends_unreported(self.control.condition())
+        } else {
+            self.fault_response(TimerKind::Ack, Condition::POSITIVE_ACK_LIMIT)
+        }
+    }
+
+    fn sends_eof_again(&self) -> Response
+        ensures { IsResponse (sending_of self.now) result (eof_again (shown self.now)) }
+    {
+        Response {
+            inds: Indications::new(self.alloc),
+            pdu: match self.control.eof {
+                None => None,
+                Some(eof) => Some(pdus::eof(self.header, eof)),
+            },
+            arms: Some(TimerKind::Ack),
+        }
+    }
+
+    fn on_timer(&self, kind: TimerKind) -> Result<Response, AllocError>
+        ensures { IfOk result (λ response. IsResponse (sending_of self.now) response (on_timer (sending_of self.now) (shown self.now) (shown self.now) kind)) }
+    {
+        match kind {
+            TimerKind::Ack => self.on_ack_timer(),
+            TimerKind::Inactivity => self.fault_response(TimerKind::Inactivity, Condition::INACTIVITY),
+            TimerKind::Nak | TimerKind::Check => Ok(Response::nothing(self.alloc)),
+        }
+    }
+
+    // The timer that runs once the EOF was sent.
+    fn waiting_timer(&self) -> Option<TimerKind>
+        ensures { option_to_list result ≡ waiting_timer (shown self.now) }
+    {
+        if self.control.eof.is_none() {
+            None
+        } else if self.control.acknowledged {
+            Some(TimerKind::Inactivity)
+        } else {
+            Some(TimerKind::Ack)
+        }
+    }
+
+    fn on_resume(&self) -> Result<Response, AllocError>
+        ensures { IfOk result (λ response. IsResponse (sending_of self.now) response (response_to (sending_of self.now) (shown self.now) (shown self.now) (happens what.Resume))) }
+    {
+        let progress = self.control.progress;
+        let mut response = Response::telling(self.alloc, Indication::Resumed { progress })?;
+        response.arms = self.waiting_timer();
+        Ok(response)
+    }
+
+    /// The response of an event, in the present state.
+    pub(crate) fn response_to(&self, event: &What) -> Result<Response, AllocError>
+        ensures { IfOk result (λ response. IsResponse (sending_of self.now) response (response_to (sending_of self.now) (shown self.now) (shown self.now) (happens event.now))) }
+    {
+        let progress = self.control.progress;
+        match event {
+            What::Pump => self.on_pump(),
+            What::Pdu(pdu) => self.on_body(pdu.body()),
+            What::Timer(kind, _) => self.on_timer(*kind),
+            What::Cancel => self.cancel_response(Condition::CANCEL_REQUEST),
+            What::Suspend => {
+                let condition = Condition::SUSPEND_REQUEST;
+                Response::telling(self.alloc, Indication::Suspended { condition })
+            }
+            What::Resume => self.on_resume(),
+            What::Report => {
+                let phase = self.control.phase();
+                Response::telling(self.alloc, Indication::Report { phase, progress })
+            }
+            What::Abandon => {
+                let condition = Condition::CANCEL_REQUEST;
+                let told = Indication::Abandoned {
+                    condition,
+                    progress,
+                };
+                Response::telling(self.alloc, told)
+            }
+            What::Stored(_, _) => Ok(Response::nothing(self.alloc)),
+        }
+    }
+}
+
+ghost use Rattle.ind_words.specs.declared.indication.Indication.TheVariants as told;
+ghost use Rattle.cfdp_types.specs.declared.names.Delivery.TheVariants.{Incomplete};
+ghost use Rattle.cfdp_types.specs.declared.names.FileStatus.TheVariants.{Unreported};
+
+// The end is told, and not what became of the file.
+fn unreported(condition: Condition) -> Indication
+    ensures { result ≡ told.TransactionFinished condition Incomplete Unreported }
+{
+    Indication::TransactionFinished {
+        condition,
+        delivery: Delivery::Incomplete,
+        status: FileStatus::Unreported,
+    }
+}

@@ -1,0 +1,2 @@
+pub mod ResponseFacts
+pub mod SendingLegal

@@ -1,0 +1,2 @@
+pub mod LegalSendings
+pub mod SendingLaws

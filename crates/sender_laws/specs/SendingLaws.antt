@@ -1,0 +1,11 @@
+-- What holds of every sender.
+use Rattle.std.specs.Prelude.{◌≡◌, true, List}
+use Rattle.ind_words.specs.Words.{IsBegunOf, IsWordOf}
+use Rattle.ind_words.specs.declared.side.Side.TheVariants.{Sender}
+use Rattle.sender_table.specs.Sending.{Sending, Entry, state_of, issued}
+use Rattle.sender_laws.specs.LegalSendings.{IsLegal}
+
+-- what a sender tells its user is a beginning of a sender's word, and a word once it has ended
+abbrev pub TellsWords : Type 0
+TellsWords = (sending : Sending) (log : List Entry) → IsLegal sending log
+    → IsBegunOf Sender (issued log) × ((state_of sending log).ended ≡ true → IsWordOf Sender (issued log))

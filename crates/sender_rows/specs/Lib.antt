@@ -1,0 +1,4 @@
+pub mod SendingRows
+pub mod SendingPduRows
+pub mod SendingRefusalRows
+pub mod SendingTimerRows

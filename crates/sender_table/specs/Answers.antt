@@ -1,0 +1,268 @@
+-- What a sender answers to the events that it takes, in both classes.
+use Rattle.std.specs.Prelude.{ℕ, ◌+◌, ◌-◌, min, max, Bool, false, not, ◌||◌, ◌&&◌, nat_lt, is_some, if◌then◌else◌, List, [], ◌∷◌, ◌++◌, length, map, take, drop, Option, Some, None, Result}
+use Rattle.std.specs.List.{list_any}
+use Rattle.cfdp_types.specs.Condition as condition
+use Rattle.cfdp_types.specs.ChecksumType as checksum
+use Rattle.cfdp_types.specs.Steps.{Effect, arms, keeps, stops, is_kind, operations}
+use Rattle.cfdp_types.specs.Handlers.{handler_in}
+use Rattle.cfdp_types.specs.Params.{timer_length}
+use Rattle.cfdp_types.specs.declared.names.Class.{Class}
+use Rattle.cfdp_types.specs.declared.names.Class.TheVariants.{One, Two}
+use Rattle.cfdp_types.specs.declared.names.Delivery.TheVariants.{Incomplete}
+use Rattle.cfdp_types.specs.declared.names.FileStatus.TheVariants.{Unreported}
+use Rattle.cfdp_types.specs.declared.names.Handler.{Handler}
+use Rattle.cfdp_types.specs.declared.names.Handler.TheVariants as handler
+use Rattle.cfdp_types.specs.declared.names.TimerKind.{TimerKind}
+use Rattle.cfdp_types.specs.declared.names.TimerKind.TheVariants.{Ack, Nak, Check, Inactivity}
+use Rattle.gap_list.specs.declared.run.Run.{Run}
+use Rattle.pdu_codec.specs.declared.event.What.TheVariants as what
+use Rattle.pdu_codec.specs.Refusal.{unless_refused}
+use Rattle.pdu_codec.specs.declared.event.Refusal.{Refusal}
+use Rattle.pdu_codec.specs.Events.{is_pdu}
+pub use Rattle.pdu_format.specs.Tlvs.{octets_for}
+use Rattle.pdu_format.specs.declared.pdu.Direction.TheVariants.{TowardReceiver}
+use Rattle.pdu_format.specs.declared.pdu.Header.{Header}
+use Rattle.pdu_format.specs.declared.pdu.Body.{Body}
+use Rattle.pdu_format.specs.declared.pdu.Body.TheVariants as body
+use Rattle.pdu_format.specs.declared.bodies.Acknowledged.TheVariants as acknowledged
+use Rattle.pdu_format.specs.declared.bodies.TransactionStatus.TheVariants.{Terminated}
+use Rattle.pdu_format.specs.declared.bodies.Eof.{Eof}
+use Rattle.pdu_format.specs.declared.bodies.Finished.{Finished}
+use Rattle.pdu_format.specs.declared.bodies.Ack as ack_type
+use Rattle.ind_words.specs.declared.indication.Indication.{Indication}
+use Rattle.ind_words.specs.declared.indication.Indication.TheVariants as told
+use Rattle.ind_words.specs.declared.indication.Phase.{Phase}
+use Rattle.ind_words.specs.declared.indication.Phase.TheVariants as phase
+use Rattle.modular_sum.specs.Sum.{sum}
+use Rattle.sender_table.specs.Sending.{Sending, Event, put, happens, Answer, State, step, is_closing, is_suspended, acknowledges_eof}
+use Rattle.sender_table.specs.Refusals.{refusal_at, runs_to_send}
+
+-- ---- a response of the table
+
+-- what a response gives: what the user is told, the PDUs in order, and the timers that it arms
+pub record Response : Type 0 where
+  pub inds : List Indication
+  pub bodies : List Body
+  pub arms : List TimerKind
+
+-- nothing
+abbrev pub nothing : Response
+nothing = record { inds = []; bodies = []; arms = [] }
+
+-- the user is told this
+abbrev pub tells : Indication → Response
+tells indication = record nothing { inds = indication ∷ [] }
+
+-- this is sent
+abbrev pub sends : Body → Response
+sends b = record nothing { bodies = b ∷ [] }
+
+-- one response and then another, in this order
+infixr 10 ◌and_then◌
+abbrev pub ◌and_then◌ : Response → Response → Response
+response and_then next = record { inds = response.inds ++ next.inds; bodies = response.bodies ++ next.bodies; arms = response.arms ++ next.arms }
+
+-- ---- what is sent
+
+-- of every PDU of the transaction: the lengths that are set, or the fewest that hold the numbers
+abbrev pub header_of : Sending → Header
+header_of sending = record {
+  direction = TowardReceiver;
+  class = sending.request.class;
+  entity_octets = octets_for sending.params.lengths.entity_octets (max (sending.key.source.0) (sending.request.destination.0));
+  sequence_octets = octets_for sending.params.lengths.sequence_octets sending.key.seq;
+  source = sending.key.source;
+  sequence = sending.key.seq;
+  destination = sending.request.destination;
+}
+
+-- the Metadata of the file: no closure is asked for, and the checksum is modular
+abbrev pub metadata_of : Sending → Body
+metadata_of sending = body.Metadata (record {
+  closure = false;
+  checksum_type = checksum.modular;
+  size = length sending.request.file;
+  source_name = sending.request.source_name;
+  destination_name = sending.request.destination_name;
+  messages = sending.request.messages;
+})
+
+-- the first octets of a run, as many as a part may hold
+abbrev pub file_data_of : Sending → Run → Body
+file_data_of sending run =
+    body.FileData (record { offset = run.start; octets = take (min sending.params.segment_octets (run.end - run.start)) (drop run.start sending.request.file) })
+
+-- the EOF of the whole file
+abbrev pub whole_eof : Sending → Eof
+whole_eof sending = record { condition = condition.no_error; checksum = sum sending.request.file; size = length sending.request.file; location = None }
+
+-- the EOF that cancels: of what was sent, up to the greatest offset
+abbrev pub cancel_eof : Sending → State → ℕ → Eof
+cancel_eof sending state code = record {
+  condition = code;
+  checksum = sum (take state.progress sending.request.file);
+  size = state.progress;
+  location = Some sending.params.local;
+}
+
+-- the ACK of a Finished PDU, with its condition
+abbrev pub ack_of : Finished → Body
+ack_of f = body.Ack (record { of = acknowledged.Finished; condition = f.condition; status = Terminated })
+
+-- ---- the parts of answers
+
+-- the receiver did not say what became of the file
+abbrev pub ends_unreported : ℕ → Response
+ends_unreported code = tells (told.TransactionFinished code Incomplete Unreported)
+
+-- the transaction is cancelled: class 1 ends at once, class 2 waits for the ACK of its EOF
+abbrev pub cancel_response : Sending → State → ℕ → Response
+cancel_response sending state code = by_class sending.request.class
+  where
+    by_class : Class → Response
+    by_class One = sends (body.Eof (cancel_eof sending state code)) and_then ends_unreported code
+    by_class Two = record (sends (body.Eof (cancel_eof sending state code))) { arms = Ack ∷ [] }
+
+-- a fault, by its handler: the timer that declared it is armed again where it is ignored
+abbrev pub fault_response : Sending → State → TimerKind → ℕ → Response
+fault_response sending state kind code = by_handler (handler_in sending.params.tables.send code)
+  where
+    by_handler : Handler → Response
+    by_handler handler.Cancel = cancel_response sending state code
+    by_handler handler.Suspend = tells (told.Suspended code)
+    by_handler handler.Ignore = record (tells (told.Fault code state.progress)) { arms = kind ∷ [] }
+    by_handler handler.Abandon = tells (told.Abandoned code state.progress)
+
+-- ---- what is answered to Pump
+
+-- the EOF, where all else was sent: class 2 waits for its ACK, class 1 ends
+abbrev pub sends_eof : Sending → Response
+sends_eof sending = by_class sending.request.class
+  where
+    by_class : Class → Response
+    by_class One = sends (body.Eof (whole_eof sending)) and_then tells told.EofSent and_then ends_unreported condition.no_error
+    by_class Two = record (sends (body.Eof (whole_eof sending)) and_then tells told.EofSent) { arms = Ack ∷ [] }
+
+-- what remains of the file, and then the EOF
+abbrev pub sends_next : Sending → List Run → Response
+sends_next sending [] = sends_eof sending
+sends_next sending (run ∷ runs) = sends (file_data_of sending run)
+
+-- the Metadata first
+abbrev pub on_pump : Sending → State → Response
+on_pump sending front = if front.metadata_remains then sends (metadata_of sending) else sends_next sending (runs_to_send sending front)
+
+-- ---- what is answered to PDUs
+
+-- an ACK of an EOF that cancels ends the transaction
+abbrev pub on_ack : State → ack_type.Ack → Response
+on_ack front a = if is_closing front then ends_unreported a.condition else nothing
+
+-- what is answered to a PDU: to NAK and Keep Alive nothing
+abbrev pub on_body : State → Body → Response
+on_body front (body.Ack a) = on_ack front a
+on_body front (body.Finished f) = sends (ack_of f) and_then tells (told.TransactionFinished f.condition f.delivery f.status)
+on_body front _ = nothing
+
+-- ---- what is answered to timers
+
+-- the last EOF that was sent, once more
+abbrev pub last_eof : Option Eof → List Body
+last_eof None = []
+last_eof (Some e) = body.Eof e ∷ []
+
+-- the condition of the last EOF that was sent
+abbrev pub condition_of : Option Eof → ℕ
+condition_of None = condition.no_error
+condition_of (Some e) = e.condition
+
+-- Ack: the EOF once more; at the limit a fault, or in the closing phase the end
+abbrev pub on_ack_timer : Sending → State → State → Response
+on_ack_timer sending front now =
+    if nat_lt (front.tries Ack + 1) sending.params.limits.ack then record nothing { bodies = last_eof front.eof; arms = Ack ∷ [] }
+    else if is_closing front then ends_unreported (condition_of front.eof)
+    else fault_response sending now Ack condition.positive_ack_limit
+
+-- what is answered to an expiration, by its timer; a sender has no Nak and no Check
+abbrev pub on_timer : Sending → State → State → TimerKind → Response
+on_timer sending front now Ack = on_ack_timer sending front now
+on_timer sending front now Inactivity = fault_response sending now Inactivity condition.inactivity
+on_timer sending front now Nak = nothing
+on_timer sending front now Check = nothing
+
+-- ---- what is answered to the user
+
+-- what the transaction does
+abbrev pub phase_of : State → Phase
+phase_of state = if is_closing state then phase.Closing else if is_suspended state then phase.Suspended else phase.Active
+
+-- the timer that runs once the EOF was sent: Ack until it is acknowledged, and then Inactivity
+abbrev pub waiting_timer : State → List TimerKind
+waiting_timer state = if not (is_some state.eof) then [] else if state.acknowledged then Inactivity ∷ [] else Ack ∷ []
+
+-- what is answered to an event, by its kind
+abbrev pub response_to : Sending → State → State → Event → Response
+response_to sending front now put = tells told.Transaction
+response_to sending front now (happens what.Pump) = on_pump sending front
+response_to sending front now (happens (what.Pdu pdu)) = on_body front pdu.body
+response_to sending front now (happens (what.Timer kind stamp)) = on_timer sending front now kind
+response_to sending front now (happens what.Cancel) = cancel_response sending now condition.cancel_request
+response_to sending front now (happens what.Suspend) = tells (told.Suspended condition.suspend_request)
+response_to sending front now (happens what.Resume) = record (tells (told.Resumed now.progress)) { arms = waiting_timer front }
+response_to sending front now (happens what.Report) = tells (told.Report (phase_of now) now.progress)
+response_to sending front now (happens what.Abandon) = tells (told.Abandoned condition.cancel_request now.progress)
+response_to sending front now (happens (what.Stored stamp kept)) = nothing
+
+-- ---- the timers of a response
+
+-- the response arms the timer
+abbrev pub is_armed_by : Response → TimerKind → Bool
+is_armed_by response kind = list_any (is_kind kind) response.arms
+
+-- the receiver shows that it is active
+abbrev pub is_sign_of_life : Event → Bool
+is_sign_of_life put = false
+is_sign_of_life (happens event) = is_pdu event
+
+-- after the step: none runs where the transaction has ended or is suspended; only Ack in the closing phase;
+-- Ack stops where the EOF is acknowledged, and Inactivity runs from then on
+abbrev pub effect_of : Response → State → Event → TimerKind → Effect
+effect_of response after event kind =
+    if after.ended || is_suspended after then stops
+    else if is_closing after && not (is_kind Ack kind) then stops
+    else if is_armed_by response kind then arms
+    else if is_kind Ack kind && acknowledges_eof event then stops
+    else if is_kind Inactivity kind && is_sign_of_life event && after.acknowledged then arms
+    else keeps
+
+-- ---- the whole answer
+
+-- the answer that says nothing
+abbrev pub empty_answer : Answer
+empty_answer = record { inds = []; pdus = []; timers = [] }
+
+-- the state with the event, before it is answered
+abbrev pub with_event : Sending → State → Event → State
+with_event sending state event = step sending state (record { event = event; answer = empty_answer })
+
+-- what a response answers, but for the timers
+abbrev pub without_timers : Sending → Response → Answer
+without_timers sending response = record { inds = response.inds; pdus = map (λ b. record { header = header_of sending; body = b }) response.bodies; timers = [] }
+
+-- with them
+abbrev pub with_timers : Sending → State → Event → Response → Answer → Answer
+with_timers sending front event response answer = record answer {
+  timers = operations sending.key (timer_length sending.params.timers) front.entries
+      (effect_of response (step sending front (record { event = event; answer = answer })) event)
+      front.armed;
+}
+
+-- the answer to an event that is accepted
+abbrev pub accepted_at : Sending → State → Event → Answer
+accepted_at sending front event =
+    let response = response_to sending front (with_event sending front event) event in
+    with_timers sending front event response (without_timers sending response)
+
+-- the answer to an event, or why it is refused
+unfoldable pub answer_at : Sending → State → Event → Result Answer Refusal
+answer_at sending front event = unless_refused (refusal_at sending front event) (accepted_at sending front event)

@@ -1,0 +1,74 @@
+-- Which events a sender refuses, and why: the first reason that applies, in the order of their numbers.
+use Rattle.std.specs.Prelude.{ℕ, ◌-◌, Bool, true, false, not, ◌||◌, ◌&&◌, nat_le, nat_lt, ◌==◌, is_some, if◌then◌else◌, List, length, Option, Some, None}
+use Rattle.cfdp_types.specs.declared.limits.TheConstants.{FILE_OCTETS, JOURNAL_ENTRIES, JOURNAL_ENTRIES_KEPT}
+use Rattle.gap_list.specs.Runs.{runs_of}
+use Rattle.gap_list.specs.declared.run.Run.{Run}
+use Rattle.pdu_codec.specs.declared.event.What.{What}
+use Rattle.pdu_codec.specs.declared.event.What.TheVariants as what
+use Rattle.pdu_codec.specs.declared.event.Refusal.{Refusal}
+use Rattle.pdu_codec.specs.declared.event.Refusal.TheVariants as refusal
+use Rattle.pdu_codec.specs.Events.{is_two, is_of_other_class, is_stale_timer, needs_room}
+use Rattle.pdu_format.specs.declared.pdu.Body.{Body}
+use Rattle.pdu_format.specs.declared.pdu.Body.TheVariants as body
+use Rattle.pdu_format.specs.declared.bodies.Eof.{Eof}
+use Rattle.pdu_format.specs.Pdu.{is_toward_sender}
+use Rattle.sender_table.specs.Sending.{Sending, Event, put, happens, State, is_closing, is_suspended}
+
+-- what remains of the file, as maximal runs, rising
+abbrev pub runs_to_send : Sending → State → List Run
+runs_to_send sending state = runs_of state.remains (length sending.request.file)
+
+-- StaleStored: a sender has no deposit
+abbrev pub is_stale_store : What → Bool
+is_stale_store (what.Stored stamp kept) = true
+is_stale_store _ = false
+
+-- Metadata, octets of the file, or the EOF
+abbrev pub has_more_to_send : Sending → State → Bool
+has_more_to_send sending state = state.metadata_remains || nat_lt 0 (length (runs_to_send sending state)) || not (is_some state.eof)
+
+-- the last EOF has this condition
+abbrev pub is_last_eof : Option Eof → ℕ → Bool
+is_last_eof None code = false
+is_last_eof (Some e) code = e.condition == code
+
+-- an ACK of another EOF than the last that was sent; NAK and Keep Alive in the closing phase
+abbrev pub has_no_place : State → Body → Bool
+has_no_place state (body.Ack a) = not (is_last_eof state.eof a.condition)
+has_no_place state (body.Nak n) = is_closing state
+has_no_place state (body.KeepAlive k) = is_closing state
+has_no_place state _ = false
+
+-- WrongState, for PDUs: every one in class 1; what goes toward the receiver; and those above
+abbrev pub is_pdu_misplaced : Sending → State → Body → Bool
+is_pdu_misplaced sending state b = not (is_two sending.request.class) || not (is_toward_sender b) || has_no_place state b
+
+-- WrongState: Pump where the sender is suspended, in the closing phase, or where nothing remains; Resume
+-- only where it is suspended; Suspend not where it is suspended, or in the closing phase; Cancel not in
+-- the closing phase
+abbrev pub is_misplaced : Sending → State → What → Bool
+is_misplaced sending state (what.Pdu pdu) = is_pdu_misplaced sending state pdu.body
+is_misplaced sending state what.Pump = is_suspended state || is_closing state || not (has_more_to_send sending state)
+is_misplaced sending state what.Resume = not (is_suspended state)
+is_misplaced sending state what.Suspend = is_suspended state || is_closing state
+is_misplaced sending state what.Cancel = is_closing state
+is_misplaced sending state _ = false
+
+-- JournalFull: the last entries are kept for Abandon
+abbrev pub is_full : State → Bool
+is_full state = nat_le (JOURNAL_ENTRIES - JOURNAL_ENTRIES_KEPT) state.entries
+
+-- why an event behind the Put is refused, if it is
+abbrev pub refusal_of : Sending → State → What → Option Refusal
+refusal_of sending state event =
+    if is_of_other_class sending.request.class event then Some refusal.ModeMismatch
+    else if is_stale_timer state.armed event then Some refusal.StaleTimer
+    else if is_stale_store event then Some refusal.StaleStored
+    else if is_misplaced sending state event then Some refusal.WrongState
+    else if is_full state && needs_room event then Some refusal.JournalFull
+    else None
+
+-- why an event is refused, if it is: of a Put, that the file is too large
+abbrev pub refusal_at : Sending → State → Event → Option Refusal
+refusal_at sending state put = if nat_lt FILE_OCTETS (length sending.request.file) then Some refusal.TooLarge else None
+refusal_at sending state (happens event) = refusal_of sending state event
