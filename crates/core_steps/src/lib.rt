@@ -2,11 +2,13 @@
 //! timers and their counts, and what is asked of an event and of what the user is told.
 #![tactic(auto)]
 
+mod answer;
 mod events;
 mod lists;
 mod telling;
 mod timers;
 
+pub use answer::Answer;
 pub use events::{is_expiration, is_of_other_class, is_pdu, is_stale_timer, needs_room};
 pub use lists::{Pdus, TimerOps};
 pub use telling::{has_fault, has_resumed, paused_after};

@@ -123,11 +123,13 @@ unfolding state_with
 plan_still old new plan event same is =
     let shows = same_shown old new same in
     record {
-      accepted = ap (λ r. answer_at r (shown new) event) same.reception ∙ ap (λ s. answer_at (reception_of old) s event) shows ∙ is.accepted;
-      follows = ap (λ m. state_with old (metadata_after m plan.change) (received_after new.file plan.change) plan.next) same.metadata
+      answered = record {
+        accepted = ap (λ r. answer_at r (shown new) event) same.reception ∙ ap (λ s. answer_at (reception_of old) s event) shows ∙ is.answered.accepted;
+        follows = ap (λ m. state_with old (metadata_after m plan.change) (received_after new.file plan.change) plan.next) same.metadata
           ∙ ap (λ r. state_with old (metadata_after old.metadata plan.change) r plan.next) (fun_ext (λ i. ap (λ o. older_or o (octet_at (segment_of plan.change) i)) (same.received i)))
-          ∙ is.follows
+          ∙ is.answered.follows
           ∙ ap (λ s. step s (record { event = event; answer = plan_answer plan })) (sym shows);
+      };
       fits = fits_still old.file new.file plan.change same.gaps is.fits;
       room = room_still old.file new.file plan.change same.longer is.room;
       sound = λ runs. is.sound (ap (λ (s : ControlBlock). s.ended) (sym same.control) ∙ runs);
@@ -138,21 +140,11 @@ pub committed : (old : ReceiverCore) (plan : Plan) (event : What) (metadata : Op
     → ((i : ℕ) → received i ≡ received_after old.file plan.change i) → IsPlanOf old plan event
     → state_from plan.next metadata received ≡ step (shown old) (record { event = event; answer = plan_answer plan })
 committed old plan event metadata received m r planned =
-    ap (λ x. state_from plan.next x received) m ∙ ap (λ x. state_from plan.next (metadata_after old.metadata plan.change) x) (fun_ext r) ∙ planned.follows
+    ap (λ x. state_from plan.next x received) m ∙ ap (λ x. state_from plan.next (metadata_after old.metadata plan.change) x) (fun_ext r) ∙ planned.answered.follows
 
--- ---- over a log that a core stands after
-
-pub accepted_over : (old new : ReceiverCore) (event : What) (result : Result Plan Refusal) (log : List Entry) → IsSame old new → StandsAfter old log
-    → IfOk result (λ plan. IsPlanOf new plan event)
-    → IfOk result (λ plan. answer_at (reception_of old) (state_of log) event ≡ Ok (plan_answer plan))
-accepted_over old new event (Ok plan) log same stood planned =
-    ap (λ r. answer_at r (state_of log) event) (sym same.reception)
-    ∙ ap (λ s. answer_at (reception_of new) s event) (sym (same_shown old new same ∙ stood)) ∙ planned.accepted
-accepted_over old new event (Err why) log same stood planned = tt
-
-pub refused_over : (core : ReceiverCore) (event : What) (result : Result Plan Refusal) (log : List Entry) → StandsAfter core log
-    → IfErr result (λ why. IsWhy (answer_at (reception_of core) (shown core) event) why)
-    → IfErr result (λ why. IsWhy (answer_at (reception_of core) (state_of log) event) why)
-refused_over core event (Ok plan) log stood planned = tt
-refused_over core event (Err why) log stood planned =
-    subst (λ state. IsWhy (answer_at (reception_of core) state event) why) stood planned
+-- what a plan is answered in the core with more room is answered in the core before
+pub accepted_before : (old new : ReceiverCore) (plan : Plan) (event : What) → IsSame old new → IsPlanOf new plan event
+    → answer_at (reception_of old) (shown old) event ≡ Ok (plan_answer plan)
+accepted_before old new plan event same planned =
+    ap (λ r. answer_at r (shown old) event) (sym same.reception)
+    ∙ ap (λ s. answer_at (reception_of new) s event) (sym (same_shown old new same)) ∙ planned.answered.accepted

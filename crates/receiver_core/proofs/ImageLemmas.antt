@@ -9,7 +9,7 @@ use Rattle.pdu_codec.specs.declared.event.Refusal.{Refusal}
 use Rattle.receiver_table.specs.Reception.{Entry, state_of}
 use Rattle.receiver_table.specs.Answers.{octets_from}
 use Rattle.receiver_table.specs.Images.{image_at}
-use Rattle.receiver_core.specs.Core.{shown, StandsAfter, IsWhyNot}
+use Rattle.receiver_core.specs.Core.{shown, StandsAfter, IsWhy}
 use Rattle.receiver_core.specs.declared.receiver.ReceiverCore.{ReceiverCore}
 
 -- what is missing did not come
@@ -26,13 +26,3 @@ octets_more received k (suc n) =
 
 pub octets_next : (received : ℕ → Option ℕ) (n : ℕ) → octets_from received 0 (n + 1) ≡ octets_from received 0 n ++ unwrap_or (received n) 0 ∷ []
 octets_next received n = let e : 0 + n ≡ n = omega arith in octets_more received 0 n ∙ ap (λ i. octets_from received 0 n ++ unwrap_or (received i) 0 ∷ []) e
-
-pub image_over : (core : ReceiverCore) (stamp : ℕ) (result : Result Image Refusal) (log : List Entry) → StandsAfter core log
-    → IfOk result (λ image. image_at (shown core) stamp ≡ Ok image) → IfOk result (λ image. image_at (state_of log) stamp ≡ Ok image)
-image_over core stamp (Ok image) log stood is = subst (λ state. image_at state stamp ≡ Ok image) stood is
-image_over core stamp (Err why) log stood is = tt
-
-pub why_over : (core : ReceiverCore) (stamp : ℕ) (result : Result Image Refusal) (log : List Entry) → StandsAfter core log
-    → IfErr result (λ why. IsWhyNot (image_at (shown core) stamp) why) → IfErr result (λ why. IsWhyNot (image_at (state_of log) stamp) why)
-why_over core stamp (Ok image) log stood is = tt
-why_over core stamp (Err why) log stood is = subst (λ state. IsWhyNot (image_at state stamp) why) stood is

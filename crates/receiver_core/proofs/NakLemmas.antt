@@ -1,4 +1,5 @@
 -- Laws of what a NAK asks for.
+use Rattle.cfdp_types.specs.declared.limits.TheConstants.{NAK_REQUESTS}
 use Rattle.std.proofs.Common.{◌≡◌, ℕ, zero, suc, ◌-◌, ◌≤◌, Bool, true, false, nat_lt, List, [], ◌∷◌, ◌++◌, length, take, map, Some, refl, sym, ap, arith, inl, inr, take_all}
 use Rattle.std.proofs.lemmas.Bool.{cases_Bool, ltb-false}
 use Rattle.std.specs.List.{AllByRecursion}
@@ -52,7 +53,7 @@ pub nak_is : (state : State) (has : Bool) (scope : ℕ) (runs : List Run) → ha
     → body.Nak (nak_with has scope runs) ≡ nak_of state
 nak_is state has scope runs metadata ends missing =
     let all : requests_for has runs ≡ requests_of state = rw (metadata, missing, ends) refl in
-    elim (cases_Bool (nat_lt 64 (length (requests_of state)))) [
+    elim (cases_Bool (nat_lt NAK_REQUESTS (length (requests_of state)))) [
       | inl cut ↦ rw (all, cut) refl
       | inr whole ↦ rw (all, whole, ends, take_all 64 (requests_of state) (ltb-false 64 (length (requests_of state)) whole)) refl
     ]

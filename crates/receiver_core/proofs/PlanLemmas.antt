@@ -1,5 +1,6 @@
 -- A plan holds the table's answer, and what follows it.
-use Rattle.std.proofs.Common.{◌≡◌, ℕ, ◌+◌, ◌<◌, ◌≤◌, Bool, true, false, not, ◌&&◌, ◌||◌, nat_lt, if◌then◌else◌, List, [], ◌++◌, length, Option, Some, None, Ok, Err, Result, refl, sym, ap, ◌∙◌, arith, inl, inr}
+use Rattle.cfdp_types.specs.declared.limits.TheConstants.{JOURNAL_ENTRIES, JOURNAL_ENTRIES_KEPT, NAK_REQUESTS}
+use Rattle.std.proofs.Common.{◌≡◌, ℕ, ◌+◌, ◌-◌, ◌<◌, ◌≤◌, Bool, true, false, not, ◌&&◌, ◌||◌, nat_lt, if◌then◌else◌, List, [], ◌++◌, length, Option, Some, None, Ok, Err, Result, refl, sym, ap, ◌∙◌, arith, inl, inr}
 use Rattle.std.proofs.Math.Path.{fun_ext}
 use Rattle.std.proofs.lemmas.Bool.{leb-false, cases_Bool}
 use Rattle.std.specs.Prelude.{IsOk, IfOk, map, is_some}
@@ -7,12 +8,14 @@ use Rattle.std.specs.declared.alloc.AllocError.{AllocError}
 use Rattle.std.specs.List.{list_any}
 use Rattle.cfdp_types.specs.Params.{timer_length}
 use Rattle.cfdp_types.specs.Steps.{Effect, arms, keeps, stops, armed_after, operations, newer_or, older_or, is_kind, is_stamp}
-use Rattle.cfdp_types.proofs.StepLemmas.{armed_by, armed_after-operations}
 use Rattle.cfdp_types.specs.declared.key.Deposit.{Deposit}
 use Rattle.cfdp_types.specs.declared.names.TimerKind.{TimerKind}
 use Rattle.cfdp_types.specs.declared.names.TimerKind.TheVariants.{Ack, Nak, Check, Inactivity}
 use Rattle.cfdp_types.specs.declared.timer_op.TimerOp.{TimerOp}
-use Rattle.core_steps.specs.Timers.{stamp_of, stamp_by, tries_by, is_anew}
+use Rattle.core_steps.specs.Timers.{stamp_of, tries_by, is_anew}
+use Rattle.core_steps.specs.declared.answer.Answer.{Answer}
+use Rattle.core_steps.proofs.AnswerLemmas.{answer_of_parts, same_answer}
+use Rattle.core_steps.proofs.TimerLemmas.{armed_follows, counted}
 use Rattle.ind_words.specs.Words.{is_end}
 use Rattle.ind_words.specs.Told.{is_resumed, is_fault}
 use Rattle.ind_words.specs.declared.indication.Indication.{Indication}
@@ -27,7 +30,7 @@ use Rattle.pdu_format.specs.declared.pdu.Body.TheVariants as body
 use Rattle.pdu_format.specs.declared.bodies.Eof.{Eof}
 use Rattle.pdu_format.specs.declared.bodies.Finished.{Finished}
 use Rattle.pdu_format.specs.declared.bodies.Metadata.{Metadata}
-use Rattle.receiver_table.specs.Reception.{Reception, State, Answer, step, is_storing, octet_at, finished_among, finished_in, tries_after, waiting_after, brings_more}
+use Rattle.receiver_table.specs.Reception.{Reception, State, step, is_storing, octet_at, finished_among, finished_in, tries_after, waiting_after, brings_more}
 use Rattle.receiver_table.specs.Refusals.{refusal_at, is_stale_store, waits_for_store, is_misplaced, is_too_large, is_full}
 use Rattle.receiver_table.specs.Answers as table
 use Rattle.receiver_table.specs.Answers.{response_to, with_event, without_timers, with_timers, accepted_at, answer_at, effect_of, bodies_of, pdu_to_sender, nak_of, ack_of, if_there, if_so, requests_of}
@@ -111,7 +114,7 @@ effect_same r a b event kind e w p f = rw (e, w, p, f) refl
 
 nak_not_finished : (state : State) → finished_in (nak_of state) ≡ None
 nak_not_finished state =
-    elim (cases_Bool (nat_lt 64 (length (requests_of state)))) [
+    elim (cases_Bool (nat_lt NAK_REQUESTS (length (requests_of state)))) [
       | inl cut ↦ rw cut refl
       | inr whole ↦ rw whole refl
     ]
@@ -139,13 +142,6 @@ among reception (Some code) false false (Some x) ended nb progress e = refl
 finished_is : (reception : Reception) (state : State) (ended : Bool) (response : table.Response) → finished_among (map (pdu_to_sender reception) (bodies_of state ended response)) ≡ response.finished
 finished_is reception state ended response = among reception response.ack response.nak response.keep_alive response.finished ended (nak_of state) state.progress (nak_not_finished state)
 
-made_answer : List Indication → List PduValue → List TimerOp → Option Deposit → Answer
-made_answer inds pdus timers deposit = record { inds = inds; pdus = pdus; timers = timers; deposit = deposit }
-
-same_answer : (inds inds' : List Indication) (pdus pdus' : List PduValue) (timers timers' : List TimerOp) (deposit deposit' : Option Deposit)
-    → inds ≡ inds' → pdus ≡ pdus' → timers ≡ timers' → deposit ≡ deposit' → made_answer inds pdus timers deposit ≡ made_answer inds' pdus' timers' deposit'
-same_answer inds inds' pdus pdus' timers timers' deposit deposit' a b c d = cc
-
 effects_are : (core : ReceiverCore) (event : What) (now : ControlBlock) (response : response_type.Response) (c : FileChange) (plan : Plan) → HoldsResponse core event now response c plan
     → effect_of (response_value response) (step (shown core) (record { event = event; answer = without_timers (reception_of core) (shown core) (now_state core now c) (response_value response) })) event ≡ effect_by plan.next event response
 unfolding step
@@ -157,7 +153,7 @@ effects_are core event now response c plan planned =
 pub accepted_is : (core : ReceiverCore) (event : What) (now : ControlBlock) (response : response_type.Response) (c : FileChange) (plan : Plan)
     → now_state core now c ≡ with_event (shown core) event → IsResponse response (response_to (reception_of core) (shown core) (now_state core now c) event) → HoldsResponse core event now response c plan
     → accepted_at (reception_of core) (shown core) event ≡ plan_answer plan
-unfolding made_answer
+unfolding answer_of_parts
 accepted_is core event now response c plan is_now is planned =
     let r : Reception = reception_of core in
     let f : State = shown core in
@@ -170,11 +166,6 @@ accepted_is core event now response c plan is_now is planned =
     (sym planned.deposit)
 
 -- ---- the state that follows
-
-stamp_is : (entries : ℕ) (effect : Effect) (before : Option ℕ) → stamp_by entries effect before ≡ armed_by entries effect before
-stamp_is entries arms before = refl
-stamp_is entries keeps before = refl
-stamp_is entries stops before = refl
 
 pub follows : (core : ReceiverCore) (event : What) (now : ControlBlock) (response : response_type.Response) (c : FileChange) (plan : Plan)
     → IsWithEvent core.control event (adds c) now → IsChange core (body_of_event event) c → HoldsResponse core event now response c plan
@@ -194,18 +185,11 @@ follows core event now response c plan is change planned =
     (next.waiting ∙ ap (λ d. waiting_after core.control.waiting event d) (sym planned.deposit))
     (next.finished ∙ ap (λ f. newer_or f core.control.finished) finished)
     (rw inds at next.paused)
-    (λ kind. planned.armed kind ∙ stamp_is core.control.entries (effect_by plan.next event response kind) (stamp_of core.control.armed kind)
-    ∙ sym (armed_after-operations core.key (timer_length core.params.timers) core.control.entries (effect_by plan.next event response) (stamp_of core.control.armed) kind)
-    ∙ ap (λ t. armed_after core.control.entries (stamp_of core.control.armed kind) t kind) (sym planned.timers))
+    (armed_follows core.key (timer_length core.params.timers) core.control.entries (effect_by plan.next event response) (stamp_of core.control.armed) (stamp_of plan.next.armed) plan.answer.timers planned.armed planned.timers)
     (λ kind. rw inds at (next.tries kind) ∙ tries_same (shown core) event plan.answer.inds plan.answer.pdus plan.answer.timers plan.answer.deposit (adds c) kind change.more)
     (rw inds at next.ended)
 
 -- ---- what the code can hold
-
-counted : (again expired : Bool) (t entries : ℕ) → t ≤ entries → (if again then 0 else if expired then t + 1 else t) ≤ entries + 1
-counted true expired t entries le = omega arith
-counted false true t entries le = omega (arith, le)
-counted false false t entries le = omega (arith, le)
 
 refused_not : {A : Type 0} (a b c d e f g : Bool) (t u v w x y z : A)
     → (if a then Some t else if b then Some u else if c then Some v else if d then Some w else if e then Some x else if f then Some y else if g then Some z else None) ≡ None
@@ -228,7 +212,7 @@ taken_is reception front event taken =
 
 -- the room that is left
 Leaves : State → What → Option Deposit → Type 0
-Leaves front event deposit = (front.entries ≤ 65534) × (is_some (waiting_after front.waiting event deposit) ≡ true → front.entries + 1 ≤ 65534)
+Leaves front event deposit = (front.entries ≤ (JOURNAL_ENTRIES - JOURNAL_ENTRIES_KEPT)) × (is_some (waiting_after front.waiting event deposit) ≡ true → front.entries + 1 ≤ (JOURNAL_ENTRIES - JOURNAL_ENTRIES_KEPT))
 
 and_true : (b : Bool) → (b && true) ≡ b
 and_true true = refl
@@ -237,7 +221,7 @@ and_true false = refl
 room : (front : State) (event : What) (deposit : Option Deposit) → (is_full front && true) ≡ false → Leaves front event deposit
 unfolding Leaves
 room front event deposit free =
-    let below : front.entries < 65534 = leb-false 65534 front.entries (sym (and_true (is_full front)) ∙ free) in
+    let below : front.entries < (JOURNAL_ENTRIES - JOURNAL_ENTRIES_KEPT) = leb-false (JOURNAL_ENTRIES - JOURNAL_ENTRIES_KEPT) front.entries (sym (and_true (is_full front)) ∙ free) in
     (omega (arith, below), λ waits. omega (arith, below))
 
 asked : (waiting : Option ℕ) (stamp : ℕ) → not (is_stamp waiting stamp) ≡ false → is_some waiting ≡ true
@@ -249,7 +233,7 @@ ends_true true = refl
 ends_true false = refl
 
 goes_on : (reception : Reception) (front now : State) (event : What) (response : response_type.Response) (deposit : Option Deposit) (b : Bool) → refusal_at reception front event ≡ None
-    → IsResponse response (response_to reception front now event) → (is_some front.waiting ≡ true → front.entries ≤ 65534) → (b || list_any is_end response.inds) ≡ false → Leaves front event deposit
+    → IsResponse response (response_to reception front now event) → (is_some front.waiting ≡ true → front.entries ≤ (JOURNAL_ENTRIES - JOURNAL_ENTRIES_KEPT)) → (b || list_any is_end response.inds) ≡ false → Leaves front event deposit
 unfolding Leaves
 goes_on reception front now (what.Pdu pdu) response deposit b taken is asks e = room front (what.Pdu pdu) deposit (taken_is reception front (what.Pdu pdu) taken).2
 goes_on reception front now (what.Timer kind stamp) response deposit b taken is asks e = room front (what.Timer kind stamp) deposit (taken_is reception front (what.Timer kind stamp) taken).2
@@ -271,7 +255,7 @@ unfolding Leaves
 sound_after core event now response c plan taken seen_is is planned runs =
     let next = planned.next in
     let old : AreFew core.control = core.sound.few in
-    let more : core.control.entries + 1 ≤ 65536 = core.sound.goes_on runs in
+    let more : core.control.entries + 1 ≤ JOURNAL_ENTRIES = core.sound.goes_on runs in
     let entries : plan.next.entries ≡ core.control.entries + 1 = next.entries ∙ seen_is.entries in
     record {
       few = record {
@@ -288,7 +272,7 @@ sound_after core event now response c plan taken seen_is is planned runs =
           omega (arith, entries, leaves.0);
       asks = λ e waits.
           let leaves = goes_on (reception_of core) (shown core) (now_state core now c) event response (deposit_of core response) core.control.ended taken is (core.sound.asks runs) (sym next.ended ∙ e) in
-          let low : core.control.entries + 1 ≤ 65534 = leaves.1 (ap is_some (sym next.waiting) ∙ waits) in
+          let low : core.control.entries + 1 ≤ (JOURNAL_ENTRIES - JOURNAL_ENTRIES_KEPT) = leaves.1 (ap is_some (sym next.waiting) ∙ waits) in
           omega (arith, entries, low);
     }
 
@@ -297,8 +281,10 @@ pub is_plan : (core : ReceiverCore) (event : What) (now : ControlBlock) (respons
     → IsResponse response (response_to (reception_of core) (shown core) (now_state core now c) event) → HoldsResponse core event now response c plan → IsPlanOf core plan event
 unfolding answer_at
 is_plan core event now response c plan taken seen_is change room laid is planned = record {
-  accepted = rw taken (ap Ok (accepted_is core event now response c plan (is_with_event core event c now seen_is change laid) is planned));
-  follows = follows core event now response c plan seen_is change planned;
+  answered = record {
+    accepted = rw taken (ap Ok (accepted_is core event now response c plan (is_with_event core event c now seen_is change laid) is planned));
+    follows = follows core event now response c plan seen_is change planned;
+  };
   fits = rw planned.change_is change.fits;
   room = rw planned.change_is room;
   sound = sound_after core event now response c plan taken seen_is is planned;

@@ -16,13 +16,14 @@ use Rattle.pdu_format.specs.declared.pdu.Header.{Header}
 use Rattle.pdu_format.specs.declared.bodies.Metadata.{Metadata}
 use Rattle.pdu_format.specs.declared.bodies.FileData.{FileData}
 use Rattle.receiver_table.specs.Reception.{Reception, State, Entry, step, state_of, metadata_of, file_data_of, added_runs, brings_more}
-use Rattle.receiver_table.specs.Reception as reception_module
 use Rattle.receiver_table.specs.Answers.{answer_at}
 use Rattle.receiver_laws.specs.LegalReceptions.{BodyOpens}
 use Rattle.receiver_core.specs.ControlBlock.{state_from, IsSound}
 use Rattle.receiver_core.specs.Offsets.{IsInside, octets_in}
 use Rattle.receiver_core.specs.ReceivedFile.{received_of, with_segment, end_of, IsSegmentOf}
-use Rattle.receiver_core.specs.declared.answer.Answer as answer_type
+use Rattle.core_steps.specs.declared.answer.Answer.{Answer}
+pub use Rattle.core_steps.specs.Logs.{IsWhy}
+use Rattle.core_steps.specs.Logs.{StandsAt, IsAnswered}
 use Rattle.receiver_core.specs.declared.received_file.ReceivedFile.{ReceivedFile}
 use Rattle.receiver_core.specs.declared.plan.FileChange.{FileChange}
 use Rattle.receiver_core.specs.declared.plan.FileChange.TheVariants as change
@@ -49,15 +50,11 @@ shown core = state_from core.control core.metadata (received_of core.file)
 
 -- what the core holds is what the log gives
 abbrev pub StandsAfter : ReceiverCore → List Entry → Type 0
-StandsAfter core log = shown core ≡ state_of log
-
--- an answer as the table gives it
-abbrev pub answer_value : answer_type.Answer → reception_module.Answer
-answer_value answer = record { inds = answer.inds; pdus = answer.pdus; timers = answer.timers; deposit = answer.deposit }
+StandsAfter core log = StandsAt state_of (shown core) log
 
 -- the answer of a plan
-abbrev pub plan_answer : Plan → reception_module.Answer
-plan_answer plan = answer_value plan.answer
+abbrev pub plan_answer : Plan → Answer
+plan_answer plan = plan.answer
 
 -- ---- what an event changes in what is kept
 
@@ -138,19 +135,10 @@ pub record IsSame (old : ReceiverCore) (new : ReceiverCore) : Type 0 where
 
 -- ---- plans
 
--- why an event was not planned: the table refuses it so, or it is answered and memory ran out
-abbrev pub IsWhy : Result reception_module.Answer Refusal → Refusal → Type 0
-IsWhy answer why = (answer ≡ Err why) ⊎ ((why ≡ refusal.NoMemory) × IsOk answer)
-
--- why a file was not handed out: the table says so, or there is one and memory ran out
-abbrev pub IsWhyNot : Result Image Refusal → Refusal → Type 0
-IsWhyNot image why = (image ≡ Err why) ⊎ ((why ≡ refusal.NoMemory) × IsOk image)
-
 -- in the core's present state the event is answered as planned, and the plan holds what follows
 pub record IsPlanOf (core : ReceiverCore) (plan : Plan) (event : What) : Type 0 where
-  pub accepted : answer_at (reception_of core) (shown core) event ≡ Ok (plan_answer plan)
-  pub follows : state_from plan.next (metadata_after core.metadata plan.change) (received_after core.file plan.change)
-      ≡ step (shown core) (record { event = event; answer = plan_answer plan })
+  pub answered : IsAnswered (answer_at (reception_of core) (shown core)) (step (shown core)) event (plan_answer plan)
+      (state_from plan.next (metadata_after core.metadata plan.change) (received_after core.file plan.change))
   pub fits : FitsFile core.file plan.change
   pub room : HasRoom core.file plan.change
   pub sound : core.control.ended ≡ false → IsSound plan.next

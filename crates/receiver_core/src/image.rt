@@ -10,7 +10,7 @@ impl ReceiverCore {
     ghost use Rattle.receiver_table.specs.Answers.{octets_from};
     ghost use Rattle.receiver_table.specs.Images.{image_at};
     ghost use Rattle.receiver_core.specs.ReceivedFile.{received_of};
-    ghost use Rattle.receiver_core.specs.Core.{shown, StandsAfter, IsWhyNot};
+    ghost use Rattle.receiver_core.specs.Core.{shown, StandsAfter, IsWhy};
 
     // The file that Metadata names, with the octets below a size.
     fn file(&self, metadata: &Metadata, size: u32) -> Result<Image, AllocError>
@@ -30,7 +30,7 @@ impl ReceiverCore {
     // The file of the deposit with this stamp, in the present state.
     fn image_now(&self, stamp: u32) -> Result<Image, Refusal>
         ensures image { IfOk result (λ image. image_at (shown self.now) stamp ≡ Ok image) }
-        ensures refused { IfErr result (λ why. IsWhyNot (image_at (shown self.now) stamp) why) }
+        ensures refused { IfErr result (λ why. IsWhy (image_at (shown self.now) stamp) why) }
     {
         if !self.control.waits_for(stamp) {
             return Err(Refusal::StaleStored);
@@ -48,7 +48,7 @@ impl ReceiverCore {
     /// The file of the deposit that waits, by its stamp.
     pub fn image(&self, stamp: u32) -> Result<Image, Refusal>
         ensures image { (log : List Entry) → StandsAfter self.now log → IfOk result (λ image. image_at (state_of log) stamp ≡ Ok image) }
-        ensures refused { (log : List Entry) → StandsAfter self.now log → IfErr result (λ why. IsWhyNot (image_at (state_of log) stamp) why) }
+        ensures refused { (log : List Entry) → StandsAfter self.now log → IfErr result (λ why. IsWhy (image_at (state_of log) stamp) why) }
     {
         self.image_now(stamp)
     }

@@ -2,7 +2,6 @@
 //! and the code, which plans an event and then carries it out.
 #![tactic(auto)]
 
-mod answer;
 mod answering;
 mod received_file;
 mod examine;
@@ -20,6 +19,6 @@ mod responses;
 mod control;
 mod steps;
 
-pub use answer::Answer;
+pub use core_steps::Answer;
 pub use plan::Plan;
 pub use receiver::ReceiverCore;

@@ -1,4 +1,4 @@
-use crate::answer::Answer;
+use core_steps::Answer;
 use crate::received_file::NewSegment;
 use crate::control::ControlBlock;
 use pdu_codec::Metadata;
@@ -39,11 +39,11 @@ pub struct Plan {
 
 impl Plan {
     ghost use Rattle.std.specs.Prelude.{◌≡◌};
-    ghost use Rattle.receiver_core.specs.Core.{plan_answer, answer_value};
+    ghost use Rattle.receiver_core.specs.Core.{plan_answer};
 
     /// What the event will be answered.
     pub fn answer(&self) -> &Answer
-        ensures { answer_value result.now ≡ plan_answer self.now }
+        ensures { result.now ≡ plan_answer self.now }
     {
         &self.answer
     }

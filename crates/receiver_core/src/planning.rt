@@ -1,5 +1,5 @@
 //! How an event is planned.
-use crate::answer::Answer;
+use core_steps::Answer;
 use crate::plan::{FileChange, Plan};
 use crate::receiver::ReceiverCore;
 use crate::response::Response;

@@ -1,7 +1,7 @@
 ghost use Rattle.pdu_format.specs.Spelling.{HeaderFits};
 ghost use Rattle.receiver_core.specs.ControlBlock.{IsSound};
 
-use crate::answer::Answer;
+use core_steps::Answer;
 use crate::received_file::ReceivedFile;
 use crate::plan::{FileChange, Plan};
 use crate::control::ControlBlock;
@@ -29,7 +29,7 @@ impl ReceiverCore {
     ghost use Rattle.pdu_codec.specs.declared.event.What.{What};
     ghost use Rattle.receiver_table.specs.Reception.{Entry};
     ghost use Rattle.receiver_core.specs.ReceivedFile.{received_of};
-    ghost use Rattle.receiver_core.specs.Core.{shown, reception_of, IsPlanOf, StandsAfter, FitsFile, HasRoom, metadata_after, received_after, plan_answer, answer_value};
+    ghost use Rattle.receiver_core.specs.Core.{shown, reception_of, IsPlanOf, StandsAfter, FitsFile, HasRoom, metadata_after, received_after, plan_answer};
 
     /// Whether the user was told that the transaction is over: no event follows.
     pub fn has_ended(&self) -> bool
@@ -58,7 +58,7 @@ impl ReceiverCore {
     pub fn commit(&mut self, plan: Plan) -> Answer
         requires planned { (event : What) × IsPlanOf self.old plan event }
         requires runs { (shown self.old).ended ≡ false }
-        ensures answer { answer_value result ≡ plan_answer plan }
+        ensures answer { result ≡ plan_answer plan }
         ensures reception { reception_of self.new ≡ reception_of self.old }
         ensures stands { (event : What) (log : List Entry) → IsPlanOf self.old plan event → StandsAfter self.old log
             → StandsAfter self.new (record { event = event; answer = plan_answer plan } ∷ log) }

@@ -11,7 +11,8 @@ use Rattle.ind_words.specs.declared.indication.Indication.{Indication}
 use Rattle.ind_words.specs.declared.indication.Indication.TheVariants as told
 use Rattle.ind_words.specs.Words.{is_end, MayFollow, IsBegun}
 use Rattle.ind_words.proofs.WordLemmas.{told_onto, told_onto-append, MayFollow-append, list_any-told_onto}
-use Rattle.receiver_table.specs.Reception.{Reception, Answer, Entry, State, initial, step, state_of, issued}
+use Rattle.core_steps.specs.declared.answer.Answer.{Answer}
+use Rattle.receiver_table.specs.Reception.{Reception, Entry, State, initial, step, state_of, issued}
 use Rattle.receiver_table.specs.Refusals.{refusal_at}
 use Rattle.receiver_table.specs.Answers.{accepted_at, answer_at, response_to, with_event}
 use Rattle.receiver_laws.specs.LegalReceptions.{IsLegal}

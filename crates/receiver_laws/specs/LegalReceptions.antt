@@ -8,6 +8,8 @@ use Rattle.pdu_format.specs.declared.pdu.Body.TheVariants as body
 use Rattle.pdu_format.specs.declared.bodies.Metadata.{Metadata}
 use Rattle.pdu_format.specs.declared.bodies.Eof.{Eof}
 use Rattle.modular_sum.specs.Sum.{sum}
+use Rattle.core_steps.specs.Logs.{log_after}
+use Rattle.core_steps.specs.declared.answer.Answer.{Answer}
 use Rattle.receiver_table.specs.Reception.{Reception, Entry, State, state_of}
 use Rattle.receiver_table.specs.Answers.{accepted_at, answer_at, octets_from}
 
@@ -36,15 +38,13 @@ IsLegal reception (entry ∷ front) =
     ((state_of front).ended ≡ false) × HasItsPlace reception front entry.event × (answer_at reception (state_of front) entry.event ≡ Ok entry.answer)
     × IsLegal reception front
 
--- the one log that these events have, the oldest first, behind a front
-abbrev pub log_after : Reception → List Entry → List What → List Entry
-log_after reception front [] = front
-log_after reception front (event ∷ events) =
-    log_after reception (record { event = event; answer = accepted_at reception (state_of front) event } ∷ front) events
+-- what an event is answered behind a front
+abbrev pub answer_behind : Reception → List Entry → What → Answer
+answer_behind reception front event = accepted_at reception (state_of front) event
 
 -- a journal's log
 abbrev pub log_of : Reception → List What → List Entry
-log_of reception journal = log_after reception [] journal
+log_of reception journal = log_after (answer_behind reception) [] journal
 
 -- a file is there as its Metadata and its EOF describe it
 pub record IsGood (state : State) : Type 0 where

@@ -39,7 +39,8 @@ use Rattle.pdu_format.specs.declared.bodies.Prompt.TheVariants as prompt
 use Rattle.ind_words.specs.declared.indication.Indication.{Indication}
 use Rattle.ind_words.specs.declared.indication.Indication.TheVariants as told
 use Rattle.gap_list.specs.Runs.{runs_of, runs_from}
-use Rattle.receiver_table.specs.Reception.{Reception, Answer, Entry, State, initial, step, state_of, issued, octet_at, is_closing, is_suspended}
+use Rattle.core_steps.specs.declared.answer.Answer.{Answer}
+use Rattle.receiver_table.specs.Reception.{Reception, Entry, State, initial, step, state_of, issued, octet_at, is_closing, is_suspended}
 use Rattle.receiver_table.specs.Answers.{empty_answer, answer_at}
 use Rattle.receiver_laws.specs.LegalReceptions.{log_of, IsLegal, IsGood}
 

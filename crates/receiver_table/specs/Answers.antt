@@ -46,7 +46,9 @@ use Rattle.modular_sum.specs.Sum.{sum}
 use Rattle.pdu_format.specs.declared.bodies.FileData.{FileData}
 use Rattle.pdu_format.specs.declared.bodies.Prompt.{Prompt}
 use Rattle.pdu_codec.specs.Events.{is_two}
-use Rattle.receiver_table.specs.Reception.{Reception, Answer, State, step, is_closing, is_storing, is_suspended, is_received, added_runs}
+pub use Rattle.core_steps.specs.Logs.{empty_answer}
+use Rattle.core_steps.specs.declared.answer.Answer.{Answer}
+use Rattle.receiver_table.specs.Reception.{Reception, State, step, is_closing, is_storing, is_suspended, is_received, added_runs}
 use Rattle.receiver_table.specs.Refusals.{refusal_at}
 
 -- ---- a response of the table
@@ -386,10 +388,6 @@ effect_of response after event kind =
     else keeps
 
 -- ---- the whole answer
-
--- the answer that says nothing
-abbrev pub empty_answer : Answer
-empty_answer = record { inds = []; pdus = []; timers = []; deposit = None }
 
 -- the state with the event, before it is answered
 abbrev pub with_event : State → What → State

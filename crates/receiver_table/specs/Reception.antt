@@ -25,6 +25,8 @@ use Rattle.ind_words.specs.declared.indication.Indication.{Indication}
 use Rattle.ind_words.specs.Words.{is_end}
 use Rattle.ind_words.specs.Told.{paused_after, is_resumed, is_fault}
 use Rattle.pdu_codec.specs.Events.{body_of_event, is_expiration}
+pub use Rattle.core_steps.specs.Logs.{issued}
+use Rattle.core_steps.specs.Logs as logs
 
 -- what is settled when a reception opens
 pub record Reception : Type 0 where
@@ -33,18 +35,9 @@ pub record Reception : Type 0 where
   -- of the PDU that opened it: its mode is the transaction's class, and PDUs are written with its lengths
   pub header : Header
 
--- what an accepted event is answered
-pub record Answer : Type 0 where
-  pub inds : List Indication
-  pub pdus : List PduValue
-  pub timers : List TimerOp
-  pub deposit : Option Deposit
-
--- an accepted event with its answer; a log has the newest entry first, so that the entries before an
--- entry are the list behind it, and its place is their number
-pub record Entry : Type 0 where
-  pub event : What
-  pub answer : Answer
+-- an accepted event with its answer
+abbrev pub Entry : Type 0
+Entry = logs.Entry What
 
 -- what a reception stands at: each part of it follows from the log
 pub record State : Type 0 where
@@ -202,8 +195,3 @@ step state entry =
 unfoldable pub state_of : List Entry → State
 state_of [] = initial
 state_of (entry ∷ front) = step (state_of front) entry
-
--- all that the user was told, in order
-abbrev pub issued : List Entry → List Indication
-issued [] = []
-issued (entry ∷ front) = issued front ++ entry.answer.inds

@@ -1,4 +1,5 @@
 -- A sender that is opened stands before its Put, and plans it.
+use Rattle.cfdp_types.specs.declared.limits.TheConstants.{FILE_OCTETS}
 use Rattle.std.proofs.Common.{◌≡◌, ℕ, ◌<◌, ◌≤◌, Bool, true, false, ◌&&◌, ◌||◌, nat_lt, List, [], ◌∷◌, length, None, Ok, eqb, refl, sym, ap, ◌∙◌, arith, inl, inr}
 use Rattle.std.proofs.lemmas.Bool.{cases_Bool, ltb-true, le-ltb, lt-ltb}
 use Rattle.std.specs.Prelude.{IsOk, Err}
@@ -16,7 +17,9 @@ use Rattle.cfdp_types.specs.declared.names.TimerKind.{TimerKind}
 use Rattle.cfdp_types.specs.declared.names.TimerKind.TheVariants.{Ack, Nak, Check, Inactivity}
 use Rattle.gap_list.specs.Runs.{in_runs}
 use Rattle.ind_words.specs.declared.indication.Indication.TheVariants as told
-use Rattle.sender_table.specs.Sending.{Sending, State, Answer, put, initial, step, state_of}
+use Rattle.core_steps.specs.declared.answer.Answer.{Answer}
+use Rattle.core_steps.proofs.AnswerLemmas.{answer_of_parts, same_answer}
+use Rattle.sender_table.specs.Sending.{Sending, State, put, initial, step, state_of}
 use Rattle.sender_table.specs.Answers.{answer_at}
 use Rattle.sender_core.specs.Remaining.{whole}
 use Rattle.sender_core.specs.ControlBlock.{state_from, first, IsInside}
@@ -56,7 +59,7 @@ still false true = refl
 still false false = refl
 
 put_tries : (sending : Sending) (remains : ℕ → Bool) (kind : TimerKind)
-    → (state_from (first 1) remains).tries kind ≡ (step sending (state_from (first 0) remains) (record { event = put; answer = record { inds = told.Transaction ∷ []; pdus = []; timers = [] } })).tries kind
+    → (state_from (first 1) remains).tries kind ≡ (step sending (state_from (first 0) remains) (record { event = put; answer = record { inds = told.Transaction ∷ []; pdus = []; timers = []; deposit = None } })).tries kind
 unfolding step
 put_tries sending remains Ack = refl
 put_tries sending remains Nak = refl
@@ -64,16 +67,16 @@ put_tries sending remains Check = refl
 put_tries sending remains Inactivity = refl
 
 pub put_follows : (sending : Sending) (remains : ℕ → Bool)
-    → state_from (first 1) remains ≡ step sending (state_from (first 0) remains) (record { event = put; answer = record { inds = told.Transaction ∷ []; pdus = []; timers = [] } })
+    → state_from (first 1) remains ≡ step sending (state_from (first 0) remains) (record { event = put; answer = record { inds = told.Transaction ∷ []; pdus = []; timers = []; deposit = None } })
 unfolding step
 put_follows sending remains =
     same_state (state_from (first 1) remains) _ refl refl (λ i. still (remains i) (nat_lt i (length sending.request.file))) refl refl refl refl (λ kind. refl)
     (put_tries sending remains) refl
 
-pub put_answered : (sending : Sending) (remains : ℕ → Bool) → length sending.request.file ≤ 4194304
-    → answer_at sending (state_from (first 0) remains) put ≡ Ok (record { inds = told.Transaction ∷ []; pdus = []; timers = [] })
+pub put_answered : (sending : Sending) (remains : ℕ → Bool) → length sending.request.file ≤ FILE_OCTETS
+    → answer_at sending (state_from (first 0) remains) put ≡ Ok (record { inds = told.Transaction ∷ []; pdus = []; timers = []; deposit = None })
 unfolding answer_at step
-put_answered sending remains small = rw (le-ltb 4194304 (length sending.request.file) small) refl
+put_answered sending remains small = rw (le-ltb FILE_OCTETS (length sending.request.file) small) refl
 
 pub opens : (sending : Sending) (control : ControlBlock) (runs : List Run) (size : ℕ) → control ≡ first 0 → runs ≡ whole size → size ≡ length sending.request.file
     → state_from control (in_runs runs) ≡ state_of sending []
@@ -86,17 +89,10 @@ opens sending control runs size stands are is =
 pub next_is : (control : ControlBlock) → control ≡ first 0 → record control { entries = 1 } ≡ first 1
 next_is control is = ap (λ (s : ControlBlock). record s { entries = 1 }) is
 
-made_answer : List Indication → List PduValue → List TimerOp → Answer
-made_answer inds pdus timers = record { inds = inds; pdus = pdus; timers = timers }
-
-same_answer : (inds inds' : List Indication) (pdus pdus' : List PduValue) (timers timers' : List TimerOp) → inds ≡ inds' → pdus ≡ pdus' → timers ≡ timers'
-    → made_answer inds pdus timers ≡ made_answer inds' pdus' timers'
-same_answer inds inds' pdus pdus' timers timers' a b c = cc
-
-answer_is : (plan : Plan) → plan.answer.inds ≡ told.Transaction ∷ [] → plan.answer.pdus ≡ [] → plan.answer.timers ≡ []
-    → plan_answer plan ≡ record { inds = told.Transaction ∷ []; pdus = []; timers = [] }
-unfolding made_answer
-answer_is plan a b c = same_answer plan.answer.inds (told.Transaction ∷ []) plan.answer.pdus [] plan.answer.timers [] a b c
+answer_is : (plan : Plan) → plan.answer.inds ≡ told.Transaction ∷ [] → plan.answer.pdus ≡ [] → plan.answer.timers ≡ [] → plan.answer.deposit ≡ None
+    → plan_answer plan ≡ record { inds = told.Transaction ∷ []; pdus = []; timers = []; deposit = None }
+unfolding answer_of_parts
+answer_is plan a b c d = same_answer plan.answer.inds (told.Transaction ∷ []) plan.answer.pdus [] plan.answer.timers [] plan.answer.deposit None a b c d
 
 pub put_plan : (core : SenderCore) (plan : Plan) → core.control ≡ first 0 → plan.next ≡ first 1 → plan.remainder ≡ remainder.Same
     → plan.answer.inds ≡ told.Transaction ∷ [] → plan.answer.pdus ≡ [] → plan.answer.timers ≡ []
@@ -104,15 +100,17 @@ pub put_plan : (core : SenderCore) (plan : Plan) → core.control ≡ first 0 �
 put_plan core plan stands next is_left inds pdus timers nothing =
     let s : Sending = sending_of core in
     let remains : ℕ → Bool = in_runs core.remaining in
-    let empty : Answer = record { inds = told.Transaction ∷ []; pdus = []; timers = [] } in
-    let answer : plan_answer plan ≡ empty = answer_is plan inds pdus timers in
+    let empty : Answer = record { inds = told.Transaction ∷ []; pdus = []; timers = []; deposit = None } in
+    let answer : plan_answer plan ≡ empty = answer_is plan inds pdus timers nothing in
     record {
-      accepted = ap (λ st. answer_at s (state_from st remains) put) stands ∙ put_answered s remains core.small ∙ ap Ok (sym answer);
-      follows = ap (λ n. state_from n (remainder_of core.remaining plan.remainder)) next
+      answered = record {
+        accepted = ap (λ st. answer_at s (state_from st remains) put) stands ∙ put_answered s remains core.small ∙ ap Ok (sym answer);
+        follows = ap (λ n. state_from n (remainder_of core.remaining plan.remainder)) next
           ∙ ap (λ l. state_from (first 1) (remainder_of core.remaining l)) is_left
           ∙ put_follows s remains
           ∙ ap (λ st. step s (state_from st remains) (record { event = put; answer = empty })) (sym stands)
           ∙ ap (λ a. step s (shown core) (record { event = put; answer = a })) (sym answer);
+      };
       nothing = nothing;
       inside = λ i has. core.inside i (ap (λ l. remainder_of core.remaining l i) (sym is_left) ∙ has);
       sound = λ runs. rw next (record {
@@ -122,10 +120,10 @@ put_plan core plan stands next is_left inds pdus timers nothing =
       });
     }
 
-pub put_refused : (sending : Sending) (state : State) → 4194304 < length sending.request.file → answer_at sending state put ≡ Err refusal.TooLarge
+pub put_refused : (sending : Sending) (state : State) → FILE_OCTETS < length sending.request.file → answer_at sending state put ≡ Err refusal.TooLarge
 unfolding answer_at
-put_refused sending state large = rw (lt-ltb 4194304 (length sending.request.file) large) refl
+put_refused sending state large = rw (lt-ltb FILE_OCTETS (length sending.request.file) large) refl
 
-pub put_taken : (sending : Sending) (state : State) → length sending.request.file ≤ 4194304 → IsOk (answer_at sending state put)
+pub put_taken : (sending : Sending) (state : State) → length sending.request.file ≤ FILE_OCTETS → IsOk (answer_at sending state put)
 unfolding answer_at
-put_taken sending state small = rw (le-ltb 4194304 (length sending.request.file) small) refl
+put_taken sending state small = rw (le-ltb FILE_OCTETS (length sending.request.file) small) refl

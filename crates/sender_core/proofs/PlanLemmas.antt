@@ -1,5 +1,6 @@
 -- A plan holds the table's answer, and what follows it.
-use Rattle.std.proofs.Common.{◌≡◌, ◌⊎◌, ℕ, ◌+◌, ◌<◌, ◌≤◌, Bool, true, false, not, ◌&&◌, ◌||◌, nat_lt, if◌then◌else◌, List, length, Option, Some, None, Ok, Err, Result, refl, sym, ap, subst, ◌∙◌, arith, inl, inr}
+use Rattle.cfdp_types.specs.declared.limits.TheConstants.{JOURNAL_ENTRIES, JOURNAL_ENTRIES_KEPT}
+use Rattle.std.proofs.Common.{◌≡◌, ◌⊎◌, ℕ, ◌+◌, ◌-◌, ◌<◌, ◌≤◌, Bool, true, false, not, ◌&&◌, ◌||◌, nat_lt, if◌then◌else◌, List, length, Option, Some, None, Ok, Err, Result, refl, sym, ap, subst, ◌∙◌, arith, inl, inr}
 use Rattle.std.proofs.Math.Path.{fun_ext}
 use Rattle.std.proofs.lemmas.Bool.{leb-false, ltb-true}
 use Rattle.std.specs.Prelude.{IsOk, IfOk, IfErr}
@@ -10,7 +11,6 @@ use Rattle.cfdp_types.specs.Condition as condition
 use Rattle.cfdp_types.specs.Handlers.{handler_in}
 use Rattle.cfdp_types.specs.Params.{timer_length}
 use Rattle.cfdp_types.specs.Steps.{Effect, arms, keeps, stops, armed_after, operations, newer_or}
-use Rattle.cfdp_types.proofs.StepLemmas.{armed_by, armed_after-operations}
 use Rattle.cfdp_types.specs.declared.condition.Condition.{Condition}
 use Rattle.cfdp_types.specs.declared.names.Class.{Class}
 use Rattle.cfdp_types.specs.declared.names.Class.TheVariants.{One, Two}
@@ -29,11 +29,14 @@ use Rattle.pdu_codec.specs.declared.event.Refusal.TheVariants as refusal
 use Rattle.pdu_codec.specs.Events.{is_of_other_class, is_stale_timer, needs_room}
 use Rattle.pdu_format.specs.Pdu.{PduValue}
 use Rattle.pdu_format.specs.declared.bodies.Eof.{Eof}
-use Rattle.sender_table.specs.Sending.{Sending, State, Event, happens, Answer, Entry, step, state_of, covers, asks_for, requests_of, eof_among, extent_of}
+use Rattle.sender_table.specs.Sending.{Sending, State, Event, happens, Entry, step, state_of, covers, asks_for, requests_of, eof_among, extent_of}
 use Rattle.sender_table.specs.Refusals.{refusal_of, is_stale_store, is_misplaced, is_full}
 use Rattle.sender_table.specs.Answers.{Response, cancel_response, fault_response, response_to, with_event, without_timers, with_timers, accepted_at, answer_at, effect_of}
 use Rattle.sender_core.specs.ControlBlock.{state_from, nowhere, AreFew, IsSound, IsInside}
-use Rattle.core_steps.specs.Timers.{stamp_of, stamp_by}
+use Rattle.core_steps.specs.Timers.{stamp_of}
+use Rattle.core_steps.specs.declared.answer.Answer.{Answer}
+use Rattle.core_steps.proofs.AnswerLemmas.{answer_of_parts, same_answer}
+use Rattle.core_steps.proofs.TimerLemmas.{armed_follows, counted}
 use Rattle.sender_core.specs.Core.{shown, sending_of, pdus_of_response, IsResponse, IsNext, HoldsResponse, IsPlanOf, IsWhy, StandsAfter, effect_by, arming, remainder_of, remains_after, plan_answer}
 use Rattle.sender_core.specs.declared.plan.Remainder.{Remainder}
 use Rattle.sender_core.specs.declared.plan.Plan.{Plan}
@@ -82,13 +85,6 @@ effect_same : (r s : Response) (a b : State) (event : Event) (kind : TimerKind) 
     → effect_of r a event kind ≡ effect_of s b event kind
 effect_same r s a b event kind x d p e k = rw (x, d, p, e, k) refl
 
-made_answer : List Indication → List PduValue → List TimerOp → Answer
-made_answer inds pdus timers = record { inds = inds; pdus = pdus; timers = timers }
-
-same_answer : (inds inds' : List Indication) (pdus pdus' : List PduValue) (timers timers' : List TimerOp) → inds ≡ inds' → pdus ≡ pdus' → timers ≡ timers'
-    → made_answer inds pdus timers ≡ made_answer inds' pdus' timers'
-same_answer inds inds' pdus pdus' timers timers' a b c = cc
-
 effects_are : (core : SenderCore) (event : What) (response : response_type.Response) (wanted : Response) (plan : Plan) → IsResponse (sending_of core) response wanted → IsNext core.control event response plan.next
     → effect_of wanted (step (sending_of core) (shown core) (record { event = happens event; answer = without_timers (sending_of core) wanted })) (happens event) ≡ effect_by plan.next event response
 unfolding step
@@ -102,15 +98,16 @@ effects_are core event response wanted plan is next =
 pub accepted_is : (core : SenderCore) (event : What) (response : response_type.Response) (remainder : Remainder) (plan : Plan)
     → IsResponse (sending_of core) response (response_to (sending_of core) (shown core) (shown core) (happens event)) → HoldsResponse core event response remainder plan
     → accepted_at (sending_of core) (shown core) (happens event) ≡ plan_answer plan
-unfolding made_answer
+unfolding answer_of_parts
 accepted_is core event response remainder plan is planned =
     let s : Sending = sending_of core in
     let f : State = shown core in
     let wanted : Response = response_to s f f (happens event) in
     ap (λ (r : Response). with_timers s f (happens event) r (without_timers s r)) (with_event_response s f event)
-    ∙ same_answer wanted.inds plan.answer.inds (pdus_of_response s wanted) plan.answer.pdus _ plan.answer.timers
+    ∙ same_answer wanted.inds plan.answer.inds (pdus_of_response s wanted) plan.answer.pdus _ plan.answer.timers None plan.answer.deposit
     (sym (planned.inds ∙ is.inds)) (sym (planned.pdus ∙ is.pdus))
     (ap (λ e. operations s.key (timer_length s.params.timers) f.entries e f.armed) (effects_are core event response wanted plan is planned.next) ∙ sym planned.timers)
+    (sym planned.nothing)
 
 -- ---- the state that follows
 
@@ -140,11 +137,6 @@ pub same_state : (a b : State) → a.entries ≡ b.entries → a.metadata_remain
 unfolding made
 same_state a b x1 x2 x3 x4 x5 x6 x7 x8 x9 x10 = same_made a b x1 x2 (fun_ext x3) x4 x5 x6 x7 (fun_ext x8) (fun_ext x9) x10
 
-stamp_is : (entries : ℕ) (effect : Effect) (before : Option ℕ) → stamp_by entries effect before ≡ armed_by entries effect before
-stamp_is entries arms before = refl
-stamp_is entries keeps before = refl
-stamp_is entries stops before = refl
-
 pub follows : (core : SenderCore) (event : What) (response : response_type.Response) (remainder : Remainder) (plan : Plan)
     → IsResponse (sending_of core) response (response_to (sending_of core) (shown core) (shown core) (happens event)) → HoldsResponse core event response remainder plan
     → ((i : ℕ) → remainder_of core.remaining remainder i ≡ remains_after (sending_of core) (shown core) event i)
@@ -162,18 +154,11 @@ follows core event response remainder plan is planned remains =
     (λ i. ap (λ l. remainder_of core.remaining l i) planned.remainder_is ∙ remains i
     ∙ ap (λ p. (f.remains i && not (list_any (covers i) p)) || (nat_lt i (length s.request.file) && list_any (asks_for i) (requests_of (happens event)))) (sym (planned.pdus ∙ is.pdus)))
     (rw pdus at next.progress) (rw pdus at next.eof) next.acknowledged (rw inds at next.paused)
-    (λ kind. planned.armed kind ∙ stamp_is core.control.entries (effect_by plan.next event response kind) (stamp_of core.control.armed kind)
-    ∙ sym (armed_after-operations core.key (timer_length core.params.timers) core.control.entries (effect_by plan.next event response) (stamp_of core.control.armed) kind)
-    ∙ ap (λ t. armed_after core.control.entries (stamp_of core.control.armed kind) t kind) (sym planned.timers))
+    (armed_follows core.key (timer_length core.params.timers) core.control.entries (effect_by plan.next event response) (stamp_of core.control.armed) (stamp_of plan.next.armed) plan.answer.timers planned.armed planned.timers)
     (λ kind. rw (pdus, inds) at (next.tries kind))
     (rw inds at next.ended)
 
 -- ---- what the code can hold
-
-counted : (again expired : Bool) (t entries : ℕ) → t ≤ entries → (if again then 0 else if expired then t + 1 else t) ≤ entries + 1
-counted true expired t entries le = omega arith
-counted false true t entries le = omega (arith, le)
-counted false false t entries le = omega (arith, le)
 
 refused_not : {A : Type 0} (a b c d e : Bool) (v w x y z : A) → (if a then Some v else if b then Some w else if c then Some x else if d then Some y else if e then Some z else None) ≡ None
     → (c ≡ false) × (e ≡ false)
@@ -186,11 +171,11 @@ refused_not false false false false false v w x y z h = (refl, refl)
 
 -- a transaction that goes on has room in its journal
 room : (sending : Sending) (front : State) (event : What) (response : response_type.Response) (b : Bool) → refusal_of sending front event ≡ None
-    → IsResponse sending response (response_to sending front front (happens event)) → (b || list_any is_end response.inds) ≡ false → needs_room event ≡ true → front.entries + 1 ≤ 65534
+    → IsResponse sending response (response_to sending front front (happens event)) → (b || list_any is_end response.inds) ≡ false → needs_room event ≡ true → front.entries + 1 ≤ (JOURNAL_ENTRIES - JOURNAL_ENTRIES_KEPT)
 room sending front event response b taken is goes_on needs =
     let full : (is_full front && needs_room event) ≡ false = (refused_not (is_of_other_class sending.request.class event) (is_stale_timer front.armed event) (is_stale_store event) (is_misplaced sending front event) (is_full front && needs_room event) refusal.ModeMismatch refusal.StaleTimer refusal.StaleStored refusal.WrongState refusal.JournalFull taken).1 in
     let open_ : (is_full front && true) ≡ false = rw needs at full in
-    let below : front.entries < 65534 = leb-false 65534 front.entries (sym (and_true (is_full front)) ∙ open_) in
+    let below : front.entries < (JOURNAL_ENTRIES - JOURNAL_ENTRIES_KEPT) = leb-false (JOURNAL_ENTRIES - JOURNAL_ENTRIES_KEPT) front.entries (sym (and_true (is_full front)) ∙ open_) in
     omega arith
   where
     and_true : (b : Bool) → (b && true) ≡ b
@@ -202,7 +187,7 @@ ends_true true = refl
 ends_true false = refl
 
 goes_on : (sending : Sending) (front : State) (event : What) (response : response_type.Response) (b : Bool) → refusal_of sending front event ≡ None
-    → IsResponse sending response (response_to sending front front (happens event)) → (b || list_any is_end response.inds) ≡ false → front.entries + 1 ≤ 65534
+    → IsResponse sending response (response_to sending front front (happens event)) → (b || list_any is_end response.inds) ≡ false → front.entries + 1 ≤ (JOURNAL_ENTRIES - JOURNAL_ENTRIES_KEPT)
 goes_on sending front (what.Pdu pdu) response b taken is e = room sending front (what.Pdu pdu) response b taken is e refl
 goes_on sending front (what.Timer kind stamp) response b taken is e = room sending front (what.Timer kind stamp) response b taken is e refl
 goes_on sending front what.Pump response b taken is e = room sending front what.Pump response b taken is e refl
@@ -221,7 +206,7 @@ pub sound_after : (core : SenderCore) (event : What) (response : response_type.R
 sound_after core event response remainder plan taken is planned inside runs =
     let next = planned.next in
     let old : AreFew core.control = core.sound.few in
-    let few : core.control.entries ≤ 65534 = core.sound.goes_on runs in
+    let few : core.control.entries ≤ (JOURNAL_ENTRIES - JOURNAL_ENTRIES_KEPT) = core.sound.goes_on runs in
     let entries : plan.next.entries ≡ core.control.entries + 1 = next.entries in
     record {
       few = record {
@@ -256,8 +241,10 @@ pub is_plan : (core : SenderCore) (event : What) (response : response_type.Respo
     → extent_of (option_to_list response.pdu) ≤ length core.request.file → IsPlanOf core plan (happens event)
 unfolding answer_at
 is_plan core event response remainder plan taken is planned remains inside = record {
-  accepted = rw taken (ap Ok (accepted_is core event response remainder plan is planned));
-  follows = follows core event response remainder plan is planned remains;
+  answered = record {
+    accepted = rw taken (ap Ok (accepted_is core event response remainder plan is planned));
+    follows = follows core event response remainder plan is planned remains;
+  };
   nothing = planned.nothing;
   inside = λ i has. still_inside core event remainder remains i (ap (λ l. remainder_of core.remaining l i) (sym planned.remainder_is) ∙ has);
   sound = sound_after core event response remainder plan taken is planned inside;
@@ -270,19 +257,3 @@ refused_is sending state event why is = rw is refl
 pub answered_is : (sending : Sending) (state : State) (event : What) → refusal_of sending state event ≡ None → IsOk (answer_at sending state (happens event))
 unfolding answer_at
 answered_is sending state event taken = rw taken refl
-
--- ---- over a log that the core stands after
-
-pub accepted_over : (core : SenderCore) (event : What) (result : Result Plan Refusal) (log : List Entry) → StandsAfter core log
-    → IfOk result (λ plan. IsPlanOf core plan (happens event))
-    → IfOk result (λ plan. answer_at (sending_of core) (state_of (sending_of core) log) (happens event) ≡ Ok (plan_answer plan))
-accepted_over core event (Ok plan) log stood planned =
-    subst (λ state. answer_at (sending_of core) state (happens event) ≡ Ok (plan_answer plan)) stood planned.accepted
-accepted_over core event (Err why) log stood planned = tt
-
-pub refused_over : (core : SenderCore) (event : What) (result : Result Plan Refusal) (log : List Entry) → StandsAfter core log
-    → IfErr result (λ why. IsWhy (answer_at (sending_of core) (shown core) (happens event)) why)
-    → IfErr result (λ why. IsWhy (answer_at (sending_of core) (state_of (sending_of core) log) (happens event)) why)
-refused_over core event (Ok plan) log stood planned = tt
-refused_over core event (Err why) log stood planned =
-    subst (λ state. IsWhy (answer_at (sending_of core) state (happens event)) why) stood planned

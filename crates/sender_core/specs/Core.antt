@@ -19,12 +19,13 @@ use Rattle.pdu_format.specs.Pdu.{PduValue}
 use Rattle.pdu_codec.specs.declared.event.Refusal.{Refusal}
 use Rattle.pdu_codec.specs.declared.event.Refusal.TheVariants as refusal
 use Rattle.sender_table.specs.Sending.{Sending, Event, happens, State, Entry, state_of, step, is_metadata, asks_for_metadata, requests_of, extent_of, eof_among, acknowledges_eof, tries_after, covers, asks_for}
-use Rattle.sender_table.specs.Sending as sending_module
 use Rattle.sender_table.specs.Answers.{answer_at, header_of}
 use Rattle.sender_table.specs.Answers as table
 use Rattle.sender_core.specs.Remaining.{without_first}
 use Rattle.sender_core.specs.ControlBlock.{state_from, nowhere, IsSound, IsInside}
-use Rattle.sender_core.specs.declared.answer.Answer as answer_type
+use Rattle.core_steps.specs.declared.answer.Answer.{Answer}
+pub use Rattle.core_steps.specs.Logs.{IsWhy}
+use Rattle.core_steps.specs.Logs.{StandsAt, IsAnswered}
 use Rattle.sender_core.specs.declared.plan.Remainder.{Remainder}
 use Rattle.sender_core.specs.declared.plan.Remainder.TheVariants as remainder
 use Rattle.sender_core.specs.declared.plan.Plan.{Plan}
@@ -44,15 +45,11 @@ shown core = state_from core.control (in_runs core.remaining)
 
 -- what the core holds is what the log gives
 abbrev pub StandsAfter : SenderCore → List Entry → Type 0
-StandsAfter core log = shown core ≡ state_of (sending_of core) log
-
--- an answer as the table gives it
-abbrev pub answer_value : answer_type.Answer → sending_module.Answer
-answer_value answer = record { inds = answer.inds; pdus = answer.pdus; timers = answer.timers }
+StandsAfter core log = StandsAt (state_of (sending_of core)) (shown core) log
 
 -- the answer of a plan
-abbrev pub plan_answer : Plan → sending_module.Answer
-plan_answer plan = answer_value plan.answer
+abbrev pub plan_answer : Plan → Answer
+plan_answer plan = plan.answer
 
 -- the offsets that are to be sent after a plan
 abbrev pub remainder_of : List Run → Remainder → ℕ → Bool
@@ -84,7 +81,7 @@ remains_after sending state event i =
 abbrev pub entry_without_timers : What → response_type.Response → Entry
 entry_without_timers event response = record {
   event = happens event;
-  answer = record { inds = response.inds; pdus = option_to_list response.pdu; timers = [] };
+  answer = record { inds = response.inds; pdus = option_to_list response.pdu; timers = []; deposit = None };
 }
 
 -- a response of which only the timer that it arms is known
@@ -118,15 +115,11 @@ pub record HoldsResponse (core : SenderCore) (event : What) (response : response
   pub next : IsNext core.control event response plan.next
   pub armed : (kind : TimerKind) → stamp_of plan.next.armed kind ≡ stamp_by core.control.entries (effect_by plan.next event response kind) (stamp_of core.control.armed kind)
 
--- why an event was not planned: the table refuses it so, or it is answered and memory ran out
-abbrev pub IsWhy : Result sending_module.Answer Refusal → Refusal → Type 0
-IsWhy answer why = (answer ≡ Err why) ⊎ ((why ≡ refusal.NoMemory) × IsOk answer)
-
 -- in the core's present state the event is answered as planned, nothing is handed out, and the plan holds
 -- what follows
 pub record IsPlanOf (core : SenderCore) (plan : Plan) (event : Event) : Type 0 where
-  pub accepted : answer_at (sending_of core) (shown core) event ≡ Ok (plan_answer plan)
-  pub follows : state_from plan.next (remainder_of core.remaining plan.remainder) ≡ step (sending_of core) (shown core) (record { event = event; answer = plan_answer plan })
+  pub answered : IsAnswered (answer_at (sending_of core) (shown core)) (step (sending_of core) (shown core)) event (plan_answer plan)
+      (state_from plan.next (remainder_of core.remaining plan.remainder))
   pub nothing : plan.answer.deposit ≡ None
   pub inside : IsInside (length core.request.file) (remainder_of core.remaining plan.remainder)
   pub sound : core.control.ended ≡ false → IsSound (length core.request.file) plan.next

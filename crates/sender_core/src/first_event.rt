@@ -1,5 +1,5 @@
 //! How a sender is opened.
-use crate::answer::Answer;
+use core_steps::Answer;
 use crate::pdus::header_of;
 use crate::plan::{Remainder, Plan};
 use crate::remaining::Remaining;

@@ -2,7 +2,6 @@
 //! the code, which plans an event and then carries it out.
 #![tactic(auto)]
 
-mod answer;
 pub mod laws;
 mod remainder;
 mod first_event;
@@ -17,7 +16,6 @@ mod sender;
 mod control;
 mod steps;
 
-pub use answer::Answer;
-pub use core_steps::{Pdus, TimerOps};
+pub use core_steps::{Answer, Pdus, TimerOps};
 pub use plan::Plan;
 pub use sender::SenderCore;

@@ -2,7 +2,7 @@
 ghost use Rattle.std.specs.Prelude.{◌≡◌, IfOk};
 ghost use Rattle.std.specs.Option.{option_to_list};
 
-use crate::answer::Answer;
+use core_steps::Answer;
 use crate::plan::{Remainder, Plan};
 use crate::response::Response;
 use crate::sender::SenderCore;

@@ -5,7 +5,7 @@ ghost use Rattle.gap_list.specs.Runs.{in_runs};
 ghost use Rattle.sender_table.specs.Answers.{header_of};
 ghost use Rattle.sender_core.specs.ControlBlock.{IsSound, IsInside};
 
-use crate::answer::Answer;
+use core_steps::Answer;
 use crate::remainder::apply_remainder;
 use crate::plan::Plan;
 use crate::remaining::Remaining;
@@ -37,7 +37,7 @@ impl SenderCore {
     ghost use Rattle.cfdp_types.specs.declared.limits.TheConstants.{FILE_OCTETS};
     ghost use Rattle.pdu_codec.specs.declared.event.Refusal.TheVariants as refusal;
     ghost use Rattle.sender_table.specs.Sending.{Event, Entry};
-    ghost use Rattle.sender_core.specs.Core.{shown, sending_of, IsPlanOf, StandsAfter, plan_answer, answer_value};
+    ghost use Rattle.sender_core.specs.Core.{shown, sending_of, IsPlanOf, StandsAfter, plan_answer};
 
     /// Whether the user was told that the transaction is over: no event follows.
     pub fn has_ended(&self) -> bool
@@ -50,7 +50,7 @@ impl SenderCore {
     pub fn commit(&mut self, plan: Plan) -> Answer
         requires planned { (event : Event) × IsPlanOf self.old plan event }
         requires runs { (shown self.old).ended ≡ false }
-        ensures answer { answer_value result ≡ plan_answer plan }
+        ensures answer { result ≡ plan_answer plan }
         ensures nothing { result.deposit ≡ None }
         ensures sending { sending_of self.new ≡ sending_of self.old }
         ensures stands { (event : Event) (log : List Entry) → IsPlanOf self.old plan event → StandsAfter self.old log

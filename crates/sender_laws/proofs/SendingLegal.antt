@@ -19,7 +19,8 @@ use Rattle.ind_words.specs.Words.{is_end, is_eof_sent, is_transaction, is_paused
 use Rattle.ind_words.specs.Told.{paused_after}
 use Rattle.ind_words.proofs.WordLemmas.{MayFollowOf-append, list_any-told_onto, told_onto-append}
 use Rattle.ind_words.proofs.ToldLemmas.{is_paused-told_onto}
-use Rattle.sender_table.specs.Sending.{Sending, Event, put, happens, Answer, Entry, State, initial, step, state_of, issued, is_closing, is_suspended, eof_among}
+use Rattle.core_steps.specs.declared.answer.Answer.{Answer}
+use Rattle.sender_table.specs.Sending.{Sending, Event, put, happens, Entry, State, initial, step, state_of, issued, is_closing, is_suspended, eof_among}
 use Rattle.sender_table.specs.Refusals.{refusal_at}
 use Rattle.sender_table.specs.Answers.{Response, response_to, with_event, without_timers, accepted_at, answer_at, effect_of, header_of}
 use Rattle.sender_laws.specs.LegalSendings.{HasItsPlace, IsLegal}

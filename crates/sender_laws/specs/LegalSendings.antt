@@ -1,5 +1,7 @@
 -- Which logs a sender of either class can have.
 use Rattle.std.specs.Prelude.{◌≡◌, false, List, [], ◌∷◌, Ok}
+use Rattle.core_steps.specs.Logs.{log_after}
+use Rattle.core_steps.specs.declared.answer.Answer.{Answer}
 use Rattle.sender_table.specs.Sending.{Sending, Event, put, happens, Entry, state_of}
 use Rattle.sender_table.specs.Answers.{accepted_at, answer_at}
 
@@ -17,12 +19,10 @@ IsLegal sending (entry ∷ front) =
     ((state_of sending front).ended ≡ false) × HasItsPlace front entry.event × (answer_at sending (state_of sending front) entry.event ≡ Ok entry.answer)
     × IsLegal sending front
 
--- the one log that these events have, the oldest first, behind a front
-abbrev pub log_after : Sending → List Entry → List Event → List Entry
-log_after sending front [] = front
-log_after sending front (event ∷ events) =
-    log_after sending (record { event = event; answer = accepted_at sending (state_of sending front) event } ∷ front) events
+-- what an event is answered behind a front
+abbrev pub answer_behind : Sending → List Entry → Event → Answer
+answer_behind sending front event = accepted_at sending (state_of sending front) event
 
 -- a journal's log
 abbrev pub log_of : Sending → List Event → List Entry
-log_of sending journal = log_after sending [] journal
+log_of sending journal = log_after (answer_behind sending) [] journal

@@ -18,7 +18,8 @@ use Rattle.gap_list.specs.Runs.{runs_of, runs_from}
 use Rattle.sender_table.specs.Sending.{Event, put, happens, Entry, State, initial, step, state_of}
 use Rattle.sender_table.specs.Refusals.{refusal_at}
 use Rattle.sender_table.specs.Answers.{accepted_at, answer_at}
-use Rattle.sender_laws.specs.LegalSendings.{log_after}
+use Rattle.core_steps.specs.Logs.{log_after}
+use Rattle.sender_laws.specs.LegalSendings.{answer_behind}
 use Rattle.sender_rows.specs.SendingRows.{sending, one, two, pump, report, pdu_in, pdu, eof_acknowledged, nak, sent_all, acknowledged_all, after, last, tells, sends}
 
 -- the user cancelled
@@ -182,11 +183,11 @@ waits_longer state entries waits = record {
 }
 
 waits_on : (count entries : ℕ) (front : List Entry) → Waits (state_of two front) entries
-    → Waits (state_of two (log_after two front (replicate count report))) (entries + count)
+    → Waits (state_of two (log_after (answer_behind two) front (replicate count report))) (entries + count)
 unfolding state_of
 waits_on zero entries front waits = subst (λ n. Waits (state_of two front) n) (omega arith) waits
 waits_on (suc count) entries front waits =
-    subst (λ n. Waits (state_of two (log_after two front (replicate (suc count) report))) n) (omega arith)
+    subst (λ n. Waits (state_of two (log_after (answer_behind two) front (replicate (suc count) report))) n) (omega arith)
     (waits_on count (entries + 1) (record { event = report; answer = accepted_at two (state_of two front) report } ∷ front)
     (waits_longer (state_of two front) entries waits))
 

@@ -25,7 +25,8 @@ use Rattle.pdu_format.specs.declared.requests.SegmentRequest.{SegmentRequest}
 use Rattle.ind_words.specs.declared.indication.Indication.{Indication}
 use Rattle.ind_words.specs.declared.indication.Indication.TheVariants as told
 use Rattle.gap_list.specs.Runs.{runs_of, runs_from}
-use Rattle.sender_table.specs.Sending.{Sending, Event, put, happens, Answer, Entry, initial, step, state_of, issued}
+use Rattle.core_steps.specs.declared.answer.Answer.{Answer}
+use Rattle.sender_table.specs.Sending.{Sending, Event, put, happens, Entry, initial, step, state_of, issued}
 use Rattle.sender_table.specs.Answers.{empty_answer, answer_at}
 use Rattle.sender_laws.specs.LegalSendings.{log_of, IsLegal}
 

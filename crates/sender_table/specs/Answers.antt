@@ -34,7 +34,9 @@ use Rattle.ind_words.specs.declared.indication.Indication.TheVariants as told
 use Rattle.ind_words.specs.declared.indication.Phase.{Phase}
 use Rattle.ind_words.specs.declared.indication.Phase.TheVariants as phase
 use Rattle.modular_sum.specs.Sum.{sum}
-use Rattle.sender_table.specs.Sending.{Sending, Event, put, happens, Answer, State, step, is_closing, is_suspended, acknowledges_eof}
+pub use Rattle.core_steps.specs.Logs.{empty_answer}
+use Rattle.core_steps.specs.declared.answer.Answer.{Answer}
+use Rattle.sender_table.specs.Sending.{Sending, Event, put, happens, State, step, is_closing, is_suspended, acknowledges_eof}
 use Rattle.sender_table.specs.Refusals.{refusal_at, runs_to_send}
 
 -- ---- a response of the table
@@ -237,17 +239,13 @@ effect_of response after event kind =
 
 -- ---- the whole answer
 
--- the answer that says nothing
-abbrev pub empty_answer : Answer
-empty_answer = record { inds = []; pdus = []; timers = [] }
-
 -- the state with the event, before it is answered
 abbrev pub with_event : Sending → State → Event → State
 with_event sending state event = step sending state (record { event = event; answer = empty_answer })
 
 -- what a response answers, but for the timers
 abbrev pub without_timers : Sending → Response → Answer
-without_timers sending response = record { inds = response.inds; pdus = map (λ b. record { header = header_of sending; body = b }) response.bodies; timers = [] }
+without_timers sending response = record { inds = response.inds; pdus = map (λ b. record { header = header_of sending; body = b }) response.bodies; timers = []; deposit = None }
 
 -- with them
 abbrev pub with_timers : Sending → State → Event → Response → Answer → Answer

@@ -20,6 +20,8 @@ use Rattle.pdu_format.specs.declared.bodies.Eof.{Eof}
 use Rattle.pdu_format.specs.declared.requests.SegmentRequest.{SegmentRequest}
 use Rattle.ind_words.specs.declared.indication.Indication.{Indication}
 use Rattle.ind_words.specs.Words.{is_end}
+pub use Rattle.core_steps.specs.Logs.{issued}
+use Rattle.core_steps.specs.Logs as logs
 use Rattle.ind_words.specs.Told.{paused_after, is_resumed, is_fault}
 
 -- what is settled when a file is put
@@ -33,17 +35,9 @@ pub data Event : Type 0 where
   put : Event
   happens : What → Event
 
--- what an accepted event is answered
-pub record Answer : Type 0 where
-  pub inds : List Indication
-  pub pdus : List PduValue
-  pub timers : List TimerOp
-
--- an accepted event with its answer; a log has the newest entry first, so that the entries before an
--- entry are the list behind it, and its place is their number
-pub record Entry : Type 0 where
-  pub event : Event
-  pub answer : Answer
+-- an accepted event with its answer
+abbrev pub Entry : Type 0
+Entry = logs.Entry Event
 
 -- what a sender stands at: each part of it follows from the log
 pub record State : Type 0 where
@@ -221,8 +215,3 @@ step sending state entry = record {
 unfoldable pub state_of : Sending → List Entry → State
 state_of sending [] = initial sending
 state_of sending (entry ∷ front) = step sending (state_of sending front) entry
-
--- all that the user was told, in order
-abbrev pub issued : List Entry → List Indication
-issued [] = []
-issued (entry ∷ front) = issued front ++ entry.answer.inds

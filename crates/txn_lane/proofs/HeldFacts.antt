@@ -11,7 +11,7 @@ use Rattle.sender_core.specs.declared.plan.Plan.{Plan}
 use Rattle.sender_core.specs.declared.sender.SenderCore.{SenderCore}
 use Rattle.txn_lane.specs.declared.event.Event.{Event}
 use Rattle.txn_lane.specs.declared.running.Running.{Running}
-use Rattle.txn_lane.specs.Logs.{sent, to_sender, without_deposit}
+use Rattle.txn_lane.specs.Logs.{sent, to_sender}
 use Rattle.txn_lane.specs.Lane.{State, log_of, IsSound}
 use Rattle.txn_lane.specs.Steps.{IsKeyed, opened_log, log_before, plainly, refused_by_end, refused_by_lane, refusal_at, stepped, answer_in, answer_of}
 use Rattle.txn_lane.specs.LaneCode.{Stands, IsHeld}
@@ -21,7 +21,7 @@ use Rattle.txn_lane.proofs.StepFacts.{ComesTo, comes_to, stays_sound}
 
 -- ---- a plan's answer is the table's
 
-accepted_parts : (why : Option Refusal) (answer given : sender.Answer) → unless_refused why answer ≡ Ok given → (why ≡ None) × (given ≡ answer)
+accepted_parts : (why : Option Refusal) (answer given : Answer) → unless_refused why answer ≡ Ok given → (why ≡ None) × (given ≡ answer)
 accepted_parts None answer given e = (refl, cc)
 accepted_parts (Some r) answer given e = absurd cc
 
@@ -33,7 +33,7 @@ unfolding answer_at
 planned_answer core plan sending front event is stood planned =
     subst (λ s. (sender_refusals.refusal_at s (sender.state_of s front) event ≡ None) × (plan_answer plan ≡ accepted_at s (sender.state_of s front) event)) is
     (subst (λ state. (sender_refusals.refusal_at (sending_of core) state event ≡ None) × (plan_answer plan ≡ accepted_at (sending_of core) state event)) stood
-    (accepted_parts (sender_refusals.refusal_at (sending_of core) (shown core) event) (accepted_at (sending_of core) (shown core) event) (plan_answer plan) planned.accepted))
+    (accepted_parts (sender_refusals.refusal_at (sending_of core) (shown core) event) (accepted_at (sending_of core) (shown core) event) (plan_answer plan) planned.answered.accepted))
 
 -- ---- an event that the lane and its end take
 
@@ -61,7 +61,7 @@ log_after_step state event core plan sending front sound keyed free before is st
 
 pub answer_after_step : (state : State) (event : Event) (sending : sender.Sending) (entry : sender.Entry) (front : List sender.Entry)
     → log_of (stepped state event) ≡ Some (sent sending (entry ∷ front))
-    → answer_of (stepped state event) ≡ without_deposit entry.answer
+    → answer_of (stepped state event) ≡ entry.answer
 answer_after_step state event sending entry front after = ap answer_in after
 
 -- ---- what the lane holds then

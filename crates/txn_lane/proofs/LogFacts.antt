@@ -20,16 +20,17 @@ use Rattle.sender_table.specs.Sending.{initial, state_of}
 use Rattle.sender_table.specs.Answers as sender_answers
 use Rattle.sender_table.specs.Answers.{answer_at}
 use Rattle.sender_laws.specs.LegalSendings as sender_logs
-use Rattle.sender_laws.proofs.SendingLegal.{tells_words}
+use Rattle.sender_laws.proofs.SendingLegal as sender_laws
 use Rattle.receiver_table.specs.Reception as receiver
 use Rattle.receiver_table.specs.Answers as receiver_answers
 use Rattle.receiver_laws.specs.LegalReceptions as receiver_logs
-use Rattle.receiver_laws.proofs.ReceptionLegal.{tells_words}
+use Rattle.receiver_laws.proofs.ReceptionLegal as receiver_laws
 use Rattle.txn_lane.specs.declared.event.Event.{Event}
 use Rattle.txn_lane.specs.declared.event.Event.TheVariants.{Put, On}
 use Rattle.txn_lane.specs.declared.lane_side.LaneSide.{LaneSide}
 use Rattle.txn_lane.specs.declared.lane_side.LaneSide.TheVariants.{Sending, Receiving}
 use Rattle.txn_lane.specs.Logs.{Transaction, sends, receives, Log, sent, received, body_opens, opened_by, to_sender, to_receiver, log_by, issued, has_ended, IsLegal, refused_behind, last_answer}
+use Rattle.core_steps.proofs.AnswerLemmas.{log_after-append, log_after-rest}
 use Rattle.txn_lane.specs.LaneLaws.{TellsWords}
 
 -- ---- one event more
@@ -41,26 +42,6 @@ log_with (sent sending log) event =
 log_with (received reception log) (On key event) =
     received reception (record { event = event; answer = receiver_answers.accepted_at reception (receiver.state_of log) event } ∷ log)
 log_with (received reception log) (Put request params) = received reception log
-
-sent-more : (sending : sender.Sending) (front : List sender.Entry) (events : List sender.Event) (event : sender.Event)
-    → sender_logs.log_after sending front (events ++ event ∷ [])
-    ≡ record {
-      event = event;
-      answer = sender_answers.accepted_at sending (sender.state_of sending (sender_logs.log_after sending front events)) event;
-    } ∷ sender_logs.log_after sending front events
-sent-more sending front [] event = refl
-sent-more sending front (first ∷ later) event =
-    sent-more sending (record { event = first; answer = sender_answers.accepted_at sending (sender.state_of sending front) first } ∷ front) later event
-
-received-more : (reception : receiver.Reception) (front : List receiver.Entry) (events : List What) (event : What)
-    → receiver_logs.log_after reception front (events ++ event ∷ [])
-    ≡ record {
-      event = event;
-      answer = receiver_answers.accepted_at reception (receiver.state_of (receiver_logs.log_after reception front events)) event;
-    } ∷ receiver_logs.log_after reception front events
-received-more reception front [] event = refl
-received-more reception front (first ∷ later) event =
-    received-more reception (record { event = first; answer = receiver_answers.accepted_at reception (receiver.state_of front) first } ∷ front) later event
 
 to_receiver-more : (events : List Event) (key : TxnKey) (event : What) → to_receiver (events ++ On key event ∷ []) ≡ to_receiver events ++ event ∷ []
 to_receiver-more [] key event = refl
@@ -75,13 +56,13 @@ to_receiver-put (On other first ∷ later) request params = ap (λ l. first ∷ 
 pub log_by-more : (transaction : Transaction) (events : List Event) (event : Event)
     → log_by transaction (events ++ event ∷ []) ≡ log_with (log_by transaction events) event
 log_by-more (sends sending) events event =
-    ap (λ l. sent sending (sender_logs.log_after sending [] l)) (map-append to_sender events (event ∷ []))
-    ∙ ap (sent sending) (sent-more sending [] (map to_sender events) (to_sender event))
+    ap (λ l. sent sending (sender_logs.log_of sending l)) (map-append to_sender events (event ∷ []))
+    ∙ ap (sent sending) (log_after-append (sender_logs.answer_behind sending) [] (map to_sender events) (to_sender event))
 log_by-more (receives reception) events (On key event) =
-    ap (λ l. received reception (receiver_logs.log_after reception [] l)) (to_receiver-more events key event)
-    ∙ ap (received reception) (received-more reception [] (to_receiver events) event)
+    ap (λ l. received reception (receiver_logs.log_of reception l)) (to_receiver-more events key event)
+    ∙ ap (received reception) (log_after-append (receiver_logs.answer_behind reception) [] (to_receiver events) event)
 log_by-more (receives reception) events (Put request params) =
-    ap (λ l. received reception (receiver_logs.log_after reception [] l)) (to_receiver-put events request params)
+    ap (λ l. received reception (receiver_logs.log_of reception l)) (to_receiver-put events request params)
 
 -- ---- its place
 
@@ -155,7 +136,7 @@ pub first_place : (side : LaneSide) (key : TxnKey) (event : Event) → IsOfPdu e
     → IfOpened (opened_by side key event) (λ transaction. HasPlace (log_by transaction []) event)
 first_place (Sending numbers greatest) key (Put request params) keyed = tt
 first_place (Receiving params) key (On named (what.Pdu pdu)) keyed =
-    if_opens (body_opens pdu.body) (receives (record { key = key; params = params; opened_log = pdu.header }))
+    if_opens (body_opens pdu.body) (receives (record { key = key; params = params; header = pdu.header }))
     (λ transaction. HasPlace (log_by transaction []) (On named (what.Pdu pdu)))
     (λ opens. (opening_body pdu.body opens, refl, keyed.0, keyed.1))
 first_place (Sending numbers greatest) key (On named event) keyed = tt
@@ -169,37 +150,23 @@ first_place (Receiving params) key (On named what.Pump) keyed = tt
 first_place (Receiving params) key (On named (what.Timer kind stamp)) keyed = tt
 first_place (Receiving params) key (On named (what.Stored stamp kept)) keyed = tt
 
-behind_sent : (sending : sender.Sending) (front : List sender.Entry) (events : List sender.Event) (event : What)
-    → sender_logs.HasItsPlace front (sender.happens event)
-    → sender_logs.HasItsPlace (sender_logs.log_after sending front events) (sender.happens event)
-behind_sent sending front [] event place = place
-behind_sent sending front (first ∷ later) event place =
-    behind_sent sending (record { event = first; answer = sender_answers.accepted_at sending (sender.state_of sending front) first } ∷ front) later event tt
-
-behind_received : (reception : receiver.Reception) (front : List receiver.Entry) (events : List What) (event : What)
-    → receiver_logs.HasItsPlace reception front event
-    → receiver_logs.HasItsPlace reception (receiver_logs.log_after reception front events) event
-behind_received reception front [] event place = place
-behind_received reception front (first ∷ later) event place =
-    behind_received reception (record { event = first; answer = receiver_answers.accepted_at reception (receiver.state_of front) first } ∷ front) later event tt
-
 place_in_sent : (sending : sender.Sending) (first : sender.Event) (later : List sender.Event) (event : What)
     → sender_logs.HasItsPlace (sender_logs.log_of sending (first ∷ later)) (sender.happens event)
 place_in_sent sending first later event =
-    behind_sent sending (record { event = first; answer = sender_answers.accepted_at sending (sender.state_of sending []) first } ∷ []) later event tt
+    log_after-rest (λ log. sender_logs.HasItsPlace log (sender.happens event)) (sender_logs.answer_behind sending) (record { event = first; answer = sender_logs.answer_behind sending [] first } ∷ []) later tt (λ entry rest. tt)
 
 place_in_received : (reception : receiver.Reception) (first : What) (later : List What) (event : What)
     → receiver_logs.HasItsPlace reception (receiver_logs.log_of reception (first ∷ later)) event
 place_in_received reception first later event =
-    behind_received reception (record { event = first; answer = receiver_answers.accepted_at reception (receiver.state_of []) first } ∷ []) later event tt
+    log_after-rest (λ log. receiver_logs.HasItsPlace reception log event) (receiver_logs.answer_behind reception) (record { event = first; answer = receiver_logs.answer_behind reception [] first } ∷ []) later tt (λ entry rest. tt)
 
 pub later_place : (side : LaneSide) (key named : TxnKey) (first : Event) (later : List Event) (event : What)
     → IfOpened (opened_by side key first) (λ transaction. HasPlace (log_by transaction (first ∷ later)) (On named event))
 later_place (Sending numbers greatest) key named (Put request params) later event = place_in_sent (record { key = key; params = params; request = request }) sender.put (map to_sender later) event
 later_place (Receiving params) key named (On other (what.Pdu pdu)) later event =
-    if_opens (body_opens pdu.body) (receives (record { key = key; params = params; opened_log = pdu.header }))
+    if_opens (body_opens pdu.body) (receives (record { key = key; params = params; header = pdu.header }))
     (λ transaction. HasPlace (log_by transaction (On other (what.Pdu pdu) ∷ later)) (On named event))
-    (λ opens. place_in_received (record { key = key; params = params; opened_log = pdu.header }) (what.Pdu pdu) (to_receiver later) event)
+    (λ opens. place_in_received (record { key = key; params = params; header = pdu.header }) (what.Pdu pdu) (to_receiver later) event)
 later_place (Sending numbers greatest) key named (On other first) later event = tt
 later_place (Receiving params) key named (Put request others) later event = tt
 later_place (Receiving params) key named (On other what.Cancel) later event = tt
@@ -214,8 +181,8 @@ later_place (Receiving params) key named (On other (what.Stored stamp kept)) lat
 -- ---- words
 
 pub lane_words : TellsWords
-lane_words (sent sending log) legal = tells_words sending log legal
-lane_words (received reception log) legal = tells_words reception log legal
+lane_words (sent sending log) legal = sender_laws.tells_words sending log legal
+lane_words (received reception log) legal = receiver_laws.tells_words reception log legal
 
 sender_side : (first : Indication) → is_transaction first ≡ true → side_by first ≡ Sender
 sender_side told.Transaction is = refl

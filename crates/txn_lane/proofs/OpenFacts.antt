@@ -12,7 +12,7 @@ pub put_accepted : (core : SenderCore) (plan : Plan) (sending : Sending) → sen
 unfolding state_of
 put_accepted core plan sending is stood planned =
     subst (λ s. answer_at s (initial s) put ≡ Ok (plan_answer plan)) is
-    (subst (λ state. answer_at (sending_of core) state put ≡ Ok (plan_answer plan)) stood planned.accepted)
+    (subst (λ state. answer_at (sending_of core) state put ≡ Ok (plan_answer plan)) stood planned.answered.accepted)
 
 pub put_answered : (core : SenderCore) (plan : Plan) (sending : Sending) → sending_of core ≡ sending → StandsAfter core [] → IsPlanOf core plan put
     → IsOk (answer_at sending (initial sending) put)

@@ -8,7 +8,7 @@ use Rattle.cfdp_types.specs.declared.key.TxnKey.{TxnKey}
 use Rattle.ind_words.specs.declared.bundle.Bundle.{Bundle}
 use Rattle.ind_words.specs.declared.indication.Indication.{Indication}
 use Rattle.ind_words.specs.LaneLists.{IsLaneList}
-use Rattle.receiver_laws.proofs.ReceptionLegal.{completes_good}
+use Rattle.receiver_laws.proofs.ReceptionLegal as receiver_laws
 use Rattle.txn_lane.specs.declared.event.Event.{Event}
 use Rattle.txn_lane.specs.Logs.{Transaction, Log}
 use Rattle.txn_lane.specs.Lane.{State, idle, key_at, key_of, log_of, IsRun, IsSound}
@@ -18,7 +18,7 @@ use Rattle.txn_lane.specs.LaneLaws.{CompletesGood, SendsLaneLists, StepsKeep}
 use Rattle.txn_lane.proofs.StepFacts.{stays_sound, idle_sound, keeps_bundle, keeps_quiet, idle_keeps}
 
 pub completes_good : CompletesGood
-completes_good reception log condition status legal told = completes_good reception log condition status legal told
+completes_good reception log condition status legal told = receiver_laws.completes_good reception log condition status legal told
 
 -- one indication and more are some
 pub tells_some : (rest : List Indication) → not (suc (length rest) == 0) ≡ true

@@ -2,6 +2,7 @@
 use Rattle.std.proofs.Common.{◌≡◌, ℕ, Bool, true, false, not, ◌&&◌, List, [], ◌∷◌, ◌++◌, Option, Some, None, is_some, Result, Ok, Err, IsOk, IsSome, inl, inr, refl, sym, ap, ◌∙◌, subst}
 use Rattle.std.specs.Option.{option_map, option_or}
 use Rattle.std.proofs.lemmas.Bool.{false≢true, true≢false, eqb-true}
+use Rattle.core_steps.specs.declared.answer.Answer.{Answer}
 use Rattle.cfdp_types.specs.Steps.{is_stamp}
 use Rattle.cfdp_types.specs.declared.key.TxnKey.{TxnKey}
 use Rattle.ind_words.specs.declared.bundle.Bundle.{Bundle}
@@ -20,7 +21,7 @@ use Rattle.txn_lane.specs.Handing.{bundle_for, MayHandOver, IsHandedOver}
 use Rattle.txn_lane.specs.Keeping.{Keeps, bundle_by, bundle_of}
 use Rattle.txn_lane.specs.Lane.{State, key_at, key_of, log_of, goes_on, is_running, IsSound}
 use Rattle.txn_lane.specs.LaneCode.{Stands, IsHeld}
-use Rattle.txn_lane.specs.Logs.{Log, sent, received, to_sender, without_deposit}
+use Rattle.txn_lane.specs.Logs.{Log, sent, received, to_sender}
 use Rattle.txn_lane.specs.Stepping.{IsOffered, IsWhyNot, IsNotCarried}
 use Rattle.txn_lane.specs.Steps.{IsKeyed, opened_log, log_before, is_foreign, is_new, is_old, is_unknown, plainly, refused_by_end, refused_by_lane, refusal_at, stepped, stepped_by, answer_in, answer_of, IsDone}
 use Rattle.txn_lane.proofs.HandFacts.{may_hand_over}
@@ -39,18 +40,18 @@ pub record Meets (state : State) (event : Event) (key : TxnKey) (sending : sende
   pub key_is : key_of (stepped state event) ≡ Some key
 
 -- what its end says to it
-abbrev pub says : sender.Sending → List sender.Entry → Event → Result sender.Answer Refusal
+abbrev pub says : sender.Sending → List sender.Entry → Event → Result Answer Refusal
 says sending front event = answer_at sending (sender.state_of sending front) (to_sender event)
 
-accepted_parts : (why : Option Refusal) (answer given : sender.Answer) → unless_refused why answer ≡ Ok given → (why ≡ None) × (answer ≡ given)
+accepted_parts : (why : Option Refusal) (answer given : Answer) → unless_refused why answer ≡ Ok given → (why ≡ None) × (answer ≡ given)
 accepted_parts None answer given e = (refl, cc)
 accepted_parts (Some r) answer given e = absurd cc
 
-refused_parts : (why : Option Refusal) (answer : sender.Answer) (r : Refusal) → unless_refused why answer ≡ Err r → why ≡ Some r
+refused_parts : (why : Option Refusal) (answer : Answer) (r : Refusal) → unless_refused why answer ≡ Err r → why ≡ Some r
 refused_parts None answer r e = absurd cc
 refused_parts (Some w) answer r e = cc
 
-ok_parts : (why : Option Refusal) (answer : sender.Answer) → IsOk (unless_refused why answer) → why ≡ None
+ok_parts : (why : Option Refusal) (answer : Answer) → IsOk (unless_refused why answer) → why ≡ None
 ok_parts None answer e = refl
 ok_parts (Some w) answer e = absurd (false≢true e)
 
@@ -60,15 +61,15 @@ unfolding answer_at
 free_of state event key sending front meets ok =
     taken_by_both state event sending front meets.passed meets.before (ok_parts _ _ ok)
 
-ok_of : (r : Result sender.Answer Refusal) (answer : sender.Answer) → r ≡ Ok answer → IsOk r
+ok_of : (r : Result Answer Refusal) (answer : Answer) → r ≡ Ok answer → IsOk r
 ok_of (Ok other) answer is = refl
 ok_of (Err why) answer is = absurd cc
 
-pub free_if : (state : State) (event : Event) (key : TxnKey) (sending : sender.Sending) (front : List sender.Entry) (answer : sender.Answer)
+pub free_if : (state : State) (event : Event) (key : TxnKey) (sending : sender.Sending) (front : List sender.Entry) (answer : Answer)
     → Meets state event key sending front → says sending front event ≡ Ok answer → refusal_at state event ≡ None
 free_if state event key sending front answer meets is = free_of state event key sending front meets (ok_of (says sending front event) answer is)
 
-pub log_then : (state : State) (event : Event) (key : TxnKey) (sending : sender.Sending) (front : List sender.Entry) (answer : sender.Answer)
+pub log_then : (state : State) (event : Event) (key : TxnKey) (sending : sender.Sending) (front : List sender.Entry) (answer : Answer)
     → Meets state event key sending front → says sending front event ≡ Ok answer
     → log_of (stepped state event) ≡ Some (sent sending (record { event = to_sender event; answer = answer } ∷ front))
 unfolding answer_at
@@ -78,13 +79,13 @@ log_then state event key sending front answer meets is =
     came.after ∙ ap (λ l. Some (log_with l event)) same
     ∙ ap (λ given. Some (sent sending (record { event = to_sender event; answer = given } ∷ front))) (accepted_parts _ _ answer is).1
 
-pub answer_then : (state : State) (event : Event) (key : TxnKey) (sending : sender.Sending) (front : List sender.Entry) (answer : sender.Answer)
-    → Meets state event key sending front → says sending front event ≡ Ok answer → answer_of (stepped state event) ≡ without_deposit answer
+pub answer_then : (state : State) (event : Event) (key : TxnKey) (sending : sender.Sending) (front : List sender.Entry) (answer : Answer)
+    → Meets state event key sending front → says sending front event ≡ Ok answer → answer_of (stepped state event) ≡ answer
 answer_then state event key sending front answer meets is = ap answer_in (log_then state event key sending front answer meets is)
 
 -- ---- the outlet
 
-pub may_then : (state : State) (event : Event) (key : TxnKey) (sending : sender.Sending) (front : List sender.Entry) (answer : sender.Answer)
+pub may_then : (state : State) (event : Event) (key : TxnKey) (sending : sender.Sending) (front : List sender.Entry) (answer : Answer)
     → Meets state event key sending front → says sending front event ≡ Ok answer
     → (bundles : List Bundle) (stands : List Bundle → Type 0) → Keeps state bundles → stands bundles
     → (user lane other another : ℕ) → user ≡ state.user → lane ≡ state.lane → other ≡ state.user → another ≡ state.lane
@@ -111,7 +112,7 @@ offered_by takes old new next user lane key (first ∷ rest) of_user of_lane han
     (subst (λ l. takes old (record { user = user; lane = l; key = key; inds = first ∷ rest }) new) of_lane handed)
 
 pub offered_then : {A : Type 0} (takes : A → Bundle → A → Type 0) (old new : A)
-    (state : State) (event : Event) (key : TxnKey) (sending : sender.Sending) (front : List sender.Entry) (answer : sender.Answer)
+    (state : State) (event : Event) (key : TxnKey) (sending : sender.Sending) (front : List sender.Entry) (answer : Answer)
     → Meets state event key sending front → says sending front event ≡ Ok answer
     → (user lane : ℕ) → user ≡ state.user → lane ≡ state.lane
     → IsHandedOver takes old new (bundle_for user lane key answer.inds)
@@ -149,14 +150,14 @@ why_not returns old new state event key sending front user lane why meets (inl (
     inl (same, inr (free_of state event key sending front meets ran.1, ap plainly ran.0))
 why_not returns old new state event key sending front user lane why meets (inr full) =
     let next : State = stepped state event in
-    let answer : sender.Answer = full.2.0 in
+    let answer : Answer = full.2.0 in
     let found = full_by next user lane key answer.inds full.2.2 in
     let told = ap (λ a. a.inds) (answer_then state event key sending front answer meets full.2.1) in
     inr (full.0, (free_if state event key sending front answer meets full.2.1, ap plainly full.1, (found.0, bundle_then next key answer.inds meets.key_is told ∙ found.1)))
 
 -- ---- what the lane holds then, and what the step gives
 
-pub held_then : (state : State) (event : Event) (key : TxnKey) (sending : sender.Sending) (front : List sender.Entry) (answer : sender.Answer)
+pub held_then : (state : State) (event : Event) (key : TxnKey) (sending : sender.Sending) (front : List sender.Entry) (answer : Answer)
     → Meets state event key sending front → says sending front event ≡ Ok answer
     → (next : Running) → sending_of next.core ≡ sending → StandsAfter next.core (record { event = to_sender event; answer = answer } ∷ front)
     → next.trace.items ≡ sender.issued front ++ answer.inds
@@ -166,7 +167,7 @@ held_then state event key sending front answer meets is next same stood traced =
   stands = subst (Stands (Some next)) (sym (log_then state event key sending front answer meets is)) (same, stood, traced);
 }
 
-pub done_then : (state : State) (event : Event) (key : TxnKey) (sending : sender.Sending) (front : List sender.Entry) (answer : sender.Answer)
+pub done_then : (state : State) (event : Event) (key : TxnKey) (sending : sender.Sending) (front : List sender.Entry) (answer : Answer)
     → Meets state event key sending front → says sending front event ≡ Ok answer
     → (done : Done) → done.key ≡ key → done.pdus ≡ answer.pdus → done.timers ≡ answer.timers → done.deposit ≡ None
     → IsDone (stepped state event) done

@@ -1,5 +1,7 @@
 -- A transaction at either of its ends, with its log, and what a lane asks of both in the same words.
 use Rattle.std.specs.Prelude.{ℕ, Bool, true, false, if◌then◌else◌, List, [], ◌∷◌, map, Option, Some, None, Result, Err}
+pub use Rattle.core_steps.specs.declared.answer.Answer.{Answer}
+use Rattle.core_steps.specs.Logs.{empty_answer}
 use Rattle.cfdp_types.specs.declared.key.TxnKey.{TxnKey}
 use Rattle.cfdp_types.specs.declared.image.Image.{Image}
 use Rattle.pdu_codec.specs.declared.event.What.{What}
@@ -34,10 +36,6 @@ pub data Log : Type 0 where
   sent : sender.Sending → List sender.Entry → Log
   received : receiver.Reception → List receiver.Entry → Log
 
--- what an accepted event is answered, at either end: a sender has no deposit
-abbrev pub Answer : Type 0
-Answer = receiver.Answer
-
 -- ---- what opens a transaction
 
 -- the PDUs that open a reception
@@ -51,7 +49,7 @@ body_opens _ = false
 abbrev pub opened_by : LaneSide → TxnKey → Event → Option Transaction
 opened_by (Sending numbers greatest) key (Put request params) = Some (sends (record { key = key; params = params; request = request }))
 opened_by (Receiving params) key (On named (what.Pdu pdu)) =
-    if body_opens pdu.body then Some (receives (record { key = key; params = params; opened_log = pdu.header })) else None
+    if body_opens pdu.body then Some (receives (record { key = key; params = params; header = pdu.header })) else None
 opened_by side key event = None
 
 -- ---- events as the ends see them
@@ -100,15 +98,11 @@ refused_behind (sent sending log) event = sender_refusals.refusal_at sending (se
 refused_behind (received reception log) (On key event) = receiver_refusals.refusal_at reception (receiver.state_of log) event
 refused_behind (received reception log) (Put request params) = None
 
--- a sender's answer
-abbrev pub without_deposit : sender.Answer → Answer
-without_deposit answer = record { inds = answer.inds; pdus = answer.pdus; timers = answer.timers; deposit = None }
-
 -- what its last event was answered
 abbrev pub last_answer : Log → Answer
-last_answer (sent sending (entry ∷ front)) = without_deposit entry.answer
+last_answer (sent sending (entry ∷ front)) = entry.answer
 last_answer (received reception (entry ∷ front)) = entry.answer
-last_answer log = receiver_answers.quiet
+last_answer log = empty_answer
 
 -- the file of a deposit that waits, by its stamp
 abbrev pub image_in : Log → ℕ → Result Image Refusal

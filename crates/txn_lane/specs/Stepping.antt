@@ -1,5 +1,6 @@
 -- What a step does with the outlet, and why an event is not taken.
 use Rattle.std.specs.Prelude.{◌≡◌, ℕ, List, [], ◌∷◌, None, Some, ◌⊎◌, Result, Ok, IsSome}
+use Rattle.core_steps.specs.declared.answer.Answer.{Answer}
 use Rattle.cfdp_types.specs.declared.key.TxnKey.{TxnKey}
 use Rattle.ind_words.specs.declared.bundle.Bundle.{Bundle}
 use Rattle.pdu_codec.specs.declared.event.Refusal.{Refusal}
@@ -45,8 +46,8 @@ pub record IsTaken (state : State) (event : Event) (next : State) (done : Done) 
   pub done_is : IsDone next done
 
 -- why a sender's answer under a key is not carried out: there is none, memory ran out, or the queue was full
-abbrev pub IsNotCarried : {A : Type 0} → (A → A → Type 0) → A → A → ℕ → ℕ → TxnKey → Result sender.Answer Refusal → Refusal → Type 0
+abbrev pub IsNotCarried : {A : Type 0} → (A → A → Type 0) → A → A → ℕ → ℕ → TxnKey → Result Answer Refusal → Refusal → Type 0
 IsNotCarried returns old new user lane key answered why =
     ((new ≡ old) × IsWhy answered why)
     ⊎ (returns old new × (why ≡ refusal.QueueFull)
-    × ((answer : sender.Answer) × (answered ≡ Ok answer) × IsSome (bundle_for user lane key answer.inds)))
+    × ((answer : Answer) × (answered ≡ Ok answer) × IsSome (bundle_for user lane key answer.inds)))

@@ -9,7 +9,7 @@ use Rattle.pdu_codec.specs.declared.event.Refusal.{Refusal}
 use Rattle.pdu_codec.specs.declared.event.Refusal.TheVariants as refusal
 use Rattle.pdu_codec.specs.Events.{echo_of}
 use Rattle.pdu_format.specs.Pdu.{PduValue}
-use Rattle.receiver_table.specs.Answers.{quiet}
+use Rattle.receiver_table.specs.Answers.{empty_answer}
 use Rattle.ind_words.specs.declared.bundle.Bundle.{Bundle}
 use Rattle.txn_lane.specs.declared.done.Done.{Done}
 use Rattle.txn_lane.specs.declared.event.Event.{Event}
@@ -132,7 +132,7 @@ stepped state event = stepped_by state event (opened_log state event)
 
 -- what the last event of a transaction was answered
 abbrev pub answer_in : Option Log → Answer
-answer_in None = quiet
+answer_in None = empty_answer
 answer_in (Some log) = last_answer log
 
 -- what the last event of a lane was answered

@@ -32,7 +32,7 @@ impl Running {
     ghost use Rattle.pdu_codec.specs.declared.event.Refusal.TheVariants as refusal;
     ghost use Rattle.sender_table.specs.Sending.{Entry, put, happens, initial};
     ghost use Rattle.sender_table.specs.Answers.{answer_at};
-    ghost use Rattle.sender_core.specs.Core.{shown, sending_of, sending_by, StandsAfter, IsPlanOf, IsWhy, plan_answer, answer_value};
+    ghost use Rattle.sender_core.specs.Core.{shown, sending_of, sending_by, StandsAfter, IsPlanOf, IsWhy, plan_answer};
     ghost use Rattle.txn_lane.specs.declared.event.Event.{Event as EventValue};
     ghost use Rattle.txn_lane.specs.declared.event.Event.TheVariants.{Put, On};
     ghost use Rattle.txn_lane.specs.Logs.{to_sender};
@@ -87,7 +87,7 @@ impl Running {
     pub(crate) fn commit(&mut self, step: Step) -> Answer
         requires planned { (event : EventValue) × IsStepOf self.old event step }
         requires runs { (shown self.old.core).ended ≡ false }
-        ensures answer { answer_value result ≡ plan_answer step.plan }
+        ensures answer { result ≡ plan_answer step.plan }
         ensures nothing { result.deposit ≡ None }
         ensures sending { sending_of self.new.core ≡ sending_of self.old.core }
         ensures stands { (log : List Entry) → StandsAfter self.old.core log

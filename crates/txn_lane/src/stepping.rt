@@ -4,7 +4,7 @@ ghost use Rattle.std.specs.Prelude.{◌≡◌, ◌∷◌, ◌++◌, [], false, L
 ghost use Rattle.pdu_codec.specs.declared.event.Refusal.TheVariants as refusal;
 ghost use Rattle.sender_table.specs.Sending.{Entry, Answer as AnswerValue, put, happens, initial};
 ghost use Rattle.sender_table.specs.Answers.{answer_at};
-ghost use Rattle.sender_core.specs.Core.{shown, sending_of, sending_by, StandsAfter, IsWhy, plan_answer, answer_value};
+ghost use Rattle.sender_core.specs.Core.{shown, sending_of, sending_by, StandsAfter, IsWhy, plan_answer};
 ghost use Rattle.txn_lane.specs.declared.event.Event.{Event as EventValue};
 ghost use Rattle.txn_lane.specs.declared.event.Event.TheVariants.{Put, On};
 ghost use Rattle.txn_lane.specs.Handing.{bundle_for, MayHandOver, IsHandedOver};
@@ -95,7 +95,7 @@ fn carry_out<O: Outlet>(
     requires planned { (event : EventValue) × IsStepOf running.old event step }
     requires runs { (shown running.old.core).ended ≡ false }
     requires may { MayHandOver (O.user outlet.old) (O.lane outlet.old) (O.stands outlet.old) bundle }
-    ensures answer { IfOk result (λ answer. answer_value answer ≡ plan_answer step.plan) }
+    ensures answer { IfOk result (λ answer. answer ≡ plan_answer step.plan) }
     ensures nothing { IfOk result (λ answer. answer.deposit ≡ None) }
     ensures sending { OnOk result (sending_of running.new.core ≡ sending_of running.old.core) }
     ensures stands { OnOk result ((log : List Entry) → StandsAfter running.old.core log
@@ -120,13 +120,13 @@ pub(crate) fn start<O: Outlet>(
 ) -> Result<(Running, Answer), Refusal>
     requires may { (answer : AnswerValue) → answer_at (sending_by key params request.now) (initial (sending_by key params request.now)) put ≡ Ok answer
         → MayHandOver (O.user outlet.old) (O.lane outlet.old) (O.stands outlet.old) (bundle_for place.user place.lane key answer.inds) }
-    ensures answer { IfOk result (λ started. answer_at (sending_by key params request.now) (initial (sending_by key params request.now)) put ≡ Ok (answer_value started.1)) }
+    ensures answer { IfOk result (λ started. answer_at (sending_by key params request.now) (initial (sending_by key params request.now)) put ≡ Ok started.1) }
     ensures nothing { IfOk result (λ started. started.1.deposit ≡ None) }
     ensures sending { IfOk result (λ started. sending_of started.0.core ≡ sending_by key params request.now) }
-    ensures stands { IfOk result (λ started. StandsAfter started.0.core (record { event = put; answer = answer_value started.1 } ∷ [])) }
+    ensures stands { IfOk result (λ started. StandsAfter started.0.core (record { event = put; answer = started.1 } ∷ [])) }
     ensures journal { IfOk result (λ started. started.0.journal.items ≡ Put request.now params ∷ []) }
-    ensures trace { IfOk result (λ started. started.0.trace.items ≡ (answer_value started.1).inds) }
-    ensures offered { IfOk result (λ started. IsHandedOver O.takes outlet.old outlet.new (bundle_for place.user place.lane key (answer_value started.1).inds)) }
+    ensures trace { IfOk result (λ started. started.0.trace.items ≡ started.1.inds) }
+    ensures offered { IfOk result (λ started. IsHandedOver O.takes outlet.old outlet.new (bundle_for place.user place.lane key started.1.inds)) }
     ensures refused { IfErr result (λ why. IsNotCarried O.returns outlet.old outlet.new place.user place.lane key
         (answer_at (sending_by key params request.now) (initial (sending_by key params request.now)) put) why) }
 {
@@ -147,14 +147,14 @@ pub(crate) fn advance<O: Outlet>(
     requires runs { (shown running.old.core).ended ≡ false }
     requires may { (answer : AnswerValue) → answer_at (sending_of running.old.core) (shown running.old.core) (happens what.now) ≡ Ok answer
         → MayHandOver (O.user outlet.old) (O.lane outlet.old) (O.stands outlet.old) (bundle_for place.user place.lane key answer.inds) }
-    ensures answer { IfOk result (λ answer. answer_at (sending_of running.old.core) (shown running.old.core) (happens what.now) ≡ Ok (answer_value answer)) }
+    ensures answer { IfOk result (λ answer. answer_at (sending_of running.old.core) (shown running.old.core) (happens what.now) ≡ Ok answer) }
     ensures nothing { IfOk result (λ answer. answer.deposit ≡ None) }
     ensures sending { sending_of running.new.core ≡ sending_of running.old.core }
     ensures stands { IfOk result (λ answer. (log : List Entry) → StandsAfter running.old.core log
-        → StandsAfter running.new.core (record { event = happens what.now; answer = answer_value answer } ∷ log)) }
+        → StandsAfter running.new.core (record { event = happens what.now; answer = answer } ∷ log)) }
     ensures journal { OnOk result (running.new.journal.items ≡ running.old.journal.items ++ On key what.now ∷ []) }
-    ensures trace { IfOk result (λ answer. running.new.trace.items ≡ running.old.trace.items ++ (answer_value answer).inds) }
-    ensures offered { IfOk result (λ answer. IsHandedOver O.takes outlet.old outlet.new (bundle_for place.user place.lane key (answer_value answer).inds)) }
+    ensures trace { IfOk result (λ answer. running.new.trace.items ≡ running.old.trace.items ++ answer.inds) }
+    ensures offered { IfOk result (λ answer. IsHandedOver O.takes outlet.old outlet.new (bundle_for place.user place.lane key answer.inds)) }
     ensures same_core { IfErr result (λ why. running.new.core ≡ running.old.core) }
     ensures same_journal { IfErr result (λ why. running.new.journal.items ≡ running.old.journal.items) }
     ensures same_trace { IfErr result (λ why. running.new.trace.items ≡ running.old.trace.items) }

@@ -20,5 +20,5 @@ pub returns-clause-stands : goal.returns-clause-stands
 unfolding state_of
 returns-clause-stands c event log planned stood =
     ap (λ r. state_from c.args.plan.next r) c.apply_remainder.ensures
-    ∙ planned.follows
+    ∙ planned.answered.follows
     ∙ ap (λ s. step (sending_of c.args.self.now) s (record { event = event; answer = plan_answer c.args.plan })) stood

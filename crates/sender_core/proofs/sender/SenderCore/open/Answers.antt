@@ -1,3 +1,4 @@
+use Rattle.cfdp_types.specs.declared.limits.TheConstants.{FILE_OCTETS}
 use Rattle.std.proofs.Common.{◌≡◌, ◌<◌, ◌≤◌, length, sym, ap, ◌∙◌, inl, inr, refl, rules}
 use Rattle.std.proofs.lemmas.Result.{err_from_is_err_and}
 use Rattle.cfdp_types.specs.Put.{PutValue}
@@ -7,25 +8,25 @@ use Rattle.sender_core.proofs.sender.SenderCore.open.Goals as goal
 
 pub returns-then-size-clause-refused : goal.returns-then-size-clause-refused
 returns-then-size-clause-refused c =
-    let large : 4194304 < length c.args.request.now.file = rw (c.as_slice-size.ensures, c.file.ensures) at c.if-size.true in
+    let large : FILE_OCTETS < length c.args.request.now.file = rw (c.as_slice-size.ensures, c.file.ensures) at c.if-size.true in
     inl (put_refused _ _ large)
 
 pub returns-in_err-remaining-clause-refused : goal.returns-in_err-remaining-clause-refused
 returns-in_err-remaining-clause-refused c =
     let p = err_from_is_err_and c.from_residual.result c.from_residual.ensures.1 in
-    let small : length c.args.request.now.file ≤ 4194304 = rw (c.as_slice-size.ensures, c.file.ensures) at c.if-size.false in
+    let small : length c.args.request.now.file ≤ FILE_OCTETS = rw (c.as_slice-size.ensures, c.file.ensures) at c.if-size.false in
     rw p.1 (inr (p.2, put_taken _ _ small))
 
 pub returns-in_err-push-clause-refused : goal.returns-in_err-push-clause-refused
 returns-in_err-push-clause-refused c =
     let p = err_from_is_err_and c.from_residual-in_err-push.result c.from_residual-in_err-push.ensures.1 in
-    let small : length c.args.request.now.file ≤ 4194304 = rw (c.as_slice-size.ensures, c.file.ensures) at c.if-size.false in
+    let small : length c.args.request.now.file ≤ FILE_OCTETS = rw (c.as_slice-size.ensures, c.file.ensures) at c.if-size.false in
     rw p.1 (inr (p.2, put_taken _ _ small))
 
 pub returns-in_err-request-clause-refused : goal.returns-in_err-request-clause-refused
 returns-in_err-request-clause-refused c =
     let p = err_from_is_err_and c.from_residual-in_err-request.result c.from_residual-in_err-request.ensures.1 in
-    let small : length c.args.request.now.file ≤ 4194304 = rw (c.as_slice-size.ensures, c.file.ensures) at c.if-size.false in
+    let small : length c.args.request.now.file ≤ FILE_OCTETS = rw (c.as_slice-size.ensures, c.file.ensures) at c.if-size.false in
     rw p.1 (inr (p.2, put_taken _ _ small))
 
 pub returns-clause-stands : goal.returns-clause-stands

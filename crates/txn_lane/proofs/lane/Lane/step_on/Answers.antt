@@ -1,6 +1,5 @@
 use Rattle.std.proofs.Common.{◌++◌, Some, sym, ap, ◌∙◌, subst}
 use Rattle.std.proofs.lemmas.Result.{err_from_is_err_and}
-use Rattle.sender_core.specs.Core.{answer_value}
 use Rattle.sender_table.specs.Sending.{happens}
 use Rattle.txn_lane.specs.Keeping.{bundle_of}
 use Rattle.txn_lane.specs.LaneCode.{IsHeld}
@@ -51,7 +50,7 @@ invariant_of-self-2 g c =
     (sym c.self.view_is) c.self.invariant c.in-Some.is c.requires.keyed c.requires.passed in
     let found = going.found in
     let says = says_same c.in-Some.running found.sending found.front (happens c.args.what.now) found.same found.stood in
-    let answer = answer_value c.in_ok-answer.answer in
+    let answer = c.in_ok-answer.answer in
     let is = sym says ∙ c.in_ok-answer.ensures.answer in
     let next = next_on i.numbers i.greatest i.user i.lane i.source i.last i.before i.running c.in-Some.running c.advance.new.running c.args.self.now c.args.key c.args.what.now
     (sym c.self.view_is) c.in-Some.is going.none c.in_ok-answer.ensures.journal in
@@ -68,7 +67,7 @@ returns-clause-taken g c =
     (sym c.self.view_is) c.self.invariant c.in-Some.is c.requires.keyed c.requires.passed in
     let found = going.found in
     let says = says_same c.in-Some.running found.sending found.front (happens c.args.what.now) found.same found.stood in
-    let answer = answer_value c.in_ok-answer.answer in
+    let answer = c.in_ok-answer.answer in
     let is = sym says ∙ c.in_ok-answer.ensures.answer in
     let next = next_on i.numbers i.greatest i.user i.lane i.source i.last i.before i.running c.in-Some.running c.advance.new.running c.args.self.now c.args.key c.args.what.now
     (sym c.self.view_is) c.in-Some.is going.none c.in_ok-answer.ensures.journal in
@@ -90,7 +89,7 @@ returns-clause-offered g c =
     (sym c.self.view_is) c.self.invariant c.in-Some.is c.requires.keyed c.requires.passed in
     let found = going.found in
     let says = says_same c.in-Some.running found.sending found.front (happens c.args.what.now) found.same found.stood in
-    let answer = answer_value c.in_ok-answer.answer in
+    let answer = c.in_ok-answer.answer in
     let is = sym says ∙ c.in_ok-answer.ensures.answer in
     let next = next_on i.numbers i.greatest i.user i.lane i.source i.last i.before i.running c.in-Some.running c.advance.new.running c.args.self.now c.args.key c.args.what.now
     (sym c.self.view_is) c.in-Some.is going.none c.in_ok-answer.ensures.journal in

@@ -1,6 +1,6 @@
 use Rattle.std.proofs.Common.{Some, [], sym, ◌∙◌, subst}
 use Rattle.std.proofs.lemmas.Result.{err_from_is_err_and}
-use Rattle.sender_core.specs.Core.{sending_by, answer_value}
+use Rattle.sender_core.specs.Core.{sending_by}
 use Rattle.txn_lane.specs.Keeping.{bundle_of}
 use Rattle.txn_lane.specs.Lane.{key_at}
 use Rattle.txn_lane.specs.LaneCode.{journal_of, IsHeld}
@@ -49,7 +49,7 @@ invariant_of-self g c =
     let meets = meets_put i.numbers i.greatest i.user i.lane i.source i.last i.before (journal_of i.running) c.in-Some.seq c.args.self.now c.args.request.now c.args.params
     (sym c.self.view_is) c.self.invariant.sound c.requires.passed c.in-Some.ensures.held.0 in
     let says = says_put sending c.args.request.now c.args.params in
-    let answer = answer_value c.in_ok-running.answer in
+    let answer = c.in_ok-running.answer in
     let is = sym says ∙ c.in_ok-running.ensures.answer in
     let next = next_put i.numbers i.greatest i.user i.lane i.source i.last i.before (journal_of i.running) c.in_ok-running.running.journal.items c.in-Some.seq c.args.self.now c.args.request.now c.args.params
     (sym c.self.view_is) c.in-Some.ensures.held.0 c.in_ok-running.ensures.journal in
@@ -66,7 +66,7 @@ returns-clause-taken g c =
     let meets = meets_put i.numbers i.greatest i.user i.lane i.source i.last i.before (journal_of i.running) c.in-Some.seq c.args.self.now c.args.request.now c.args.params
     (sym c.self.view_is) c.self.invariant.sound c.requires.passed c.in-Some.ensures.held.0 in
     let says = says_put sending c.args.request.now c.args.params in
-    let answer = answer_value c.in_ok-running.answer in
+    let answer = c.in_ok-running.answer in
     let is = sym says ∙ c.in_ok-running.ensures.answer in
     let next = next_put i.numbers i.greatest i.user i.lane i.source i.last i.before (journal_of i.running) c.in_ok-running.running.journal.items c.in-Some.seq c.args.self.now c.args.request.now c.args.params
     (sym c.self.view_is) c.in-Some.ensures.held.0 c.in_ok-running.ensures.journal in
@@ -89,7 +89,7 @@ returns-clause-offered g c =
     let meets = meets_put i.numbers i.greatest i.user i.lane i.source i.last i.before (journal_of i.running) c.in-Some.seq c.args.self.now c.args.request.now c.args.params
     (sym c.self.view_is) c.self.invariant.sound c.requires.passed c.in-Some.ensures.held.0 in
     let says = says_put sending c.args.request.now c.args.params in
-    let answer = answer_value c.in_ok-running.answer in
+    let answer = c.in_ok-running.answer in
     let is = sym says ∙ c.in_ok-running.ensures.answer in
     let next = next_put i.numbers i.greatest i.user i.lane i.source i.last i.before (journal_of i.running) c.in_ok-running.running.journal.items c.in-Some.seq c.args.self.now c.args.request.now c.args.params
     (sym c.self.view_is) c.in-Some.ensures.held.0 c.in_ok-running.ensures.journal in

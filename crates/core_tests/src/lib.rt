@@ -3,9 +3,9 @@
 #![tactic(auto)]
 
 #[cfg(test)]
-mod events;
+mod ends;
 #[cfg(test)]
-mod receiving;
+mod events;
 #[cfg(test)]
 mod reception_faults;
 #[cfg(test)]

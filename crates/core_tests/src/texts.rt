@@ -1,8 +1,8 @@
 //! What an event is answered, as a text: the PDUs in hex, the indications, what is done with the timers
 //! and the stamp of the deposit, with semicolons between; or why it is refused.
 use cfdp_types::{Condition, Deposit, Image, Octets, TimerKind, TimerOp, TxnKey};
-use core_steps::{Pdus, TimerOps};
-use ind_words::{Indication, Indications};
+use core_steps::Answer;
+use ind_words::Indication;
 use pdu_codec::{Pdu, Refusal, encode};
 use std::alloc::{AllocError, Global};
 
@@ -22,25 +22,16 @@ pub(crate) fn image_text(alloc: Global, image: &Image) -> Result<String, AllocEr
     Ok(text)
 }
 
-/// The parts of an answer.
-#[derive(Clone, Copy, Debug)]
-pub(crate) struct Parts<'a> {
-    pub(crate) pdus: &'a Pdus,
-    pub(crate) inds: &'a Indications,
-    pub(crate) timers: &'a TimerOps,
-    pub(crate) deposit: Option<Deposit>,
-}
-
 /// The text of an answer of the transaction with a key.
-pub(crate) fn answer_text(alloc: Global, key: TxnKey, parts: Parts) -> Result<String, AllocError> {
+pub(crate) fn answer_text(alloc: Global, key: TxnKey, answer: &Answer) -> Result<String, AllocError> {
     let mut text = String::new(alloc);
-    for pdu in parts.pdus.as_slice() {
+    for pdu in answer.pdus.as_slice() {
         separate(&mut text)?;
         push_pdu(alloc, &mut text, pdu)?;
     }
-    push_indications(alloc, &mut text, parts.inds.as_slice())?;
-    push_timers(&mut text, key, parts.timers.as_slice())?;
-    if let Some(deposit) = parts.deposit {
+    push_indications(alloc, &mut text, answer.inds.as_slice())?;
+    push_timers(&mut text, key, answer.timers.as_slice())?;
+    if let Some(deposit) = answer.deposit {
         separate(&mut text)?;
         let stamp = deposit.stamp;
         write!(text, "deposit {stamp}")?;

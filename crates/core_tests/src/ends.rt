@@ -1,0 +1,176 @@
+//! How a script is played at either end. Each of its lines is an event and what it is answered, with a
+//! colon between, or `nothing`; after `N times` it stands for so many. Entity 1 sends the file "a" to entity 2, to be
+//! kept as "b", as transaction 5; entity 2 puts its own to entity 1, as transaction 4.
+use crate::events::{event_of, pdu_of};
+use crate::setting::{Acts, params};
+use crate::texts::{answer_text, image_text, refused};
+use cfdp_types::{Class, EntityId, PutRequest, TxnKey};
+use core_steps::Answer;
+use pdu_codec::{Refusal, What};
+use receiver_core::ReceiverCore;
+use sender_core::SenderCore;
+use std::alloc::{AllocError, Global};
+use std::process::Abort;
+use std::test::*;
+
+/// The transaction that is received.
+pub(crate) const RECEIVED: TxnKey = TxnKey {
+    source: EntityId(1),
+    seq: 5,
+};
+
+/// The transaction that is sent.
+pub(crate) const SENT: TxnKey = TxnKey {
+    source: EntityId(2),
+    seq: 4,
+};
+
+/// One end of a transaction.
+#[derive(Debug, Drop)]
+enum End {
+    Receives(ReceiverCore),
+    Sends(SenderCore),
+}
+
+// The answer of a receiver; none where it has ended.
+fn received(core: &mut ReceiverCore, event: &What) -> Result<Option<Answer>, Refusal> {
+    if core.has_ended() {
+        return Ok(None);
+    }
+    let plan = core.plan(event)?;
+    Ok(Some(core.commit(plan)))
+}
+
+// The answer of a sender; none where it has ended.
+fn sent(core: &mut SenderCore, event: &What) -> Result<Option<Answer>, Refusal> {
+    if core.has_ended() {
+        return Ok(None);
+    }
+    let plan = core.plan(event)?;
+    Ok(Some(core.commit(plan)))
+}
+
+impl End {
+    fn key(&self) -> TxnKey {
+        match self {
+            End::Receives(_) => RECEIVED,
+            End::Sends(_) => SENT,
+        }
+    }
+
+    fn answer(&mut self, event: &What) -> Result<Option<Answer>, Refusal> {
+        match self {
+            End::Receives(core) => received(core, event),
+            End::Sends(core) => sent(core, event),
+        }
+    }
+
+    // What an event is answered, as text.
+    fn step(&mut self, alloc: Global, event: &What) -> Result<String, AllocError> {
+        let key = self.key();
+        match self.answer(event) {
+            Err(refusal) => refused(alloc, refusal),
+            Ok(None) => String::from_str(alloc, "ended"),
+            Ok(Some(answer)) => answer_text(alloc, key, &answer),
+        }
+    }
+
+    // The file with a stamp.
+    fn image(&self, alloc: Global, stamp: u32) -> Result<String, AllocError> {
+        match self {
+            End::Sends(_) => String::from_str(alloc, "no receiver"),
+            End::Receives(core) => match core.image(stamp) {
+                Err(refusal) => refused(alloc, refusal),
+                Ok(image) => image_text(alloc, &image),
+            },
+        }
+    }
+
+    // What an event is answered, or "image" with a stamp.
+    fn line(&mut self, alloc: Global, event: &str) -> Result<String, Fail> {
+        match event.strip_prefix("image ") {
+            Some(stamp) => Ok(self.image(alloc, stamp.parse()?)?),
+            None => {
+                let event = event_of(alloc, event)?;
+                Ok(self.step(alloc, &event)?)
+            }
+        }
+    }
+}
+
+// A line of a script: how often, which event, and the answer.
+fn row_of(line: &str) -> Result<(u32, &str, &str), Fail> {
+    let (event, answer) = line.split_once(": ").ok_or("an event is answered")?;
+    let answer = if answer == "nothing" { "" } else { answer };
+    match event.split_once(" times ") {
+        None => Ok((1, event, answer)),
+        Some((count, event)) => Ok((count.parse()?, event, answer)),
+    }
+}
+
+// The lines of a script, in their order.
+fn play<R: Abort>(rt: &R, alloc: Global, end: &mut End, script: &str) -> Result<(), Fail> {
+    for line in script.lines() {
+        let line = line.trim();
+        if !line.is_empty() {
+            play_line(rt, alloc, end, line)?;
+        }
+    }
+    Ok(())
+}
+
+fn play_line<R: Abort>(rt: &R, alloc: Global, end: &mut End, line: &str) -> Result<(), Fail> {
+    let (count, event, answer) = row_of(line)?;
+    for _ in 0..count {
+        let answered = end.line(alloc, event)?;
+        assert_eq!(rt; answered.as_str(), answer, "at {event}");
+    }
+    Ok(())
+}
+
+// A reception that a PDU opens, with what that is answered.
+fn opened(alloc: Global, acts: (Acts, Acts), hex: &str) -> Result<(End, String), Fail> {
+    let params = params(acts.0, acts.1)?;
+    let pdu = pdu_of(alloc, hex)?;
+    if !ReceiverCore::may_open(RECEIVED, &pdu) {
+        return Err("the first PDU opens".into());
+    }
+    let (mut core, plan) = ReceiverCore::open(alloc, RECEIVED, &pdu, params)?;
+    let text = answer_text(alloc, RECEIVED, &core.commit(plan))?;
+    Ok((End::Receives(core), text))
+}
+
+/// Plays a reception: the first line is the PDU that opens it. Each fault cancels it.
+pub(crate) fn receives<R: AllocGlobal + Abort>(rt: &R, script: &str) -> Result<(), Fail> {
+    receives_with(rt, (&[], &[]), script)
+}
+
+/// The same, where a reception does so at some faults, in class 1 and in class 2.
+pub(crate) fn receives_with<R: AllocGlobal + Abort>(
+    rt: &R,
+    acts: (Acts, Acts),
+    script: &str,
+) -> Result<(), Fail> {
+    let (first, rest) = script.trim().split_once('\n').ok_or("a line follows")?;
+    let (_, event, answer) = row_of(first)?;
+    let hex = event.strip_prefix("pdu ").ok_or("a PDU comes first")?;
+    let (mut end, text) = opened(rt.alloc(), acts, hex)?;
+    assert_eq!(rt; text.as_str(), answer, "at {event}");
+    play(rt, rt.alloc(), &mut end, rest)
+}
+
+/// Plays what follows the Put of a file, which is answered by Transaction alone.
+pub(crate) fn sends<R: AllocGlobal + Abort>(
+    rt: &R,
+    class: Class,
+    file: &[u8],
+    script: &str,
+) -> Result<(), Fail> {
+    let alloc = rt.alloc();
+    let params = params(&[], &[])?;
+    let request = PutRequest::new(alloc, EntityId(1), class, b"a", b"b", &[], file)?;
+    let (mut core, plan) = SenderCore::open(alloc, SENT, &request, params)?;
+    let text = answer_text(alloc, SENT, &core.commit(plan))?;
+    assert_eq!(rt; text.as_str(), "Transaction");
+    play(rt, alloc, &mut End::Sends(core), script)
+}

@@ -1,0 +1,270 @@
+//! Receptions, line by line.
+use crate::ends::{RECEIVED, receives};
+use crate::events::pdu_of;
+use crate::setting::params;
+use pdu_codec::Refusal;
+use receiver_core::ReceiverCore;
+use std::alloc::AllocError;
+use std::test::*;
+
+#[test]
+fn a_file_in_class_one(rt: HostRuntime) -> Result<(), Fail> {
+    receives(
+        &rt,
+        "
+        pdu 24000a0001050207000000000301610162: Metadata-Recv 1 3 61 62; arm inactivity 0 4000
+        pdu 3400070001050200000000616263: File-Segment-Recv 0 3; arm inactivity 1 4000
+        image 2: refused StaleStored
+        pdu 24000a0001050204006162630000000003: EOF-Recv; disarm inactivity 2; deposit 2
+        image 1: refused StaleStored
+        image 2: image 61 62 616263
+        report: Report Storing 3
+        cancel: refused Storing
+        timer inactivity 2: refused StaleTimer
+        stored 1 yes: refused StaleStored
+        stored 2 yes: Finished 0 Complete Retained
+        report: ended
+        ",
+    )
+}
+
+// What came first at an offset stays; a segment that covers a gap is told where it is new.
+#[test]
+fn overlapping_segments(rt: HostRuntime) -> Result<(), Fail> {
+    receives(
+        &rt,
+        "
+        pdu 340008000105020000000061626364: File-Segment-Recv 0 4; arm inactivity 0 4000
+        pdu 3400080001050200000008696a6b6c: File-Segment-Recv 8 4; arm inactivity 1 4000
+        pdu 34000c00010502000000027878787878787878: File-Segment-Recv 4 4; arm inactivity 2 4000
+        pdu 24000a0001050207000000000c01610162: Metadata-Recv 1 12 61 62; arm inactivity 3 4000
+        pdu 24000a000105020400434547480000000c: EOF-Recv; disarm inactivity 4; deposit 4
+        image 4: image 61 62 6162636478787878696a6b6c
+        stored 4 no: Finished 4 Incomplete Rejected
+        ",
+    )
+}
+
+// A segment over two others, one that is known, and one without octets.
+#[test]
+fn segments_in_pieces(rt: HostRuntime) -> Result<(), Fail> {
+    receives(
+        &rt,
+        "
+        pdu 34000600010502000000006162: File-Segment-Recv 0 2; arm inactivity 0 4000
+        pdu 34000600010502000000046566: File-Segment-Recv 4 2; arm inactivity 1 4000
+        pdu 34000c00010502000000007878787878787878: File-Segment-Recv 2 2; File-Segment-Recv 6 2; arm inactivity 2 4000
+        pdu 34000c00010502000000007878787878787878: arm inactivity 3 4000
+        pdu 3400040001050200000063: arm inactivity 4 4000
+        report: Report Active 8
+        ",
+    )
+}
+
+#[test]
+fn requests_in_class_one(rt: HostRuntime) -> Result<(), Fail> {
+    receives(
+        &rt,
+        "
+        pdu 24000a0001050207000000000301610162: Metadata-Recv 1 3 61 62; arm inactivity 0 4000
+        suspend: refused WrongState
+        resume: refused WrongState
+        pump: refused WrongState
+        pdu 240002000105020900: refused WrongState
+        cancel: Finished 15 Incomplete Discarded; disarm inactivity 1
+        cancel: ended
+        ",
+    )
+}
+
+// The NAK asks for the Metadata alone; the Finished PDU is sent again, and at the limit the reception ends.
+#[test]
+fn a_file_in_class_two(rt: HostRuntime) -> Result<(), Fail> {
+    receives(
+        &rt,
+        "
+        pdu 3000070001050200000000616263: File-Segment-Recv 0 3; arm inactivity 0 4000
+        pdu 20000a0001050204006162630000000003: 28000300010502064001; 280011000105020800000000000000030000000000000000; EOF-Recv; arm nak 1 2000; arm inactivity 1 4000
+        pdu 20000a0001050207000000000301610162: Metadata-Recv 1 3 61 62; disarm nak 2; disarm inactivity 2; deposit 2
+        timer nak 1: refused StaleTimer
+        stored 2 yes: 280002000105020502; arm ack 3 1000
+        image 2: refused StaleStored
+        timer ack 2: refused StaleTimer
+        timer ack 3: 280002000105020502; arm ack 4 1000
+        report: Report Closing 3
+        timer ack 4: Finished 0 Complete Retained; disarm ack 6
+        report: ended
+        ",
+    )
+}
+
+// While it is suspended, data is taken; the ACK of the Finished PDU has another condition, which says nothing.
+#[test]
+fn suspended_while_data_comes(rt: HostRuntime) -> Result<(), Fail> {
+    receives(
+        &rt,
+        "
+        pdu 20000a0001050207000000000301610162: Metadata-Recv 1 3 61 62; arm inactivity 0 4000
+        pdu 20000a0001050204006162630000000003: 28000300010502064001; 280011000105020800000000000000030000000000000003; EOF-Recv; arm nak 1 2000; arm inactivity 1 4000
+        suspend: Suspended 14; disarm nak 2; disarm inactivity 2
+        pdu 3000070001050200000000616263: File-Segment-Recv 0 3
+        resume: Resumed 3; deposit 4
+        stored 4 no: 280005000105020545060102; arm ack 5 1000
+        pdu 20000300010502065102: Finished 4 Incomplete Rejected; disarm ack 6
+        resume: ended
+        ",
+    )
+}
+
+#[test]
+fn requests_while_suspended(rt: HostRuntime) -> Result<(), Fail> {
+    receives(
+        &rt,
+        "
+        pdu 20000a0001050207000000000301610162: Metadata-Recv 1 3 61 62; arm inactivity 0 4000
+        resume: refused WrongState
+        suspend: Suspended 14; disarm inactivity 1
+        suspend: refused WrongState
+        report: Report Suspended 0
+        pdu 200002000105020900: nothing
+        pdu 200002000105020980: 280005000105020c00000000
+        resume: Resumed 0; arm inactivity 5 4000
+        suspend: Suspended 14; disarm inactivity 6
+        cancel: 2800050001050205f4060102; arm ack 7 1000
+        report: Report Closing 0
+        suspend: refused WrongState
+        abandon: Abandoned 15 0; disarm ack 9
+        abandon: ended
+        ",
+    )
+}
+
+// A Prompt for a NAK leaves all timers as they are.
+#[test]
+fn prompts(rt: HostRuntime) -> Result<(), Fail> {
+    receives(
+        &rt,
+        "
+        pdu 20000a0001050207000000000301610162: Metadata-Recv 1 3 61 62; arm inactivity 0 4000
+        pdu 3000070001050200000000616263: File-Segment-Recv 0 3; arm inactivity 1 4000
+        pdu 200002000105020900: 28000900010502080000000000000003
+        pdu 200002000105020980: 280005000105020c00000003; arm inactivity 3 4000
+        timer inactivity 1: refused StaleTimer
+        abandon: Abandoned 15 3; disarm inactivity 4
+        ",
+    )
+}
+
+#[test]
+fn cancelled_by_the_sender(rt: HostRuntime) -> Result<(), Fail> {
+    receives(
+        &rt,
+        "
+        pdu 20000d0001050204f00000000000000000060101: 280003000105020640f2; Finished 15 Incomplete Discarded
+        pdu 20000a0001050207000000000301610162: ended
+        ",
+    )
+}
+
+// Of another class; an ACK that does not fit; what goes the other way; one octet above the greatest file.
+#[test]
+fn what_is_refused(rt: HostRuntime) -> Result<(), Fail> {
+    receives(
+        &rt,
+        "
+        pdu 20000a0001050207000000000301610162: Metadata-Recv 1 3 61 62; arm inactivity 0 4000
+        pdu 24000a0001050207000000000301610162: refused ModeMismatch
+        pdu 20000300010502065102: refused WrongState
+        pdu 28000900010502080000000000000003: refused WrongState
+        pdu 280005000105020c00000003: refused WrongState
+        pdu 300005000105020040000061: refused TooLarge
+        pdu 20000a0001050204000000000000400001: refused TooLarge
+        timer check 0: refused StaleTimer
+        stored 0 yes: refused StaleStored
+        report: Report Active 0
+        ",
+    )
+}
+
+// 65 octets, with a gap before each: a NAK asks for 64 of the gaps, and its scope ends with the last of
+// them.
+#[test]
+fn more_gaps_than_a_nak_asks_for(rt: HostRuntime) -> Result<(), Fail> {
+    let mut script = String::new(rt.alloc());
+    script.push_str("pdu 20000a0001050207000000000301610162: Metadata-Recv 1 3 61 62; arm inactivity 0 4000\n")?;
+    for gap in 0..65_u32 {
+        write_segment(&mut script, gap + 1, 2 * gap + 1)?;
+    }
+    script.push_str("pdu 20000a0001050204000000000000000082: 28000300010502064001; ")?;
+    write_nak(&mut script)?;
+    script.push_str("; EOF-Recv; arm nak 66 2000; arm inactivity 66 4000\n")?;
+    receives(&rt, script.as_str())
+}
+
+// The event with a stamp brings the octet at an offset, which is new.
+fn write_segment(script: &mut String, stamp: u32, offset: u32) -> Result<(), AllocError> {
+    write!(script, "pdu 30000500010502{offset:08x}61: ")?;
+    writeln!(
+        script,
+        "File-Segment-Recv {offset} 1; arm inactivity {stamp} 4000"
+    )
+}
+
+// The NAK for the octets at 0, 2, 4 and so on up to 126.
+fn write_nak(script: &mut String) -> Result<(), AllocError> {
+    script.push_str("2802090001050208000000000000007f")?;
+    for gap in 0..64_u32 {
+        let start = 2 * gap;
+        let end = start + 1;
+        write!(script, "{start:08x}{end:08x}")?;
+    }
+    Ok(())
+}
+
+// After 65,534 entries only the file store's answer and Abandon are taken.
+#[test]
+fn a_full_journal(rt: HostRuntime) -> Result<(), Fail> {
+    receives(
+        &rt,
+        "
+        pdu 20000a0001050207000000000301610162: Metadata-Recv 1 3 61 62; arm inactivity 0 4000
+        pdu 3000070001050200000000616263: File-Segment-Recv 0 3; arm inactivity 1 4000
+        pdu 20000a0001050204006162630000000003: 28000300010502064001; EOF-Recv; disarm inactivity 2; deposit 2
+        65531 times report: Report Storing 3
+        report: refused JournalFull
+        stored 2 yes: 280002000105020502; arm ack 65534 1000
+        timer ack 65534: refused JournalFull
+        abandon: Abandoned 15 3; disarm ack 65535
+        abandon: ended
+        ",
+    )
+}
+
+// Metadata of a file that is too large opens nothing.
+#[test]
+fn too_large_a_file(rt: HostRuntime) -> Result<(), Fail> {
+    let pdu = pdu_of(rt.alloc(), "24000a0001050207000040000101610162")?;
+    assert!(rt; ReceiverCore::may_open(RECEIVED, &pdu));
+    let opened = ReceiverCore::open(rt.alloc(), RECEIVED, &pdu, params(&[], &[])?);
+    assert!(rt; matches!(opened, Err(Refusal::TooLarge)));
+    Ok(())
+}
+
+// Metadata, File Data and EOF of the key alone open a reception: not of another sequence number or source,
+// no Prompt, and no ACK.
+#[test]
+fn what_opens(rt: HostRuntime) -> Result<(), Fail> {
+    for (hex, expected) in [
+        ("24000a0001050207000000000301610162", true),
+        ("3400070001050200000000616263", true),
+        ("20000d0001050204f00000000000000000060101", true),
+        ("24000a0001060207000000000301610162", false),
+        ("24000a0003050207000000000301610162", false),
+        ("200002000105020900", false),
+        ("20000300010502065102", false),
+    ] {
+        let pdu = pdu_of(rt.alloc(), hex)?;
+        assert_eq!(rt; ReceiverCore::may_open(RECEIVED, &pdu), expected, "at {hex}");
+    }
+    Ok(())
+}
