@@ -48,10 +48,10 @@ impl SenderCore {
         ensures { result ≡ cancel_eof (sending_of self.now) (shown self.now) condition }
     {
         let progress = self.control.progress;
-        let pdus_of_response = &self.request.file().as_slice()[..progress as usize];
+        let prefix = &self.request.file().as_slice()[..progress as usize];
         Eof {
             condition,
-            checksum: sum_of(pdus_of_response),
+            checksum: sum_of(prefix),
             size: progress,
             location: Some(self.params.local()),
         }
