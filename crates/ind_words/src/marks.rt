@@ -1,6 +1,6 @@
 ghost use Rattle.std.specs.Prelude.{◌≡◌, ◌∷◌, ◌↔◌, List, IsTrue, true, false};
-ghost use Rattle.ind_words.specs.declared.indication.Indication.{Indication};
-ghost use Rattle.ind_words.specs.Words.{IsNext, IsNextOfSender, IsFilled, MayFinish, is_segment};
+ghost use Rattle.indications.specs.declared.indication.Indication.{Indication};
+ghost use Rattle.indications.specs.Words.{IsNext, IsNextOfSender, IsFilled, MayFinish, is_segment};
 ghost use Rattle.ind_words.specs.Marks.{marks_of};
 
 use crate::indication::Indication;

@@ -7,7 +7,7 @@ mod event;
 mod fields;
 pub mod laws;
 mod memory;
-mod opening;
+mod fixed_header;
 mod options;
 mod parts;
 mod writing;
@@ -15,10 +15,8 @@ mod writing;
 pub use decoding::decode;
 pub use encoding::encode;
 pub use event::{Refusal, What};
-pub use pdu_format::{
-    Ack, Acknowledged, Body, DecodeFault, Direction, Eof, FileData, Finished, Header, KeepAlive,
-    Metadata, Nak, Pdu, Prompt, SegmentRequest, SegmentRequests, TransactionStatus,
-};
+pub use pdu_reading::DecodeFault;
+pub use pdu_values::{Ack, Acknowledged, Body, Direction, Eof, FileData, Finished, Header, KeepAlive, Metadata, Nak, Pdu, Prompt, SegmentRequest, SegmentRequests, TransactionStatus};
 
 #[cfg(test)]
 mod tests;

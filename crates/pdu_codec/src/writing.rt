@@ -2,17 +2,17 @@
 
 ghost use Rattle.std.specs.Prelude.{◌≡◌, ◌<◌, ◌≤◌, ◌+◌, ◌^◌, [], ◌∷◌, map, length};
 ghost use Rattle.std.specs.List.{flat_map, AllByRecursion};
-ghost use Rattle.pdu_format.specs.Numbers.{digits};
-ghost use Rattle.pdu_format.specs.Tlvs.{message_tlv, location_tlvs, octets_for};
-ghost use Rattle.pdu_format.specs.Spelling.{size_octets, lv, tlv, request, IsIdLength, IsLocation, IsMessage};
+ghost use Rattle.pdu_values.specs.Numbers.{digits};
+ghost use Rattle.pdu_values.specs.Tlvs.{message_tlv, location_tlvs, octets_for};
+ghost use Rattle.pdu_values.specs.Spelling.{size_octets, lv, tlv, request, IsIdLength, IsLocation, IsMessage};
 ghost use Rattle.pdu_codec.specs.Writing.{HasRoom, Writes};
 
 use crate::options::{ENTITY_ID, MESSAGE};
 use cfdp_types::{EntityId, Messages};
-use pdu_format::{SegmentRequest, SegmentRequests};
+use pdu_values::{SegmentRequest, SegmentRequests};
 
 /// A number of one octet.
-#[tactic(auto, unfolding(pdu_format::specs::Numbers::digits))]
+#[tactic(auto, unfolding(pdu_values::specs::Numbers::digits))]
 pub fn put_octet(out: &mut Vec<u8>, number: u8)
     requires { HasRoom out.old (digits 1 number) }
     ensures { Writes out.old out.new (digits 1 number) }
@@ -68,7 +68,7 @@ pub fn put_tlv(out: &mut Vec<u8>, kind: u8, value: &[u8])
 }
 
 /// The octets of an entity ID in an optional field: as many as the header's IDs have, or as hold it.
-#[tactic(auto, unfolding(pdu_format::specs::Tlvs::width_from))]
+#[tactic(auto, unfolding(pdu_values::specs::Tlvs::width_from))]
 pub fn location_octets(entity_octets: u8, id: EntityId) -> u8
     requires length { IsIdLength entity_octets }
     requires fits { id.0 < 256 ^ 8 }

@@ -1,5 +1,5 @@
 use Rattle.std.proofs.Common.{◌∙◌, sym, arith}
-use Rattle.pdu_codec.proofs.WriteLaws.{pow_fits, width_goes_on}
+use Rattle.pdu_values.proofs.WidthLaws.{pow_fits, width_goes_on}
 use Rattle.pdu_codec.proofs.writing.location_octets.Goals as goal
 
 pub pow-requires : goal.pow-requires

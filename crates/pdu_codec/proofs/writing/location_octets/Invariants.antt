@@ -1,5 +1,5 @@
 use Rattle.std.proofs.Common.{◌≡◌, ◌≤◌, ◌-◌}
-use Rattle.pdu_format.specs.Tlvs.{width_from, octets_for}
+use Rattle.pdu_values.specs.Tlvs.{width_from, octets_for}
 use Rattle.pdu_codec.proofs.writing.location_octets.Given as goal
 
 abbrev pub invariant-loop-width : goal.invariant-loop-width

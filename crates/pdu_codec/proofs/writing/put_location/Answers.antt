@@ -1,4 +1,4 @@
-use Rattle.pdu_format.specs.Numbers.{digits}
+use Rattle.pdu_values.specs.Numbers.{digits}
 use Rattle.std.proofs.Common.{◌++◌}
 use Rattle.pdu_codec.proofs.WriteLaws.{room_first, room_rest, writes_then, room_for_location, location_written}
 use Rattle.pdu_codec.proofs.writing.put_location.Goals as goal
