@@ -1,7 +1,6 @@
-use crate::indication::Indication;
 use crate::marks::Marks;
 use crate::segments::{Segments, take_segment};
-use crate::side::Side;
+use indications::{Indication, Side};
 use std::alloc::{AllocError, Global};
 
 /// The indication may not come next, or there is no room for its segment.

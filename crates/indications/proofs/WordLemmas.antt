@@ -10,7 +10,10 @@ use Rattle.indications.specs.declared.indication.Indication.{Indication}
 use Rattle.indications.specs.declared.indication.Indication.TheVariants as told
 use Rattle.indications.specs.declared.side.Side.{Side}
 use Rattle.indications.specs.declared.side.Side.TheVariants.{Sender, Receiver}
-use Rattle.indications.specs.Words.{MayFollowOf, MayFollow, IsNextOf, IsBegunOf, IsWordOf, is_end, is_transaction}
+use Rattle.indications.specs.declared.kind.IndicationKind.{IndicationKind}
+use Rattle.indications.specs.declared.kind.IndicationKind.TheVariants as kind
+use Rattle.indications.specs.Kinds.{kind_of, is_opening}
+use Rattle.indications.specs.Words.{IsNextKindOfSender, MayFollowOf, MayFollow, IsNextOf, IsBegunOf, IsWordOf, is_end, is_transaction}
 pub use Rattle.indications.specs.Words.{told_onto}
 
 pub told_onto-append : (before xs ys : List Indication) → told_onto before (xs ++ ys) ≡ told_onto (told_onto before xs) ys
@@ -71,18 +74,19 @@ word_is_over side word next rest is begun =
     true≢false (sym (list_any-told_onto is_end [] word ∙ or-false (list_any is_end word) ∙ is.1) ∙ none)
 
 -- the first that a sender tells is Transaction
+opening_first : (first : IndicationKind) → IsNextKindOfSender [] first → IsTrue (is_opening first)
+opening_first kind.Opening may = refl
+opening_first kind.EofSent may = absurd (false≢true may.0)
+opening_first kind.EofRecv may = absurd may
+opening_first kind.Metadata may = absurd may
+opening_first (kind.Segment offset length) may = absurd may
+opening_first kind.Suspension may = absurd (false≢true may.0)
+opening_first kind.Resumption may = absurd (false≢true may.0)
+opening_first (kind.End delivery) may = absurd (false≢true may)
+opening_first kind.Notice may = absurd (false≢true may)
+
 pub opens_sender : (next : Indication) (rest : List Indication) → IsBegunOf Sender (next ∷ rest) → IsTrue (is_transaction next)
-opens_sender told.Transaction rest begun = refl
-opens_sender told.EofSent rest begun = absurd (false≢true begun.1.0)
-opens_sender told.EofRecv rest begun = absurd begun.1
-opens_sender (told.TransactionFinished a b c) rest begun = absurd (false≢true begun.1)
-opens_sender (told.MetadataRecv a b c d e) rest begun = absurd begun.1
-opens_sender (told.FileSegmentRecv a b) rest begun = absurd begun.1
-opens_sender (told.Suspended a) rest begun = absurd (false≢true begun.1.0)
-opens_sender (told.Resumed a) rest begun = absurd (false≢true begun.1.0)
-opens_sender (told.Report a b) rest begun = absurd (false≢true begun.1)
-opens_sender (told.Fault a b) rest begun = absurd (false≢true begun.1)
-opens_sender (told.Abandoned a b) rest begun = absurd (false≢true begun.1)
+opens_sender next rest begun = opening_first (kind_of next) begun.1
 
 -- what a side must have told before an end
 abbrev pub MayEnd : Side → List Indication → Type 0

@@ -1,14 +1,31 @@
 -- Worked words: what is one, and what is none.
-use Rattle.std.proofs.Common.{◌≡◌, ℕ, ◌+◌, ◌<◌, ◌≤◌, ◌↔◌, Bool, true, false, ◌&&◌, ◌||◌, List, [], ◌∷◌, IsTrue, refl, zero, suc, arith}
+use Rattle.std.proofs.Common.{◌≡◌, ℕ, ◌+◌, ◌<◌, ◌≤◌, ◌↔◌, Bool, true, false, ◌&&◌, ◌||◌, List, [], ◌∷◌, map, IsTrue, refl, zero, suc, arith}
 use Rattle.std.specs.Prelude.{nat_le, nat_lt}
 use Rattle.std.specs.List.{list_any}
 use Rattle.std.proofs.lemmas.Bool.Decides.{nat_tests}
+use Rattle.cfdp_types.specs.declared.condition.Condition.{Condition}
+use Rattle.cfdp_types.specs.declared.names.FileStatus.{FileStatus}
+use Rattle.indications.specs.declared.indication.Phase.{Phase}
+use Rattle.cfdp_types.specs.declared.names.Delivery.{Delivery}
 use Rattle.cfdp_types.specs.declared.names.Delivery.TheVariants.{Complete, Incomplete}
 use Rattle.cfdp_types.specs.declared.names.FileStatus.TheVariants.{Retained, Unreported}
 use Rattle.indications.specs.declared.indication.Indication.{Indication}
 use Rattle.indications.specs.declared.indication.Indication.TheVariants as told
+use Rattle.indications.specs.declared.kind.IndicationKind.TheVariants as kind
+use Rattle.indications.specs.Kinds.{kind_of}
 use Rattle.indications.specs.declared.side.Side.TheVariants.{Sender, Receiver}
 use Rattle.indications.specs.Words.{tells_of, IsNew, IsBegun, IsWord, IsBegunOf, IsWordOf}
+
+-- ---- kinds
+
+kinds : (condition : Condition) (delivery : Delivery) (status : FileStatus) (phase : Phase) (n length : ℕ) (name : List ℕ) (messages : List (List ℕ)) → map kind_of (
+    told.Transaction ∷ told.EofSent ∷ told.EofRecv ∷ told.TransactionFinished condition delivery status
+    ∷ told.MetadataRecv (record { 0 = n }) n name name messages ∷ told.FileSegmentRecv n length
+    ∷ told.Suspended condition ∷ told.Resumed n ∷ told.Report phase n ∷ told.Fault condition n ∷ told.Abandoned condition n ∷ [])
+    ≡ kind.Opening ∷ kind.EofSent ∷ kind.EofRecv ∷ kind.End delivery
+    ∷ kind.Metadata ∷ kind.Segment n length
+    ∷ kind.Suspension ∷ kind.Resumption ∷ kind.Notice ∷ kind.Notice ∷ kind.End Incomplete ∷ []
+kinds condition delivery status phase n length name messages = refl
 
 -- ---- a receiver
 
@@ -94,3 +111,15 @@ transaction_of_sender = ((refl, refl, (refl, (refl, refl), (refl, refl, tt))), r
 
 transaction_twice : IsBegunOf Sender (told.Transaction ∷ told.Transaction ∷ []) → ⊥
 transaction_twice begun = let first = begun.2.1 in absurd cc
+
+-- a sender's word: suspended before its EOF and resumed after it
+suspended_sending : (condition : Condition) (status : FileStatus) → IsWordOf Sender (
+    told.Transaction ∷ told.Suspended condition ∷ told.EofSent ∷ told.Resumed 3
+    ∷ told.TransactionFinished condition Complete status ∷ [])
+suspended_sending condition status =
+    ((refl, refl, (refl, (refl, refl), (refl, (refl, refl), (refl, (refl, refl), (refl, refl, tt))))), refl)
+
+-- a beginning of a receiver's word, which reports and faults don't end
+reported_reception : (phase : Phase) (condition : Condition) → IsBegun (
+    told.EofRecv ∷ told.Report phase 0 ∷ told.Fault condition 0 ∷ told.Suspended condition ∷ [])
+reported_reception phase condition = (refl, refl, (refl, tt, (refl, tt, (refl, refl, tt))))

@@ -1,14 +1,13 @@
 -- What a lane sends to its user: the bundles of one transaction after those of another.
-use Rattle.std.specs.Prelude.{◌≡◌, ℕ, ◌<◌, ◌==◌, Bool, true, not, All, List, [], ◌∷◌, length, flat_map}
+use Rattle.std.specs.Prelude.{◌≡◌, ℕ, ◌<◌, ◌==◌, Bool, true, not, All, List, [], ◌∷◌, length, flat_map, if◌then◌else◌}
 use Rattle.std.specs.List.{filter, list_any}
 use Rattle.std.specs.List.Sorted.{IsNonDecreasingBy}
 use Rattle.cfdp_types.specs.declared.key.EntityId.{EntityId}
 use Rattle.indications.specs.declared.bundle.Bundle.{Bundle}
 use Rattle.indications.specs.declared.indication.Indication.{Indication}
-use Rattle.indications.specs.declared.indication.Indication.TheVariants as told
 use Rattle.indications.specs.declared.side.Side.{Side}
 use Rattle.indications.specs.declared.side.Side.TheVariants.{Sender, Receiver}
-use Rattle.indications.specs.Words.{IsBegunOf, IsWordOf}
+use Rattle.indications.specs.Words.{IsBegunOf, IsWordOf, is_transaction}
 
 -- the sequence number of a bundle's transaction
 abbrev pub number_of : Bundle → ℕ
@@ -40,8 +39,7 @@ tells bundle = not (length bundle.inds == 0)
 
 -- only a sender tells Transaction
 abbrev pub side_by : Indication → Side
-side_by told.Transaction = Sender
-side_by _ = Receiver
+side_by first = if is_transaction first then Sender else Receiver
 
 -- the side of a transaction here, by what it told first
 abbrev pub side_of : List Indication → Side

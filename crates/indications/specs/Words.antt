@@ -1,59 +1,48 @@
 -- The words that the indications of one transaction form, at its sender and at its receiver.
-use Rattle.std.specs.Prelude.{◌≡◌, ℕ, ◌+◌, ◌<◌, ◌≤◌, ◌↔◌, Bool, true, false, ◌&&◌, nat_lt, nat_le, IsTrue, List, [], ◌∷◌, refl}
+use Rattle.std.specs.Prelude.{◌≡◌, ℕ, ◌+◌, ◌<◌, ◌≤◌, ◌↔◌, Bool, true, false, IsTrue, List, [], ◌∷◌}
 use Rattle.std.specs.List.{list_any}
 use Rattle.cfdp_types.specs.declared.limits.TheConstants.{FILE_OCTETS}
 use Rattle.cfdp_types.specs.declared.names.Delivery.{Delivery}
 use Rattle.cfdp_types.specs.declared.names.Delivery.TheVariants.{Complete, Incomplete}
-use Rattle.cfdp_types.specs.declared.condition.Condition.{Condition}
-use Rattle.cfdp_types.specs.declared.names.FileStatus.{FileStatus}
 use Rattle.indications.specs.declared.indication.Indication.{Indication}
-use Rattle.indications.specs.declared.indication.Phase.{Phase}
-use Rattle.indications.specs.declared.indication.Indication.TheVariants as told
+use Rattle.indications.specs.declared.kind.IndicationKind.{IndicationKind}
+use Rattle.indications.specs.declared.kind.IndicationKind.TheVariants as kind
 use Rattle.indications.specs.declared.side.Side.{Side}
 use Rattle.indications.specs.declared.side.Side.TheVariants.{Sender, Receiver}
+use Rattle.indications.specs.Kinds.{kind_of, is_ending, is_opening, is_eof_sending, is_metadata_reception, is_eof_reception, is_segment_reception, has_octet, suspended_behind}
 
 -- the user is told that the transaction is over
 abbrev pub is_end : Indication → Bool
-is_end (told.TransactionFinished c d s) = true
-is_end (told.Abandoned c p) = true
-is_end _ = false
+is_end indication = is_ending (kind_of indication)
 
 -- a sender has begun
 abbrev pub is_transaction : Indication → Bool
-is_transaction told.Transaction = true
-is_transaction _ = false
+is_transaction indication = is_opening (kind_of indication)
 
 -- a sender has sent its EOF
 abbrev pub is_eof_sent : Indication → Bool
-is_eof_sent told.EofSent = true
-is_eof_sent _ = false
+is_eof_sent indication = is_eof_sending (kind_of indication)
 
 -- the Metadata came
 abbrev pub is_metadata : Indication → Bool
-is_metadata (told.MetadataRecv a b c d e) = true
-is_metadata _ = false
+is_metadata indication = is_metadata_reception (kind_of indication)
 
 -- the EOF came
 abbrev pub is_eof : Indication → Bool
-is_eof told.EofRecv = true
-is_eof _ = false
+is_eof indication = is_eof_reception (kind_of indication)
 
 -- octets of the file came
 abbrev pub is_segment : Indication → Bool
-is_segment (told.FileSegmentRecv offset length) = true
-is_segment _ = false
+is_segment indication = is_segment_reception (kind_of indication)
 
 -- the user is told of the octet at this offset
 abbrev pub tells_of : ℕ → Indication → Bool
-tells_of i (told.FileSegmentRecv offset length) = nat_le offset i && nat_lt i (offset + length)
-tells_of i _ = false
+tells_of i indication = has_octet i (kind_of indication)
 
 -- of Suspended and Resumed the last was Suspended; what was told stands newest first
 abbrev pub is_paused : List Indication → Bool
 is_paused [] = false
-is_paused (told.Suspended c ∷ before) = true
-is_paused (told.Resumed p ∷ before) = false
-is_paused (_ ∷ before) = is_paused before
+is_paused (indication ∷ before) = suspended_behind (kind_of indication) (is_paused before)
 
 -- no octet of these offsets was told of before
 abbrev pub IsNew : List Indication → ℕ → ℕ → Type 0
@@ -68,37 +57,41 @@ abbrev pub MayFinish : List Indication → Delivery → Type 0
 MayFinish before Incomplete = Unit {0}
 MayFinish before Complete = IsTrue (list_any is_metadata before) × IsTrue (list_any is_eof before) × IsFilled before
 
--- what a receiver may tell next, where it has not told an end; what was told before stands newest first
+-- what kind a receiver may tell next, where it has not told an end; what was told before stands newest first
+abbrev pub IsNextKind : List Indication → IndicationKind → Type 0
+IsNextKind before kind.Opening = ⊥
+IsNextKind before kind.EofSent = ⊥
+IsNextKind before kind.EofRecv = list_any is_eof before ≡ false
+IsNextKind before kind.Metadata = list_any is_metadata before ≡ false
+IsNextKind before (kind.Segment offset length) = (0 < length) × (offset + length ≤ FILE_OCTETS) × IsNew before offset length
+IsNextKind before kind.Suspension = is_paused before ≡ false
+IsNextKind before kind.Resumption = is_paused before ≡ true
+IsNextKind before (kind.End delivery) = MayFinish before delivery
+IsNextKind before kind.Notice = Unit {0}
+
+-- what a receiver may tell next
 abbrev pub IsNext : List Indication → Indication → Type 0
-IsNext before told.Transaction = ⊥
-IsNext before told.EofSent = ⊥
-IsNext before told.EofRecv = list_any is_eof before ≡ false
-IsNext before (told.TransactionFinished condition delivery status) = MayFinish before delivery
-IsNext before (told.MetadataRecv source size source_name destination_name messages) = list_any is_metadata before ≡ false
-IsNext before (told.FileSegmentRecv offset length) = (0 < length) × (offset + length ≤ FILE_OCTETS) × IsNew before offset length
-IsNext before (told.Suspended condition) = is_paused before ≡ false
-IsNext before (told.Resumed progress) = is_paused before ≡ true
-IsNext before (told.Report phase progress) = Unit {0}
-IsNext before (told.Fault condition progress) = Unit {0}
-IsNext before (told.Abandoned condition progress) = Unit {0}
+IsNext before next = IsNextKind before (kind_of next)
 
 -- the transaction has begun
 abbrev pub IsOpened : List Indication → Type 0
 IsOpened before = IsTrue (list_any is_transaction before)
 
--- what a sender may tell next, where it has not told an end: Transaction at the start, and nothing before it
+-- what kind a sender may tell next, where it has not told an end: Transaction at the start, and nothing before it
+abbrev pub IsNextKindOfSender : List Indication → IndicationKind → Type 0
+IsNextKindOfSender before kind.Opening = list_any is_transaction before ≡ false
+IsNextKindOfSender before kind.EofSent = IsOpened before × (list_any is_eof_sent before ≡ false)
+IsNextKindOfSender before kind.EofRecv = ⊥
+IsNextKindOfSender before kind.Metadata = ⊥
+IsNextKindOfSender before (kind.Segment offset length) = ⊥
+IsNextKindOfSender before kind.Suspension = IsOpened before × (is_paused before ≡ false)
+IsNextKindOfSender before kind.Resumption = IsOpened before × (is_paused before ≡ true)
+IsNextKindOfSender before (kind.End delivery) = IsOpened before
+IsNextKindOfSender before kind.Notice = IsOpened before
+
+-- what a sender may tell next
 abbrev pub IsNextOfSender : List Indication → Indication → Type 0
-IsNextOfSender before told.Transaction = list_any is_transaction before ≡ false
-IsNextOfSender before told.EofSent = IsOpened before × (list_any is_eof_sent before ≡ false)
-IsNextOfSender before told.EofRecv = ⊥
-IsNextOfSender before (told.TransactionFinished condition delivery status) = IsOpened before
-IsNextOfSender before (told.MetadataRecv source size source_name destination_name messages) = ⊥
-IsNextOfSender before (told.FileSegmentRecv offset length) = ⊥
-IsNextOfSender before (told.Suspended condition) = IsOpened before × (is_paused before ≡ false)
-IsNextOfSender before (told.Resumed progress) = IsOpened before × (is_paused before ≡ true)
-IsNextOfSender before (told.Report phase progress) = IsOpened before
-IsNextOfSender before (told.Fault condition progress) = IsOpened before
-IsNextOfSender before (told.Abandoned condition progress) = IsOpened before
+IsNextOfSender before next = IsNextKindOfSender before (kind_of next)
 
 -- what a side may tell next, where it has not told an end
 abbrev pub IsNextOf : Side → List Indication → Indication → Type 0
@@ -134,15 +127,3 @@ IsBegun = IsBegunOf Receiver
 -- a receiver's word
 abbrev pub IsWord : List Indication → Type 0
 IsWord = IsWordOf Receiver
-
--- a sender's word: suspended before its EOF and resumed after it
-suspended_sending : (condition : Condition) (status : FileStatus) → IsWordOf Sender (
-    told.Transaction ∷ told.Suspended condition ∷ told.EofSent ∷ told.Resumed 3
-    ∷ told.TransactionFinished condition Complete status ∷ [])
-suspended_sending condition status =
-    ((refl, refl, (refl, (refl, refl), (refl, (refl, refl), (refl, (refl, refl), (refl, refl, tt))))), refl)
-
--- a beginning of a receiver's word, which reports and faults don't end
-reported_reception : (phase : Phase) (condition : Condition) → IsBegun (
-    told.EofRecv ∷ told.Report phase 0 ∷ told.Fault condition 0 ∷ told.Suspended condition ∷ [])
-reported_reception phase condition = (refl, refl, (refl, tt, (refl, tt, (refl, refl, tt))))

@@ -1,7 +1,9 @@
 ghost use Rattle.std.specs.Prelude.{◌≡◌, [], ◌∷◌, ◌++◌, IfOk, OnOk, OnErr};
 ghost use Rattle.std.specs.List.{list_any};
+ghost use Rattle.indications.specs.Kinds.{kind_of};
 ghost use Rattle.indications.specs.Words.{is_end};
 
+use crate::kind::IndicationKind;
 use cfdp_types::{Condition, Delivery, EntityId, FileStatus, Messages, Octets};
 use std::alloc::{AllocError, Global};
 use std::marker::Model;
@@ -72,10 +74,28 @@ impl Indication {
     pub fn is_end(&self) -> bool
         ensures { result ≡ is_end self.now }
     {
-        matches!(
-            self,
-            Indication::TransactionFinished { .. } | Indication::Abandoned { .. }
-        )
+        matches!(self.kind(), IndicationKind::End(_))
+    }
+
+    /// What it says of its transaction.
+    pub fn kind(&self) -> IndicationKind
+        ensures { result ≡ kind_of self.now }
+    {
+        match self {
+            Indication::Transaction => IndicationKind::Opening,
+            Indication::EofSent => IndicationKind::EofSent,
+            Indication::EofRecv => IndicationKind::EofRecv,
+            Indication::TransactionFinished { delivery, .. } => IndicationKind::End(*delivery),
+            Indication::MetadataRecv { .. } => IndicationKind::Metadata,
+            Indication::FileSegmentRecv { offset, length } => IndicationKind::Segment {
+                offset: *offset,
+                length: *length,
+            },
+            Indication::Suspended { .. } => IndicationKind::Suspension,
+            Indication::Resumed { .. } => IndicationKind::Resumption,
+            Indication::Report { .. } | Indication::Fault { .. } => IndicationKind::Notice,
+            Indication::Abandoned { .. } => IndicationKind::End(Delivery::Incomplete),
+        }
     }
 }
 

@@ -3,11 +3,9 @@ use Rattle.std.proofs.Common.{◌≡◌, ℕ, zero, suc, ◌+◌, ◌-◌, ◌*�
 use Rattle.std.proofs.lemmas.List.{length-append}
 use Rattle.std.specs.Prelude.{Vec, vec_len, vec_capacity}
 use Rattle.std.specs.List.{flat_map}
-use Rattle.std.proofs.lemmas.Bool.{le-ltb}
-use Rattle.std.proofs.Math.Nat.{pow-le-pow_right}
 use Rattle.cfdp_types.specs.declared.key.EntityId.{EntityId}
 use Rattle.pdu_values.specs.Numbers.{digits}
-use Rattle.pdu_values.specs.Tlvs.{width_from, octets_for, location_tlvs}
+use Rattle.pdu_values.specs.Tlvs.{octets_for, location_tlvs}
 use Rattle.pdu_values.specs.Spelling.{size_octets, tlv, ids, type_bit, data_field, plain_choice, lengths_octet, spelling, written, Fits}
 use Rattle.pdu_values.specs.Pdu.{PduValue}
 use Rattle.pdu_values.specs.declared.bodies.Nak as nak_type

@@ -7,11 +7,11 @@ ghost use Rattle.pdu_values.specs.Spelling as spelling;
 ghost use Rattle.pdu_codec.specs.Writing.{HasRoom, Writes, field_of, header_of, text_of, FieldFits};
 
 use crate::writing::{
-    location_octets, put_location, put_lv, put_messages, put_number, put_octet, put_octets,
+    put_location, put_lv, put_messages, put_number, put_octet, put_octets,
     put_requests,
 };
 use cfdp_types::{Class, Delivery, EntityId, FileStatus, Messages};
-use pdu_values::{Ack, Acknowledged, Body, Direction, Eof, FileData, Finished, Header, KeepAlive, Metadata, Nak, Pdu, Prompt, TransactionStatus};
+use pdu_values::{Ack, Acknowledged, Body, Direction, Eof, FileData, Finished, Header, KeepAlive, Metadata, Nak, Pdu, Prompt, TransactionStatus, octets_for};
 use std::alloc::AllocError;
 
 // ---- how long the data field is
@@ -25,7 +25,7 @@ fn location_size(entity_octets: u8, location: Option<EntityId>) -> usize
 {
     match location {
         None => 0,
-        Some(id) => 2 + usize::from(location_octets(entity_octets, id)),
+        Some(id) => 2 + usize::from(octets_for(entity_octets, id.0)),
     }
 }
 

@@ -177,11 +177,11 @@ pub fn are_requests(octets: &[u8]) -> bool
 pub fn requests_at(alloc: Global, octets: &[u8]) -> Result<SegmentRequests, AllocError>
     ensures { IfOk result (λ requests. requests ≡ requests_at octets.now) }
 {
-    let mut requests = Vec::with_capacity(alloc, octets.len() / 8)?;
+    let mut requests = SegmentRequests::with_capacity(alloc, octets.len() / 8)?;
     let mut rest = octets;
     while let Some((request, behind)) = request_at(rest) {
         requests.push(request)?;
         rest = behind;
     }
-    Ok(SegmentRequests::from_vec(requests))
+    Ok(requests)
 }

@@ -1,5 +1,7 @@
 -- What the two ends of a transaction ask of an event.
-use Rattle.std.specs.Prelude.{ℕ, Bool, true, false, not, if◌then◌else◌, Option, Some, None}
+use Rattle.std.specs.Prelude.{ℕ, ◌+◌, Bool, true, false, not, ◌&&◌, ◌==◌, nat_lt, if◌then◌else◌, IsTrue, length, Option, Some, None}
+use Rattle.cfdp_types.specs.Condition as condition
+use Rattle.cfdp_types.specs.declared.limits.TheConstants.{FILE_OCTETS}
 use Rattle.cfdp_types.specs.declared.names.Class.{Class}
 use Rattle.cfdp_types.specs.declared.names.Class.TheVariants.{One, Two}
 use Rattle.cfdp_types.specs.declared.names.TimerKind.{TimerKind}
@@ -53,6 +55,29 @@ is_stale_timer armed _ = false
 abbrev pub is_pdu : What → Bool
 is_pdu (what.Pdu pdu) = true
 is_pdu _ = false
+
+-- a PDU with this body opens a reception that is not there yet
+abbrev pub body_opens : Body → Bool
+body_opens (body.Metadata m) = true
+body_opens (body.FileData d) = true
+body_opens (body.Eof e) = true
+body_opens _ = false
+
+-- the same as a fact
+abbrev pub BodyOpens : Body → Type 0
+BodyOpens b = IsTrue (body_opens b)
+
+-- TooLarge: the size of Metadata, the end of File Data, and the size of an EOF without an error
+abbrev pub is_body_too_large : Body → Bool
+is_body_too_large (body.Metadata m) = nat_lt FILE_OCTETS m.size
+is_body_too_large (body.FileData d) = nat_lt FILE_OCTETS (d.offset + length d.octets)
+is_body_too_large (body.Eof e) = e.condition == condition.no_error && nat_lt FILE_OCTETS e.size
+is_body_too_large _ = false
+
+-- the same of the PDU that an event is
+abbrev pub is_too_large : What → Bool
+is_too_large (what.Pdu pdu) = is_body_too_large pdu.body
+is_too_large _ = false
 
 -- to a PDU of a transaction that is over or was never there: class 2 acknowledges an EOF and a Finished all
 -- the same, with their condition code and in their lengths, and says that the transaction is terminated

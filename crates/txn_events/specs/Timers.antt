@@ -8,25 +8,27 @@ use Rattle.indications.specs.Told.{is_resumed, is_fault}
 use Rattle.indications.specs.declared.indication.Indication.{Indication}
 use Rattle.txn_events.specs.declared.event.What.{What}
 use Rattle.txn_events.specs.Events.{is_expiration}
-use Rattle.txn_events.specs.declared.timers.CountResets.{Anew}
+use Rattle.txn_events.specs.declared.timers.CountResets.{CountResets}
 use Rattle.txn_events.specs.declared.timers.TimerChange as change_type
 use Rattle.txn_events.specs.declared.timers.TimerChange.TheVariants as change
-use Rattle.txn_events.specs.declared.timers.TimerChanges.{Changes}
+use Rattle.txn_events.specs.declared.timers.TimerChanges.{TimerChanges}
 use Rattle.txn_events.specs.declared.timers.Stamps.{Stamps}
 use Rattle.txn_events.specs.declared.timers.Tries.{Tries}
 
-abbrev pub effect_of_change : change_type.Change → Effect
+-- what a change does with its timer
+abbrev pub effect_of_change : change_type.TimerChange → Effect
 effect_of_change change.Arms = arms
 effect_of_change change.Keeps = keeps
 effect_of_change change.Stops = stops
 
-abbrev pub effects : Changes → TimerKind → Effect
+-- the same of the timers of a kind
+abbrev pub effects : TimerChanges → TimerKind → Effect
 effects changes Ack = effect_of_change changes.ack
 effects changes Nak = effect_of_change changes.nak
 effects changes Check = effect_of_change changes.check
 effects changes Inactivity = effect_of_change changes.inactivity
 
--- the place of the step that armed the timers of a kind
+-- the stamp of the step that armed the timers of a kind
 abbrev pub stamp_of : Stamps → TimerKind → Option ℕ
 stamp_of stamps Ack = stamps.ack
 stamp_of stamps Nak = stamps.nak
@@ -40,23 +42,23 @@ tries_of tries Nak = tries.nak
 tries_of tries Check = tries.check
 tries_of tries Inactivity = tries.inactivity
 
--- the stamp after what a step at a place does
+-- the stamp after what a step with a stamp does
 abbrev pub stamp_by : ℕ → Effect → Option ℕ → Option ℕ
-stamp_by place arms before = Some place
-stamp_by place keeps before = before
-stamp_by place stops before = None
+stamp_by stamp arms before = Some stamp
+stamp_by stamp keeps before = before
+stamp_by stamp stops before = None
 
--- a count begins again with this step for a reason of its end
-abbrev pub is_anew : Anew → TimerKind → Bool
-is_anew anew Ack = anew.ack
-is_anew anew Nak = anew.nak
-is_anew anew Check = false
-is_anew anew Inactivity = false
+-- the count begins again with this step for a reason of its end
+abbrev pub is_reset : CountResets → TimerKind → Bool
+is_reset resets Ack = resets.ack
+is_reset resets Nak = resets.nak
+is_reset resets Check = false
+is_reset resets Inactivity = false
 
 -- the expirations that are counted after an event at which the user is told something
-abbrev pub tries_by : What → List Indication → Anew → TimerKind → ℕ → ℕ
-tries_by event inds anew kind before =
-    if list_any is_resumed inds || (is_expiration kind event && list_any is_fault inds) || is_anew anew kind then 0
+abbrev pub tries_by : What → List Indication → CountResets → TimerKind → ℕ → ℕ
+tries_by event inds resets kind before =
+    if list_any is_resumed inds || (is_expiration kind event && list_any is_fault inds) || is_reset resets kind then 0
     else if is_expiration kind event then before + 1
     else before
 

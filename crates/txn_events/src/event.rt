@@ -1,8 +1,8 @@
-ghost use Rattle.std.specs.Prelude.{◌≡◌};
-ghost use Rattle.txn_events.specs.Refusal.{refusal_number, refusal_name};
+ghost use Rattle.std.specs.Prelude.{◌≡◌, IfOk};
 
-use cfdp_types::TimerKind;
+use cfdp_types::{Params, PutRequest, TimerKind, TxnKey};
 use pdu_values::Pdu;
+use std::alloc::AllocError;
 
 /// What happens to a transaction: an event of its end in this entity.
 #[derive(Clone, Debug, Drop)]
@@ -27,63 +27,32 @@ pub enum What {
     Stored(u32, bool),
 }
 
-/// Why an event is not taken: the first that applies. It then changes nothing.
-#[derive(Clone, Copy, Debug, PartialEq, Eq)]
-pub enum Refusal {
-    /// No such transaction was opened here.
-    NoTransaction = 1,
-    /// The transaction has ended, or was never opened and a later one was.
-    OldTransaction = 2,
-    /// Another transaction runs.
-    LaneBusy = 3,
-    /// The PDU's mode is not the transaction's class.
-    ModeMismatch = 4,
-    /// The timer is not armed, or with another stamp.
-    StaleTimer = 5,
-    /// The stamp is not that of a deposit that waits.
-    StaleStored = 6,
-    /// A deposit waits for the file store's answer.
-    Storing = 7,
-    /// The event has no place in the state that the transaction is in.
-    WrongState = 8,
-    /// The sequence numbers of the lane are used up.
-    SeqExhausted = 9,
-    /// The file is larger than the entity takes.
-    TooLarge = 10,
-    /// The journal has no room for more events of this kind.
-    JournalFull = 11,
-    /// Memory ran out.
-    NoMemory = 12,
-    /// The user's queue has no room for the step's indications.
-    QueueFull = 13,
+impl What {
+    /// The same once more.
+    pub fn copy(&self) -> Result<What, AllocError>
+        ensures { IfOk result (λ copy. copy ≡ self.now) }
+    {
+        self.clone()
+    }
 }
 
-impl Refusal {
-    /// The number that is printed for the refusal.
-    pub fn number(self) -> u8
-        ensures { result ≡ refusal_number self }
-    {
-        self as u8
-    }
+/// What a lane is told.
+#[derive(Debug, Drop)]
+pub enum Event {
+    /// Its user puts a file, by these parameters: it opens a sending transaction.
+    Put(PutRequest, Params),
+    /// Something happens to the transaction with this key. The key of a PDU is the PDU's own.
+    On(TxnKey, What),
+}
 
-    /// The name that is printed for the refusal.
-    pub fn name(self) -> &'static str
-        ensures { result.now ≡ refusal_name self }
+impl Event {
+    /// The same event once more.
+    pub fn copy(&self) -> Result<Event, AllocError>
+        ensures { IfOk result (λ copy. copy ≡ self.now) }
     {
-        match self {
-            Refusal::NoTransaction => "NoTransaction",
-            Refusal::OldTransaction => "OldTransaction",
-            Refusal::LaneBusy => "LaneBusy",
-            Refusal::ModeMismatch => "ModeMismatch",
-            Refusal::StaleTimer => "StaleTimer",
-            Refusal::StaleStored => "StaleStored",
-            Refusal::Storing => "Storing",
-            Refusal::WrongState => "WrongState",
-            Refusal::SeqExhausted => "SeqExhausted",
-            Refusal::TooLarge => "TooLarge",
-            Refusal::JournalFull => "JournalFull",
-            Refusal::NoMemory => "NoMemory",
-            Refusal::QueueFull => "QueueFull",
-        }
+        Ok(match self {
+            Event::Put(request, params) => Event::Put(request.copy()?, *params),
+            Event::On(key, what) => Event::On(*key, what.copy()?),
+        })
     }
 }

@@ -4,9 +4,11 @@ ghost use Rattle.cfdp_types.specs.Steps.{is_stamp};
 ghost use Rattle.txn_events.specs.Events as asked;
 ghost use Rattle.txn_events.specs.Timers.{stamp_of};
 
+use crate::event::What;
 use crate::timers::Stamps;
-use cfdp_types::{Class, TimerKind};
-use pdu_codec::What;
+use cfdp_types::limits::FILE_OCTETS;
+use cfdp_types::{Class, Condition, TimerKind};
+use pdu_values::Body;
 
 /// Whether the event is a PDU whose mode is not the transaction's class.
 pub fn is_of_other_class(class: Class, event: &What) -> bool
@@ -59,6 +61,38 @@ pub fn is_stale_timer(armed: &Stamps, event: &What) -> bool
 {
     match event {
         What::Timer(kind, stamp) => is_stale(armed, *kind, *stamp),
+        _ => false,
+    }
+}
+
+/// Whether a PDU with this body opens a reception that is not there yet: Metadata, File Data and EOF
+/// do.
+pub fn body_opens(body: &Body) -> bool
+    ensures { result ≡ asked.body_opens body.now }
+{
+    matches!(body, Body::Metadata(_) | Body::FileData(_) | Body::Eof(_))
+}
+
+/// Whether a size or an end of a part is larger than the entity takes.
+pub fn is_body_too_large(body: &Body) -> bool
+    ensures { result ≡ asked.is_body_too_large body.now }
+{
+    match body {
+        Body::Metadata(metadata) => metadata.size > FILE_OCTETS,
+        Body::FileData(part) => {
+            part.offset as usize + part.octets.as_slice().len() > FILE_OCTETS as usize
+        }
+        Body::Eof(eof) => eof.condition == Condition::NO_ERROR && eof.size > FILE_OCTETS,
+        _ => false,
+    }
+}
+
+/// The same of the PDU that an event is.
+pub fn is_too_large(event: &What) -> bool
+    ensures { result ≡ asked.is_too_large event.now }
+{
+    match event {
+        What::Pdu(pdu) => is_body_too_large(pdu.body()),
         _ => false,
     }
 }

@@ -1,7 +1,7 @@
 ghost use Rattle.std.specs.Prelude.{◌≡◌, [], ◌∷◌, ◌++◌, IfOk, OnOk, OnErr};
 
 use cfdp_types::TimerOp;
-use pdu_codec::Pdu;
+use pdu_values::Pdu;
 use std::alloc::{AllocError, Global};
 use std::marker::Model;
 

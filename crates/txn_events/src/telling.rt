@@ -1,19 +1,19 @@
 //! What both ends ask of the indications of one step.
-ghost use Rattle.std.specs.Prelude.{◌≡◌, List, ◌∷◌};
+ghost use Rattle.std.specs.Prelude.{◌≡◌};
 ghost use Rattle.std.specs.List.{list_any};
 ghost use Rattle.indications.specs.Told.{paused_after, is_resumed, is_fault};
-ghost use Rattle.indications.specs.declared.indication.Indication.{Indication};
+ghost use Rattle.indications.specs.Kinds.{kind_of, suspended_behind};
 
-use ind_words::Indication;
+use indications::{Indication, IndicationKind};
 
-// Whether the transaction is paused once one thing more is told.
-fn pauses(paused: bool, indication: &Indication) -> bool
-    ensures { (later : List Indication) → paused_after result later ≡ paused_after paused (indication.now ∷ later) }
+// Whether the transaction is suspended once one thing more is told.
+fn is_suspended_behind(before: bool, indication: &Indication) -> bool
+    ensures { result ≡ suspended_behind (kind_of indication.now) before }
 {
-    match indication {
-        Indication::Suspended { .. } => true,
-        Indication::Resumed { .. } => false,
-        _ => paused,
+    match indication.kind() {
+        IndicationKind::Suspension => true,
+        IndicationKind::Resumption => false,
+        _ => before,
     }
 }
 
@@ -24,7 +24,7 @@ pub fn paused_after(paused: bool, inds: &[Indication]) -> bool
 {
     let mut now = paused;
     for indication in inds {
-        now = pauses(now, indication);
+        now = is_suspended_behind(now, indication);
     }
     now
 }
@@ -33,7 +33,8 @@ pub fn paused_after(paused: bool, inds: &[Indication]) -> bool
 pub fn has_resumed(inds: &[Indication]) -> bool
     ensures { result ≡ list_any is_resumed inds.now }
 {
-    inds.iter().any(|indication| matches!(indication, Indication::Resumed { .. }))
+    inds.iter()
+        .any(|indication| matches!(indication.kind(), IndicationKind::Resumption))
 }
 
 /// Whether the user is told of a fault that is ignored.

@@ -1,36 +1,43 @@
 use crate::{
-    Anew, Change, Changes, Clock, Pdus, Stamps, TimerOps, Tries, has_fault, has_resumed,
+    CountResets, TimerChange, TimerChanges, TimerContext, Pdus, Stamps, TimerOps, Tries, What, has_fault, has_resumed,
     is_expiration, is_of_other_class, is_pdu, is_stale_timer, needs_room, operations, paused_after,
 };
 use cfdp_types::{Class, Condition, EntityId, TimerKind, TimerLengths, TimerOp, TxnKey};
-use ind_words::Indication;
-use pdu_codec::{Pdu, What, decode};
-use std::alloc::Global;
+use indications::Indication;
+use pdu_values::{Direction, Header, KeepAlive, Pdu};
 use std::test::*;
 
 // a Keep Alive of class 2
-fn keep_alive(alloc: Global) -> Result<Pdu, Fail> {
-    Ok(decode(alloc, &[0x28, 0, 5, 0, 1, 5, 2, 0x0c, 0, 0, 0, 3])?)
+fn keep_alive() -> Pdu {
+    let header = Header {
+        direction: Direction::TowardSender,
+        class: Class::Two,
+        entity_octets: 1,
+        sequence_octets: 1,
+        source: EntityId(1),
+        sequence: 5,
+        destination: EntityId(2),
+    };
+    Pdu::keep_alive(header, KeepAlive { progress: 3 })
 }
 
 #[test]
 fn pdus_in_order(rt: HostRuntime) -> Result<(), Fail> {
     let mut pdus = Pdus::new(rt.alloc());
     assert_eq!(rt; pdus.as_slice().len(), 0);
-    pdus.push(keep_alive(rt.alloc())?)?;
+    pdus.push(keep_alive())?;
     assert_eq!(rt; pdus.as_slice().len(), 1);
     Ok(())
 }
 
 #[test]
-fn asked_of_events(rt: HostRuntime) -> Result<(), Fail> {
-    let event = What::Pdu(keep_alive(rt.alloc())?);
+fn asked_of_events(rt: HostRuntime) {
+    let event = What::Pdu(keep_alive());
     assert!(rt; is_pdu(&event) && !is_pdu(&What::Pump));
     assert!(rt; is_of_other_class(Class::One, &event));
     assert!(rt; !is_of_other_class(Class::Two, &event));
     assert!(rt; needs_room(&event) && needs_room(&What::Report));
     assert!(rt; !needs_room(&What::Abandon) && !needs_room(&What::Stored(3, true)));
-    Ok(())
 }
 
 #[test]
@@ -67,7 +74,7 @@ fn asked_of_indications(rt: HostRuntime) {
 
 #[test]
 fn counts(rt: HostRuntime) {
-    let never = Anew {
+    let never = CountResets {
         ack: false,
         nak: false,
     };
@@ -82,8 +89,8 @@ fn counts(rt: HostRuntime) {
     );
     let resumed = Indication::Resumed { progress: 3 };
     assert_eq!(rt; once.after(&What::Resume, &[resumed], never), Tries::NONE);
-    let anew = Anew { nak: true, ..never };
-    assert_eq!(rt; once.after(&What::Report, &[], anew), Tries::NONE);
+    let resets = CountResets { nak: true, ..never };
+    assert_eq!(rt; once.after(&What::Report, &[], resets), Tries::NONE);
 }
 
 // Ack is armed, Nak stops, Check runs on and Inactivity did not run.
@@ -93,7 +100,7 @@ fn timers_of_a_step(rt: HostRuntime) -> Result<(), Fail> {
         source: EntityId(1),
         seq: 5,
     };
-    let clock = Clock {
+    let context = TimerContext {
         key,
         lengths: TimerLengths {
             ack: 1000,
@@ -101,18 +108,18 @@ fn timers_of_a_step(rt: HostRuntime) -> Result<(), Fail> {
             check: 3000,
             inactivity: 4000,
         },
-        place: 7,
+        stamp: 7,
     };
     let before = Stamps {
         nak: Some(2),
         check: Some(3),
         ..Stamps::NONE
     };
-    let changes = Changes {
-        ack: Change::Arms,
-        nak: Change::Stops,
-        check: Change::Keeps,
-        inactivity: Change::Stops,
+    let changes = TimerChanges {
+        ack: TimerChange::Arms,
+        nak: TimerChange::Stops,
+        check: TimerChange::Keeps,
+        inactivity: TimerChange::Stops,
     };
     let arm = TimerOp::Arm {
         key,
@@ -125,7 +132,7 @@ fn timers_of_a_step(rt: HostRuntime) -> Result<(), Fail> {
         kind: TimerKind::Nak,
         stamp: 7,
     };
-    let ops = operations(rt.alloc(), &clock, changes, &before)?;
+    let ops = operations(rt.alloc(), &context, changes, &before)?;
     assert_eq!(rt; ops.as_slice(), [arm, disarm].as_slice());
     let after = Stamps {
         ack: Some(7),

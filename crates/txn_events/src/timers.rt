@@ -5,17 +5,17 @@ ghost use Rattle.cfdp_types.specs.Steps.{operation, operations};
 ghost use Rattle.cfdp_types.specs.Params.{timer_length};
 ghost use Rattle.txn_events.specs.Timers.{effect_of_change, effects, stamp_of, stamp_by};
 
+use crate::event::What;
 use crate::events::is_expiration;
 use crate::lists::TimerOps;
 use crate::telling::{has_fault, has_resumed};
 use cfdp_types::{TimerKind, TimerLengths, TimerOp, TxnKey};
-use ind_words::Indication;
-use pdu_codec::What;
+use indications::Indication;
 use std::alloc::{AllocError, Global};
 
 /// What a step does with a timer.
 #[derive(Clone, Copy, Debug, PartialEq, Eq)]
-pub enum Change {
+pub enum TimerChange {
     Arms,
     Keeps,
     Stops,
@@ -23,14 +23,14 @@ pub enum Change {
 
 /// What a step does with each timer.
 #[derive(Clone, Copy, Debug, PartialEq, Eq)]
-pub struct Changes {
-    pub ack: Change,
-    pub nak: Change,
-    pub check: Change,
-    pub inactivity: Change,
+pub struct TimerChanges {
+    pub ack: TimerChange,
+    pub nak: TimerChange,
+    pub check: TimerChange,
+    pub inactivity: TimerChange,
 }
 
-/// For each timer that runs, the place of the event that armed it.
+/// For each timer that runs, its stamp: the place in the journal of the event that armed it.
 #[derive(Clone, Copy, Debug, PartialEq, Eq)]
 pub struct Stamps {
     pub ack: Option<u32>,
@@ -73,22 +73,22 @@ impl Stamps {
         }
     }
 
-    /// The stamps after what a step at a place does with each timer.
-    pub fn after(self, changes: Changes, place: u32) -> Stamps
-        ensures { (kind : TimerKind) → stamp_of result kind ≡ stamp_by place (effects changes kind) (stamp_of self kind) }
+    /// The stamps after what a step with a stamp does with each timer.
+    pub fn after(self, changes: TimerChanges, stamp: u32) -> Stamps
+        ensures { (kind : TimerKind) → stamp_of result kind ≡ stamp_by stamp (effects changes kind) (stamp_of self kind) }
     {
         Stamps {
-            ack: stamp_after(self.ack, changes.ack, place),
-            nak: stamp_after(self.nak, changes.nak, place),
-            check: stamp_after(self.check, changes.check, place),
-            inactivity: stamp_after(self.inactivity, changes.inactivity, place),
+            ack: stamp_after(self.ack, changes.ack, stamp),
+            nak: stamp_after(self.nak, changes.nak, stamp),
+            check: stamp_after(self.check, changes.check, stamp),
+            inactivity: stamp_after(self.inactivity, changes.inactivity, stamp),
         }
     }
 }
 
-/// Of which timers the count begins again with a step, for a reason of its end alone.
+/// Of which timers a step begins the count again, for a reason of its end alone.
 #[derive(Clone, Copy, Debug, PartialEq, Eq)]
-pub struct Anew {
+pub struct CountResets {
     pub ack: bool,
     pub nak: bool,
 }
@@ -110,9 +110,9 @@ impl Tries {
     /// The counts after an event at which the user is told something: all begin again where the
     /// transaction is resumed, and that of a timer where its fault is ignored; else an expiration
     /// adds one.
-    pub fn after(self, event: &What, inds: &[Indication], anew: Anew) -> Tries
+    pub fn after(self, event: &What, inds: &[Indication], resets: CountResets) -> Tries
         requires { AreUpTo JOURNAL_ENTRIES self }
-        ensures { (kind : TimerKind) → tries_of result kind ≡ tries_by event.now inds.now anew kind (tries_of self kind) }
+        ensures { (kind : TimerKind) → tries_of result kind ≡ tries_by event.now inds.now resets kind (tries_of self kind) }
     {
         let resumed = has_resumed(inds);
         let faulted = has_fault(inds);
@@ -121,8 +121,8 @@ impl Tries {
         let check = is_expiration(TimerKind::Check, event);
         let inactivity = is_expiration(TimerKind::Inactivity, event);
         Tries {
-            ack: count(self.ack, ack, begins_again(resumed, ack, faulted, anew.ack)),
-            nak: count(self.nak, nak, begins_again(resumed, nak, faulted, anew.nak)),
+            ack: count(self.ack, ack, begins_again(resumed, ack, faulted, resets.ack)),
+            nak: count(self.nak, nak, begins_again(resumed, nak, faulted, resets.nak)),
             check: count(
                 self.check,
                 check,
@@ -152,55 +152,55 @@ fn count(before: u32, expired: bool, again: bool) -> u32
 }
 
 // Whether the count of a timer begins again.
-fn begins_again(resumed: bool, expired: bool, faulted: bool, anew: bool) -> bool
-    ensures { result ≡ (resumed || (expired && faulted) || anew) }
+fn begins_again(resumed: bool, expired: bool, faulted: bool, resets: bool) -> bool
+    ensures { result ≡ (resumed || (expired && faulted) || resets) }
 {
-    resumed || (expired && faulted) || anew
+    resumed || (expired && faulted) || resets
 }
 
-// A stamp after what a step at a place does with its timer.
-fn stamp_after(stamp: Option<u32>, change: Change, place: u32) -> Option<u32>
-    ensures { result ≡ stamp_by place (effect_of_change change) stamp }
+// The stamp of a timer after what a step does with it.
+fn stamp_after(before: Option<u32>, change: TimerChange, stamp: u32) -> Option<u32>
+    ensures { result ≡ stamp_by stamp (effect_of_change change) before }
 {
     match change {
-        Change::Arms => Some(place),
-        Change::Keeps => stamp,
-        Change::Stops => None,
+        TimerChange::Arms => Some(stamp),
+        TimerChange::Keeps => before,
+        TimerChange::Stops => None,
     }
 }
 
-/// Where a step stands, and whose timers it arms.
+/// Whose timers a step changes, how long they run, and its stamp: its place in the journal.
 #[derive(Clone, Copy, Debug)]
-pub struct Clock {
+pub struct TimerContext {
     pub key: TxnKey,
     pub lengths: TimerLengths,
-    pub place: u32,
+    pub stamp: u32,
 }
 
 // Adds the operation that tells what a step does with a timer, if there is something to tell.
 fn put_operation(
     ops: &mut TimerOps,
-    clock: &Clock,
+    context: &TimerContext,
     kind: TimerKind,
-    change: Change,
+    change: TimerChange,
     before: Option<u32>,
 ) -> Result<(), AllocError>
-    ensures { OnOk result (ops.new ≡ ops.old ++ operation clock.now.key (timer_length clock.now.lengths) clock.now.place kind (effect_of_change change) before) }
+    ensures { OnOk result (ops.new ≡ ops.old ++ operation context.now.key (timer_length context.now.lengths) context.now.stamp kind (effect_of_change change) before) }
 {
     match change {
-        Change::Arms => ops.push(TimerOp::Arm {
-            key: clock.key,
+        TimerChange::Arms => ops.push(TimerOp::Arm {
+            key: context.key,
             kind,
-            stamp: clock.place,
-            ms: clock.lengths.of(kind),
+            stamp: context.stamp,
+            ms: context.lengths.of(kind),
         }),
-        Change::Keeps => Ok(()),
-        Change::Stops => match before {
+        TimerChange::Keeps => Ok(()),
+        TimerChange::Stops => match before {
             None => Ok(()),
             Some(_) => ops.push(TimerOp::Disarm {
-                key: clock.key,
+                key: context.key,
                 kind,
-                stamp: clock.place,
+                stamp: context.stamp,
             }),
         },
     }
@@ -209,25 +209,25 @@ fn put_operation(
 /// The operations that tell what a step does with the timers.
 pub fn operations(
     alloc: Global,
-    clock: &Clock,
-    changes: Changes,
+    context: &TimerContext,
+    changes: TimerChanges,
     before: &Stamps,
 ) -> Result<TimerOps, AllocError>
-    ensures { IfOk result (λ ops. ops ≡ operations clock.now.key (timer_length clock.now.lengths) clock.now.place (effects changes) (stamp_of before.now)) }
+    ensures { IfOk result (λ ops. ops ≡ operations context.now.key (timer_length context.now.lengths) context.now.stamp (effects changes) (stamp_of before.now)) }
 {
     let mut ops = TimerOps::new(alloc);
-    put_operation(&mut ops, clock, TimerKind::Ack, changes.ack, before.ack)?;
-    put_operation(&mut ops, clock, TimerKind::Nak, changes.nak, before.nak)?;
+    put_operation(&mut ops, context, TimerKind::Ack, changes.ack, before.ack)?;
+    put_operation(&mut ops, context, TimerKind::Nak, changes.nak, before.nak)?;
     put_operation(
         &mut ops,
-        clock,
+        context,
         TimerKind::Check,
         changes.check,
         before.check,
     )?;
     put_operation(
         &mut ops,
-        clock,
+        context,
         TimerKind::Inactivity,
         changes.inactivity,
         before.inactivity,
