@@ -13,7 +13,7 @@ use Rattle.indications.specs.declared.side.Side.TheVariants.{Sender, Receiver}
 use Rattle.indications.specs.declared.kind.IndicationKind.{IndicationKind}
 use Rattle.indications.specs.declared.kind.IndicationKind.TheVariants as kind
 use Rattle.indications.specs.Kinds.{kind_of, is_opening}
-use Rattle.indications.specs.Words.{IsNextKindOfSender, MayFollowOf, MayFollow, IsNextOf, IsBegunOf, IsWordOf, is_end, is_transaction}
+use Rattle.indications.specs.Words.{IsNextKindOfSender, MayFollowOf, MayFollow, IsNextOf, IsBegunOf, IsWordOf, is_end, is_transaction, is_paused, paused_after}
 pub use Rattle.indications.specs.Words.{told_onto}
 
 pub told_onto-append : (before xs ys : List Indication) → told_onto before (xs ++ ys) ≡ told_onto (told_onto before xs) ys
@@ -31,6 +31,11 @@ pub list_any-told_onto : (test : Indication → Bool) (before xs : List Indicati
 list_any-told_onto test before [] = refl
 list_any-told_onto test before (x ∷ xs) =
     list_any-told_onto test (x ∷ before) xs ∙ sym (or_moves (test x) (list_any test xs) (list_any test before))
+
+-- of what is told after other indications, the last of Suspended and Resumed counts
+pub is_paused-told_onto : (before inds : List Indication) → is_paused (told_onto before inds) ≡ paused_after (is_paused before) inds
+is_paused-told_onto before [] = refl
+is_paused-told_onto before (next ∷ rest) = is_paused-told_onto (next ∷ before) rest
 
 count_by-cons : (test : Indication → Bool) (x : Indication) (xs : List Indication) → count_by test (x ∷ xs) ≡ count_by test xs + cond (test x) 1 0
 count_by-cons test x xs = sum_by-cons (λ y. cond (test y) 1 0) x xs ∙ omega arith

@@ -1,6 +1,5 @@
 -- Worked words: what is one, and what is none.
-use Rattle.std.proofs.Common.{◌≡◌, ℕ, ◌+◌, ◌<◌, ◌≤◌, ◌↔◌, Bool, true, false, ◌&&◌, ◌||◌, List, [], ◌∷◌, map, IsTrue, refl, zero, suc, arith}
-use Rattle.std.specs.Prelude.{nat_le, nat_lt}
+use Rattle.std.proofs.Common.{◌≡◌, ℕ, ◌<◌, ◌↔◌, List, [], ◌∷◌, map, IsTrue, refl, zero, suc, arith}
 use Rattle.std.specs.List.{list_any}
 use Rattle.std.proofs.lemmas.Bool.Decides.{nat_tests}
 use Rattle.cfdp_types.specs.declared.condition.Condition.{Condition}
@@ -13,7 +12,7 @@ use Rattle.indications.specs.declared.indication.Indication.{Indication}
 use Rattle.indications.specs.declared.indication.Indication.TheVariants as told
 use Rattle.indications.specs.declared.kind.IndicationKind.TheVariants as kind
 use Rattle.indications.specs.Kinds.{kind_of}
-use Rattle.indications.specs.declared.side.Side.TheVariants.{Sender, Receiver}
+use Rattle.indications.specs.declared.side.Side.TheVariants.{Sender}
 use Rattle.indications.specs.Words.{tells_of, IsNew, IsBegun, IsWord, IsBegunOf, IsWordOf}
 
 -- ---- kinds

@@ -5,11 +5,12 @@ use Rattle.cfdp_types.specs.declared.limits.TheConstants.{FILE_OCTETS}
 use Rattle.cfdp_types.specs.declared.names.Delivery.{Delivery}
 use Rattle.cfdp_types.specs.declared.names.Delivery.TheVariants.{Complete, Incomplete}
 use Rattle.indications.specs.declared.indication.Indication.{Indication}
+use Rattle.indications.specs.declared.indication.Indication.TheVariants as told
 use Rattle.indications.specs.declared.kind.IndicationKind.{IndicationKind}
 use Rattle.indications.specs.declared.kind.IndicationKind.TheVariants as kind
 use Rattle.indications.specs.declared.side.Side.{Side}
 use Rattle.indications.specs.declared.side.Side.TheVariants.{Sender, Receiver}
-use Rattle.indications.specs.Kinds.{kind_of, is_ending, is_opening, is_eof_sending, is_metadata_reception, is_eof_reception, is_segment_reception, has_octet, suspended_behind}
+use Rattle.indications.specs.Kinds.{kind_of, is_ending, is_opening, is_eof_sending, is_metadata_reception, is_eof_reception, is_segment_reception, is_resumption, has_octet, suspended_behind}
 
 -- the user is told that the transaction is over
 abbrev pub is_end : Indication → Bool
@@ -31,6 +32,15 @@ is_metadata indication = is_metadata_reception (kind_of indication)
 abbrev pub is_eof : Indication → Bool
 is_eof indication = is_eof_reception (kind_of indication)
 
+-- the transaction goes on
+abbrev pub is_resumed : Indication → Bool
+is_resumed indication = is_resumption (kind_of indication)
+
+-- a fault was ignored
+abbrev pub is_fault : Indication → Bool
+is_fault (told.Fault code progress) = true
+is_fault _ = false
+
 -- octets of the file came
 abbrev pub is_segment : Indication → Bool
 is_segment indication = is_segment_reception (kind_of indication)
@@ -43,6 +53,11 @@ tells_of i indication = has_octet i (kind_of indication)
 abbrev pub is_paused : List Indication → Bool
 is_paused [] = false
 is_paused (indication ∷ before) = suspended_behind (kind_of indication) (is_paused before)
+
+-- the same of what is told behind that, oldest first
+abbrev pub paused_after : Bool → List Indication → Bool
+paused_after paused [] = paused
+paused_after paused (indication ∷ later) = paused_after (suspended_behind (kind_of indication) paused) later
 
 -- no octet of these offsets was told of before
 abbrev pub IsNew : List Indication → ℕ → ℕ → Type 0

@@ -1,13 +1,13 @@
 -- Optional fields: what is kept of those that were read fits, and those that are written are kept so.
-use Rattle.std.proofs.Common.{◌≡◌, ℕ, zero, suc, ◌+◌, ◌-◌, ◌^◌, ◌<◌, ◌≤◌, Bool, true, false, cond, eqb, ltb, ◌&&◌, List, [], ◌∷◌, length, map, Option, Some, None, refl, sym, ap, subst, arith}
+use Rattle.std.proofs.Common.{◌≡◌, ℕ, ◌+◌, ◌^◌, ◌≤◌, Bool, true, false, cond, eqb, ltb, ◌&&◌, List, [], ◌∷◌, length, map, Option, Some, None, refl, ap, subst, arith}
 use Rattle.std.specs.List.{flat_map, AllByRecursion}
 use Rattle.std.proofs.Math.Nat.{pow-le-pow_right}
 use Rattle.std.proofs.lemmas.Bool.{ltb-true, lt-ltb, and_parts}
 use Rattle.std.proofs.lemmas.List.{length-append}
 use Rattle.cfdp_types.specs.declared.key.EntityId.{EntityId}
 use Rattle.pdu_values.specs.Numbers.{number_of, digits}
-use Rattle.pdu_values.specs.Tlvs.{Tlv, message_kind, entity_id_kind, messages_in, location_in, may_locate, message_tlv, width_from, octets_for, location_tlvs}
-use Rattle.pdu_values.specs.Spelling.{lv, tlv, IsIdLength, IsMessage, IsLocation, IsTlv, IsLocationTlv, Locates, Tells}
+use Rattle.pdu_values.specs.Tlvs.{Tlv, message_kind, entity_id_kind, messages_in, location_in, may_locate, message_tlv, octets_for, location_tlvs}
+use Rattle.pdu_values.specs.Spelling.{tlv, IsIdLength, IsMessage, IsLocation, IsTlv, IsLocationTlv, Locates, Tells}
 use Rattle.pdu_values.proofs.Numbers.{number_of-below, number_of-digits, length-digits}
 use Rattle.pdu_values.proofs.WidthLaws.{length-tlv, octets_for-is}
 use Rattle.pdu_reading.proofs.FieldLaws.{IsTlvRead, IsLocationTlvRead}

@@ -1,5 +1,5 @@
 -- How many octets a number and an optional field take.
-use Rattle.std.proofs.Common.{◌≡◌, ℕ, zero, suc, ◌+◌, ◌-◌, ◌^◌, ◌<◌, ◌≤◌, Bool, true, false, cond, ltb, List, [], length, Option, Some, None, refl, sym, subst, arith}
+use Rattle.std.proofs.Common.{◌≡◌, ℕ, zero, suc, ◌+◌, ◌-◌, ◌^◌, ◌<◌, ◌≤◌, Bool, true, false, cond, ltb, [], length, Option, Some, None, refl, sym, subst, arith}
 use Rattle.std.specs.List.{flat_map}
 use Rattle.std.proofs.Math.Nat.{pow-le-pow_right}
 use Rattle.std.proofs.lemmas.Bool.{ltb-true, le-ltb}
@@ -63,4 +63,3 @@ location_short entity_octets (Some id) is fits =
     let t : Tlv = record { kind = entity_id_kind; value = digits width id.0 } in
     let w = octets_for-is entity_octets id.0 is fits in
     omega (arith, length-append (tlv t) [], length-tlv t, length-digits width id.0, w.0.most)
-

@@ -25,7 +25,6 @@ use Rattle.pdu_values.specs.declared.bodies.Metadata as metadata_type
 use Rattle.pdu_values.specs.declared.bodies.Nak as nak_type
 use Rattle.pdu_values.specs.declared.bodies.KeepAlive as keep_alive_type
 use Rattle.pdu_values.specs.declared.bodies.FileData as file_data_type
-use Rattle.pdu_values.specs.declared.requests.SegmentRequest.{SegmentRequest}
 use Rattle.pdu_values.specs.declared.directive.Directive.TheVariants as directives
 use Rattle.pdu_values.specs.declared.pdu.Direction.{Direction}
 use Rattle.pdu_values.specs.declared.pdu.Direction.TheVariants.{TowardReceiver, TowardSender}

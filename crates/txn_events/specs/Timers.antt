@@ -4,7 +4,7 @@ use Rattle.std.specs.List.{list_any}
 use Rattle.cfdp_types.specs.Steps.{Effect, arms, keeps, stops}
 use Rattle.cfdp_types.specs.declared.names.TimerKind.{TimerKind}
 use Rattle.cfdp_types.specs.declared.names.TimerKind.TheVariants.{Ack, Nak, Check, Inactivity}
-use Rattle.indications.specs.Told.{is_resumed, is_fault}
+use Rattle.indications.specs.Words.{is_resumed, is_fault}
 use Rattle.indications.specs.declared.indication.Indication.{Indication}
 use Rattle.txn_events.specs.declared.event.What.{What}
 use Rattle.txn_events.specs.Events.{is_expiration}

@@ -1,7 +1,7 @@
 //! What both ends ask of the indications of one step.
 ghost use Rattle.std.specs.Prelude.{◌≡◌};
 ghost use Rattle.std.specs.List.{list_any};
-ghost use Rattle.indications.specs.Told.{paused_after, is_resumed, is_fault};
+ghost use Rattle.indications.specs.Words.{paused_after, is_resumed, is_fault};
 ghost use Rattle.indications.specs.Kinds.{kind_of, suspended_behind};
 
 use indications::{Indication, IndicationKind};
@@ -33,8 +33,7 @@ pub fn paused_after(paused: bool, inds: &[Indication]) -> bool
 pub fn has_resumed(inds: &[Indication]) -> bool
     ensures { result ≡ list_any is_resumed inds.now }
 {
-    inds.iter()
-        .any(|indication| matches!(indication.kind(), IndicationKind::Resumption))
+    inds.iter().any(|indication| matches!(indication.kind(), IndicationKind::Resumption))
 }
 
 /// Whether the user is told of a fault that is ignored.

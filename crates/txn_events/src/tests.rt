@@ -1,6 +1,7 @@
 use crate::{
-    CountResets, TimerChange, TimerChanges, TimerContext, Pdus, Stamps, TimerOps, Tries, What, has_fault, has_resumed,
-    is_expiration, is_of_other_class, is_pdu, is_stale_timer, needs_room, operations, paused_after,
+    CountResets, Pdus, Stamps, TimerChange, TimerChanges, TimerContext, TimerOps, Tries, What,
+    has_fault, has_resumed, is_expiration, is_of_other_class, is_pdu, is_stale_timer, needs_room,
+    operations, paused_after,
 };
 use cfdp_types::{Class, Condition, EntityId, TimerKind, TimerLengths, TimerOp, TxnKey};
 use indications::Indication;

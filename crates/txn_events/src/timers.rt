@@ -121,8 +121,16 @@ impl Tries {
         let check = is_expiration(TimerKind::Check, event);
         let inactivity = is_expiration(TimerKind::Inactivity, event);
         Tries {
-            ack: count(self.ack, ack, begins_again(resumed, ack, faulted, resets.ack)),
-            nak: count(self.nak, nak, begins_again(resumed, nak, faulted, resets.nak)),
+            ack: count(
+                self.ack,
+                ack,
+                begins_again(resumed, ack, faulted, resets.ack),
+            ),
+            nak: count(
+                self.nak,
+                nak,
+                begins_again(resumed, nak, faulted, resets.nak),
+            ),
             check: count(
                 self.check,
                 check,

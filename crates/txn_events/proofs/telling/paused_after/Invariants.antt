@@ -1,5 +1,5 @@
 use Rattle.std.proofs.Common.{◌≡◌, drop}
-use Rattle.indications.specs.Told.{paused_after}
+use Rattle.indications.specs.Words.{paused_after}
 use Rattle.txn_events.proofs.telling.paused_after.Given as goal
 
 abbrev pub invariant-loop-indication : goal.invariant-loop-indication
