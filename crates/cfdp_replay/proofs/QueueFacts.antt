@@ -1,7 +1,7 @@
 -- What one step puts into the queue.
 use Rattle.std.proofs.Common.{◌≡◌, false, eqb, List, [], ◌∷◌, length, refl, ◌+◌, ◌%◌}
 use Rattle.cfdp_types.specs.declared.key.TxnKey.{TxnKey}
-use Rattle.ind_words.specs.declared.indication.Indication.{Indication}
+use Rattle.indications.specs.declared.indication.Indication.{Indication}
 use Rattle.cfdp_replay.specs.Queue.{bundles_of}
 
 -- what tells something is one bundle

@@ -5,17 +5,17 @@ use Rattle.std.specs.List.{flat_map}
 use Rattle.std.proofs.lemmas.Bool.{cases_Bool}
 use Rattle.std.proofs.lemmas.List.Concat.{flat_map-append}
 use Rattle.cfdp_types.specs.declared.key.TxnKey.{TxnKey}
-use Rattle.pdu_format.specs.Pdu.{PduValue}
-use Rattle.pdu_format.specs.Reading.{reading}
-use Rattle.pdu_codec.specs.declared.event.What.{What}
-use Rattle.pdu_codec.specs.declared.event.What.TheVariants as what
-use Rattle.pdu_codec.specs.declared.event.Refusal.{Refusal}
-use Rattle.pdu_codec.specs.declared.event.Refusal.TheVariants as refusal
-use Rattle.pdu_format.specs.declared.fault.DecodeFault.{DecodeFault}
-use Rattle.ind_words.specs.declared.bundle.Bundle.{Bundle}
+use Rattle.pdu_values.specs.Pdu.{PduValue}
+use Rattle.pdu_reading.specs.Reading.{reading}
+use Rattle.txn_events.specs.declared.event.What.{What}
+use Rattle.txn_events.specs.declared.event.What.TheVariants as what
+use Rattle.txn_events.specs.declared.refusal.Refusal.{Refusal}
+use Rattle.txn_events.specs.declared.refusal.Refusal.TheVariants as refusal
+use Rattle.pdu_reading.specs.declared.fault.DecodeFault.{DecodeFault}
+use Rattle.indications.specs.declared.bundle.Bundle.{Bundle}
 use Rattle.cfdp_types.specs.declared.names.Delivery.TheVariants.{Complete}
-use Rattle.ind_words.specs.declared.indication.Indication.{Indication}
-use Rattle.ind_words.specs.declared.indication.Indication.TheVariants as told
+use Rattle.indications.specs.declared.indication.Indication.{Indication}
+use Rattle.indications.specs.declared.indication.Indication.TheVariants as told
 use Rattle.narrow_reception.specs.declared.answer.Answer.{Answer}
 use Rattle.narrow_reception.specs.Log.{Entry, State, initial, state_of, issued}
 use Rattle.narrow_reception.specs.Table.{answer_at}
@@ -28,7 +28,7 @@ use Rattle.cfdp_replay.specs.declared.reply.Reply.{Reply}
 use Rattle.cfdp_replay.specs.Queue.{bundles_of, is_refused_by}
 use Rattle.cfdp_replay.specs.Session.{Session, fresh, given_by, given_for, given, held, answer_for, running_answer, is_same_key, opens, stepped, step_of, routed, delivered, route_refusal, key_of, taken_by, stored_step, is_known, answer_to, Answers}
 use Rattle.cfdp_replay.specs.Run.{PlaysLine, Plays}
-use Rattle.ind_words.specs.LaneLists.{told_in}
+use Rattle.indications.specs.LaneLists.{told_in}
 use Rattle.cfdp_replay.specs.Laws.{IsSound, TellsTruth, PlaysSoundly, PlaysTruly}
 use Rattle.cfdp_replay.proofs.SessionFacts.{is_same_key-true}
 

@@ -2,9 +2,9 @@
 use Rattle.std.specs.Prelude.{◌≡◌, ℕ, List, [], Contains}
 use Rattle.cfdp_types.specs.declared.names.Delivery.TheVariants.{Complete}
 use Rattle.cfdp_types.specs.declared.names.FileStatus.{FileStatus}
-use Rattle.ind_words.specs.LaneLists.{told_in}
-use Rattle.ind_words.specs.Words.{IsBegun}
-use Rattle.ind_words.specs.declared.indication.Indication.TheVariants as told
+use Rattle.indications.specs.LaneLists.{told_in}
+use Rattle.indications.specs.Words.{IsBegun}
+use Rattle.indications.specs.declared.indication.Indication.TheVariants as told
 use Rattle.narrow_reception.specs.Log.{state_of, issued}
 use Rattle.narrow_reception.specs.Laws.{IsLegal, IsGood}
 use Rattle.cfdp_replay.specs.Session.{Session, fresh, given}

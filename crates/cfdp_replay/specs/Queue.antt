@@ -1,8 +1,8 @@
 -- The bundles of the user that files are for.
 use Rattle.std.specs.Prelude.{◌+◌, ◌%◌, Bool, ◌&&◌, ◌==◌, not, nat_le, List, [], ◌∷◌, length}
 use Rattle.cfdp_types.specs.declared.key.TxnKey.{TxnKey}
-use Rattle.ind_words.specs.declared.bundle.Bundle.{Bundle}
-use Rattle.ind_words.specs.declared.indication.Indication.{Indication}
+use Rattle.indications.specs.declared.bundle.Bundle.{Bundle}
+use Rattle.indications.specs.declared.indication.Indication.{Indication}
 use Rattle.cfdp_replay.specs.declared.queue.TheConstants.{CAPACITY, RECEIVER, FIRST_RECEIVING_LANE, LANES_OF_A_SOURCE}
 
 -- what one answer puts into the user's queue: nothing where it tells nothing

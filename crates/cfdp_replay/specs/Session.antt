@@ -1,19 +1,20 @@
 -- What a script has done so far, and what its next line is answered.
 use Rattle.std.specs.Prelude.{◌≡◌, ℕ, ◌+◌, Bool, true, false, ◌&&◌, ◌||◌, ◌==◌, not, if◌then◌else◌, List, [], ◌∷◌, ◌++◌, drop, slice_get, Option, Some, None, Result, Ok, Err, IsOk, ◌⊎◌}
 use Rattle.cfdp_types.specs.declared.key.TxnKey.{TxnKey}
-use Rattle.pdu_format.specs.Pdu.{PduValue, is_toward_sender}
-use Rattle.pdu_format.specs.declared.pdu.Body.{Body}
-use Rattle.pdu_format.specs.declared.pdu.Body.TheVariants as body
-use Rattle.pdu_format.specs.Reading.{reading}
-use Rattle.pdu_codec.specs.declared.event.What.{What}
-use Rattle.pdu_codec.specs.declared.event.What.TheVariants as what
-use Rattle.pdu_codec.specs.declared.event.Refusal.{Refusal}
-use Rattle.pdu_codec.specs.declared.event.Refusal.TheVariants as refusal
-use Rattle.pdu_format.specs.declared.fault.DecodeFault.{DecodeFault}
-use Rattle.pdu_format.specs.declared.pdu.Direction.{Direction}
-use Rattle.pdu_format.specs.declared.pdu.Direction.TheVariants.{TowardReceiver, TowardSender}
-use Rattle.pdu_format.specs.declared.pdu.Header.{Header}
-use Rattle.ind_words.specs.declared.bundle.Bundle.{Bundle}
+use Rattle.pdu_values.specs.Pdu.{PduValue, is_toward_sender}
+use Rattle.pdu_values.specs.declared.pdu.Body.{Body}
+use Rattle.pdu_values.specs.declared.pdu.Body.TheVariants as body
+use Rattle.pdu_reading.specs.Reading.{reading}
+use Rattle.txn_events.specs.Events.{body_opens}
+use Rattle.txn_events.specs.declared.event.What.{What}
+use Rattle.txn_events.specs.declared.event.What.TheVariants as what
+use Rattle.txn_events.specs.declared.refusal.Refusal.{Refusal}
+use Rattle.txn_events.specs.declared.refusal.Refusal.TheVariants as refusal
+use Rattle.pdu_reading.specs.declared.fault.DecodeFault.{DecodeFault}
+use Rattle.pdu_values.specs.declared.pdu.Direction.{Direction}
+use Rattle.pdu_values.specs.declared.pdu.Direction.TheVariants.{TowardReceiver, TowardSender}
+use Rattle.pdu_values.specs.declared.pdu.Header.{Header}
+use Rattle.indications.specs.declared.bundle.Bundle.{Bundle}
 use Rattle.narrow_reception.specs.declared.answer.Answer.{Answer}
 use Rattle.narrow_reception.specs.Log.{Entry, State, state_of}
 use Rattle.narrow_reception.specs.Table.{answer_at}
@@ -83,13 +84,6 @@ abbrev pub is_same_key : TxnKey → TxnKey → Bool
 is_same_key a b = a.source.0 == b.source.0 && a.seq == b.seq
 
 -- ---- what an event is answered
-
--- Metadata, File Data and EOF open a reception
-abbrev pub body_opens : Body → Bool
-body_opens (body.Metadata m) = true
-body_opens (body.FileData d) = true
-body_opens (body.Eof e) = true
-body_opens _ = false
 
 abbrev pub opens : What → Bool
 opens (what.Pdu pdu) = body_opens pdu.body

@@ -7,13 +7,13 @@ use Rattle.cfdp_types.specs.declared.names.Delivery.{Delivery}
 use Rattle.cfdp_types.specs.declared.names.Delivery.TheVariants.{Complete, Incomplete}
 use Rattle.cfdp_types.specs.declared.names.FileStatus.{FileStatus}
 use Rattle.cfdp_types.specs.declared.names.FileStatus.TheVariants.{Discarded, Rejected, Retained, Unreported}
-use Rattle.pdu_codec.specs.Refusal.{refusal_number, refusal_name}
-use Rattle.pdu_format.specs.Fault.{fault_number}
-use Rattle.ind_words.specs.declared.indication.Phase.{Phase}
-use Rattle.ind_words.specs.declared.indication.Phase.TheVariants.{Active, Suspended as SuspendedPhase, Storing as StoringPhase, Closing}
-use Rattle.ind_words.specs.declared.indication.Indication.{Indication}
-use Rattle.ind_words.specs.declared.indication.Indication.TheVariants.{Transaction, EofSent, EofRecv, TransactionFinished, MetadataRecv, FileSegmentRecv, Suspended as SuspendedIndication, Resumed, Report, Fault, Abandoned}
-use Rattle.ind_words.specs.declared.bundle.Bundle.{Bundle}
+use Rattle.txn_events.specs.Refusal.{refusal_number, refusal_name}
+use Rattle.pdu_reading.specs.Fault.{fault_number}
+use Rattle.indications.specs.declared.indication.Phase.{Phase}
+use Rattle.indications.specs.declared.indication.Phase.TheVariants.{Active, Suspended as SuspendedPhase, Storing as StoringPhase, Closing}
+use Rattle.indications.specs.declared.indication.Indication.{Indication}
+use Rattle.indications.specs.declared.indication.Indication.TheVariants.{Transaction, EofSent, EofRecv, TransactionFinished, MetadataRecv, FileSegmentRecv, Suspended as SuspendedIndication, Resumed, Report, Fault, Abandoned}
+use Rattle.indications.specs.declared.bundle.Bundle.{Bundle}
 use Rattle.cfdp_replay.specs.declared.reply.StepRefusal.{StepRefusal}
 use Rattle.cfdp_replay.specs.declared.reply.StepRefusal.TheVariants.{Decode, NotForUs, WrongDirection, NoRoute, Lane}
 use Rattle.cfdp_replay.specs.declared.reply.Reply.{Reply}

@@ -1,12 +1,12 @@
 -- How the code keeps a session.
 use Rattle.std.specs.Prelude.{◌≡◌, ℕ, ◌≤◌, ◌++◌, ◌⊎◌, true, false, List, [], ◌∷◌, length, Option, Some, None, Result, Ok, Err, IsOk}
 use Rattle.cfdp_types.specs.declared.key.TxnKey.{TxnKey}
-use Rattle.pdu_format.specs.Pdu.{PduValue}
-use Rattle.pdu_codec.specs.declared.event.What.{What}
-use Rattle.pdu_codec.specs.declared.event.What.TheVariants as what
-use Rattle.pdu_codec.specs.declared.event.Refusal.{Refusal}
-use Rattle.pdu_codec.specs.declared.event.Refusal.TheVariants as refusal
-use Rattle.ind_words.specs.declared.bundle.Bundle.{Bundle}
+use Rattle.pdu_values.specs.Pdu.{PduValue}
+use Rattle.txn_events.specs.declared.event.What.{What}
+use Rattle.txn_events.specs.declared.event.What.TheVariants as what
+use Rattle.txn_events.specs.declared.refusal.Refusal.{Refusal}
+use Rattle.txn_events.specs.declared.refusal.Refusal.TheVariants as refusal
+use Rattle.indications.specs.declared.bundle.Bundle.{Bundle}
 use Rattle.narrow_reception.specs.declared.answer.Answer.{Answer}
 use Rattle.narrow_reception.specs.declared.reception.ReceiverCore.{ReceiverCore}
 use Rattle.narrow_reception.specs.Log.{Entry}
@@ -17,7 +17,7 @@ use Rattle.cfdp_replay.specs.declared.world.Reception.{Reception}
 use Rattle.cfdp_replay.specs.declared.world.World.{World}
 use Rattle.cfdp_replay.specs.Queue.{bundles_of, is_refused_by}
 use Rattle.cfdp_replay.specs.Session.{Session, given, held, answer_for, step_of, no_memory, Answers, routed, route_refusal, key_of, delivered}
-use Rattle.pdu_format.specs.Reading.{reading}
+use Rattle.pdu_reading.specs.Reading.{reading}
 
 -- the transaction that runs is the session's
 abbrev pub StandsFor : Option Reception → Option TxnKey → List Entry → Type 0

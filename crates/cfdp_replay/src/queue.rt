@@ -3,11 +3,11 @@ ghost use Rattle.std.specs.Prelude.{◌≡◌, ◌++◌, ◌⊎◌, [], ◌∷�
 ghost use Rattle.cfdp_replay.specs.Queue.{bundles_of, is_refused_by};
 
 use cfdp_types::TxnKey;
-use ind_words::{Bundle, Indications};
-use pdu_codec::Refusal;
+use indications::{Bundle, Indications};
 use std::alloc::Global;
 use std::collections::VecDeque;
 use std::marker::Model;
+use txn_events::Refusal;
 
 /// How many bundles the queue holds.
 pub const CAPACITY: usize = 8;
@@ -29,7 +29,7 @@ pub struct Queue {
 
 impl Model for Queue {
     ghost use Rattle.std.specs.Prelude.{List};
-    ghost use Rattle.ind_words.specs.declared.bundle.Bundle.{Bundle};
+    ghost use Rattle.indications.specs.declared.bundle.Bundle.{Bundle};
 
     ghost Value = { List Bundle };
 

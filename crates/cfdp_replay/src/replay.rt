@@ -27,7 +27,8 @@ pub fn replay<R: Read, W: Write>(
     reader: &mut R,
     writer: &mut W,
 ) -> Result<(), ReplayFault>
-    ensures { IfSome (R.remaining reader.old) (λ script. Replays result (lines_of script) (W.contents writer.old) (W.contents writer.new)) }
+    ensures { IfSome (R.remaining reader.old)
+        (λ script. Replays result (lines_of script) (W.contents writer.old) (W.contents writer.new)) }
 {
     let mut world = World::new(alloc);
     let mut line = Vec::new(alloc);
@@ -42,7 +43,8 @@ pub fn replay<R: Read, W: Write>(
 
 // Behind the last line that a script may have no line comes.
 fn ends<R: Read>(reader: &mut R, line: &mut Vec<u8>) -> Result<(), ReplayFault>
-    ensures { (lines : List (List ℕ)) (world : World) (old new : Option (List ℕ)) → Ran lines (R.remaining reader.old) LINES world old new
+    ensures { (lines : List (List ℕ)) (world : World) (old new : Option (List ℕ)) → Ran lines (R.remaining reader.old)
+        LINES world old new
         → Replays result lines old new }
 {
     match next_line(reader, line)? {
@@ -62,7 +64,8 @@ fn turn<R: Read, W: Write>(
     count: u32,
 ) -> Result<bool, ReplayFault>
     requires { count < LINES }
-    ensures { (lines : List (List ℕ)) (old : Option (List ℕ)) → Ran lines (R.remaining reader.old) count world.old old (W.contents writer.old)
+    ensures { (lines : List (List ℕ)) (old : Option (List ℕ)) → Ran lines (R.remaining reader.old) count world.old old
+        (W.contents writer.old)
         → GoesOn result lines (R.remaining reader.new) count world.new old (W.contents writer.new) }
 {
     match next_line(reader, line)? {

@@ -1,5 +1,6 @@
-use ind_words::Bundle;
-use pdu_codec::{DecodeFault, Refusal};
+use indications::Bundle;
+use pdu_codec::DecodeFault;
+use txn_events::Refusal;
 
 /// Why a line is refused.
 #[derive(Clone, Copy, Debug, PartialEq, Eq)]

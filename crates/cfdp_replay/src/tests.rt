@@ -5,13 +5,14 @@ use crate::output::write_whole;
 use crate::reply::{Reply, StepRefusal};
 use crate::text::push_reply;
 use cfdp_types::{Condition, Delivery, EntityId, FileStatus, Messages, Octets, TxnKey};
-use ind_words::{Bundle, Indication, Indications, Phase};
-use pdu_codec::{DecodeFault, Refusal};
+use indications::{Bundle, Indication, Indications, Phase};
+use pdu_codec::DecodeFault;
 use std::alloc::{AllocError, Global};
 use std::io;
 use std::io::{Error, ErrorKind, Read, Write};
 use std::process::Abort;
 use std::test::Fail;
+use txn_events::Refusal;
 
 // A reader that is interrupted some times in a row before each octet.
 #[derive(Drop)]

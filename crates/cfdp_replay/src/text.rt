@@ -4,7 +4,7 @@ ghost use Rattle.cfdp_replay.specs.Texts.{text_of, deposit_text, refusal_text, r
 
 use crate::reply::{Reply, StepRefusal};
 use cfdp_types::{Condition, Delivery, EntityId, FileStatus, Messages, Octets};
-use ind_words::{Bundle, Indication, Phase};
+use indications::{Bundle, Indication, Phase};
 use std::alloc::{AllocError, Global};
 
 /// Adds what is printed for a reply.

@@ -1,7 +1,7 @@
 //! One entity with one transaction, as a script sees it.
 
 ghost use Rattle.std.specs.Prelude.{◌≡◌, List, [], false, Option, true, Some, IfOk, IfErr, IfSome, IfNone, OnErr};
-ghost use Rattle.pdu_codec.specs.declared.event.What.TheVariants as what;
+ghost use Rattle.txn_events.specs.declared.event.What.TheVariants as what;
 ghost use Rattle.narrow_reception.specs.Log.{Entry, state_of};
 ghost use Rattle.narrow_reception.specs.Table.{answer_at};
 ghost use Rattle.narrow_reception.specs.NarrowCore.{shown, StandsAfter};
@@ -14,9 +14,11 @@ use crate::command::Command;
 use crate::queue::{Queue, RECEIVER};
 use crate::reply::{Reply, StepRefusal};
 use cfdp_types::TxnKey;
-use pdu_codec::{Body, DecodeFault, Direction, Header, Pdu, Refusal, What, decode};
 use narrow_reception::ReceiverCore;
+use pdu_codec::{DecodeFault, decode};
+use pdu_values::{Body, Direction, Header, Pdu};
 use std::alloc::Global;
+use txn_events::{Refusal, What};
 
 /// The entity that the script drives.
 pub const LOCAL: u64 = 2;
@@ -101,7 +103,8 @@ impl World {
 
     // The file store answered a deposit.
     fn stored(&mut self, key: TxnKey, stamp: u32, kept: bool) -> Reply
-        ensures { (session : Session) → Stands self.old session → Replies session (Stored key stamp kept) self.new result }
+        ensures { (session : Session) → Stands self.old session → Replies session (Stored key stamp kept) self.new
+            result }
     {
         if key.source.0 == LOCAL || key.source.0 == REMOTE {
             self.step(key, What::Stored(stamp, kept))
@@ -124,8 +127,10 @@ impl World {
     // Takes an event of a transaction; nothing is changed where it is refused.
     fn try_step(&mut self, key: TxnKey, event: What) -> Result<Option<u32>, Refusal>
         ensures ok { (opened : Option TxnKey) (log : List Entry) → StandsFor self.old.reception opened log
-            → IfOk result (Goes (answer_for opened log key event) key event log self.old.queue self.new.queue self.new.reception) }
-        ensures err { (opened : Option TxnKey) (log : List Entry) → StandsFor self.old.reception opened log → OnErr result (StandsFor self.new.reception opened log) }
+            → IfOk result
+            (Goes (answer_for opened log key event) key event log self.old.queue self.new.queue self.new.reception) }
+        ensures err { (opened : Option TxnKey) (log : List Entry) → StandsFor self.old.reception opened log → OnErr
+            result (StandsFor self.new.reception opened log) }
         ensures kept { OnErr result (self.new.queue ≡ self.old.queue) }
         ensures why { (opened : Option TxnKey) (log : List Entry) → StandsFor self.old.reception opened log
             → IfErr result (RefusedFor (answer_for opened log key event) key self.old.queue) }
@@ -193,7 +198,8 @@ fn open(
     key: TxnKey,
     pdu: &Pdu,
 ) -> Result<(ReceiverCore, Option<u32>), Refusal>
-    ensures ok { IfOk result (λ opened. Accepts (answer_at (state_of []) (what.Pdu pdu.now)) key (what.Pdu pdu.now) [] queue.old queue.new opened.0 opened.1) }
+    ensures ok { IfOk result (λ opened. Accepts (answer_at (state_of []) (what.Pdu pdu.now)) key (what.Pdu pdu.now) []
+        queue.old queue.new opened.0 opened.1) }
     ensures err { OnErr result (queue.new ≡ queue.old) }
     ensures why { IfErr result (RefusedFor (answer_at (state_of []) (what.Pdu pdu.now)) key queue.old) }
 {
@@ -211,10 +217,12 @@ fn go_on(
     event: &What,
 ) -> Result<Option<u32>, Refusal>
     requires { (shown core.old).ended ≡ false }
-    ensures ok { (log : List Entry) → StandsAfter core.old log → IfOk result (Accepts (answer_at (state_of log) event.now) key event.now log queue.old queue.new core.new) }
+    ensures ok { (log : List Entry) → StandsAfter core.old log → IfOk result
+        (Accepts (answer_at (state_of log) event.now) key event.now log queue.old queue.new core.new) }
     ensures err { (log : List Entry) → StandsAfter core.old log → OnErr result (StandsAfter core.new log) }
     ensures kept { OnErr result (queue.new ≡ queue.old) }
-    ensures why { (log : List Entry) → StandsAfter core.old log → IfErr result (RefusedFor (answer_at (state_of log) event.now) key queue.old) }
+    ensures why { (log : List Entry) → StandsAfter core.old log → IfErr result
+        (RefusedFor (answer_at (state_of log) event.now) key queue.old) }
 {
     let plan = core.plan(event)?;
     queue.offer(key, &plan.answer().inds)?;
@@ -229,8 +237,10 @@ fn step_running(
     event: &What,
 ) -> Result<Option<u32>, Refusal>
     ensures ok { (opened : Option TxnKey) (log : List Entry) → StandsFor (Some running.old) opened log
-        → IfOk result (Goes (answer_for opened log key event.now) key event.now log queue.old queue.new (Some running.new)) }
-    ensures err { (opened : Option TxnKey) (log : List Entry) → StandsFor (Some running.old) opened log → OnErr result (StandsFor (Some running.new) opened log) }
+        → IfOk result
+        (Goes (answer_for opened log key event.now) key event.now log queue.old queue.new (Some running.new)) }
+    ensures err { (opened : Option TxnKey) (log : List Entry) → StandsFor (Some running.old) opened log → OnErr result
+        (StandsFor (Some running.new) opened log) }
     ensures kept { OnErr result (queue.new ≡ queue.old) }
     ensures why { (opened : Option TxnKey) (log : List Entry) → StandsFor (Some running.old) opened log
         → IfErr result (RefusedFor (answer_for opened log key event.now) key queue.old) }

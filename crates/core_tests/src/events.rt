@@ -1,6 +1,8 @@
 //! Events as rows write them.
 use cfdp_types::TimerKind;
-use pdu_codec::{Pdu, What, decode};
+use pdu_codec::decode;
+use pdu_values::Pdu;
+use txn_events::What;
 use std::alloc::Global;
 use std::test::*;
 

@@ -2,7 +2,7 @@
 use crate::ends::{RECEIVED, receives};
 use crate::events::pdu_of;
 use crate::setting::params;
-use pdu_codec::Refusal;
+use txn_events::Refusal;
 use receiver_core::ReceiverCore;
 use std::alloc::AllocError;
 use std::test::*;

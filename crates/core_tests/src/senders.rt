@@ -2,7 +2,7 @@
 use crate::ends::{SENT, sends};
 use crate::setting::params;
 use cfdp_types::{Class, EntityId, PutRequest};
-use pdu_codec::Refusal;
+use txn_events::Refusal;
 use sender_core::SenderCore;
 use std::test::*;
 

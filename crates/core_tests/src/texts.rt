@@ -1,9 +1,11 @@
 //! What an event is answered, as a text: the PDUs in hex, the indications, what is done with the timers
 //! and the stamp of the deposit, with semicolons between; or why it is refused.
 use cfdp_types::{Condition, Deposit, Image, Octets, TimerKind, TimerOp, TxnKey};
-use core_steps::Answer;
-use ind_words::Indication;
-use pdu_codec::{Pdu, Refusal, encode};
+use txn_events::Answer;
+use indications::Indication;
+use pdu_codec::encode;
+use pdu_values::Pdu;
+use txn_events::Refusal;
 use std::alloc::{AllocError, Global};
 
 /// The text of a refusal.

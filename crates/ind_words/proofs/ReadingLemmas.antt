@@ -1,22 +1,22 @@
 -- What a reader knows of the indications that it has taken.
-use Rattle.std.proofs.Common.{◌≡◌, ℕ, ◌+◌, ◌<◌, ◌≤◌, ◌↔◌, Bool, true, false, ◌||◌, List, [], ◌∷◌, ◌++◌, Option, IsTrue, length, get_or, take, drop, refl, ap, sym, ◌∙◌, arith, subst}
+use Rattle.std.proofs.Common.{◌≡◌, ℕ, ◌+◌, ◌<◌, ◌≤◌, ◌↔◌, Bool, false, List, [], ◌∷◌, ◌++◌, Option, IsTrue, length, get_or, take, drop, refl, ap, sym, ◌∙◌, arith, subst}
 use Rattle.std.specs.List.{list_any, count_by}
 use Rattle.std.proofs.lemmas.Bool.{true≢false, false≢true}
 use Rattle.std.proofs.lemmas.List.{take_more, take-append-drop, length-take-le}
 use Rattle.std.proofs.lemmas.List.Sums.{count_by-le-length}
 use Rattle.std.proofs.Math.Bool.{or-false}
 use Rattle.cfdp_types.specs.declared.limits.TheConstants.{FILE_OCTETS}
-use Rattle.ind_words.specs.declared.indication.Indication.{Indication}
-use Rattle.ind_words.specs.declared.indication.Indication.TheVariants as told
+use Rattle.indications.specs.declared.indication.Indication.{Indication}
+use Rattle.indications.specs.declared.indication.Indication.TheVariants as told
 use Rattle.ind_words.specs.declared.marks.Marks.{Marks}
 use Rattle.ind_words.specs.declared.reader.WordReader.{WordReader}
-use Rattle.ind_words.specs.declared.side.Side.{Side}
-use Rattle.ind_words.specs.declared.side.Side.TheVariants.{Receiver}
+use Rattle.indications.specs.declared.side.Side.{Side}
+use Rattle.indications.specs.declared.side.Side.TheVariants.{Receiver}
 use Rattle.ind_words.specs.Marks.{marks_of}
 use Rattle.ind_words.specs.Offsets.{Kept, IsFree, IsInitial, covers, room_left}
 use Rattle.ind_words.specs.Reading.{HasRoom, MayGoOn, Knows, HasAdded, StandsAfter}
-use Rattle.ind_words.specs.Words.{IsNext, IsNextOf, IsBegunOf, IsWordOf, IsFilled, is_end, is_segment, tells_of, told_onto}
-use Rattle.ind_words.proofs.WordLemmas.{told_onto-append, list_any-told_onto, count_by-told_onto, MayFollowOf-append, MayFollowOf-front, MayFollowOf-rest}
+use Rattle.indications.specs.Words.{IsNext, IsNextOf, IsBegunOf, IsWordOf, IsFilled, is_end, is_segment, tells_of, told_onto}
+use Rattle.indications.proofs.WordLemmas.{told_onto-append, list_any-told_onto, count_by-told_onto, MayFollowOf-append, MayFollowOf-front, MayFollowOf-rest}
 
 -- what isn't a segment
 pub is_segment_other : (next : Indication) → ((offset length : ℕ) → next ≡ told.FileSegmentRecv offset length → ⊥) → is_segment next ≡ false

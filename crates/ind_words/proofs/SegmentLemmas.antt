@@ -1,7 +1,7 @@
 -- Rising runs, taken apart at a place and joined with one more.
 use Rattle.std.proofs.Common.{◌≡◌, ◌≢◌, ℕ, zero, suc, ◌+◌, ◌<◌, ◌≤◌, Bool, true, false, ◌||◌, nat_le, nat_lt, nat_eq, List, [], ◌∷◌, ◌++◌, length, get_or, set, take, drop, refl, ap, sym, ◌∙◌, arith, subst, max, IsTrue, ◌↔◌, Some, length-drop}
 use Rattle.std.specs.List.{All, AllWithin}
-use Rattle.std.proofs.lemmas.Bool.{le-leb, lt-leb, lt-ltb, le-ltb, and_right, true≢false, leb-true, leb-false, ltb-true, eqb-true, eqb-false, eq-eqb, or_right, and_parts, false≢true}
+use Rattle.std.proofs.lemmas.Bool.{le-leb, lt-ltb, le-ltb, and_right, true≢false, leb-true, leb-false, ltb-true, eqb-true, eqb-false, eq-eqb, or_right, and_parts, false≢true}
 use Rattle.std.proofs.lemmas.Bool.Decides.{nat_tests}
 use Rattle.std.specs.List.{remove}
 use Rattle.std.specs.List.Sorted.{IsPartitionedBy}

@@ -1,9 +1,9 @@
 -- What the kinds of the indications told say of the next one.
 use Rattle.std.specs.Prelude.{List}
 use Rattle.std.specs.List.{list_any}
-use Rattle.ind_words.specs.declared.indication.Indication.{Indication}
+use Rattle.indications.specs.declared.indication.Indication.{Indication}
 use Rattle.ind_words.specs.declared.marks.Marks.{Marks}
-use Rattle.ind_words.specs.Words.{is_transaction, is_eof_sent, is_metadata, is_eof, is_paused, is_end}
+use Rattle.indications.specs.Words.{is_transaction, is_eof_sent, is_metadata, is_eof, is_paused, is_end}
 
 -- the marks after these indications, newest first
 abbrev pub marks_of : List Indication → Marks

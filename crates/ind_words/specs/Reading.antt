@@ -1,12 +1,12 @@
 -- What a reader of words has taken, and what it may take next.
 use Rattle.std.specs.Prelude.{◌≡◌, ℕ, ◌+◌, ◌<◌, ◌||◌, IsTrue, List, [], ◌∷◌, ◌++◌}
 use Rattle.std.specs.List.{list_any, count_by}
-use Rattle.ind_words.specs.declared.indication.Indication.{Indication}
+use Rattle.indications.specs.declared.indication.Indication.{Indication}
 use Rattle.ind_words.specs.declared.reader.WordReader.{WordReader}
-use Rattle.ind_words.specs.declared.side.Side.{Side}
+use Rattle.indications.specs.declared.side.Side.{Side}
 use Rattle.ind_words.specs.Marks.{marks_of}
 use Rattle.ind_words.specs.Offsets.{room_left, covers}
-use Rattle.ind_words.specs.Words.{IsBegunOf, told_onto, is_segment, tells_of}
+use Rattle.indications.specs.Words.{IsBegunOf, told_onto, is_segment, tells_of}
 
 -- there is room for the next indication, if it tells of a segment
 abbrev pub HasRoom : ℕ → List Indication → Indication → Type 0

@@ -1,17 +1,12 @@
-//! Indications: what a local user learns of a transaction, and in which order it may learn it.
+//! Reads the indications of one transaction in their order, and says whether they are a word.
 #![tactic(auto)]
 
-mod bundle;
-mod indication;
 mod marks;
 mod reader;
 mod segments;
-mod side;
 
-pub use bundle::Bundle;
-pub use indication::{Indication, Indications, Phase};
+pub use indications::{Bundle, Indication, IndicationKind, Indications, Phase, Side};
 pub use reader::{NotAWord, WordReader};
-pub use side::Side;
 
 #[cfg(test)]
 mod tests;

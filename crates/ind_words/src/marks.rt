@@ -1,10 +1,10 @@
 ghost use Rattle.std.specs.Prelude.{◌≡◌, ◌∷◌, ◌↔◌, List, IsTrue, true, false};
-ghost use Rattle.ind_words.specs.declared.indication.Indication.{Indication};
-ghost use Rattle.ind_words.specs.Words.{IsNext, IsNextOfSender, IsFilled, MayFinish, is_segment};
+ghost use Rattle.indications.specs.declared.indication.Indication.{Indication};
+ghost use Rattle.indications.specs.Words.{IsNext, IsNextOfSender, IsFilled, MayFinish, is_segment};
 ghost use Rattle.ind_words.specs.Marks.{marks_of};
 
-use crate::indication::Indication;
 use cfdp_types::Delivery;
+use indications::Indication;
 
 /// What the kinds of the indications that were told say of what may be told next.
 #[derive(Clone, Copy, Debug, PartialEq, Eq)]

@@ -1,7 +1,6 @@
-use crate::indication::Indication;
 use crate::marks::Marks;
 use crate::segments::{Segments, take_segment};
-use crate::side::Side;
+use indications::{Indication, Side};
 use std::alloc::{AllocError, Global};
 
 /// The indication may not come next, or there is no room for its segment.
@@ -21,12 +20,12 @@ pub struct WordReader {
 impl WordReader {
     ghost use Rattle.std.specs.Prelude.{◌≡◌, ℕ, ◌∷◌, ◌++◌, [], List, ◌↔◌, IsTrue, true, false, IsOk, IfOk, OnOk, OnErr};
     ghost use Rattle.std.specs.List.{list_any};
-    ghost use Rattle.ind_words.specs.declared.indication.Indication.{Indication};
-    ghost use Rattle.ind_words.specs.declared.side.Side.{Side};
-    ghost use Rattle.ind_words.specs.declared.side.Side.TheVariants.{Receiver};
+    ghost use Rattle.indications.specs.declared.indication.Indication.{Indication};
+    ghost use Rattle.indications.specs.declared.side.Side.{Side};
+    ghost use Rattle.indications.specs.declared.side.Side.TheVariants.{Receiver};
     ghost use Rattle.ind_words.specs.Offsets.{covers, room_left, IsInitial};
     ghost use Rattle.ind_words.specs.Reading.{StandsAfter, Knows, MayGoOn, HasRoom, HasAdded};
-    ghost use Rattle.ind_words.specs.Words.{IsNextOf, IsNext, IsWordOf, is_end};
+    ghost use Rattle.indications.specs.Words.{IsNextOf, IsNext, IsWordOf, is_end};
 
     /// A reader that has room for no segment. Takes no memory.
     pub fn new(side: Side) -> WordReader

@@ -11,22 +11,22 @@ use Rattle.cfdp_types.specs.declared.names.FileStatus.TheVariants.{Discarded, Re
 use Rattle.cfdp_types.specs.declared.names.TimerKind.TheVariants.{Inactivity}
 use Rattle.cfdp_types.specs.declared.timer_op.TimerOp.TheVariants as op
 use Rattle.gap_list.specs.Runs.{runs_of, runs_from}
-use Rattle.pdu_codec.specs.declared.event.What.{What}
-use Rattle.pdu_codec.specs.declared.event.What.TheVariants as what
-use Rattle.pdu_codec.specs.declared.event.Refusal.{Refusal}
-use Rattle.pdu_codec.specs.declared.event.Refusal.TheVariants as refusal
-use Rattle.pdu_format.specs.Numbers.{digits}
-use Rattle.pdu_format.specs.Spelling.{spelling, written}
-use Rattle.pdu_format.specs.Tlvs.{width_from}
-use Rattle.pdu_format.specs.declared.pdu.Body.{Body}
-use Rattle.pdu_format.specs.declared.pdu.Body.TheVariants as body
-use Rattle.pdu_format.specs.declared.bodies.Prompt.TheVariants as prompt
-use Rattle.ind_words.specs.declared.indication.Indication.TheVariants as told
+use Rattle.txn_events.specs.declared.event.What.{What}
+use Rattle.txn_events.specs.declared.event.What.TheVariants as what
+use Rattle.txn_events.specs.declared.refusal.Refusal.{Refusal}
+use Rattle.txn_events.specs.declared.refusal.Refusal.TheVariants as refusal
+use Rattle.pdu_values.specs.Numbers.{digits}
+use Rattle.pdu_values.specs.Spelling.{spelling, written}
+use Rattle.pdu_values.specs.Tlvs.{width_from}
+use Rattle.pdu_values.specs.declared.pdu.Body.{Body}
+use Rattle.pdu_values.specs.declared.pdu.Body.TheVariants as body
+use Rattle.pdu_values.specs.declared.bodies.Prompt.TheVariants as prompt
+use Rattle.indications.specs.declared.indication.Indication.TheVariants as told
 use Rattle.receiver_table.specs.Reception.{initial, step, state_of}
 use Rattle.receiver_rows.specs.ReceptionRows.{header, metadata_value, eof_value, abc, finished_acknowledged}
 use Rattle.sender_rows.specs.SendingRows as sender_rows
-use Rattle.txn_lane.specs.declared.event.Event.{Event}
-use Rattle.txn_lane.specs.declared.event.Event.TheVariants.{Put, On}
+use Rattle.txn_events.specs.declared.event.Event.{Event}
+use Rattle.txn_events.specs.declared.event.Event.TheVariants.{Put, On}
 use Rattle.txn_lane.specs.declared.lane_side.LaneSide.TheVariants.{Receiving}
 use Rattle.txn_lane.specs.declared.refused.Refused.{Refused}
 use Rattle.txn_lane.specs.Lane.{State, idle, key_of, is_running, issued_by}

@@ -9,20 +9,20 @@ use Rattle.cfdp_types.specs.declared.names.FileStatus.TheVariants.{Retained}
 use Rattle.cfdp_types.specs.declared.names.TimerKind.TheVariants.{Ack}
 use Rattle.cfdp_types.specs.declared.timer_op.TimerOp.TheVariants as op
 use Rattle.gap_list.specs.Runs.{runs_of, runs_from}
-use Rattle.pdu_codec.specs.declared.event.What.{What}
-use Rattle.pdu_codec.specs.declared.event.What.TheVariants as what
-use Rattle.pdu_codec.specs.declared.event.Refusal.TheVariants as refusal
-use Rattle.pdu_format.specs.Numbers.{digits}
-use Rattle.pdu_format.specs.Spelling.{spelling, written}
-use Rattle.pdu_format.specs.Tlvs.{width_from}
-use Rattle.pdu_format.specs.Pdu.{PduValue}
-use Rattle.pdu_format.specs.declared.pdu.Body.TheVariants as body
-use Rattle.pdu_format.specs.declared.pdu.Direction.TheVariants.{TowardSender}
-use Rattle.ind_words.specs.declared.indication.Indication.TheVariants as told
+use Rattle.txn_events.specs.declared.event.What.{What}
+use Rattle.txn_events.specs.declared.event.What.TheVariants as what
+use Rattle.txn_events.specs.declared.refusal.Refusal.TheVariants as refusal
+use Rattle.pdu_values.specs.Numbers.{digits}
+use Rattle.pdu_values.specs.Spelling.{spelling, written}
+use Rattle.pdu_values.specs.Tlvs.{width_from}
+use Rattle.pdu_values.specs.Pdu.{PduValue}
+use Rattle.pdu_values.specs.declared.pdu.Body.TheVariants as body
+use Rattle.pdu_values.specs.declared.pdu.Direction.TheVariants.{TowardSender}
+use Rattle.indications.specs.declared.indication.Indication.TheVariants as told
 use Rattle.sender_table.specs.Sending.{initial, step, state_of}
 use Rattle.sender_rows.specs.SendingRows as rows
-use Rattle.txn_lane.specs.declared.event.Event.{Event}
-use Rattle.txn_lane.specs.declared.event.Event.TheVariants.{Put, On}
+use Rattle.txn_events.specs.declared.event.Event.{Event}
+use Rattle.txn_events.specs.declared.event.Event.TheVariants.{Put, On}
 use Rattle.txn_lane.specs.declared.lane_side.LaneSide.TheVariants.{Sending}
 use Rattle.txn_lane.specs.Lane.{State, idle, key_of, issued_by}
 use Rattle.txn_lane.specs.Steps.{refusal_at, next_number, answer_of, image_of}

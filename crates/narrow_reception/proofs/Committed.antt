@@ -3,20 +3,20 @@ use Rattle.std.proofs.Common.{◌≡◌, ℕ, ◌+◌, ◌<◌, ◌≤◌, Bool,
 use Rattle.std.specs.Prelude.{slice_get, is_some}
 use Rattle.std.specs.List.{list_any}
 use Rattle.std.proofs.lemmas.Bool.{leb-false}
-use Rattle.pdu_format.specs.Pdu.{PduValue}
-use Rattle.pdu_codec.specs.declared.event.What.{What}
-use Rattle.pdu_codec.specs.declared.event.What.TheVariants as what
-use Rattle.pdu_codec.specs.declared.event.Refusal.{Refusal}
-use Rattle.pdu_format.specs.declared.bodies.Metadata.{Metadata}
-use Rattle.pdu_format.specs.declared.bodies.Eof.{Eof}
-use Rattle.ind_words.specs.Words.{is_end}
+use Rattle.pdu_values.specs.Pdu.{PduValue}
+use Rattle.txn_events.specs.declared.event.What.{What}
+use Rattle.txn_events.specs.declared.event.What.TheVariants as what
+use Rattle.txn_events.specs.declared.refusal.Refusal.{Refusal}
+use Rattle.pdu_values.specs.declared.bodies.Metadata.{Metadata}
+use Rattle.pdu_values.specs.declared.bodies.Eof.{Eof}
+use Rattle.indications.specs.Words.{is_end}
 use Rattle.narrow_reception.specs.declared.answer.Answer.{Answer}
 use Rattle.narrow_reception.specs.declared.plan.Change.TheVariants as change
 use Rattle.narrow_reception.specs.declared.plan.Plan.{Plan}
 use Rattle.narrow_reception.specs.declared.reception.ReceiverCore.{ReceiverCore}
 use Rattle.cfdp_types.specs.Steps.{older_or}
 use Rattle.narrow_reception.specs.Log.{Entry, State, step, state_of}
-use Rattle.pdu_codec.specs.Refusal.{unless_refused}
+use Rattle.txn_events.specs.Refusal.{unless_refused}
 use Rattle.narrow_reception.specs.Table.{refusal_at, accepted_at, answer_at, stored_answer}
 use Rattle.narrow_reception.specs.NarrowExamine.{added, metadata_with, eof_with}
 use Rattle.narrow_reception.specs.NarrowCore.{shown, StandsAfter, IsPlanOf, body_change}

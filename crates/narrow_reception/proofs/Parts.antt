@@ -4,11 +4,11 @@ use Rattle.std.specs.Prelude.{slice_get, is_some}
 use Rattle.std.specs.Option.{option_map}
 use Rattle.std.proofs.lemmas.Bool.{cases_lt, cases_Bool, eqb-true, le-leb, lt-leb}
 use Rattle.std.proofs.lemmas.List.{length-append}
-use Rattle.pdu_format.specs.declared.pdu.Body.{Body}
-use Rattle.pdu_format.specs.declared.pdu.Body.TheVariants as body
-use Rattle.pdu_format.specs.declared.bodies.FileData.{FileData}
-use Rattle.pdu_format.specs.declared.bodies.Metadata.{Metadata}
-use Rattle.pdu_format.specs.declared.bodies.Eof.{Eof}
+use Rattle.pdu_values.specs.declared.pdu.Body.{Body}
+use Rattle.pdu_values.specs.declared.pdu.Body.TheVariants as body
+use Rattle.pdu_values.specs.declared.bodies.FileData.{FileData}
+use Rattle.pdu_values.specs.declared.bodies.Metadata.{Metadata}
+use Rattle.pdu_values.specs.declared.bodies.Eof.{Eof}
 use Rattle.narrow_reception.specs.declared.plan.Change.{Change}
 use Rattle.narrow_reception.specs.declared.plan.Change.TheVariants as change
 use Rattle.cfdp_types.specs.Steps.{older_or}

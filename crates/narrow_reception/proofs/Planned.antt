@@ -2,20 +2,20 @@
 use Rattle.std.proofs.Common.{◌≡◌, ℕ, Bool, true, false, cond, ◌++◌, length, Option, Some, None, Ok, Err, refl, sym, ap, ◌∙◌, inl, inr, ◌⊎◌}
 use Rattle.std.specs.Prelude.{slice_get, is_some, IsOk}
 use Rattle.std.proofs.Math.Path.{fun_ext}
-use Rattle.pdu_format.specs.Pdu.{PduValue}
+use Rattle.pdu_values.specs.Pdu.{PduValue}
 use Rattle.cfdp_types.specs.declared.names.TimerKind.{TimerKind}
-use Rattle.pdu_codec.specs.declared.event.What.{What}
-use Rattle.pdu_codec.specs.declared.event.What.TheVariants as what
-use Rattle.pdu_codec.specs.declared.event.Refusal.{Refusal}
-use Rattle.pdu_codec.specs.declared.event.Refusal.TheVariants as refusal
-use Rattle.pdu_format.specs.declared.bodies.Metadata.{Metadata}
-use Rattle.pdu_format.specs.declared.bodies.Eof.{Eof}
+use Rattle.txn_events.specs.declared.event.What.{What}
+use Rattle.txn_events.specs.declared.event.What.TheVariants as what
+use Rattle.txn_events.specs.declared.refusal.Refusal.{Refusal}
+use Rattle.txn_events.specs.declared.refusal.Refusal.TheVariants as refusal
+use Rattle.pdu_values.specs.declared.bodies.Metadata.{Metadata}
+use Rattle.pdu_values.specs.declared.bodies.Eof.{Eof}
 use Rattle.narrow_reception.specs.declared.answer.Answer.{Answer}
 use Rattle.narrow_reception.specs.declared.examine.Finding.{Finding}
 use Rattle.narrow_reception.specs.declared.examine.Finding.TheVariants.{Faulty}
 use Rattle.narrow_reception.specs.declared.reception.ReceiverCore.{ReceiverCore}
 use Rattle.narrow_reception.specs.Log.{State, step}
-use Rattle.narrow_reception.specs.Table.{is_acknowledged, is_out_of_place, is_too_large, is_full, pdu_refusal, answer_at, seen, examine, is_unsupported, is_beyond, compared, pdu_answer, cancel_code, stored_answer, is_waiting, request_refusal}
+use Rattle.narrow_reception.specs.Table.{is_acknowledged, is_out_of_place, is_body_too_large, is_full, pdu_refusal, answer_at, seen, examine, is_unsupported, is_beyond, compared, pdu_answer, cancel_code, stored_answer, is_waiting, request_refusal}
 use Rattle.narrow_reception.specs.NarrowExamine.{looked, type_with, eof_with, metadata_with, added}
 use Rattle.narrow_reception.specs.NarrowCore.{shown, IsSame, body_change, HasRoom, IsPlanOf}
 use Rattle.narrow_reception.specs.declared.plan.Change.{Change}
@@ -63,11 +63,11 @@ none_of false false false false true h = cc
 none_of false false false false false h = (refl, refl, refl, refl, refl)
 
 pub not_refused : (state : State) (pdu : PduValue) → pdu_refusal state pdu ≡ None →
-    NoneOf (is_acknowledged pdu.header.class) (is_some state.waiting) (is_out_of_place state pdu.body) (is_too_large pdu.body) (is_full state)
+    NoneOf (is_acknowledged pdu.header.class) (is_some state.waiting) (is_out_of_place state pdu.body) (is_body_too_large pdu.body) (is_full state)
 not_refused state pdu h =
-    none_of (is_acknowledged pdu.header.class) (is_some state.waiting) (is_out_of_place state pdu.body) (is_too_large pdu.body) (is_full state) h
+    none_of (is_acknowledged pdu.header.class) (is_some state.waiting) (is_out_of_place state pdu.body) (is_body_too_large pdu.body) (is_full state) h
 
-pub too_large-none : (state : State) (pdu : PduValue) → pdu_refusal state pdu ≡ None → is_too_large pdu.body ≡ false
+pub too_large-none : (state : State) (pdu : PduValue) → pdu_refusal state pdu ≡ None → is_body_too_large pdu.body ≡ false
 too_large-none state pdu h = (not_refused state pdu h).3
 
 -- a PDU that is not refused is answered by the look after its change

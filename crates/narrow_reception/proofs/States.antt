@@ -1,8 +1,8 @@
 -- When two states are one.
 use Rattle.std.proofs.Common.{◌≡◌, ℕ, Bool, Option}
 use Rattle.std.proofs.Math.Path.{fun_ext}
-use Rattle.pdu_format.specs.declared.bodies.Metadata.{Metadata}
-use Rattle.pdu_format.specs.declared.bodies.Eof.{Eof}
+use Rattle.pdu_values.specs.declared.bodies.Metadata.{Metadata}
+use Rattle.pdu_values.specs.declared.bodies.Eof.{Eof}
 use Rattle.narrow_reception.specs.Log.{State}
 
 made : ℕ → (ℕ → Option ℕ) → ℕ → Option Metadata → Option Eof → Option ℕ → Bool → State

@@ -6,19 +6,19 @@ use Rattle.std.proofs.lemmas.Bool.{cases_lt, cases_Bool, eqb-true, eqb-false, le
 use Rattle.std.proofs.lemmas.Option.{slice_get-get_or, slice_get_past}
 use Rattle.std.proofs.Math.Bool.{or-false}
 use Rattle.cfdp_types.specs.declared.limits.TheConstants.{FILE_OCTETS}
-use Rattle.pdu_format.specs.declared.pdu.Header.{Header}
-use Rattle.pdu_format.specs.declared.pdu.Body.{Body}
-use Rattle.pdu_format.specs.declared.pdu.Body.TheVariants as body
-use Rattle.pdu_format.specs.declared.bodies.Metadata.{Metadata}
-use Rattle.pdu_format.specs.declared.bodies.Eof.{Eof}
-use Rattle.pdu_format.specs.declared.bodies.FileData.{FileData}
-use Rattle.ind_words.specs.declared.indication.Indication.{Indication}
-use Rattle.ind_words.specs.declared.indication.Indication.TheVariants as told
-use Rattle.ind_words.specs.Words.{is_end, is_metadata, is_eof, tells_of, IsNext, IsNew, MayFollow}
-use Rattle.ind_words.proofs.WordLemmas.{told_onto}
+use Rattle.pdu_values.specs.declared.pdu.Header.{Header}
+use Rattle.pdu_values.specs.declared.pdu.Body.{Body}
+use Rattle.pdu_values.specs.declared.pdu.Body.TheVariants as body
+use Rattle.pdu_values.specs.declared.bodies.Metadata.{Metadata}
+use Rattle.pdu_values.specs.declared.bodies.Eof.{Eof}
+use Rattle.pdu_values.specs.declared.bodies.FileData.{FileData}
+use Rattle.indications.specs.declared.indication.Indication.{Indication}
+use Rattle.indications.specs.declared.indication.Indication.TheVariants as told
+use Rattle.indications.specs.Words.{is_end, is_metadata, is_eof, tells_of, IsNext, IsNew, MayFollow}
+use Rattle.indications.proofs.WordLemmas.{told_onto}
 use Rattle.cfdp_types.specs.Steps.{older_or}
 use Rattle.narrow_reception.specs.Log.{State, body_octet, body_extent, body_metadata, body_eof}
-use Rattle.narrow_reception.specs.Table.{is_out_of_place, is_too_large, told_of, cancel_code}
+use Rattle.narrow_reception.specs.Table.{is_out_of_place, is_body_too_large, told_of, cancel_code}
 use Rattle.cfdp_types.proofs.StepLemmas.{older_or-none}
 use Rattle.narrow_reception.proofs.Parts.{in_order}
 
@@ -154,7 +154,7 @@ new_from : (progress len : ℕ) (before : List Indication) → ((i : ℕ) → li
 new_from progress len before was i from below = was i ∙ le-ltb i progress from
 
 data_tells : (state : State) (header : Header) (d : FileData) (before : List Indication) → Tells state.metadata state.eof state.received state.progress before → list_any is_end before ≡ false →
-    d.offset ≡ state.progress → is_too_large (body.FileData d) ≡ false → TellsBody state header (body.FileData d) before
+    d.offset ≡ state.progress → is_body_too_large (body.FileData d) ≡ false → TellsBody state header (body.FileData d) before
 data_tells state header d before was runs begins small =
     let silent = eqb (length d.octets) 0 in
     let x = told.FileSegmentRecv d.offset (length d.octets) in
@@ -175,7 +175,7 @@ no_error : (e : Eof) → cancel_code (body.Eof e) ≡ None → eqb e.condition 0
 no_error e h = elim (cases_Bool (eqb e.condition 0)) [ inl is ↦ is | inr other ↦ absurd (let s : Some e.condition ≡ None = sym (ap (λ b. cond b None (Some e.condition)) other) ∙ h in cc) ]
 
 pub body_tells : (state : State) (header : Header) (b : Body) (before : List Indication) → Tells state.metadata state.eof state.received state.progress before → list_any is_end before ≡ false →
-    is_out_of_place state b ≡ false → is_too_large b ≡ false → cancel_code b ≡ None → TellsBody state header b before
+    is_out_of_place state b ≡ false → is_body_too_large b ≡ false → cancel_code b ≡ None → TellsBody state header b before
 body_tells state header (body.Metadata m) before was runs ordered small fine = metadata_tells state header m before was runs
 body_tells state header (body.Eof e) before was runs ordered small fine = eof_tells state header e before was runs (no_error e fine)
 body_tells state header (body.FileData d) before was runs ordered small fine = data_tells state header d before was runs (in_order state d ordered) small

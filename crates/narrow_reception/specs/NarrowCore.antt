@@ -1,10 +1,10 @@
 -- How the code keeps a reception, and what it plans.
 use Rattle.std.specs.Prelude.{◌≡◌, ◌+◌, ◌≤◌, ◌==◌, is_some, if◌then◌else◌, List, length, slice_get, ◌++◌, ◌⊎◌, Result, Ok, Err, IsOk, vec_len, vec_capacity}
 use Rattle.cfdp_types.specs.Condition as condition
-use Rattle.pdu_codec.specs.declared.event.What.{What}
-use Rattle.pdu_codec.specs.declared.event.What.TheVariants as what
-use Rattle.pdu_format.specs.declared.pdu.Body.{Body}
-use Rattle.pdu_format.specs.declared.pdu.Body.TheVariants as body
+use Rattle.txn_events.specs.declared.event.What.{What}
+use Rattle.txn_events.specs.declared.event.What.TheVariants as what
+use Rattle.pdu_values.specs.declared.pdu.Body.{Body}
+use Rattle.pdu_values.specs.declared.pdu.Body.TheVariants as body
 use Rattle.narrow_reception.specs.declared.plan.Change.{Change}
 use Rattle.narrow_reception.specs.declared.plan.Change.TheVariants as change
 use Rattle.narrow_reception.specs.declared.plan.Plan.{Plan}
@@ -13,8 +13,8 @@ use Rattle.narrow_reception.specs.declared.answer.Answer.{Answer}
 use Rattle.narrow_reception.specs.Log.{Entry, State, state_of}
 use Rattle.narrow_reception.specs.Table.{answer_at}
 use Rattle.narrow_reception.specs.NarrowExamine.{added, metadata_with, eof_with}
-use Rattle.pdu_codec.specs.declared.event.Refusal.{Refusal}
-use Rattle.pdu_codec.specs.declared.event.Refusal.TheVariants as refusal
+use Rattle.txn_events.specs.declared.refusal.Refusal.{Refusal}
+use Rattle.txn_events.specs.declared.refusal.Refusal.TheVariants as refusal
 
 -- what a core stands at
 abbrev pub shown : ReceiverCore → State

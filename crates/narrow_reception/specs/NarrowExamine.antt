@@ -3,8 +3,8 @@ use Rattle.std.specs.Prelude.{ℕ, Bool, false, not, ◌==◌, nat_lt, if◌then
 use Rattle.std.specs.Option.{option_map}
 use Rattle.cfdp_types.specs.Condition as condition
 use Rattle.cfdp_types.specs.ChecksumType as checksum
-use Rattle.pdu_format.specs.declared.bodies.Metadata.{Metadata}
-use Rattle.pdu_format.specs.declared.bodies.Eof.{Eof}
+use Rattle.pdu_values.specs.declared.bodies.Metadata.{Metadata}
+use Rattle.pdu_values.specs.declared.bodies.Eof.{Eof}
 use Rattle.narrow_reception.specs.declared.examine.Finding.{Finding}
 use Rattle.narrow_reception.specs.declared.examine.Finding.TheVariants.{Nothing, Faulty, Whole}
 use Rattle.narrow_reception.specs.declared.plan.Change.{Change}

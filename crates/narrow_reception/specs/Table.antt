@@ -8,19 +8,20 @@ use Rattle.cfdp_types.specs.declared.names.Class.TheVariants.{One, Two}
 use Rattle.cfdp_types.specs.declared.names.Delivery.TheVariants.{Complete, Incomplete}
 use Rattle.cfdp_types.specs.declared.names.FileStatus.{FileStatus}
 use Rattle.cfdp_types.specs.declared.names.FileStatus.TheVariants.{Discarded, Rejected, Retained}
-use Rattle.pdu_format.specs.Pdu.{PduValue}
-use Rattle.pdu_codec.specs.declared.event.What.{What}
-use Rattle.pdu_codec.specs.declared.event.What.TheVariants as what
-use Rattle.pdu_codec.specs.Refusal.{unless_refused}
-use Rattle.pdu_codec.specs.declared.event.Refusal.{Refusal}
-use Rattle.pdu_codec.specs.declared.event.Refusal.TheVariants as refusal
-use Rattle.pdu_format.specs.declared.pdu.Header.{Header}
-use Rattle.pdu_format.specs.declared.pdu.Body.{Body}
-use Rattle.pdu_format.specs.declared.pdu.Body.TheVariants as body
-use Rattle.pdu_format.specs.declared.bodies.Metadata.{Metadata}
-use Rattle.pdu_format.specs.declared.bodies.Eof.{Eof}
-use Rattle.ind_words.specs.declared.indication.Indication.{Indication}
-use Rattle.ind_words.specs.declared.indication.Indication.TheVariants as told
+use Rattle.pdu_values.specs.Pdu.{PduValue}
+use Rattle.txn_events.specs.declared.event.What.{What}
+use Rattle.txn_events.specs.declared.event.What.TheVariants as what
+pub use Rattle.txn_events.specs.Events.{is_body_too_large}
+use Rattle.txn_events.specs.Refusal.{unless_refused}
+use Rattle.txn_events.specs.declared.refusal.Refusal.{Refusal}
+use Rattle.txn_events.specs.declared.refusal.Refusal.TheVariants as refusal
+use Rattle.pdu_values.specs.declared.pdu.Header.{Header}
+use Rattle.pdu_values.specs.declared.pdu.Body.{Body}
+use Rattle.pdu_values.specs.declared.pdu.Body.TheVariants as body
+use Rattle.pdu_values.specs.declared.bodies.Metadata.{Metadata}
+use Rattle.pdu_values.specs.declared.bodies.Eof.{Eof}
+use Rattle.indications.specs.declared.indication.Indication.{Indication}
+use Rattle.indications.specs.declared.indication.Indication.TheVariants as told
 use Rattle.narrow_reception.specs.declared.answer.Answer.{Answer}
 use Rattle.narrow_reception.specs.declared.examine.Finding.{Finding}
 use Rattle.narrow_reception.specs.declared.examine.Finding.TheVariants.{Nothing, Faulty, Whole}
@@ -41,13 +42,6 @@ is_out_of_place state (body.Metadata m) = false
 is_out_of_place state (body.Eof e) = false
 is_out_of_place state _ = true
 
--- a file, or a part of one, that goes past the file limit
-abbrev pub is_too_large : Body → Bool
-is_too_large (body.FileData d) = nat_lt FILE_OCTETS (d.offset + length d.octets)
-is_too_large (body.Metadata m) = nat_lt FILE_OCTETS m.size
-is_too_large (body.Eof e) = e.condition == condition.no_error && nat_lt FILE_OCTETS e.size
-is_too_large _ = false
-
 -- only the file store's answer is taken where the journal is full
 abbrev pub is_full : State → Bool
 is_full state = nat_le (JOURNAL_ENTRIES - JOURNAL_ENTRIES_KEPT) state.place
@@ -57,7 +51,7 @@ pdu_refusal state pdu =
     if is_acknowledged pdu.header.class then Some refusal.ModeMismatch
     else if is_some state.waiting then Some refusal.Storing
     else if is_out_of_place state pdu.body then Some refusal.WrongState
-    else if is_too_large pdu.body then Some refusal.TooLarge
+    else if is_body_too_large pdu.body then Some refusal.TooLarge
     else if is_full state then Some refusal.JournalFull
     else None
 

@@ -1,4 +1,4 @@
-use ind_words::Indications;
+use indications::Indications;
 
 /// What one accepted event gives: what the user is told, in order, and the stamp of the deposit that
 /// it hands out, which is its own place in the journal.

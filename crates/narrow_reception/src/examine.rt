@@ -3,7 +3,7 @@ ghost use Rattle.narrow_reception.specs.NarrowExamine.{looked, is_unsupported_ty
 
 use cfdp_types::{ChecksumType, Condition};
 use modular_sum::sum_of;
-use pdu_codec::Eof;
+use pdu_values::Eof;
 
 /// What a look at the file so far finds.
 #[derive(Clone, Copy, Debug, PartialEq, Eq)]

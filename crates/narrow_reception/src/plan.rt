@@ -1,6 +1,6 @@
 use crate::answer::Answer;
 use cfdp_types::Octets;
-use pdu_codec::{Eof, Metadata};
+use pdu_values::{Eof, Metadata};
 
 /// What an accepted event changes in what a reception keeps.
 #[derive(Debug, Drop)]

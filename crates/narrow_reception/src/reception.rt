@@ -4,11 +4,12 @@ ghost use Rattle.cfdp_types.specs.declared.limits.TheConstants.{JOURNAL_ENTRIES,
 use crate::answer::Answer;
 use crate::examine::{Finding, look};
 use crate::plan::{Change, Plan};
-use cfdp_types::limits::{FILE_OCTETS, JOURNAL_ENTRIES, JOURNAL_ENTRIES_KEPT};
+use cfdp_types::limits::{JOURNAL_ENTRIES, JOURNAL_ENTRIES_KEPT};
 use cfdp_types::{ChecksumType, Class, Condition, Delivery, FileStatus};
-use ind_words::{Indication, Indications};
-use pdu_codec::{Body, Eof, Header, Metadata, Pdu, Refusal, What};
+use indications::{Indication, Indications};
+use pdu_values::{Body, Eof, Header, Metadata, Pdu};
 use std::alloc::{AllocError, Global};
+use txn_events::{Refusal, What, is_body_too_large};
 
 /// The receiving end of one transaction: class 1, every fault cancels, file data in order.
 #[derive(Debug, Drop)]
@@ -25,12 +26,12 @@ pub struct ReceiverCore {
 impl ReceiverCore {
     ghost use Rattle.std.specs.Prelude.{◌≡◌, ◌++◌, ◌==◌, [], length, if◌then◌else◌, IfOk, IfErr, OnOk, OnErr, List, ◌∷◌, Some, None, slice_get, ◌+◌, ◌≤◌, vec_len, vec_capacity};
     ghost use Rattle.std.specs.Option.{option_map};
-    ghost use Rattle.pdu_codec.specs.declared.event.What.TheVariants as what;
-    ghost use Rattle.narrow_reception.specs.Table.{pdu_refusal, request_refusal, is_out_of_place, is_too_large, is_waiting, told_of, found, pdu_answer, cancel_code, stored_answer, answer_at, is_too_large};
+    ghost use Rattle.txn_events.specs.declared.event.What.TheVariants as what;
+    ghost use Rattle.narrow_reception.specs.Table.{pdu_refusal, request_refusal, is_out_of_place, is_body_too_large, is_waiting, told_of, found, pdu_answer, cancel_code, stored_answer, answer_at, is_body_too_large};
     ghost use Rattle.narrow_reception.specs.NarrowExamine.{looked, type_with, eof_with, added};
     ghost use Rattle.narrow_reception.specs.NarrowCore.{shown, StandsAfter, body_change, IsSame, IsSameButOctets, HasRoom, IsPlanOf, IsWhy, IsChangedBy, plan_answer};
     ghost use Rattle.narrow_reception.specs.Log.{Entry, state_of};
-    ghost use Rattle.pdu_codec.specs.declared.event.What.{What};
+    ghost use Rattle.txn_events.specs.declared.event.What.{What};
 
     // Nothing came yet.
     fn empty(alloc: Global) -> ReceiverCore
@@ -61,7 +62,7 @@ impl ReceiverCore {
             Some(Refusal::Storing)
         } else if self.is_out_of_place(pdu.body()) {
             Some(Refusal::WrongState)
-        } else if is_too_large(pdu.body()) {
+        } else if is_body_too_large(pdu.body()) {
             Some(Refusal::TooLarge)
         } else if self.place >= JOURNAL_ENTRIES - JOURNAL_ENTRIES_KEPT {
             Some(Refusal::JournalFull)
@@ -130,7 +131,8 @@ impl ReceiverCore {
     // Looks at the file as it is with more octets, and leaves it as it was.
     fn look_with(&mut self, octets: &[u8]) -> Finding
         requires { vec_len self.old.octets + length octets.now ≤ vec_capacity self.old.octets }
-        ensures found { result ≡ looked (option_map (λ m. m.checksum_type) self.old.metadata) self.old.eof (self.old.octets.items ++ octets.now) }
+        ensures found { result ≡ looked (option_map (λ m. m.checksum_type) self.old.metadata) self.old.eof
+            (self.old.octets.items ++ octets.now) }
         ensures same { IsSame self.old self.new }
         ensures room { vec_capacity self.old.octets ≤ vec_capacity self.new.octets }
     {
@@ -144,7 +146,8 @@ impl ReceiverCore {
     // Looks at the file as it is after a change, and leaves it as it was.
     fn look_after(&mut self, change: &Change) -> Finding
         requires { HasRoom self.old change.now }
-        ensures found { result ≡ looked (type_with self.old.metadata change.now) (eof_with self.old.eof change.now) (self.old.octets.items ++ added change.now) }
+        ensures found { result ≡ looked (type_with self.old.metadata change.now) (eof_with self.old.eof change.now)
+            (self.old.octets.items ++ added change.now) }
         ensures same { IsSame self.old self.new }
         ensures room { HasRoom self.new change.now }
     {
@@ -162,7 +165,7 @@ impl ReceiverCore {
 
     // What the user is told of a PDU itself.
     fn told_of(&self, header: &Header, body: &Body) -> Result<Indications, AllocError>
-        requires { is_too_large body.now ≡ false }
+        requires { is_body_too_large body.now ≡ false }
         ensures { IfOk result (λ inds. inds ≡ told_of (shown self.now) header.now body.now) }
     {
         let mut inds = Indications::new(self.alloc());
@@ -184,8 +187,9 @@ impl ReceiverCore {
 
     // The answer to a PDU, by what the look at the file finds.
     fn pdu_answer(&self, pdu: &Pdu, finding: Finding) -> Result<Answer, AllocError>
-        requires { is_too_large pdu.now.body ≡ false }
-        ensures { IfOk result (λ answer. answer ≡ pdu_answer (shown self.now) pdu.now finding (cancel_code pdu.now.body)) }
+        requires { is_body_too_large pdu.now.body ≡ false }
+        ensures { IfOk result
+            (λ answer. answer ≡ pdu_answer (shown self.now) pdu.now finding (cancel_code pdu.now.body)) }
     {
         if let Some(condition) = cancel_code(pdu.body()) {
             return ending(
@@ -306,8 +310,10 @@ impl ReceiverCore {
         ensures same { shown self.new ≡ shown self.old }
         ensures stands { (log : List Entry) → StandsAfter self.old log → StandsAfter self.new log }
         ensures planned { IfOk result (λ plan. IsPlanOf self.new plan event.now) }
-        ensures accepted { (log : List Entry) → StandsAfter self.old log → IfOk result (λ plan. answer_at (state_of log) event.now ≡ Ok (plan_answer plan)) }
-        ensures refused { (log : List Entry) → StandsAfter self.old log → IfErr result (λ why. IsWhy (answer_at (state_of log) event.now) why) }
+        ensures accepted { (log : List Entry) → StandsAfter self.old log → IfOk result
+            (λ plan. answer_at (state_of log) event.now ≡ Ok (plan_answer plan)) }
+        ensures refused { (log : List Entry) → StandsAfter self.old log → IfErr result
+            (λ why. IsWhy (answer_at (state_of log) event.now) why) }
     {
         match event {
             What::Pdu(pdu) => self.plan_pdu(pdu),
@@ -340,22 +346,8 @@ impl ReceiverCore {
 }
 
 ghost use Rattle.std.specs.Prelude.{[], ◌∷◌, IfOk, None};
-ghost use Rattle.ind_words.specs.declared.indication.Indication.TheVariants as told;
-ghost use Rattle.narrow_reception.specs.Table.{is_too_large, cancel_code, faulty, stored_answer};
-
-fn is_too_large(body: &Body) -> bool
-    ensures { result ≡ is_too_large body.now }
-{
-    match body {
-        Body::FileData(data) => {
-            data.octets.as_slice().len() > FILE_OCTETS as usize
-                || data.offset as usize > FILE_OCTETS as usize - data.octets.as_slice().len()
-        }
-        Body::Metadata(metadata) => metadata.size > FILE_OCTETS,
-        Body::Eof(eof) => eof.condition == Condition::NO_ERROR && eof.size > FILE_OCTETS,
-        _ => false,
-    }
-}
+ghost use Rattle.indications.specs.declared.indication.Indication.TheVariants as told;
+ghost use Rattle.narrow_reception.specs.Table.{cancel_code, faulty, stored_answer};
 
 fn cancel_code(body: &Body) -> Option<Condition>
     ensures { result ≡ cancel_code body.now }
@@ -410,7 +402,8 @@ fn ending(
     delivery: Delivery,
     status: FileStatus,
 ) -> Result<Answer, AllocError>
-    ensures { IfOk result (λ answer. answer ≡ record { inds = told.TransactionFinished condition delivery status ∷ []; deposit = None }) }
+    ensures { IfOk result (λ answer. answer ≡ record
+        { inds = told.TransactionFinished condition delivery status ∷ []; deposit = None }) }
 {
     let mut inds = Indications::new(alloc);
     inds.push(Indication::TransactionFinished {
@@ -425,7 +418,8 @@ fn ending(
 }
 
 fn metadata_recv(header: &Header, metadata: &Metadata) -> Result<Indication, AllocError>
-    ensures { IfOk result (λ told-now. told-now ≡ told.MetadataRecv header.now.source metadata.now.size metadata.now.source_name metadata.now.destination_name metadata.now.messages) }
+    ensures { IfOk result (λ told-now. told-now ≡ told.MetadataRecv header.now.source metadata.now.size
+        metadata.now.source_name metadata.now.destination_name metadata.now.messages) }
 {
     Ok(Indication::MetadataRecv {
         source: header.source,

@@ -3,14 +3,14 @@ use Rattle.std.proofs.Common.{◌≡◌, ℕ, ◌≤◌, Bool, true, false, cond
 use Rattle.std.specs.Option.{option_map}
 use Rattle.std.proofs.lemmas.List.{length-append}
 use Rattle.cfdp_types.specs.declared.key.EntityId.{EntityId}
-use Rattle.pdu_format.specs.declared.requests.SegmentRequest.{SegmentRequest}
-use Rattle.pdu_format.specs.Tlvs.{Tlv, location_in, messages_in, message_kind, entity_id_kind}
-use Rattle.pdu_format.specs.Numbers.{number_of}
-use Rattle.pdu_format.specs.Items.{items_to_end}
-use Rattle.pdu_format.specs.Reading.{tlv_at, location_tlv_at, request_at}
-use Rattle.pdu_format.specs.Spelling.{size_octets}
-use Rattle.pdu_format.proofs.ItemLaws.{Shortens, items_to_end-step, items_to_end-none}
-use Rattle.pdu_format.proofs.FieldLaws.{tlv_behind, location_tlv_behind, request_behind}
+use Rattle.pdu_values.specs.declared.requests.SegmentRequest.{SegmentRequest}
+use Rattle.pdu_values.specs.Tlvs.{Tlv, location_in, messages_in, message_kind, entity_id_kind}
+use Rattle.pdu_values.specs.Numbers.{number_of}
+use Rattle.pdu_reading.specs.Items.{items_to_end}
+use Rattle.pdu_reading.specs.Reading.{tlv_at, location_tlv_at, request_at}
+use Rattle.pdu_values.specs.Spelling.{size_octets}
+use Rattle.pdu_reading.proofs.ItemLaws.{Shortens, items_to_end-step, items_to_end-none}
+use Rattle.pdu_reading.proofs.FieldLaws.{tlv_behind, location_tlv_behind, request_behind}
 use Rattle.cfdp_types.specs.Steps.{older_or}
 use Rattle.pdu_codec.specs.Parts.{items_among, messages_at, requests_at}
 use Rattle.pdu_codec.proofs.ItemLaws.{items_among_go_on, items_among_stop, none_left}

@@ -3,19 +3,17 @@ use Rattle.std.proofs.Common.{◌≡◌, ℕ, zero, suc, ◌+◌, ◌-◌, ◌*�
 use Rattle.std.proofs.lemmas.List.{length-append}
 use Rattle.std.specs.Prelude.{Vec, vec_len, vec_capacity}
 use Rattle.std.specs.List.{flat_map}
-use Rattle.std.proofs.lemmas.Bool.{le-ltb}
-use Rattle.std.proofs.Math.Nat.{pow-le-pow_right}
 use Rattle.cfdp_types.specs.declared.key.EntityId.{EntityId}
-use Rattle.pdu_format.specs.Numbers.{digits}
-use Rattle.pdu_format.specs.Tlvs.{width_from, octets_for, location_tlvs}
-use Rattle.pdu_format.specs.Spelling.{size_octets, tlv, ids, type_bit, data_field, plain_choice, lengths_octet, spelling, written, Fits}
-use Rattle.pdu_format.specs.Pdu.{PduValue}
-use Rattle.pdu_format.specs.declared.bodies.Nak as nak_type
-use Rattle.pdu_format.specs.declared.pdu.Header.{Header}
-use Rattle.pdu_format.specs.declared.pdu.Body.{Body}
-use Rattle.pdu_format.specs.declared.pdu.Body.TheVariants as bodies
-use Rattle.pdu_format.proofs.Numbers.{length-digits, pow_256_pos}
-use Rattle.pdu_format.proofs.FitLaws.{length-requests}
+use Rattle.pdu_values.specs.Numbers.{digits}
+use Rattle.pdu_values.specs.Tlvs.{octets_for, location_tlvs}
+use Rattle.pdu_values.specs.Spelling.{size_octets, tlv, ids, type_bit, data_field, plain_choice, lengths_octet, spelling, written, Fits}
+use Rattle.pdu_values.specs.Pdu.{PduValue}
+use Rattle.pdu_values.specs.declared.bodies.Nak as nak_type
+use Rattle.pdu_values.specs.declared.pdu.Header.{Header}
+use Rattle.pdu_values.specs.declared.pdu.Body.{Body}
+use Rattle.pdu_values.specs.declared.pdu.Body.TheVariants as bodies
+use Rattle.pdu_values.proofs.Numbers.{length-digits, pow_256_pos}
+use Rattle.pdu_values.proofs.FitLaws.{length-requests}
 use Rattle.pdu_codec.specs.Writing.{HasRoom, Writes, field_of, header_of, text_of, FieldFits}
 
 pub room_first : {Z : Type 0} (v : Vec ℕ Z) (a b : List ℕ) → HasRoom v (a ++ b) → HasRoom v a
@@ -32,9 +30,6 @@ writes_then u v w a b first second = record {
 }
 
 -- ---- numbers
-
-pub pow_fits : (width : ℕ) → width < 8 → 256 ^ width < 18446744073709551616
-pow_fits width short = omega (arith, pow-le-pow_right {n = 256} (omega arith) {i = width} {j = 7} (omega (arith, short)))
 
 -- the first octet of a number, and the others
 digits_first : (left n : ℕ) → 1 ≤ left → digits left n ≡ (n / 256 ^ (left - 1)) ∷ digits (left - 1) (n % 256 ^ (left - 1))
@@ -71,10 +66,6 @@ pub octet_len : {Z : Type 0} (v w : Vec ℕ Z) (x left all : ℕ) → Writes v w
 octet_len v w x left all done some len = omega (arith, length-digits 1 x, done.len, some, len)
 
 -- ---- fault locations
-
-pub width_goes_on : (width n : ℕ) → width < 8 → 256 ^ width ≤ n → width_from (8 - (width + 1)) (width + 1) n ≡ width_from (8 - width) width n
-unfolding width_from
-width_goes_on width n short above = let more : 8 - width ≡ suc (8 - (width + 1)) = omega (arith, short) in rw (more, le-ltb n (256 ^ width) above) refl
 
 pub location_text : (entity_octets n width : ℕ) → width ≡ octets_for entity_octets n
     → flat_map tlv (location_tlvs entity_octets (Some (record { 0 = n }))) ≡ digits 1 6 ++ (digits 1 width ++ digits width n)

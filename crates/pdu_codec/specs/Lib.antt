@@ -1,9 +1,8 @@
-pub mod Refusal
-pub mod Events
-pub mod EventRows
 pub mod Parts
 pub mod Writing
 pub mod Laws
-pub use Rattle.pdu_format.specs.Pdu
-pub use Rattle.pdu_format.specs.Spelling
-pub use Rattle.pdu_format.specs.Reading
+pub use Rattle.pdu_values.specs.Pdu
+pub use Rattle.pdu_values.specs.Spelling
+pub use Rattle.pdu_reading.specs.Reading
+pub use Rattle.txn_events.specs.Refusal
+pub use Rattle.txn_events.specs.Events

@@ -1,11 +1,11 @@
 -- What parts that are borrowed from a datagram stand for.
 use Rattle.std.specs.Prelude.{ℕ, zero, suc, ◌/◌, ◌%◌, ◌==◌, List, [], ◌∷◌, length, Option, Some, None}
-use Rattle.pdu_format.specs.declared.pdu.Body.{Body}
-use Rattle.pdu_format.specs.declared.pdu.Body.TheVariants as bodies
-use Rattle.pdu_format.specs.declared.requests.SegmentRequest.{SegmentRequest}
-use Rattle.pdu_format.specs.Tlvs.{Tlv, messages_in}
-use Rattle.pdu_format.specs.Reading.{tlv_at, request_at, delivery_of, file_status_of, transaction_status_of}
-use Rattle.pdu_format.specs.Spelling.{size_octets}
+use Rattle.pdu_values.specs.declared.pdu.Body.{Body}
+use Rattle.pdu_values.specs.declared.pdu.Body.TheVariants as bodies
+use Rattle.pdu_values.specs.declared.requests.SegmentRequest.{SegmentRequest}
+use Rattle.pdu_values.specs.Tlvs.{Tlv, messages_in}
+use Rattle.pdu_reading.specs.Reading.{tlv_at, request_at, delivery_of, file_status_of, transaction_status_of}
+use Rattle.pdu_values.specs.Spelling.{size_octets}
 use Rattle.pdu_codec.specs.declared.options.TlvParts.{TlvParts}
 use Rattle.pdu_codec.specs.declared.parts.Parts.{Parts}
 use Rattle.pdu_codec.specs.declared.parts.Parts.TheVariants as parts

@@ -1,11 +1,11 @@
 -- Writing octets into room that is there, and what is written for a body.
 use Rattle.std.specs.Prelude.{◌≡◌, ℕ, ◌+◌, ◌-◌, ◌*◌, ◌^◌, ◌<◌, ◌≤◌, List, ◌++◌, length, map, vec_len, vec_capacity, Vec}
-use Rattle.pdu_format.specs.declared.pdu.Header.{Header}
-use Rattle.pdu_format.specs.declared.pdu.Body.{Body}
-use Rattle.pdu_format.specs.declared.pdu.Body.TheVariants as bodies
-use Rattle.pdu_format.specs.Numbers.{digits}
-use Rattle.pdu_format.specs.Tlvs.{message_tlv, location_tlvs}
-use Rattle.pdu_format.specs.Spelling as spelling
+use Rattle.pdu_values.specs.declared.pdu.Header.{Header}
+use Rattle.pdu_values.specs.declared.pdu.Body.{Body}
+use Rattle.pdu_values.specs.declared.pdu.Body.TheVariants as bodies
+use Rattle.pdu_values.specs.Numbers.{digits}
+use Rattle.pdu_values.specs.Tlvs.{message_tlv, location_tlvs}
+use Rattle.pdu_values.specs.Spelling as spelling
 
 -- there is room for more octets behind those that stand there
 abbrev pub HasRoom : {Z : Type 0} → Vec ℕ Z → List ℕ → Type 0

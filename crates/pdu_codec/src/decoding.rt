@@ -2,16 +2,17 @@
 
 ghost use Rattle.std.specs.Prelude.{◌≡◌, ◌⊎◌, IsOk, IfOk, IfErr};
 ghost use Rattle.std.specs.Option.{option_map};
-ghost use Rattle.pdu_format.specs.Pdu.{PduValue};
-ghost use Rattle.pdu_format.specs.Spelling.{Spells};
-ghost use Rattle.pdu_format.specs.Reading.{Gives, Answers, whole_body, acknowledged_with_code, ack_of, fields_of, directive_of, body_of, reading, number_at, IsUnlessMemory, IsFound};
-ghost use Rattle.pdu_format.specs.FirstFault.{IsFirstFault};
+ghost use Rattle.pdu_values.specs.Pdu.{PduValue};
+ghost use Rattle.pdu_values.specs.Spelling.{Spells};
+ghost use Rattle.pdu_reading.specs.Reading.{Gives, Answers, whole_body, acknowledged_with_code, ack_of, fields_of, directive_of, body_of, reading, number_at, IsUnlessMemory, IsFound};
+ghost use Rattle.pdu_reading.specs.FirstFault.{IsFirstFault};
 ghost use Rattle.pdu_codec.specs.Parts.{body_of_parts};
 
 use crate::fields::octet_at;
-use crate::opening;
+use crate::fixed_header;
 use crate::parts::{self, Parts};
-use pdu_format::{Acknowledged, DecodeFault, Directive, Header, Opening, Pdu};
+use pdu_reading::{DecodeFault, FixedHeader};
+use pdu_values::{Acknowledged, Directive, Header, Pdu};
 use std::alloc::Global;
 
 // The fields that were found, if any.
@@ -71,28 +72,28 @@ fn directive(octets: &[u8]) -> Result<Parts<'_>, DecodeFault>
 }
 
 // The data field.
-#[tactic(auto, unfolding(pdu_format::specs::Reading::body_of))]
-fn body<'a>(opening: &Opening, field: &'a [u8]) -> Result<Parts<'a>, DecodeFault>
-    ensures { Answers body_of_parts result (body_of opening.now field.now) }
+#[tactic(auto, unfolding(pdu_reading::specs::Reading::body_of))]
+fn body<'a>(fixed_header: &FixedHeader, field: &'a [u8]) -> Result<Parts<'a>, DecodeFault>
+    ensures { Answers body_of_parts result (body_of fixed_header.now field.now) }
 {
-    if opening.is_file_data() {
-        whole_body(parts::file_data_at(opening.has_segment_metadata(), field))
+    if fixed_header.is_file_data() {
+        whole_body(parts::file_data_at(fixed_header.has_segment_metadata(), field))
     } else {
         directive(field)
     }
 }
 
 // The whole PDU, its lists borrowed from the datagram.
-#[tactic(auto, unfolding(pdu_format::specs::Reading::reading))]
+#[tactic(auto, unfolding(pdu_reading::specs::Reading::reading))]
 fn pdu_parts(octets: &[u8]) -> Result<(Header, Parts<'_>), DecodeFault>
     ensures { Answers (λ x. record { header = x.0; body = body_of_parts x.1 }) result (reading octets.now) }
 {
-    let (opening, field) = opening::opening_at(octets).ok_or(DecodeFault::TooShort)?;
-    if let Some(fault) = opening::opening_fault(&opening, field) {
+    let (fixed_header, field) = fixed_header::fixed_header_at(octets).ok_or(DecodeFault::TooShort)?;
+    if let Some(fault) = fixed_header::fixed_header_fault(&fixed_header, field) {
         return Err(fault);
     }
-    let parts = body(&opening, field)?;
-    Ok((opening::header_of(&opening), parts))
+    let parts = body(&fixed_header, field)?;
+    Ok((fixed_header::header_of(&fixed_header), parts))
 }
 
 // As `decode`, by the reading of the octets alone.

@@ -2,19 +2,16 @@
 
 ghost use Rattle.std.specs.Prelude.{◌≡◌, ◌<◌, ◌^◌, ◌+◌, ◌++◌, ◌*◌, length, map, OnOk, OnErr};
 ghost use Rattle.std.specs.List.{flat_map};
-ghost use Rattle.pdu_format.specs.Tlvs.{message_tlv, location_tlvs};
-ghost use Rattle.pdu_format.specs.Spelling as spelling;
+ghost use Rattle.pdu_values.specs.Tlvs.{message_tlv, location_tlvs};
+ghost use Rattle.pdu_values.specs.Spelling as spelling;
 ghost use Rattle.pdu_codec.specs.Writing.{HasRoom, Writes, field_of, header_of, text_of, FieldFits};
 
 use crate::writing::{
-    location_octets, put_location, put_lv, put_messages, put_number, put_octet, put_octets,
+    put_location, put_lv, put_messages, put_number, put_octet, put_octets,
     put_requests,
 };
 use cfdp_types::{Class, Delivery, EntityId, FileStatus, Messages};
-use pdu_format::{
-    Ack, Acknowledged, Body, Direction, Eof, FileData, Finished, Header, KeepAlive, Metadata, Nak,
-    Pdu, Prompt, TransactionStatus,
-};
+use pdu_values::{Ack, Acknowledged, Body, Direction, Eof, FileData, Finished, Header, KeepAlive, Metadata, Nak, Pdu, Prompt, TransactionStatus, octets_for};
 use std::alloc::AllocError;
 
 // ---- how long the data field is
@@ -28,12 +25,12 @@ fn location_size(entity_octets: u8, location: Option<EntityId>) -> usize
 {
     match location {
         None => 0,
-        Some(id) => 2 + usize::from(location_octets(entity_octets, id)),
+        Some(id) => 2 + usize::from(octets_for(entity_octets, id.0)),
     }
 }
 
 // Octets of the optional fields of messages to the user.
-#[tactic(auto, unfolding(pdu_format::specs::Numbers::digits))]
+#[tactic(auto, unfolding(pdu_values::specs::Numbers::digits))]
 fn messages_size(messages: &Messages) -> usize
     requires { length (flat_map spelling.tlv (map message_tlv messages.now)) < 2 ^ 16 }
     ensures { result ≡ length (flat_map spelling.tlv (map message_tlv messages.now)) }
@@ -46,7 +43,7 @@ fn messages_size(messages: &Messages) -> usize
 }
 
 // Octets of the data field.
-#[tactic(auto, unfolding(pdu_format::specs::Numbers::digits))]
+#[tactic(auto, unfolding(pdu_values::specs::Numbers::digits))]
 fn field_size(entity_octets: u8, body: &Body) -> usize
     requires { FieldFits entity_octets body.now }
     ensures { result ≡ length (field_of entity_octets body.now) }

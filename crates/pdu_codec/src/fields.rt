@@ -1,8 +1,8 @@
 //! Readers of fields: the value, and the octets behind it.
 
 ghost use Rattle.std.specs.Prelude.{◌≡◌, ◌<◌, ◌≤◌, ◌+◌, ◌^◌, length, IfSome};
-ghost use Rattle.pdu_format.specs.Numbers.{number_of};
-ghost use Rattle.pdu_format.specs.Reading.{Gives, octets_at, number_at, lv_at};
+ghost use Rattle.pdu_values.specs.Numbers.{number_of};
+ghost use Rattle.pdu_reading.specs.Reading.{Gives, octets_at, number_at, lv_at};
 
 /// The number that at most eight octets stand for.
 pub fn number_of(octets: &[u8]) -> u64
@@ -29,7 +29,7 @@ pub fn octets_at(count: usize, octets: &[u8]) -> Option<(&[u8], &[u8])>
 }
 
 /// A number of this many octets.
-#[tactic(auto, unfolding(pdu_format::specs::Reading::number_at))]
+#[tactic(auto, unfolding(pdu_reading::specs::Reading::number_at))]
 pub fn number_at(width: usize, octets: &[u8]) -> Option<(u64, &[u8])>
     requires { width ≤ 8 }
     ensures value { Gives (λ x. (x.0, x.1.now)) result (number_at width octets.now) }
@@ -68,7 +68,7 @@ pub fn word_at(octets: &[u8]) -> Option<(u32, &[u8])>
 }
 
 /// A length in one octet, and that many octets.
-#[tactic(auto, unfolding(pdu_format::specs::Reading::lv_at))]
+#[tactic(auto, unfolding(pdu_reading::specs::Reading::lv_at))]
 pub fn lv_at(octets: &[u8]) -> Option<(&[u8], &[u8])>
     ensures value { Gives (λ x. (x.0.now, x.1.now)) result (lv_at octets.now) }
     ensures shorter { IfSome result (λ x. length x.1.now < length octets.now) }

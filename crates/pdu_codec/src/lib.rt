@@ -1,24 +1,23 @@
-//! Protocol data units as octets and as values, and what the entity's ends are told by them.
+//! Protocol data units from octets and to octets.
 #![tactic(auto)]
 
 mod decoding;
 mod encoding;
-mod event;
 mod fields;
+mod fixed_header;
 pub mod laws;
-mod memory;
-mod opening;
 mod options;
 mod parts;
 mod writing;
 
 pub use decoding::decode;
 pub use encoding::encode;
-pub use event::{Refusal, What};
-pub use pdu_format::{
-    Ack, Acknowledged, Body, DecodeFault, Direction, Eof, FileData, Finished, Header, KeepAlive,
-    Metadata, Nak, Pdu, Prompt, SegmentRequest, SegmentRequests, TransactionStatus,
+pub use pdu_reading::DecodeFault;
+pub use pdu_values::{
+    Ack, Acknowledged, Body, Direction, Eof, FileData, Finished, Header, KeepAlive, Metadata, Nak,
+    Pdu, Prompt, SegmentRequest, SegmentRequests, TransactionStatus,
 };
+pub use txn_events::{Event, Refusal, What};
 
 #[cfg(test)]
 mod tests;

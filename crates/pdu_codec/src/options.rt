@@ -3,16 +3,16 @@
 
 ghost use Rattle.std.specs.Prelude.{◌≡◌, ◌<◌, [], ◌∷◌, ◌++◌, is_some, length, IsTrue, IfOk, IfSome, OnOk};
 ghost use Rattle.std.specs.Option.{option_map};
-ghost use Rattle.pdu_format.specs.Items.{items_to_end};
-ghost use Rattle.pdu_format.specs.Spelling.{size_octets};
-ghost use Rattle.pdu_format.specs.Tlvs.{location_in, messages_in, may_locate};
-ghost use Rattle.pdu_format.specs.Reading.{Gives, tlv_at, location_tlv_at, request_at};
+ghost use Rattle.pdu_reading.specs.Items.{items_to_end};
+ghost use Rattle.pdu_values.specs.Spelling.{size_octets};
+ghost use Rattle.pdu_values.specs.Tlvs.{location_in, messages_in, may_locate};
+ghost use Rattle.pdu_reading.specs.Reading.{Gives, tlv_at, location_tlv_at, request_at};
 ghost use Rattle.cfdp_types.specs.Steps.{older_or};
 ghost use Rattle.pdu_codec.specs.Parts.{tlv_of_parts, messages_at, requests_at};
 
 use crate::fields::{lv_at, number_of, octet_at, word_at};
 use cfdp_types::{EntityId, Messages, Octets};
-use pdu_format::{SegmentRequest, SegmentRequests};
+use pdu_values::{SegmentRequest, SegmentRequests};
 use std::alloc::{AllocError, Global};
 
 /// The type of a message to the user.
@@ -29,7 +29,7 @@ pub struct TlvParts<'a> {
 }
 
 /// An optional field, and the octets behind it.
-#[tactic(auto, unfolding(pdu_format::specs::Reading::tlv_at))]
+#[tactic(auto, unfolding(pdu_reading::specs::Reading::tlv_at))]
 pub fn tlv_at(octets: &[u8]) -> Option<(TlvParts<'_>, &[u8])>
     ensures value { Gives (λ x. (tlv_of_parts x.0, x.1.now)) result (tlv_at octets.now) }
     ensures shorter { IfSome result (λ x. length x.1.now < length octets.now) }
@@ -47,7 +47,7 @@ fn may_locate(tlv: TlvParts<'_>) -> bool
 }
 
 /// An optional field of EOF or Finished, and the octets behind it.
-#[tactic(auto, unfolding(pdu_format::specs::Reading::location_tlv_at))]
+#[tactic(auto, unfolding(pdu_reading::specs::Reading::location_tlv_at))]
 pub fn location_tlv_at(octets: &[u8]) -> Option<(TlvParts<'_>, &[u8])>
     ensures value { Gives (λ x. (tlv_of_parts x.0, x.1.now)) result (location_tlv_at octets.now) }
     ensures located { IfSome result (λ x. IsTrue (may_locate (tlv_of_parts x.0))) }
@@ -62,7 +62,7 @@ pub fn location_tlv_at(octets: &[u8]) -> Option<(TlvParts<'_>, &[u8])>
 }
 
 // The fault location, where one optional field more was read.
-#[tactic(auto, unfolding(pdu_format::specs::Tlvs::location_in))]
+#[tactic(auto, unfolding(pdu_values::specs::Tlvs::location_in))]
 fn with_field(location: Option<EntityId>, tlv: TlvParts<'_>) -> Option<EntityId>
     requires { IsTrue (may_locate (tlv_of_parts tlv)) }
     ensures { result ≡ older_or location (location_in (tlv_of_parts tlv.entry ∷ [])) }
@@ -103,7 +103,7 @@ pub fn are_options(octets: &[u8]) -> bool
 }
 
 // Adds the message that an optional field may hold.
-#[tactic(auto, unfolding(pdu_format::specs::Tlvs::messages_in))]
+#[tactic(auto, unfolding(pdu_values::specs::Tlvs::messages_in))]
 fn add_message(alloc: Global, messages: &mut Messages, tlv: TlvParts<'_>) -> Result<(), AllocError>
     ensures { OnOk result (messages.new ≡ messages.old ++ messages_in (tlv_of_parts tlv.entry ∷ [])) }
 {
@@ -114,7 +114,7 @@ fn add_message(alloc: Global, messages: &mut Messages, tlv: TlvParts<'_>) -> Res
 }
 
 // How many messages to the user an optional field holds: one or none.
-#[tactic(auto, unfolding(pdu_format::specs::Tlvs::messages_in))]
+#[tactic(auto, unfolding(pdu_values::specs::Tlvs::messages_in))]
 fn messages_held(tlv: TlvParts<'_>) -> usize
     ensures value { result ≡ length (messages_in (tlv_of_parts tlv.entry ∷ [])) }
     ensures below { result < 2 }
@@ -149,7 +149,7 @@ pub fn messages_at(alloc: Global, octets: &[u8]) -> Result<Messages, AllocError>
 }
 
 /// A segment request, and the octets behind it.
-#[tactic(auto, unfolding(pdu_format::specs::Reading::request_at))]
+#[tactic(auto, unfolding(pdu_reading::specs::Reading::request_at))]
 pub fn request_at(octets: &[u8]) -> Option<(SegmentRequest, &[u8])>
     ensures value { Gives (λ x. (x.0, x.1.now)) result (request_at size_octets octets.now) }
     ensures shorter { IfSome result (λ x. length x.1.now < length octets.now) }
@@ -177,11 +177,11 @@ pub fn are_requests(octets: &[u8]) -> bool
 pub fn requests_at(alloc: Global, octets: &[u8]) -> Result<SegmentRequests, AllocError>
     ensures { IfOk result (λ requests. requests ≡ requests_at octets.now) }
 {
-    let mut requests = Vec::with_capacity(alloc, octets.len() / 8)?;
+    let mut requests = SegmentRequests::with_capacity(alloc, octets.len() / 8)?;
     let mut rest = octets;
     while let Some((request, behind)) = request_at(rest) {
         requests.push(request)?;
         rest = behind;
     }
-    Ok(SegmentRequests::from_vec(requests))
+    Ok(requests)
 }

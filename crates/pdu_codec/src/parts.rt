@@ -2,17 +2,14 @@
 
 ghost use Rattle.std.specs.Prelude.{◌≡◌, IfOk};
 ghost use Rattle.pdu_codec.specs.declared.parts.Parts.TheVariants as borrowed;
-ghost use Rattle.pdu_format.specs.Spelling.{size_octets};
-ghost use Rattle.pdu_format.specs.Reading.{Gives, eof_at, finished_at, ack_at, metadata_at, nak_at, prompt_at, keep_alive_at, file_data_at, behind_segment_metadata, delivery_of, file_status_of, transaction_status_of, prompt_of, lacks_name};
+ghost use Rattle.pdu_values.specs.Spelling.{size_octets};
+ghost use Rattle.pdu_reading.specs.Reading.{Gives, eof_at, finished_at, ack_at, metadata_at, nak_at, prompt_at, keep_alive_at, file_data_at, behind_segment_metadata, delivery_of, file_status_of, transaction_status_of, prompt_of, lacks_name};
 ghost use Rattle.pdu_codec.specs.Parts.{body_of_parts};
 
 use crate::fields::{lv_at, octet_at, octets_at, word_at};
 use crate::options::{are_options, are_requests, location_at, messages_at, requests_at};
 use cfdp_types::{ChecksumType, Condition, Delivery, EntityId, FileStatus, Octets};
-use pdu_format::{
-    Ack, Acknowledged, Body, Eof, FileData, Finished, KeepAlive, Metadata, Nak, Prompt,
-    TransactionStatus,
-};
+use pdu_values::{Ack, Acknowledged, Body, Eof, FileData, Finished, KeepAlive, Metadata, Nak, Prompt, TransactionStatus};
 use std::alloc::{AllocError, Global};
 
 /// A body's fields, their lists borrowed from the datagram.
@@ -83,7 +80,7 @@ pub struct FileDataParts<'a> {
 }
 
 /// EOF.
-#[tactic(auto, unfolding(pdu_format::specs::Reading::eof_at))]
+#[tactic(auto, unfolding(pdu_reading::specs::Reading::eof_at))]
 pub fn eof_at(octets: &[u8]) -> Option<Parts<'_>>
     ensures { Gives body_of_parts result (eof_at size_octets octets.now) }
 {
@@ -100,7 +97,7 @@ pub fn eof_at(octets: &[u8]) -> Option<Parts<'_>>
 }
 
 /// Finished.
-#[tactic(auto, unfolding(pdu_format::specs::Reading::finished_at))]
+#[tactic(auto, unfolding(pdu_reading::specs::Reading::finished_at))]
 pub fn finished_at(octets: &[u8]) -> Option<Parts<'_>>
     ensures { Gives body_of_parts result (finished_at octets.now) }
 {
@@ -110,7 +107,7 @@ pub fn finished_at(octets: &[u8]) -> Option<Parts<'_>>
 }
 
 /// The fields of an ACK behind its first octet, which tells what it acknowledges.
-#[tactic(auto, unfolding(pdu_format::specs::Reading::ack_at))]
+#[tactic(auto, unfolding(pdu_reading::specs::Reading::ack_at))]
 pub fn ack_at(of: Acknowledged, octets: &[u8]) -> Option<Parts<'_>>
     ensures { Gives body_of_parts result (ack_at of octets.now) }
 {
@@ -122,7 +119,7 @@ pub fn ack_at(of: Acknowledged, octets: &[u8]) -> Option<Parts<'_>>
 }
 
 /// Metadata.
-#[tactic(auto, unfolding(pdu_format::specs::Reading::metadata_at))]
+#[tactic(auto, unfolding(pdu_reading::specs::Reading::metadata_at))]
 pub fn metadata_at(octets: &[u8]) -> Option<Parts<'_>>
     ensures { Gives body_of_parts result (metadata_at size_octets octets.now) }
 {
@@ -143,7 +140,7 @@ pub fn metadata_at(octets: &[u8]) -> Option<Parts<'_>>
 }
 
 /// A NAK.
-#[tactic(auto, unfolding(pdu_format::specs::Reading::nak_at))]
+#[tactic(auto, unfolding(pdu_reading::specs::Reading::nak_at))]
 pub fn nak_at(octets: &[u8]) -> Option<Parts<'_>>
     ensures { Gives body_of_parts result (nak_at size_octets octets.now) }
 {
@@ -170,7 +167,7 @@ fn prompt_of(bit: u8) -> Prompt
 }
 
 /// A Prompt.
-#[tactic(auto, unfolding(pdu_format::specs::Reading::prompt_at))]
+#[tactic(auto, unfolding(pdu_reading::specs::Reading::prompt_at))]
 pub fn prompt_at(octets: &[u8]) -> Option<Parts<'_>>
     ensures { Gives body_of_parts result (prompt_at octets.now) }
 {
@@ -182,7 +179,7 @@ pub fn prompt_at(octets: &[u8]) -> Option<Parts<'_>>
 }
 
 /// A Keep Alive.
-#[tactic(auto, unfolding(pdu_format::specs::Reading::keep_alive_at))]
+#[tactic(auto, unfolding(pdu_reading::specs::Reading::keep_alive_at))]
 pub fn keep_alive_at(octets: &[u8]) -> Option<Parts<'_>>
     ensures { Gives body_of_parts result (keep_alive_at size_octets octets.now) }
 {
@@ -194,7 +191,7 @@ pub fn keep_alive_at(octets: &[u8]) -> Option<Parts<'_>>
 }
 
 // The octets behind the segment metadata, where there is any.
-#[tactic(auto, unfolding(pdu_format::specs::Reading::behind_segment_metadata))]
+#[tactic(auto, unfolding(pdu_reading::specs::Reading::behind_segment_metadata))]
 fn behind_segment_metadata(has_it: bool, octets: &[u8]) -> Option<&[u8]>
     ensures { Gives (λ rest. rest.now) result (behind_segment_metadata has_it octets.now) }
 {
@@ -207,7 +204,7 @@ fn behind_segment_metadata(has_it: bool, octets: &[u8]) -> Option<&[u8]>
 }
 
 /// File Data: all octets behind the offset are the file's.
-#[tactic(auto, unfolding(pdu_format::specs::Reading::file_data_at))]
+#[tactic(auto, unfolding(pdu_reading::specs::Reading::file_data_at))]
 pub fn file_data_at(has_segment_metadata: bool, octets: &[u8]) -> Option<Parts<'_>>
     ensures { Gives body_of_parts result (file_data_at size_octets has_segment_metadata octets.now) }
 {

@@ -2,17 +2,17 @@
 
 ghost use Rattle.std.specs.Prelude.{◌≡◌, ◌<◌, ◌≤◌, ◌+◌, ◌^◌, [], ◌∷◌, map, length};
 ghost use Rattle.std.specs.List.{flat_map, AllByRecursion};
-ghost use Rattle.pdu_format.specs.Numbers.{digits};
-ghost use Rattle.pdu_format.specs.Tlvs.{message_tlv, location_tlvs, octets_for};
-ghost use Rattle.pdu_format.specs.Spelling.{size_octets, lv, tlv, request, IsIdLength, IsLocation, IsMessage};
+ghost use Rattle.pdu_values.specs.Numbers.{digits};
+ghost use Rattle.pdu_values.specs.Tlvs.{message_tlv, location_tlvs};
+ghost use Rattle.pdu_values.specs.Spelling.{size_octets, lv, tlv, request, IsIdLength, IsLocation, IsMessage};
 ghost use Rattle.pdu_codec.specs.Writing.{HasRoom, Writes};
 
 use crate::options::{ENTITY_ID, MESSAGE};
 use cfdp_types::{EntityId, Messages};
-use pdu_format::{SegmentRequest, SegmentRequests};
+use pdu_values::{SegmentRequest, SegmentRequests, octets_for};
 
 /// A number of one octet.
-#[tactic(auto, unfolding(pdu_format::specs::Numbers::digits))]
+#[tactic(auto, unfolding(pdu_values::specs::Numbers::digits))]
 pub fn put_octet(out: &mut Vec<u8>, number: u8)
     requires { HasRoom out.old (digits 1 number) }
     ensures { Writes out.old out.new (digits 1 number) }
@@ -67,22 +67,6 @@ pub fn put_tlv(out: &mut Vec<u8>, kind: u8, value: &[u8])
     put_lv(out, value);
 }
 
-/// The octets of an entity ID in an optional field: as many as the header's IDs have, or as hold it.
-#[tactic(auto, unfolding(pdu_format::specs::Tlvs::width_from))]
-pub fn location_octets(entity_octets: u8, id: EntityId) -> u8
-    requires length { IsIdLength entity_octets }
-    requires fits { id.0 < 256 ^ 8 }
-    ensures value { result ≡ octets_for entity_octets id.0 }
-    ensures most { result ≤ 8 }
-    ensures holds { id.0 < 256 ^ result }
-{
-    let mut width = entity_octets;
-    while width < 8 && id.0 >= 256_u64.pow(u32::from(width)) {
-        width += 1;
-    }
-    width
-}
-
 /// The optional field of a fault location, where there is one.
 pub fn put_location(out: &mut Vec<u8>, entity_octets: u8, location: Option<EntityId>)
     requires length { IsIdLength entity_octets }
@@ -91,7 +75,7 @@ pub fn put_location(out: &mut Vec<u8>, entity_octets: u8, location: Option<Entit
     ensures { Writes out.old out.new (flat_map tlv (location_tlvs entity_octets location)) }
 {
     if let Some(id) = location {
-        let width = location_octets(entity_octets, id);
+        let width = octets_for(entity_octets, id.0);
         put_octet(out, ENTITY_ID);
         put_octet(out, width);
         put_number(out, width, id.0);

@@ -8,12 +8,12 @@ use Rattle.cfdp_types.specs.Steps.{older_or}
 use Rattle.gap_list.specs.Covered.{covered}
 use Rattle.gap_list.specs.Runs.{is_within, new_runs}
 use Rattle.gap_list.proofs.SetLemmas.{new_runs-same, filled-runs_of}
-use Rattle.pdu_format.specs.declared.pdu.Body.{Body}
-use Rattle.pdu_format.specs.declared.pdu.Body.TheVariants as body
-use Rattle.pdu_format.specs.declared.bodies.FileData.{FileData}
-use Rattle.pdu_codec.specs.declared.event.What.{What}
-use Rattle.pdu_codec.specs.declared.event.Refusal.{Refusal}
-use Rattle.pdu_format.specs.declared.bodies.Metadata.{Metadata}
+use Rattle.pdu_values.specs.declared.pdu.Body.{Body}
+use Rattle.pdu_values.specs.declared.pdu.Body.TheVariants as body
+use Rattle.pdu_values.specs.declared.bodies.FileData.{FileData}
+use Rattle.txn_events.specs.declared.event.What.{What}
+use Rattle.txn_events.specs.declared.refusal.Refusal.{Refusal}
+use Rattle.pdu_values.specs.declared.bodies.Metadata.{Metadata}
 use Rattle.receiver_table.specs.Reception.{State, Entry, step, state_of, is_received, added_runs, octet_at, metadata_of, file_data_of, brings_more}
 use Rattle.receiver_table.specs.Answers.{answer_at}
 use Rattle.receiver_core.specs.ControlBlock.{state_from}
@@ -126,9 +126,9 @@ plan_still old new plan event same is =
       answered = record {
         accepted = ap (λ r. answer_at r (shown new) event) same.reception ∙ ap (λ s. answer_at (reception_of old) s event) shows ∙ is.answered.accepted;
         follows = ap (λ m. state_with old (metadata_after m plan.change) (received_after new.file plan.change) plan.next) same.metadata
-          ∙ ap (λ r. state_with old (metadata_after old.metadata plan.change) r plan.next) (fun_ext (λ i. ap (λ o. older_or o (octet_at (segment_of plan.change) i)) (same.received i)))
-          ∙ is.answered.follows
-          ∙ ap (λ s. step s (record { event = event; answer = plan_answer plan })) (sym shows);
+            ∙ ap (λ r. state_with old (metadata_after old.metadata plan.change) r plan.next) (fun_ext (λ i. ap (λ o. older_or o (octet_at (segment_of plan.change) i)) (same.received i)))
+            ∙ is.answered.follows
+            ∙ ap (λ s. step s (record { event = event; answer = plan_answer plan })) (sym shows);
       };
       fits = fits_still old.file new.file plan.change same.gaps is.fits;
       room = room_still old.file new.file plan.change same.longer is.room;

@@ -6,8 +6,8 @@ use Rattle.std.specs.Option.{option_map}
 use Rattle.gap_list.specs.Runs.{missing_runs}
 use Rattle.gap_list.proofs.SetLemmas.{missing_runs-full, missing_runs-same, full_from_missing_runs}
 use Rattle.modular_sum.specs.Sum.{sum}
-use Rattle.pdu_format.specs.declared.bodies.Metadata.{Metadata}
-use Rattle.pdu_format.specs.declared.bodies.Eof.{Eof}
+use Rattle.pdu_values.specs.declared.bodies.Metadata.{Metadata}
+use Rattle.pdu_values.specs.declared.bodies.Eof.{Eof}
 use Rattle.receiver_table.specs.Reception.{Reception, State, is_suspended}
 use Rattle.receiver_table.specs.Answers.{stores, fault_response, waits_for_rest, looks_at_eof, examines, is_unsupported, is_whole, agrees, missing_below}
 use Rattle.receiver_core.specs.ControlBlock.{state_from}

@@ -1,4 +1,5 @@
 -- A reception that is opened stands before its first event, which is taken unless it is too large.
+use Rattle.std.proofs.lemmas.Bool.{false≢true}
 use Rattle.std.proofs.Common.{◌≡◌, ℕ, true, false, if◌then◌else◌, Option, Some, None, refl, ap, ◌∙◌}
 use Rattle.std.specs.Prelude.{IsOk, Err}
 use Rattle.cfdp_types.specs.Params.{ParamsValue}
@@ -7,13 +8,13 @@ use Rattle.cfdp_types.specs.declared.names.Class.{Class}
 use Rattle.cfdp_types.specs.declared.names.Class.TheVariants.{One, Two}
 use Rattle.cfdp_types.specs.declared.names.TimerKind.{TimerKind}
 use Rattle.cfdp_types.specs.declared.names.TimerKind.TheVariants.{Ack, Nak, Check, Inactivity}
-use Rattle.pdu_codec.specs.Events.{is_same_class}
-use Rattle.pdu_codec.specs.declared.event.What.TheVariants as what
-use Rattle.pdu_codec.specs.declared.event.Refusal.TheVariants as refusal
-use Rattle.pdu_format.specs.Pdu.{PduValue}
-use Rattle.pdu_format.specs.declared.pdu.Header.{Header}
-use Rattle.pdu_format.specs.declared.pdu.Body.{Body}
-use Rattle.pdu_format.specs.declared.pdu.Body.TheVariants as body
+use Rattle.txn_events.specs.Events.{is_same_class}
+use Rattle.txn_events.specs.declared.event.What.TheVariants as what
+use Rattle.txn_events.specs.declared.refusal.Refusal.TheVariants as refusal
+use Rattle.pdu_values.specs.Pdu.{PduValue}
+use Rattle.pdu_values.specs.declared.pdu.Header.{Header}
+use Rattle.pdu_values.specs.declared.pdu.Body.{Body}
+use Rattle.pdu_values.specs.declared.pdu.Body.TheVariants as body
 use Rattle.receiver_table.specs.Reception.{initial}
 use Rattle.receiver_table.specs.Refusals.{refusal_at, is_body_too_large}
 use Rattle.receiver_table.specs.Answers.{answer_at}
@@ -52,11 +53,11 @@ unfolding initial
 by_body key params header (body.Metadata m) opens = rw (same_class header.class) refl
 by_body key params header (body.FileData d) opens = rw (same_class header.class) refl
 by_body key params header (body.Eof e) opens = rw (same_class header.class) refl
-by_body key params header (body.Prompt p) opens = absurd opens
-by_body key params header (body.Ack a) opens = absurd opens
-by_body key params header (body.Finished f) opens = absurd opens
-by_body key params header (body.Nak n) opens = absurd opens
-by_body key params header (body.KeepAlive k) opens = absurd opens
+by_body key params header (body.Prompt p) opens = absurd (false≢true opens)
+by_body key params header (body.Ack a) opens = absurd (false≢true opens)
+by_body key params header (body.Finished f) opens = absurd (false≢true opens)
+by_body key params header (body.Nak n) opens = absurd (false≢true opens)
+by_body key params header (body.KeepAlive k) opens = absurd (false≢true opens)
 
 pub first_refused : (key : TxnKey) (params : ParamsValue) (pdu : PduValue) → BodyOpens pdu.body → is_body_too_large pdu.body ≡ true
     → answer_at (reception_by key params pdu.header) initial (what.Pdu pdu) ≡ Err refusal.TooLarge

@@ -5,7 +5,7 @@ use Rattle.std.specs.Prelude.{unwrap_or, IfOk, IfErr}
 use Rattle.cfdp_types.specs.declared.image.Image.{Image}
 use Rattle.gap_list.specs.Runs.{in_runs, missing_runs}
 use Rattle.gap_list.proofs.RunLemmas.{in_runs-runs_of}
-use Rattle.pdu_codec.specs.declared.event.Refusal.{Refusal}
+use Rattle.txn_events.specs.declared.refusal.Refusal.{Refusal}
 use Rattle.receiver_table.specs.Reception.{Entry, state_of}
 use Rattle.receiver_table.specs.Answers.{octets_from}
 use Rattle.receiver_table.specs.Images.{image_at}

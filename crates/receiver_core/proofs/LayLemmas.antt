@@ -9,7 +9,7 @@ use Rattle.gap_list.specs.declared.run.Run.{Run}
 use Rattle.gap_list.specs.Runs.{is_within, in_runs, new_runs, with_range}
 use Rattle.gap_list.proofs.RunLemmas.{in_runs-runs_of}
 use Rattle.gap_list.proofs.SetLemmas.{filled-runs_of, ends-runs_of, in_set-runs_of}
-use Rattle.pdu_format.specs.declared.bodies.FileData.{FileData}
+use Rattle.pdu_values.specs.declared.bodies.FileData.{FileData}
 use Rattle.receiver_table.specs.Reception.{octet_at}
 use Rattle.receiver_core.specs.Offsets.{IsInside, octets_in}
 

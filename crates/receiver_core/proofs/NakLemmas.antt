@@ -5,9 +5,9 @@ use Rattle.std.proofs.lemmas.Bool.{cases_Bool, ltb-false}
 use Rattle.std.specs.List.{AllByRecursion}
 use Rattle.std.specs.Prelude.{slice_get, is_some}
 use Rattle.gap_list.specs.declared.run.Run.{Run}
-use Rattle.pdu_format.specs.Spelling.{size_octets, RequestFits}
-use Rattle.pdu_format.specs.declared.requests.SegmentRequest.{SegmentRequest}
-use Rattle.pdu_format.specs.declared.pdu.Body.TheVariants as body
+use Rattle.pdu_values.specs.Spelling.{size_octets, RequestFits}
+use Rattle.pdu_values.specs.declared.requests.SegmentRequest.{SegmentRequest}
+use Rattle.pdu_values.specs.declared.pdu.Body.TheVariants as body
 use Rattle.receiver_table.specs.Reception.{State}
 use Rattle.receiver_table.specs.Answers.{request_of, last_end, requests_of, scope_of, missing_below, nak_of}
 use Rattle.receiver_core.specs.Naks.{requests_for, nak_with}

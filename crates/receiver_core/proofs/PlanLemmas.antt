@@ -12,29 +12,29 @@ use Rattle.cfdp_types.specs.declared.key.Deposit.{Deposit}
 use Rattle.cfdp_types.specs.declared.names.TimerKind.{TimerKind}
 use Rattle.cfdp_types.specs.declared.names.TimerKind.TheVariants.{Ack, Nak, Check, Inactivity}
 use Rattle.cfdp_types.specs.declared.timer_op.TimerOp.{TimerOp}
-use Rattle.core_steps.specs.Timers.{stamp_of, tries_by, is_anew}
-use Rattle.core_steps.specs.declared.answer.Answer.{Answer}
-use Rattle.core_steps.proofs.AnswerLemmas.{answer_of_parts, same_answer}
-use Rattle.core_steps.proofs.TimerLemmas.{armed_follows, counted}
-use Rattle.ind_words.specs.Words.{is_end}
-use Rattle.ind_words.specs.Told.{is_resumed, is_fault}
-use Rattle.ind_words.specs.declared.indication.Indication.{Indication}
-use Rattle.pdu_codec.specs.declared.event.What.{What}
-use Rattle.pdu_codec.specs.declared.event.What.TheVariants as what
-use Rattle.pdu_codec.specs.declared.event.Refusal.{Refusal}
-use Rattle.pdu_codec.specs.declared.event.Refusal.TheVariants as refusal
-use Rattle.pdu_codec.specs.Events.{is_of_other_class, is_stale_timer, needs_room, body_of_event, is_expiration}
-use Rattle.pdu_format.specs.Pdu.{PduValue}
-use Rattle.pdu_format.specs.declared.pdu.Body.{Body}
-use Rattle.pdu_format.specs.declared.pdu.Body.TheVariants as body
-use Rattle.pdu_format.specs.declared.bodies.Eof.{Eof}
-use Rattle.pdu_format.specs.declared.bodies.Finished.{Finished}
-use Rattle.pdu_format.specs.declared.bodies.Metadata.{Metadata}
+use Rattle.txn_events.specs.Timers.{AreFew, stamp_of, tries_by, is_reset}
+use Rattle.txn_events.specs.declared.answer.Answer.{Answer}
+use Rattle.txn_events.proofs.AnswerLemmas.{answer_of_parts, same_answer}
+use Rattle.txn_events.proofs.TimerLemmas.{armed_follows, counted}
+use Rattle.indications.specs.Words.{is_end}
+use Rattle.indications.specs.Words.{is_resumed, is_fault}
+use Rattle.indications.specs.declared.indication.Indication.{Indication}
+use Rattle.txn_events.specs.declared.event.What.{What}
+use Rattle.txn_events.specs.declared.event.What.TheVariants as what
+use Rattle.txn_events.specs.declared.refusal.Refusal.{Refusal}
+use Rattle.txn_events.specs.declared.refusal.Refusal.TheVariants as refusal
+use Rattle.txn_events.specs.Events.{is_of_other_class, is_stale_timer, needs_room, body_of_event, is_expiration}
+use Rattle.pdu_values.specs.Pdu.{PduValue}
+use Rattle.pdu_values.specs.declared.pdu.Body.{Body}
+use Rattle.pdu_values.specs.declared.pdu.Body.TheVariants as body
+use Rattle.pdu_values.specs.declared.bodies.Eof.{Eof}
+use Rattle.pdu_values.specs.declared.bodies.Finished.{Finished}
+use Rattle.pdu_values.specs.declared.bodies.Metadata.{Metadata}
 use Rattle.receiver_table.specs.Reception.{Reception, State, step, is_storing, octet_at, finished_among, finished_in, tries_after, waiting_after, brings_more}
 use Rattle.receiver_table.specs.Refusals.{refusal_at, is_stale_store, waits_for_store, is_misplaced, is_too_large, is_full}
 use Rattle.receiver_table.specs.Answers as table
 use Rattle.receiver_table.specs.Answers.{response_to, with_event, without_timers, with_timers, accepted_at, answer_at, effect_of, bodies_of, pdu_to_sender, nak_of, ack_of, if_there, if_so, requests_of}
-use Rattle.receiver_core.specs.ControlBlock.{state_from, bare, AreFew, IsSound}
+use Rattle.receiver_core.specs.ControlBlock.{state_from, bare, IsSound}
 use Rattle.receiver_core.specs.ReceivedFile.{received_of}
 use Rattle.receiver_core.specs.Response.{IsResponse, response_value}
 use Rattle.receiver_core.specs.Core.{shown, reception_of, now_state, metadata_after, received_after, HasRoom, IsLaid, IsChange, IsPlanOf, plan_answer, adds}
@@ -80,7 +80,7 @@ or_false : (b : Bool) → (b || false) ≡ b
 or_false true = refl
 or_false false = refl
 
-anew_same : (kind : TimerKind) (a b : Bool) → a ≡ b → is_anew (record { ack = false; nak = a }) kind ≡ (is_kind Nak kind && b)
+anew_same : (kind : TimerKind) (a b : Bool) → a ≡ b → is_reset (record { ack = false; nak = a }) kind ≡ (is_kind Nak kind && b)
 anew_same Ack a b e = refl
 anew_same Nak a b e = e
 anew_same Check a b e = refl
@@ -254,7 +254,7 @@ pub sound_after : (core : ReceiverCore) (event : What) (now : ControlBlock) (res
 unfolding Leaves
 sound_after core event now response c plan taken seen_is is planned runs =
     let next = planned.next in
-    let old : AreFew core.control = core.sound.few in
+    let old : AreFew core.control.entries core.control.tries = core.sound.few in
     let more : core.control.entries + 1 ≤ JOURNAL_ENTRIES = core.sound.goes_on runs in
     let entries : plan.next.entries ≡ core.control.entries + 1 = next.entries ∙ seen_is.entries in
     record {

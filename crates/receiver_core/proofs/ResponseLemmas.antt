@@ -3,8 +3,8 @@ use Rattle.std.proofs.Common.{◌≡◌, ℕ, Bool, List, [], ◌++◌, Option, 
 use Rattle.cfdp_types.specs.declared.names.Class.{Class}
 use Rattle.cfdp_types.specs.declared.names.Class.TheVariants.{One, Two}
 use Rattle.cfdp_types.specs.declared.names.TimerKind.{TimerKind}
-use Rattle.ind_words.specs.declared.indication.Indication.{Indication}
-use Rattle.pdu_format.specs.declared.bodies.Finished.{Finished}
+use Rattle.indications.specs.declared.indication.Indication.{Indication}
+use Rattle.pdu_values.specs.declared.bodies.Finished.{Finished}
 use Rattle.receiver_table.specs.Reception.{Reception}
 use Rattle.receiver_table.specs.Answers as table
 use Rattle.receiver_table.specs.Answers.{nothing, tells, acknowledges, ◌and_then◌}

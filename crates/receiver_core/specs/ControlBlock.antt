@@ -1,8 +1,8 @@
 -- How the code keeps where a reception stands.
 use Rattle.std.specs.Prelude.{◌≡◌, ℕ, ◌≤◌, ◌-◌, ◌+◌, false, is_some, Option, None, true}
 use Rattle.cfdp_types.specs.declared.limits.TheConstants.{JOURNAL_ENTRIES, JOURNAL_ENTRIES_KEPT}
-use Rattle.core_steps.specs.Timers.{stamp_of, tries_of, AreUpTo}
-use Rattle.pdu_format.specs.declared.bodies.Metadata.{Metadata}
+use Rattle.txn_events.specs.Timers.{stamp_of, tries_of, AreFew}
+use Rattle.pdu_values.specs.declared.bodies.Metadata.{Metadata}
 use Rattle.receiver_table.specs.Reception.{State}
 use Rattle.receiver_core.specs.declared.control.ControlBlock.{ControlBlock}
 
@@ -44,13 +44,8 @@ first = record {
   tries = record { ack = 0; nak = 0; check = 0; inactivity = 0 };
 }
 
--- numbers that can be counted up: no timer expired more often than there were events
-pub record AreFew (control : ControlBlock) : Type 0 where
-  pub entries : control.entries ≤ JOURNAL_ENTRIES
-  pub tries : AreUpTo control.entries control.tries
-
--- besides, the journal has room where the reception goes on, and one entry more where the file store is asked
+-- numbers can be counted up, the journal has room where the reception goes on, and one entry more where the file store is asked
 pub record IsSound (control : ControlBlock) : Type 0 where
-  pub few : AreFew control
+  pub few : AreFew control.entries control.tries
   pub goes_on : control.ended ≡ false → control.entries + 1 ≤ JOURNAL_ENTRIES
   pub asks : control.ended ≡ false → is_some control.waiting ≡ true → control.entries ≤ JOURNAL_ENTRIES - JOURNAL_ENTRIES_KEPT

@@ -6,24 +6,24 @@ use Rattle.cfdp_types.specs.declared.image.Image.{Image}
 use Rattle.cfdp_types.specs.declared.key.TxnKey.{TxnKey}
 use Rattle.gap_list.specs.Covered.{covered}
 use Rattle.gap_list.specs.declared.run.Run.{Run}
-use Rattle.pdu_codec.specs.declared.event.What.{What}
-use Rattle.pdu_codec.specs.declared.event.What.TheVariants as what
-use Rattle.pdu_codec.specs.declared.event.Refusal.{Refusal}
-use Rattle.pdu_codec.specs.declared.event.Refusal.TheVariants as refusal
-use Rattle.pdu_format.specs.declared.pdu.Body.{Body}
-use Rattle.pdu_format.specs.Pdu.{PduValue}
-use Rattle.pdu_format.specs.declared.pdu.Header.{Header}
-use Rattle.pdu_format.specs.declared.bodies.Metadata.{Metadata}
-use Rattle.pdu_format.specs.declared.bodies.FileData.{FileData}
+use Rattle.txn_events.specs.declared.event.What.{What}
+use Rattle.txn_events.specs.declared.event.What.TheVariants as what
+use Rattle.txn_events.specs.declared.refusal.Refusal.{Refusal}
+use Rattle.txn_events.specs.declared.refusal.Refusal.TheVariants as refusal
+use Rattle.pdu_values.specs.declared.pdu.Body.{Body}
+use Rattle.pdu_values.specs.Pdu.{PduValue}
+use Rattle.pdu_values.specs.declared.pdu.Header.{Header}
+use Rattle.pdu_values.specs.declared.bodies.Metadata.{Metadata}
+use Rattle.pdu_values.specs.declared.bodies.FileData.{FileData}
 use Rattle.receiver_table.specs.Reception.{Reception, State, Entry, step, state_of, metadata_of, file_data_of, added_runs, brings_more}
 use Rattle.receiver_table.specs.Answers.{answer_at}
 use Rattle.receiver_laws.specs.LegalReceptions.{BodyOpens}
 use Rattle.receiver_core.specs.ControlBlock.{state_from, IsSound}
 use Rattle.receiver_core.specs.Offsets.{IsInside, octets_in}
 use Rattle.receiver_core.specs.ReceivedFile.{received_of, with_segment, end_of, IsSegmentOf}
-use Rattle.core_steps.specs.declared.answer.Answer.{Answer}
-pub use Rattle.core_steps.specs.Logs.{IsWhy}
-use Rattle.core_steps.specs.Logs.{StandsAt, IsAnswered}
+use Rattle.txn_events.specs.declared.answer.Answer.{Answer}
+pub use Rattle.txn_events.specs.Logs.{IsWhy}
+use Rattle.txn_events.specs.Logs.{StandsAt, IsAnswered}
 use Rattle.receiver_core.specs.declared.received_file.ReceivedFile.{ReceivedFile}
 use Rattle.receiver_core.specs.declared.plan.FileChange.{FileChange}
 use Rattle.receiver_core.specs.declared.plan.FileChange.TheVariants as change

@@ -4,7 +4,7 @@ use Rattle.cfdp_types.specs.Condition as condition
 use Rattle.cfdp_types.specs.ChecksumType as checksum
 use Rattle.gap_list.specs.Runs.{missing_runs}
 use Rattle.modular_sum.specs.Sum.{sum}
-use Rattle.pdu_format.specs.declared.bodies.Eof.{Eof}
+use Rattle.pdu_values.specs.declared.bodies.Eof.{Eof}
 use Rattle.receiver_table.specs.Reception.{Reception, State}
 use Rattle.receiver_table.specs.Answers.{Response, nothing, fault_response, stores, waits_for_rest}
 use Rattle.receiver_core.specs.declared.examine.Finding.{Finding}

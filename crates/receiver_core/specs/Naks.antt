@@ -2,8 +2,8 @@
 use Rattle.std.specs.Prelude.{ℕ, Bool, nat_lt, if◌then◌else◌, List, [], ◌∷◌, ◌++◌, length, map, take}
 use Rattle.cfdp_types.specs.declared.limits.TheConstants.{NAK_REQUESTS}
 use Rattle.gap_list.specs.declared.run.Run.{Run}
-use Rattle.pdu_format.specs.declared.bodies.Nak.{Nak}
-use Rattle.pdu_format.specs.declared.requests.SegmentRequest.{SegmentRequest}
+use Rattle.pdu_values.specs.declared.bodies.Nak.{Nak}
+use Rattle.pdu_values.specs.declared.requests.SegmentRequest.{SegmentRequest}
 use Rattle.receiver_table.specs.Answers.{request_of, last_end}
 
 -- the requests for what is missing: the Metadata first, then the runs

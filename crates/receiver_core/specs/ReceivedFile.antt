@@ -3,7 +3,7 @@ use Rattle.std.specs.Prelude.{◌≡◌, ℕ, ◌+◌, Bool, length, Option}
 use Rattle.cfdp_types.specs.Steps.{older_or}
 use Rattle.gap_list.specs.Covered.{covered}
 use Rattle.gap_list.specs.Runs.{SameSet, with_range, new_runs}
-use Rattle.pdu_format.specs.declared.bodies.FileData.{FileData}
+use Rattle.pdu_values.specs.declared.bodies.FileData.{FileData}
 use Rattle.receiver_table.specs.Reception.{octet_at}
 use Rattle.receiver_core.specs.Offsets.{octets_in}
 use Rattle.receiver_core.specs.declared.received_file.ReceivedFile.{ReceivedFile}

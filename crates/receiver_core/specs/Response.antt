@@ -3,7 +3,7 @@ use Rattle.std.specs.Prelude.{◌≡◌, false, if◌then◌else◌, List, [], �
 use Rattle.std.specs.Option.{option_to_list}
 use Rattle.cfdp_types.specs.declared.names.TimerKind.{TimerKind}
 use Rattle.cfdp_types.specs.declared.names.TimerKind.TheVariants.{Inactivity}
-use Rattle.ind_words.specs.declared.indication.Indication.{Indication}
+use Rattle.indications.specs.declared.indication.Indication.{Indication}
 use Rattle.receiver_table.specs.Answers as table
 use Rattle.receiver_core.specs.declared.response.Response as response_type
 

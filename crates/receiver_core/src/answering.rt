@@ -2,31 +2,32 @@
 ghost use Rattle.std.specs.Prelude.{◌≡◌, ◌<◌, IfOk, All, map};
 ghost use Rattle.receiver_table.specs.Answers.{segment_told};
 
+use crate::control::ControlBlock;
 use crate::examine::look;
 use crate::plan::FileChange;
 use crate::receiver::ReceiverCore;
 use crate::response::Response;
-use crate::control::ControlBlock;
 use cfdp_types::{ChecksumType, Class, Condition, Delivery, FileStatus, TimerKind};
 use gap_list::{Gaps, Run};
-use ind_words::{Indication, Indications};
-use pdu_codec::{Body, Eof, Metadata, Prompt, What};
+use indications::{Indication, Indications};
+use pdu_values::{Body, Eof, Metadata, Prompt};
 use std::alloc::{AllocError, Global};
+use txn_events::What;
 
 impl ReceiverCore {
     ghost use Rattle.std.specs.Prelude.{◌≡◌, ℕ, ◌∷◌, [], ◌<◌, IfOk, All, true, false, map, is_some, if◌then◌else◌, Option, Some};
     ghost use Rattle.std.specs.Option.{option_map};
     ghost use Rattle.gap_list.specs.Covered.{covered};
     ghost use Rattle.cfdp_types.specs.Condition as condition;
-    ghost use Rattle.pdu_codec.specs.declared.event.What.TheVariants as what;
-    ghost use Rattle.ind_words.specs.declared.indication.Indication.TheVariants as told;
-    ghost use Rattle.pdu_codec.specs.Events.{body_of_event};
+    ghost use Rattle.txn_events.specs.declared.event.What.TheVariants as what;
+    ghost use Rattle.indications.specs.declared.indication.Indication.TheVariants as told;
+    ghost use Rattle.txn_events.specs.Events.{body_of_event};
     ghost use Rattle.receiver_table.specs.Reception.{added_runs, file_data_of};
     ghost use Rattle.receiver_table.specs.Answers as table;
     ghost use Rattle.receiver_table.specs.Answers.{tells, nothing, segment_told, ◌and_then◌};
     ghost use Rattle.receiver_core.specs.Response.{IsResponse};
     ghost use Rattle.receiver_core.specs.ControlBlock.{state_from};
-    ghost use Rattle.pdu_format.specs.declared.bodies.Metadata.{Metadata};
+    ghost use Rattle.pdu_values.specs.declared.bodies.Metadata.{Metadata};
     ghost use Rattle.receiver_core.specs.Core.{shown, reception_of, metadata_after, covered_after, runs_in, now_state, is_request, IsCovered};
     ghost use Rattle.cfdp_types.specs.declared.names.Delivery.TheVariants.{Incomplete};
     ghost use Rattle.cfdp_types.specs.declared.names.FileStatus.TheVariants.{Discarded};
@@ -55,9 +56,15 @@ impl ReceiverCore {
     }
 
     // The look at the file so far, once the user was told something.
-    fn examine(&self, inds: Indications, now: &ControlBlock, change: &FileChange) -> Result<Response, AllocError>
+    fn examine(
+        &self,
+        inds: Indications,
+        now: &ControlBlock,
+        change: &FileChange,
+    ) -> Result<Response, AllocError>
         requires { IsCovered self.now.file change.now }
-        ensures response { IfOk result (λ response. IsResponse response (tells inds and_then table.examines (reception_of self.now) (now_state self.now now.now change.now))) }
+        ensures response { IfOk result (λ response. IsResponse response
+            (tells inds and_then table.examines (reception_of self.now) (now_state self.now now.now change.now))) }
         ensures plain { IfOk result (λ response. response.resumes ≡ false) }
     {
         if now.is_suspended() {
@@ -74,7 +81,9 @@ impl ReceiverCore {
 
     // What the user is told of the first Metadata.
     fn metadata_told(&self, metadata: &Metadata) -> Result<Indications, AllocError>
-        ensures { IfOk result (λ inds. inds ≡ (if is_some self.now.metadata then [] else told.MetadataRecv self.now.key.source metadata.now.size metadata.now.source_name metadata.now.destination_name metadata.now.messages ∷ [])) }
+        ensures { IfOk result (λ inds. inds ≡ (if is_some self.now.metadata then [] else told.MetadataRecv
+            self.now.key.source metadata.now.size metadata.now.source_name metadata.now.destination_name
+            metadata.now.messages ∷ [])) }
     {
         let mut inds = Indications::new(self.alloc);
         if self.metadata.is_none() {
@@ -96,7 +105,8 @@ impl ReceiverCore {
         change: &FileChange,
     ) -> Result<Response, AllocError>
         requires { IsCovered self.now.file change.now }
-        ensures { IfOk result (λ response. IsResponse response (table.on_metadata (reception_of self.now) (shown self.now) (now_state self.now now.now change.now) metadata.now)) }
+        ensures { IfOk result (λ response. IsResponse response (table.on_metadata (reception_of self.now)
+            (shown self.now) (now_state self.now now.now change.now) metadata.now)) }
     {
         let inds = self.metadata_told(metadata)?;
         self.examine(inds, now, change)
@@ -117,7 +127,8 @@ impl ReceiverCore {
     fn on_file_data(&self, now: &ControlBlock, change: &FileChange) -> Result<Response, AllocError>
         requires covered { IsCovered self.now.file change.now }
         requires filled { All (λ run. run.start < run.end) (runs_in change.now) }
-        ensures { IfOk result (λ response. IsResponse response (tells (map segment_told (runs_in change.now)) and_then table.examines (reception_of self.now) (now_state self.now now.now change.now))) }
+        ensures { IfOk result (λ response. IsResponse response (tells (map segment_told (runs_in change.now)) and_then
+            table.examines (reception_of self.now) (now_state self.now now.now change.now))) }
     {
         let inds = self.part_told(change)?;
         self.examine(inds, now, change)
@@ -125,7 +136,8 @@ impl ReceiverCore {
 
     // Class 2 acknowledges an EOF.
     fn acknowledges(&self, response: &mut Response, condition: Condition)
-        ensures { (wanted : table.Response) → IsResponse response.old wanted → IsResponse response.new (table.acknowledges (reception_of self.now) condition and_then wanted) }
+        ensures { (wanted : table.Response) → IsResponse response.old wanted → IsResponse response.new
+            (table.acknowledges (reception_of self.now) condition and_then wanted) }
     {
         if self.header.class == Class::Two {
             response.ack = Some(condition);
@@ -146,7 +158,10 @@ impl ReceiverCore {
     // An EOF without an error, outside the closing phase.
     fn on_good_eof(&self, now: &ControlBlock, change: &FileChange) -> Result<Response, AllocError>
         requires { IsCovered self.now.file change.now }
-        ensures { IfOk result (λ response. IsResponse response (tells (if is_some self.now.control.eof then [] else told.EofRecv ∷ []) and_then table.acknowledges (reception_of self.now) condition.no_error and_then table.examines (reception_of self.now) (now_state self.now now.now change.now))) }
+        ensures { IfOk result (λ response. IsResponse response (tells
+            (if is_some self.now.control.eof then [] else told.EofRecv ∷ []) and_then table.acknowledges
+            (reception_of self.now) condition.no_error and_then table.examines (reception_of self.now)
+            (now_state self.now now.now change.now))) }
     {
         let inds = self.eof_told()?;
         let mut response = self.examine(inds, now, change)?;
@@ -158,7 +173,8 @@ impl ReceiverCore {
 
     // An EOF with an error ends the reception.
     fn on_bad_eof(&self, condition: Condition) -> Result<Response, AllocError>
-        ensures { IfOk result (λ response. IsResponse response (tells (told.TransactionFinished condition Incomplete Discarded ∷ []) and_then table.acknowledges (reception_of self.now) condition)) }
+        ensures { IfOk result (λ response. IsResponse response (tells (told.TransactionFinished condition Incomplete
+            Discarded ∷ []) and_then table.acknowledges (reception_of self.now) condition)) }
     {
         let told = Indication::TransactionFinished {
             condition,
@@ -170,9 +186,15 @@ impl ReceiverCore {
         Ok(response)
     }
 
-    fn on_eof(&self, eof: Eof, now: &ControlBlock, change: &FileChange) -> Result<Response, AllocError>
+    fn on_eof(
+        &self,
+        eof: Eof,
+        now: &ControlBlock,
+        change: &FileChange,
+    ) -> Result<Response, AllocError>
         requires { IsCovered self.now.file change.now }
-        ensures { IfOk result (λ response. IsResponse response (table.on_eof (reception_of self.now) (shown self.now) (now_state self.now now.now change.now) eof)) }
+        ensures { IfOk result (λ response. IsResponse response
+            (table.on_eof (reception_of self.now) (shown self.now) (now_state self.now now.now change.now) eof)) }
     {
         if self.control.is_closing() {
             let mut response = Response::of(Indications::new(self.alloc));
@@ -187,7 +209,8 @@ impl ReceiverCore {
 
     // A NAK, unless suspended, or a Keep Alive.
     fn on_prompt(&self, prompt: Prompt, now: &ControlBlock) -> Response
-        ensures { (m : Option Metadata) (octets : ℕ → Option ℕ) → IsResponse result (table.on_prompt (state_from now.now m octets) prompt) }
+        ensures { (m : Option Metadata) (octets : ℕ → Option ℕ) → IsResponse result
+            (table.on_prompt (state_from now.now m octets) prompt) }
     {
         let mut response = Response::of(Indications::new(self.alloc));
         match prompt {
@@ -214,11 +237,17 @@ impl ReceiverCore {
         }
     }
 
-    fn on_body(&self, body: &Body, now: &ControlBlock, change: &FileChange) -> Result<Response, AllocError>
+    fn on_body(
+        &self,
+        body: &Body,
+        now: &ControlBlock,
+        change: &FileChange,
+    ) -> Result<Response, AllocError>
         requires covered { IsCovered self.now.file change.now }
         requires filled { All (λ run. run.start < run.end) (runs_in change.now) }
         requires runs { runs_in change.now ≡ added_runs (shown self.now) (file_data_of (Some body.now)) }
-        ensures { IfOk result (λ response. IsResponse response (table.on_body (reception_of self.now) (shown self.now) (now_state self.now now.now change.now) body.now)) }
+        ensures { IfOk result (λ response. IsResponse response (table.on_body (reception_of self.now) (shown self.now)
+            (now_state self.now now.now change.now) body.now)) }
     {
         match body {
             Body::Metadata(metadata) => self.on_metadata(metadata, now, change),
@@ -234,7 +263,8 @@ impl ReceiverCore {
 
     // Nak: the NAK once more, and at the limit a fault.
     fn on_nak_timer(&self, now: &ControlBlock) -> Result<Response, AllocError>
-        ensures { (m : Option Metadata) (octets : ℕ → Option ℕ) → IfOk result (λ response. IsResponse response (table.on_nak_timer (reception_of self.now) (shown self.now) (state_from now.now m octets))) }
+        ensures { (m : Option Metadata) (octets : ℕ → Option ℕ) → IfOk result (λ response. IsResponse response
+            (table.on_nak_timer (reception_of self.now) (shown self.now) (state_from now.now m octets))) }
     {
         let inds = Indications::new(self.alloc);
         if self.control.tries.nak + 1 < u32::from(self.params.limits().nak) {
@@ -249,7 +279,8 @@ impl ReceiverCore {
 
     // Check: at the limit a fault.
     fn on_check_timer(&self, now: &ControlBlock) -> Result<Response, AllocError>
-        ensures { (m : Option Metadata) (octets : ℕ → Option ℕ) → IfOk result (λ response. IsResponse response (table.on_check_timer (reception_of self.now) (shown self.now) (state_from now.now m octets))) }
+        ensures { (m : Option Metadata) (octets : ℕ → Option ℕ) → IfOk result (λ response. IsResponse response
+            (table.on_check_timer (reception_of self.now) (shown self.now) (state_from now.now m octets))) }
     {
         let inds = Indications::new(self.alloc);
         if self.control.tries.check + 1 < u32::from(self.params.limits().check) {
@@ -263,7 +294,8 @@ impl ReceiverCore {
 
     // Ack: the Finished PDU once more, and at the limit the end.
     fn on_ack_timer(&self) -> Result<Response, AllocError>
-        ensures { IfOk result (λ response. IsResponse response (table.on_ack_timer (reception_of self.now) (shown self.now))) }
+        ensures { IfOk result
+            (λ response. IsResponse response (table.on_ack_timer (reception_of self.now) (shown self.now))) }
     {
         if self.control.tries.ack + 1 < u32::from(self.params.limits().ack) {
             let mut response = Response::of(Indications::new(self.alloc));
@@ -276,7 +308,8 @@ impl ReceiverCore {
     }
 
     fn on_timer(&self, kind: TimerKind, now: &ControlBlock) -> Result<Response, AllocError>
-        ensures { (m : Option Metadata) (octets : ℕ → Option ℕ) → IfOk result (λ response. IsResponse response (table.on_timer (reception_of self.now) (shown self.now) (state_from now.now m octets) kind)) }
+        ensures { (m : Option Metadata) (octets : ℕ → Option ℕ) → IfOk result (λ response. IsResponse response
+            (table.on_timer (reception_of self.now) (shown self.now) (state_from now.now m octets) kind)) }
     {
         match kind {
             TimerKind::Nak => self.on_nak_timer(now),
@@ -293,7 +326,8 @@ impl ReceiverCore {
 
     // The file store keeps the file, or not.
     fn on_stored(&self, now: &ControlBlock, kept: bool) -> Result<Response, AllocError>
-        ensures { (m : Option Metadata) (octets : ℕ → Option ℕ) → IfOk result (λ response. IsResponse response (table.on_stored (reception_of self.now) (state_from now.now m octets) kept)) }
+        ensures { (m : Option Metadata) (octets : ℕ → Option ℕ) → IfOk result (λ response. IsResponse response
+            (table.on_stored (reception_of self.now) (state_from now.now m octets) kept)) }
     {
         let inds = Indications::new(self.alloc);
         if kept {
@@ -311,7 +345,8 @@ impl ReceiverCore {
     // The reception goes on, and looks at what came meanwhile.
     fn on_resume(&self, now: &ControlBlock, change: &FileChange) -> Result<Response, AllocError>
         requires { IsCovered self.now.file change.now }
-        ensures { IfOk result (λ response. IsResponse response (table.on_resume (reception_of self.now) (now_state self.now now.now change.now))) }
+        ensures { IfOk result (λ response. IsResponse response
+            (table.on_resume (reception_of self.now) (now_state self.now now.now change.now))) }
     {
         let mut inds = Indications::new(self.alloc);
         inds.push(Indication::Resumed {
@@ -327,9 +362,15 @@ impl ReceiverCore {
     }
 
     // What is answered to the user and to what is neither a PDU nor a timer.
-    fn on_request(&self, event: &What, now: &ControlBlock, change: &FileChange) -> Result<Response, AllocError>
+    fn on_request(
+        &self,
+        event: &What,
+        now: &ControlBlock,
+        change: &FileChange,
+    ) -> Result<Response, AllocError>
         requires { IsCovered self.now.file change.now }
-        ensures { is_request event.now ≡ true → IfOk result (λ response. IsResponse response (table.response_to (reception_of self.now) (shown self.now) (now_state self.now now.now change.now) event.now)) }
+        ensures { is_request event.now ≡ true → IfOk result (λ response. IsResponse response (table.response_to
+            (reception_of self.now) (shown self.now) (now_state self.now now.now change.now) event.now)) }
     {
         let progress = now.progress;
         let inds = Indications::new(self.alloc);
@@ -368,7 +409,8 @@ impl ReceiverCore {
         requires covered { IsCovered self.now.file change.now }
         requires filled { All (λ run. run.start < run.end) (runs_in change.now) }
         requires runs { runs_in change.now ≡ added_runs (shown self.now) (file_data_of (body_of_event event.now)) }
-        ensures { IfOk result (λ response. IsResponse response (table.response_to (reception_of self.now) (shown self.now) (now_state self.now now.now change.now) event.now)) }
+        ensures { IfOk result (λ response. IsResponse response (table.response_to (reception_of self.now)
+            (shown self.now) (now_state self.now now.now change.now) event.now)) }
     {
         match event {
             What::Pdu(pdu) => self.on_body(pdu.body(), now, change),

@@ -1,8 +1,8 @@
 ghost use Rattle.std.specs.Prelude.{◌≡◌};
 
-use core_steps::{Stamps, Tries};
-use ind_words::Phase;
-use pdu_codec::{Eof, Finished};
+use indications::Phase;
+use pdu_values::{Eof, Finished};
+use txn_events::{Stamps, Tries};
 
 /// Where a reception stands, but for the Metadata and the octets that came.
 #[derive(Clone, Copy, Debug, PartialEq, Eq)]

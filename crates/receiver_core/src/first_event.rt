@@ -1,20 +1,17 @@
 //! How a reception is opened.
-ghost use Rattle.std.specs.Prelude.{◌↔◌, IsTrue};
-ghost use Rattle.receiver_laws.specs.LegalReceptions.{BodyOpens};
-
-use crate::received_file::ReceivedFile;
-use crate::plan::Plan;
-use crate::receiver::ReceiverCore;
-use crate::refusals::is_body_too_large;
 use crate::control::ControlBlock;
+use crate::plan::Plan;
+use crate::received_file::ReceivedFile;
+use crate::receiver::ReceiverCore;
 use cfdp_types::{Params, TxnKey};
-use pdu_codec::{Body, Header, Pdu, Refusal, What};
+use pdu_values::{Header, Pdu};
 use std::alloc::Global;
+use txn_events::{Refusal, What, body_opens, is_body_too_large};
 
 impl ReceiverCore {
     ghost use Rattle.std.specs.Prelude.{◌≡◌, ◌↔◌, false, [], IfOk, IfErr, IsTrue};
-    ghost use Rattle.pdu_codec.specs.declared.event.What.TheVariants as what;
-    ghost use Rattle.pdu_format.specs.Spelling.{HeaderFits};
+    ghost use Rattle.txn_events.specs.declared.event.What.TheVariants as what;
+    ghost use Rattle.pdu_values.specs.Spelling.{HeaderFits};
     ghost use Rattle.receiver_table.specs.Reception.{initial};
     ghost use Rattle.receiver_table.specs.Answers.{answer_at};
     ghost use Rattle.receiver_laws.specs.LegalReceptions.{Opens};
@@ -26,7 +23,7 @@ impl ReceiverCore {
         ensures { IsTrue result ↔ MayOpen key pdu.now }
     {
         let header = pdu.header();
-        opens(pdu.body()) && header.source == key.source && header.sequence == key.seq
+        body_opens(pdu.body()) && header.source == key.source && header.sequence == key.seq
     }
 
     // Before the first event.
@@ -59,7 +56,8 @@ impl ReceiverCore {
         ensures stands { IfOk result (λ opened. StandsAfter opened.0 []) }
         ensures runs { IfOk result (λ opened. (shown opened.0).ended ≡ false) }
         ensures planned { IfOk result (λ opened. IsPlanOf opened.0 opened.1 (what.Pdu pdu.now)) }
-        ensures refused { IfErr result (λ why. IsWhy (answer_at (reception_by key params pdu.now.header) initial (what.Pdu pdu.now)) why) }
+        ensures refused { IfErr result
+            (λ why. IsWhy (answer_at (reception_by key params pdu.now.header) initial (what.Pdu pdu.now)) why) }
     {
         if is_body_too_large(pdu.body()) {
             return Err(Refusal::TooLarge);
@@ -70,11 +68,4 @@ impl ReceiverCore {
         let plan = core.plan(&event)?;
         Ok((core, plan))
     }
-}
-
-// Whether a body opens a reception.
-fn opens(body: &Body) -> bool
-    ensures { IsTrue result ↔ BodyOpens body.now }
-{
-    matches!(body, Body::Metadata(_) | Body::FileData(_) | Body::Eof(_))
 }

@@ -1,8 +1,9 @@
 //! The file that is handed out.
 use crate::receiver::ReceiverCore;
 use cfdp_types::{Image, Octets};
-use pdu_codec::{Metadata, Refusal};
+use pdu_values::Metadata;
 use std::alloc::AllocError;
+use txn_events::Refusal;
 
 impl ReceiverCore {
     ghost use Rattle.std.specs.Prelude.{◌≡◌, IfOk, IfErr, List, Ok};
@@ -47,8 +48,10 @@ impl ReceiverCore {
 
     /// The file of the deposit that waits, by its stamp.
     pub fn image(&self, stamp: u32) -> Result<Image, Refusal>
-        ensures image { (log : List Entry) → StandsAfter self.now log → IfOk result (λ image. image_at (state_of log) stamp ≡ Ok image) }
-        ensures refused { (log : List Entry) → StandsAfter self.now log → IfErr result (λ why. IsWhy (image_at (state_of log) stamp) why) }
+        ensures image { (log : List Entry) → StandsAfter self.now log → IfOk result
+            (λ image. image_at (state_of log) stamp ≡ Ok image) }
+        ensures refused { (log : List Entry) → StandsAfter self.now log → IfErr result
+            (λ why. IsWhy (image_at (state_of log) stamp) why) }
     {
         self.image_now(stamp)
     }

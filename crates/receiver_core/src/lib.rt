@@ -3,22 +3,22 @@
 #![tactic(auto)]
 
 mod answering;
-mod received_file;
+mod control;
 mod examine;
+mod first_event;
 mod image;
 pub mod laws;
 mod nak;
-mod first_event;
 mod pdus;
 mod plan;
 mod planning;
+mod received_file;
 mod receiver;
 mod refusals;
 mod response;
 mod responses;
-mod control;
 mod steps;
 
-pub use core_steps::Answer;
 pub use plan::Plan;
 pub use receiver::ReceiverCore;
+pub use txn_events::Answer;

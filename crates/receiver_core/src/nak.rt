@@ -1,20 +1,17 @@
 //! What a NAK asks for.
-ghost use Rattle.std.specs.Prelude.{◌≡◌, ◌<◌, ◌≤◌, ◌^◌, ◌++◌, IfOk, OnOk, map, take, length};
-ghost use Rattle.std.specs.List.{AllByRecursion};
+ghost use Rattle.std.specs.Prelude.{◌≡◌, ◌≤◌, ◌++◌, IfOk, OnOk, map, take, length};
 ghost use Rattle.cfdp_types.specs.declared.limits.TheConstants.{NAK_REQUESTS};
-ghost use Rattle.pdu_format.specs.Spelling.{size_octets, NakFits, RequestFits};
 ghost use Rattle.receiver_table.specs.Answers.{request_of, last_end};
 ghost use Rattle.receiver_core.specs.Naks.{requests_for, nak_with};
 
 use cfdp_types::limits::NAK_REQUESTS;
 use gap_list::Run;
-use pdu_codec::{Nak, SegmentRequest, SegmentRequests};
+use pdu_values::{Nak, SegmentRequest, SegmentRequests};
 use std::alloc::{AllocError, Global};
 
 // The request for a run.
 fn request_of(run: Run) -> SegmentRequest
-    ensures value { result ≡ request_of run }
-    ensures fits { RequestFits size_octets result }
+    ensures { result ≡ request_of run }
 {
     SegmentRequest {
         start: run.start,
@@ -24,8 +21,7 @@ fn request_of(run: Run) -> SegmentRequest
 
 // Asks for each of the runs.
 fn put_requests(requests: &mut SegmentRequests, runs: &[Run]) -> Result<(), AllocError>
-    ensures value { OnOk result (requests.new ≡ requests.old ++ map request_of runs.now) }
-    ensures fits { OnOk result (AllByRecursion (RequestFits size_octets) requests.old → AllByRecursion (RequestFits size_octets) requests.new) }
+    ensures { OnOk result (requests.new ≡ requests.old ++ map request_of runs.now) }
 {
     for run in runs {
         requests.push(request_of(*run))?;
@@ -46,8 +42,7 @@ fn requests_for(
     has_metadata: bool,
     runs: &[Run],
 ) -> Result<SegmentRequests, AllocError>
-    ensures value { IfOk result (λ requests. requests ≡ take NAK_REQUESTS (requests_for has_metadata runs.now)) }
-    ensures fits { IfOk result (λ requests. AllByRecursion (RequestFits size_octets) requests) }
+    ensures { IfOk result (λ requests. requests ≡ take NAK_REQUESTS (requests_for has_metadata runs.now)) }
 {
     let mut requests = SegmentRequests::new(alloc);
     if has_metadata {
@@ -69,14 +64,6 @@ fn last_end(requests: &[SegmentRequest]) -> u32
     }
 }
 
-// What the type of a number says of it.
-fn word(number: u32) -> u32
-    ensures value { result ≡ number }
-    ensures range { result < 2 ^ 32 }
-{
-    number
-}
-
 /// The NAK that asks for the Metadata, where it is not there, and for the runs, as many as it may
 /// hold. Its scope ends where the rest of the file does, or with the last request where some are left
 /// out.
@@ -87,7 +74,6 @@ pub(crate) fn nak(
     runs: &[Run],
 ) -> Result<Nak, AllocError>
     ensures value { IfOk result (λ nak. nak ≡ nak_with has_metadata scope runs.now) }
-    ensures fits { IfOk result (λ nak. NakFits size_octets nak) }
     ensures few { IfOk result (λ nak. length nak.requests ≤ NAK_REQUESTS) }
 {
     let requests = requests_for(alloc, has_metadata, runs)?;
@@ -99,7 +85,7 @@ pub(crate) fn nak(
     };
     Ok(Nak {
         start: 0,
-        end: word(end),
+        end,
         requests,
     })
 }

@@ -1,31 +1,30 @@
 //! The PDUs that a reception sends.
-ghost use Rattle.std.specs.Prelude.{◌≡◌, ◌<◌, ◌^◌, if◌then◌else◌};
-ghost use Rattle.pdu_format.specs.declared.bodies.TransactionStatus.TheVariants as status;
-ghost use Rattle.pdu_format.specs.Spelling.{IsLocation};
+ghost use Rattle.std.specs.Prelude.{◌≡◌, if◌then◌else◌};
+ghost use Rattle.pdu_values.specs.declared.bodies.TransactionStatus.TheVariants as status;
 
+use crate::control::ControlBlock;
 use crate::nak::nak;
 use crate::plan::FileChange;
 use crate::receiver::ReceiverCore;
 use crate::response::Response;
-use crate::control::ControlBlock;
-use cfdp_types::{Condition, EntityId};
-use core_steps::Pdus;
-use pdu_codec::{
+use cfdp_types::Condition;
+use pdu_values::{
     Ack, Acknowledged, Body, Direction, Finished, Header, KeepAlive, Pdu, TransactionStatus,
 };
 use std::alloc::AllocError;
+use txn_events::Pdus;
 
 impl ReceiverCore {
     ghost use Rattle.std.specs.Prelude.{◌≡◌, ◌++◌, IfOk, OnOk, map, is_some};
-    ghost use Rattle.pdu_format.specs.Spelling.{HeaderFits};
-    ghost use Rattle.pdu_format.specs.declared.pdu.Body.{Body};
-    ghost use Rattle.pdu_format.specs.declared.pdu.Body.TheVariants as body;
+    ghost use Rattle.pdu_values.specs.Spelling.{HeaderFits};
+    ghost use Rattle.pdu_values.specs.declared.pdu.Body.{Body};
+    ghost use Rattle.pdu_values.specs.declared.pdu.Body.TheVariants as body;
     ghost use Rattle.receiver_table.specs.Answers.{pdu_to_sender, ack_of, nak_of, if_there, if_so, bodies_of};
     ghost use Rattle.receiver_core.specs.Response.{response_value};
     ghost use Rattle.receiver_core.specs.Core.{reception_of, metadata_after, now_state, IsCovered};
 
     // The header of every PDU toward the sender.
-    fn header(&self) -> Header
+    fn reply_header(&self) -> Header
         ensures value { (b : Body) → pdu_to_sender (reception_of self.now) b ≡ record { header = result; body = b } }
         ensures fits { HeaderFits result }
     {
@@ -39,34 +38,26 @@ impl ReceiverCore {
     fn ack(&self, condition: Condition, ended: bool) -> Pdu
         ensures { result ≡ pdu_to_sender (reception_of self.now) (ack_of ended condition) }
     {
-        let _code = condition.code();
-        Pdu::new(
-            self.header(),
-            Body::Ack(Ack {
-                of: Acknowledged::Eof,
-                condition,
-                status: status_of(ended),
-            }),
-        )
+        let of = Acknowledged::Eof;
+        let status = status_of(ended);
+        let ack = Ack {
+            of,
+            condition,
+            status,
+        };
+        Pdu::ack(self.reply_header(), ack)
     }
 
     fn keep_alive(&self, progress: u32) -> Pdu
         ensures { result ≡ pdu_to_sender (reception_of self.now) (body.KeepAlive (record { progress = progress })) }
     {
-        Pdu::new(
-            self.header(),
-            Body::KeepAlive(KeepAlive {
-                progress: word(progress),
-            }),
-        )
+        Pdu::keep_alive(self.reply_header(), KeepAlive { progress })
     }
 
     fn finished(&self, finished: Finished) -> Pdu
         ensures { result ≡ pdu_to_sender (reception_of self.now) (body.Finished finished) }
     {
-        let _code = finished.condition.code();
-        let _location = has_location(finished.location);
-        Pdu::new(self.header(), Body::Finished(finished))
+        Pdu::finished(self.reply_header(), finished)
     }
 
     // Whether Metadata came, with that of a change.
@@ -79,7 +70,8 @@ impl ReceiverCore {
     // What is missing of the file.
     fn nak(&self, now: &ControlBlock, change: &FileChange) -> Result<Pdu, AllocError>
         requires { IsCovered self.now.file change.now }
-        ensures { IfOk result (λ pdu. pdu ≡ pdu_to_sender (reception_of self.now) (nak_of (now_state self.now now.now change.now))) }
+        ensures { IfOk result
+            (λ pdu. pdu ≡ pdu_to_sender (reception_of self.now) (nak_of (now_state self.now now.now change.now))) }
     {
         let scope = now.scope();
         let runs = self.gaps_after(change).missing(scope)?;
@@ -89,11 +81,12 @@ impl ReceiverCore {
             scope,
             runs.as_slice(),
         )?;
-        Ok(Pdu::new(self.header(), Body::Nak(nak)))
+        Ok(Pdu::nak(self.reply_header(), nak))
     }
 
     fn put_ack(&self, pdus: &mut Pdus, response: &Response, ended: bool) -> Result<(), AllocError>
-        ensures { OnOk result (pdus.new ≡ pdus.old ++ map (pdu_to_sender (reception_of self.now)) (if_there (ack_of ended) response.now.ack)) }
+        ensures { OnOk result (pdus.new ≡ pdus.old ++ map (pdu_to_sender (reception_of self.now))
+            (if_there (ack_of ended) response.now.ack)) }
     {
         match response.ack {
             None => Ok(()),
@@ -109,7 +102,8 @@ impl ReceiverCore {
         change: &FileChange,
     ) -> Result<(), AllocError>
         requires { IsCovered self.now.file change.now }
-        ensures { OnOk result (pdus.new ≡ pdus.old ++ map (pdu_to_sender (reception_of self.now)) (if_so response.now.nak (nak_of (now_state self.now now.now change.now)))) }
+        ensures { OnOk result (pdus.new ≡ pdus.old ++ map (pdu_to_sender (reception_of self.now))
+            (if_so response.now.nak (nak_of (now_state self.now now.now change.now)))) }
     {
         if response.nak {
             pdus.push(self.nak(now, change)?)
@@ -118,8 +112,14 @@ impl ReceiverCore {
         }
     }
 
-    fn put_keep_alive(&self, pdus: &mut Pdus, response: &Response, progress: u32) -> Result<(), AllocError>
-        ensures { OnOk result (pdus.new ≡ pdus.old ++ map (pdu_to_sender (reception_of self.now)) (if_so response.now.keep_alive (body.KeepAlive (record { progress = progress })))) }
+    fn put_keep_alive(
+        &self,
+        pdus: &mut Pdus,
+        response: &Response,
+        progress: u32,
+    ) -> Result<(), AllocError>
+        ensures { OnOk result (pdus.new ≡ pdus.old ++ map (pdu_to_sender (reception_of self.now))
+            (if_so response.now.keep_alive (body.KeepAlive (record { progress = progress })))) }
     {
         if response.keep_alive {
             pdus.push(self.keep_alive(progress))
@@ -129,7 +129,8 @@ impl ReceiverCore {
     }
 
     fn put_finished(&self, pdus: &mut Pdus, response: &Response) -> Result<(), AllocError>
-        ensures { OnOk result (pdus.new ≡ pdus.old ++ map (pdu_to_sender (reception_of self.now)) (if_there body.Finished response.now.finished)) }
+        ensures { OnOk result (pdus.new ≡ pdus.old ++ map (pdu_to_sender (reception_of self.now))
+            (if_there body.Finished response.now.finished)) }
     {
         match response.finished {
             None => Ok(()),
@@ -147,7 +148,8 @@ impl ReceiverCore {
         ended: bool,
     ) -> Result<Pdus, AllocError>
         requires { IsCovered self.now.file change.now }
-        ensures { IfOk result (λ pdus. pdus ≡ map (pdu_to_sender (reception_of self.now)) (bodies_of (now_state self.now now.now change.now) ended (response_value response.now))) }
+        ensures { IfOk result (λ pdus. pdus ≡ map (pdu_to_sender (reception_of self.now))
+            (bodies_of (now_state self.now now.now change.now) ended (response_value response.now))) }
     {
         let mut pdus = Pdus::new(self.alloc);
         self.put_ack(&mut pdus, response, ended)?;
@@ -166,32 +168,5 @@ fn status_of(ended: bool) -> TransactionStatus
         TransactionStatus::Terminated
     } else {
         TransactionStatus::Active
-    }
-}
-
-// What the type of a number says of it.
-fn word(number: u32) -> u32
-    ensures value { result ≡ number }
-    ensures range { result < 2 ^ 32 }
-{
-    number
-}
-
-fn long_word(number: u64) -> u64
-    ensures { number < 2 ^ 64 }
-{
-    number
-}
-
-// What the type of a fault location says of it.
-fn has_location(location: Option<EntityId>) -> bool
-    ensures { IsLocation location }
-{
-    match location {
-        None => false,
-        Some(id) => {
-            let _id = long_word(id.0);
-            true
-        }
     }
 }

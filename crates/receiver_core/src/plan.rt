@@ -1,7 +1,7 @@
-use core_steps::Answer;
-use crate::received_file::NewSegment;
 use crate::control::ControlBlock;
-use pdu_codec::Metadata;
+use crate::received_file::NewSegment;
+use pdu_values::Metadata;
+use txn_events::Answer;
 
 /// What an event changes in what is kept of the file.
 #[derive(Debug, Drop)]

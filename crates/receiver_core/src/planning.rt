@@ -1,23 +1,22 @@
 //! How an event is planned.
-use core_steps::Answer;
+use crate::control::ControlBlock;
 use crate::plan::{FileChange, Plan};
 use crate::receiver::ReceiverCore;
 use crate::response::Response;
-use crate::control::ControlBlock;
 use crate::steps::{changes, next, with_event};
 use cfdp_types::Deposit;
-use core_steps::{Changes, Clock, TimerOps, operations};
-use pdu_codec::{Body, FileData, Metadata, Refusal, What};
+use pdu_values::{Body, FileData, Metadata};
 use std::alloc::AllocError;
+use txn_events::{Answer, Refusal, TimerChanges, TimerContext, TimerOps, What, operations};
 
 impl ReceiverCore {
     ghost use Rattle.std.specs.Prelude.{◌≡◌, IfOk, IfErr, OnOk, List, Ok, Some, None, false};
     ghost use Rattle.cfdp_types.specs.Steps as steps;
     ghost use Rattle.cfdp_types.specs.Params.{timer_length};
-    ghost use Rattle.core_steps.specs.Timers.{effects, stamp_of};
-    ghost use Rattle.pdu_codec.specs.declared.event.What.{What};
-    ghost use Rattle.pdu_codec.specs.Events.{body_of_event};
-    ghost use Rattle.pdu_format.specs.declared.pdu.Body.TheVariants as body;
+    ghost use Rattle.txn_events.specs.Timers.{effects, stamp_of};
+    ghost use Rattle.txn_events.specs.declared.event.What.{What};
+    ghost use Rattle.txn_events.specs.Events.{body_of_event};
+    ghost use Rattle.pdu_values.specs.declared.pdu.Body.TheVariants as body;
     ghost use Rattle.receiver_table.specs.Reception.{Entry, state_of};
     ghost use Rattle.receiver_table.specs.Refusals.{is_too_large, is_body_too_large, refusal_at};
     ghost use Rattle.receiver_table.specs.Answers.{answer_at};
@@ -94,21 +93,9 @@ impl ReceiverCore {
         }
     }
 
-    // The operations that tell what a step does with the timers.
-    fn timer_ops(&self, changes: Changes) -> Result<TimerOps, AllocError>
-        ensures { IfOk result (λ ops. ops ≡ steps.operations self.now.key (timer_length self.now.params.timers) self.now.control.entries (effects changes) (stamp_of self.now.control.armed)) }
-    {
-        let clock = Clock {
-            key: self.key,
-            lengths: self.params.timers(),
-            place: self.control.entries,
-        };
-        operations(self.alloc, &clock, changes, &self.control.armed)
-    }
-
     // The plan of an event that is answered by a response, and brings a change; `now` is the control block with
     // the event.
-    fn planned(
+    fn plan_response(
         &self,
         event: &What,
         now: ControlBlock,
@@ -122,7 +109,8 @@ impl ReceiverCore {
         let next = next(&self.control, now, event, &response, deposit, change.adds());
         let changes = changes(&next, event, &response);
         let pdus = self.pdus_of(&response, &now, &change, response.inds.has_end())?;
-        let timers = self.timer_ops(changes)?;
+        let context = TimerContext::new(self.key, &self.params, self.control.entries);
+        let timers = operations(self.alloc, &context, changes, &self.control.armed)?;
         let armed = self.control.armed.after(changes, self.control.entries);
         Ok(Plan {
             next: ControlBlock { armed, ..next },
@@ -147,7 +135,7 @@ impl ReceiverCore {
     {
         let now = with_event(&self.control, event, change.adds());
         let response = self.response_to(event, &now, &change)?;
-        self.planned(event, now, response, change)
+        self.plan_response(event, now, response, change)
     }
 
     // Plans an event in the present state.

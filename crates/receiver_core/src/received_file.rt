@@ -5,7 +5,7 @@ ghost use Rattle.gap_list.specs.Runs.{in_runs, is_within};
 ghost use Rattle.receiver_core.specs.Offsets.{IsInside};
 
 use gap_list::{Gaps, Run};
-use pdu_codec::FileData;
+use pdu_values::FileData;
 use std::alloc::{AllocError, Global};
 
 /// The octets of a file that came so far, each as it came first.
@@ -101,7 +101,8 @@ impl ReceivedFile {
         requires segment { IsSegmentOf (covered self.old.gaps) segment.now }
         requires room { end_of segment.now ≤ vec_len self.old.octets }
         ensures received { (i : ℕ) → received_of self.new i ≡ received_of self.old i }
-        ensures laid { (i : ℕ) → octets_in self.new.octets.items (covered segment.now.gaps) i ≡ with_segment (received_of self.old) (Some segment.now.file_data) i }
+        ensures laid { (i : ℕ) → octets_in self.new.octets.items (covered segment.now.gaps) i ≡ with_segment
+            (received_of self.old) (Some segment.now.file_data) i }
         ensures gaps { self.new.gaps ≡ self.old.gaps }
         ensures len { vec_len self.new.octets ≡ vec_len self.old.octets }
     {
@@ -120,9 +121,12 @@ impl ReceivedFile {
         ensures gaps { self.new.gaps ≡ self.old.gaps }
         ensures longer { vec_len self.old.octets ≤ vec_len self.new.octets }
         ensures room { OnOk result (end_of segment.now ≤ vec_len self.new.octets) }
-        ensures laid { OnOk result ((i : ℕ) → octets_in self.new.octets.items (covered segment.now.gaps) i ≡ with_segment (received_of self.old) (Some segment.now.file_data) i) }
+        ensures laid { OnOk result ((i : ℕ) → octets_in self.new.octets.items (covered segment.now.gaps) i ≡
+            with_segment (received_of self.old) (Some segment.now.file_data) i) }
     {
-        self.make_room(segment.file_data.offset as usize + segment.file_data.octets.as_slice().len())?;
+        self.make_room(
+            segment.file_data.offset as usize + segment.file_data.octets.as_slice().len(),
+        )?;
         self.lay(segment);
         Ok(())
     }
@@ -166,7 +170,8 @@ fn put_run(kept: &mut [u8], run: Run, offset: u32, octets: &[u8])
     requires ordered { run.start ≤ run.end }
     requires ends { run.end ≤ offset + length octets.now }
     requires room { run.end ≤ length kept.old }
-    ensures items { (i : ℕ) → slice_get kept.new i ≡ (if is_within run.start run.end i then slice_get octets.now (i - offset) else slice_get kept.old i) }
+    ensures items { (i : ℕ) → slice_get kept.new i ≡
+        (if is_within run.start run.end i then slice_get octets.now (i - offset) else slice_get kept.old i) }
     ensures len { length kept.new ≡ length kept.old }
 {
     let new = &octets[(run.start - offset) as usize..(run.end - offset) as usize];
@@ -175,9 +180,11 @@ fn put_run(kept: &mut [u8], run: Run, offset: u32, octets: &[u8])
 
 // Puts those octets of a segment that the runs have at their offsets.
 fn put_runs(kept: &mut [u8], runs: &[Run], offset: u32, octets: &[u8])
-    requires inside { All (λ run. (offset ≤ run.start) × (run.start ≤ run.end) × (run.end ≤ offset + length octets.now)) runs.now }
+    requires inside { All
+        (λ run. (offset ≤ run.start) × (run.start ≤ run.end) × (run.end ≤ offset + length octets.now)) runs.now }
     requires room { offset + length octets.now ≤ length kept.old }
-    ensures items { (i : ℕ) → slice_get kept.new i ≡ (if in_runs runs.now i then slice_get octets.now (i - offset) else slice_get kept.old i) }
+    ensures items { (i : ℕ) → slice_get kept.new i ≡
+        (if in_runs runs.now i then slice_get octets.now (i - offset) else slice_get kept.old i) }
     ensures len { length kept.new ≡ length kept.old }
 {
     for run in runs {
@@ -187,9 +194,11 @@ fn put_runs(kept: &mut [u8], runs: &[Run], offset: u32, octets: &[u8])
 
 // The same in a vector.
 fn put(kept: &mut Vec<u8>, runs: &[Run], offset: u32, octets: &[u8])
-    requires inside { All (λ run. (offset ≤ run.start) × (run.start ≤ run.end) × (run.end ≤ offset + length octets.now)) runs.now }
+    requires inside { All
+        (λ run. (offset ≤ run.start) × (run.start ≤ run.end) × (run.end ≤ offset + length octets.now)) runs.now }
     requires room { offset + length octets.now ≤ vec_len kept.old }
-    ensures items { (i : ℕ) → slice_get kept.new.items i ≡ (if in_runs runs.now i then slice_get octets.now (i - offset) else slice_get kept.old.items i) }
+    ensures items { (i : ℕ) → slice_get kept.new.items i ≡
+        (if in_runs runs.now i then slice_get octets.now (i - offset) else slice_get kept.old.items i) }
     ensures len { vec_len kept.new ≡ vec_len kept.old }
 {
     put_runs(kept, runs, offset, octets);

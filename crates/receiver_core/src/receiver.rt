@@ -1,13 +1,13 @@
-ghost use Rattle.pdu_format.specs.Spelling.{HeaderFits};
+ghost use Rattle.pdu_values.specs.Spelling.{HeaderFits};
 ghost use Rattle.receiver_core.specs.ControlBlock.{IsSound};
 
-use core_steps::Answer;
-use crate::received_file::ReceivedFile;
-use crate::plan::{FileChange, Plan};
 use crate::control::ControlBlock;
+use crate::plan::{FileChange, Plan};
+use crate::received_file::ReceivedFile;
 use cfdp_types::{Params, TxnKey};
-use pdu_codec::{Header, Metadata};
+use pdu_values::{Header, Metadata};
 use std::alloc::Global;
+use txn_events::Answer;
 
 /// The receiving end of one transaction, in either class.
 #[derive(Debug, Drop)]
@@ -26,7 +26,7 @@ pub struct ReceiverCore {
 
 impl ReceiverCore {
     ghost use Rattle.std.specs.Prelude.{◌≡◌, ◌∷◌, ℕ, false, List};
-    ghost use Rattle.pdu_codec.specs.declared.event.What.{What};
+    ghost use Rattle.txn_events.specs.declared.event.What.{What};
     ghost use Rattle.receiver_table.specs.Reception.{Entry};
     ghost use Rattle.receiver_core.specs.ReceivedFile.{received_of};
     ghost use Rattle.receiver_core.specs.Core.{shown, reception_of, IsPlanOf, StandsAfter, FitsFile, HasRoom, metadata_after, received_after, plan_answer};

@@ -1,18 +1,18 @@
 //! Which events a reception refuses, and why.
 ghost use Rattle.std.specs.Prelude.{◌≡◌};
-ghost use Rattle.receiver_table.specs.Refusals.{waits_for_store, is_body_too_large, is_too_large};
+ghost use Rattle.receiver_table.specs.Refusals.{waits_for_store};
 
 use crate::receiver::ReceiverCore;
-use cfdp_types::limits::{FILE_OCTETS, JOURNAL_ENTRIES, JOURNAL_ENTRIES_KEPT};
-use cfdp_types::{Class, Condition};
-use core_steps::{is_of_other_class, is_stale_timer, needs_room};
-use pdu_codec::{Acknowledged, Body, Refusal, What};
+use cfdp_types::Class;
+use cfdp_types::limits::{JOURNAL_ENTRIES, JOURNAL_ENTRIES_KEPT};
+use pdu_values::{Acknowledged, Body};
+use txn_events::{Refusal, What, is_of_other_class, is_stale_timer, is_too_large, needs_room};
 
 impl ReceiverCore {
     ghost use Rattle.std.specs.Prelude.{◌≡◌, ◌&&◌};
     ghost use Rattle.receiver_core.specs.Core.{shown, reception_of};
     ghost use Rattle.receiver_table.specs.Refusals.{is_stale_store, is_pdu_misplaced, is_misplaced, is_full, refusal_at};
-    ghost use Rattle.pdu_codec.specs.Events.{needs_room};
+    ghost use Rattle.txn_events.specs.Events.{needs_room};
 
     // Whether the file store answers another deposit than the one that waits.
     fn is_stale_store(&self, event: &What) -> bool
@@ -97,27 +97,4 @@ fn waits_for_store(event: &What) -> bool
     ensures { result ≡ waits_for_store event.now }
 {
     !matches!(event, What::Stored(_, _) | What::Report)
-}
-
-/// Whether a size or an end is larger than the entity takes.
-pub(crate) fn is_body_too_large(body: &Body) -> bool
-    ensures { result ≡ is_body_too_large body.now }
-{
-    match body {
-        Body::Metadata(metadata) => metadata.size > FILE_OCTETS,
-        Body::FileData(segment) => {
-            segment.offset as usize + segment.octets.as_slice().len() > FILE_OCTETS as usize
-        }
-        Body::Eof(eof) => eof.condition == Condition::NO_ERROR && eof.size > FILE_OCTETS,
-        _ => false,
-    }
-}
-
-fn is_too_large(event: &What) -> bool
-    ensures { result ≡ is_too_large event.now }
-{
-    match event {
-        What::Pdu(pdu) => is_body_too_large(pdu.body()),
-        _ => false,
-    }
 }

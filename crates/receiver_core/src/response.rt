@@ -1,8 +1,8 @@
 ghost use Rattle.std.specs.Prelude.{◌≡◌, IfOk};
 
 use cfdp_types::{Condition, TimerKind};
-use ind_words::{Indication, Indications};
-use pdu_codec::Finished;
+use indications::{Indication, Indications};
+use pdu_values::Finished;
 use std::alloc::{AllocError, Global};
 
 /// What a response of the table gives.

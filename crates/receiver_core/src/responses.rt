@@ -2,19 +2,19 @@
 ghost use Rattle.std.specs.Prelude.{◌≡◌};
 ghost use Rattle.receiver_table.specs.Answers as table;
 
+use crate::control::ControlBlock;
 use crate::examine::Finding;
 use crate::receiver::ReceiverCore;
 use crate::response::Response;
-use crate::control::ControlBlock;
 use cfdp_types::{Class, Condition, Delivery, EntityId, FileStatus, Handler, Role, TimerKind};
-use ind_words::{Indication, Indications};
-use pdu_codec::Finished;
+use indications::{Indication, Indications};
+use pdu_values::Finished;
 use std::alloc::AllocError;
 
 impl ReceiverCore {
     ghost use Rattle.std.specs.Prelude.{◌≡◌, ℕ, IfOk, false, Option};
     ghost use Rattle.std.specs.Option.{option_to_list};
-    ghost use Rattle.pdu_format.specs.declared.bodies.Metadata.{Metadata};
+    ghost use Rattle.pdu_values.specs.declared.bodies.Metadata.{Metadata};
     ghost use Rattle.receiver_table.specs.Answers as table;
     ghost use Rattle.receiver_table.specs.Answers.{tells, ◌and_then◌};
     ghost use Rattle.receiver_core.specs.ControlBlock.{state_from};
@@ -41,7 +41,8 @@ impl ReceiverCore {
         delivery: Delivery,
         status: FileStatus,
     ) -> Result<Response, AllocError>
-        ensures response { IfOk result (λ response. IsResponse response (tells inds and_then table.finish_response (reception_of self.now) condition delivery status)) }
+        ensures response { IfOk result (λ response. IsResponse response
+            (tells inds and_then table.finish_response (reception_of self.now) condition delivery status)) }
         ensures plain { IfOk result (λ response. response.resumes ≡ false) }
     {
         let mut response = Response::of(inds);
@@ -65,8 +66,13 @@ impl ReceiverCore {
     }
 
     /// A fault with handler Cancel.
-    pub(crate) fn cancel_response(&self, inds: Indications, condition: Condition) -> Result<Response, AllocError>
-        ensures response { IfOk result (λ response. IsResponse response (tells inds and_then table.cancel_response (reception_of self.now) condition)) }
+    pub(crate) fn cancel_response(
+        &self,
+        inds: Indications,
+        condition: Condition,
+    ) -> Result<Response, AllocError>
+        ensures response { IfOk result (λ response. IsResponse response
+            (tells inds and_then table.cancel_response (reception_of self.now) condition)) }
         ensures plain { IfOk result (λ response. response.resumes ≡ false) }
     {
         self.finish_response(inds, condition, Delivery::Incomplete, status_of(condition))
@@ -89,7 +95,9 @@ impl ReceiverCore {
         arms: Option<TimerKind>,
         condition: Condition,
     ) -> Result<Response, AllocError>
-        ensures response { (m : Option Metadata) (octets : ℕ → Option ℕ) → IfOk result (λ response. IsResponse response (tells inds and_then table.fault_response (reception_of self.now) (state_from now.now m octets) (option_to_list arms) condition)) }
+        ensures response { (m : Option Metadata) (octets : ℕ → Option ℕ) → IfOk result
+            (λ response. IsResponse response (tells inds and_then table.fault_response (reception_of self.now)
+            (state_from now.now m octets) (option_to_list arms) condition)) }
         ensures plain { IfOk result (λ response. response.resumes ≡ false) }
     {
         let progress = now.progress;
@@ -117,7 +125,8 @@ impl ReceiverCore {
 
     // The rest of the file is waited for, by the timer of the class.
     fn waits_for_rest(&self, inds: Indications, now: &ControlBlock) -> Response
-        ensures response { (m : Option Metadata) (octets : ℕ → Option ℕ) → IsResponse result (tells inds and_then table.waits_for_rest (reception_of self.now) (state_from now.now m octets)) }
+        ensures response { (m : Option Metadata) (octets : ℕ → Option ℕ) → IsResponse result
+            (tells inds and_then table.waits_for_rest (reception_of self.now) (state_from now.now m octets)) }
         ensures plain { result.resumes ≡ false }
     {
         let mut response = Response::of(inds);
@@ -144,7 +153,9 @@ impl ReceiverCore {
         now: &ControlBlock,
         finding: Finding,
     ) -> Result<Response, AllocError>
-        ensures response { (m : Option Metadata) (octets : ℕ → Option ℕ) → IfOk result (λ response. IsResponse response (tells inds and_then found_response (reception_of self.now) (state_from now.now m octets) finding)) }
+        ensures response { (m : Option Metadata) (octets : ℕ → Option ℕ) → IfOk result
+            (λ response. IsResponse response
+            (tells inds and_then found_response (reception_of self.now) (state_from now.now m octets) finding)) }
         ensures plain { IfOk result (λ response. response.resumes ≡ false) }
     {
         match finding {

@@ -2,20 +2,20 @@
 ghost use Rattle.std.specs.Prelude.{◌≡◌, false};
 ghost use Rattle.cfdp_types.specs.declared.names.TimerKind.{TimerKind};
 ghost use Rattle.cfdp_types.specs.Steps.{has_kind};
-ghost use Rattle.pdu_codec.specs.Events.{body_of_event};
-ghost use Rattle.core_steps.specs.Timers.{effects, effect_of_change};
+ghost use Rattle.txn_events.specs.Events.{body_of_event};
+ghost use Rattle.txn_events.specs.Timers.{AreFew, effects, effect_of_change};
 ghost use Rattle.receiver_table.specs.Reception.{eof_of, extent_of, file_data_of, waiting_after};
 ghost use Rattle.receiver_table.specs.Refusals.{is_too_large};
 ghost use Rattle.receiver_table.specs.Answers.{effect_of, is_sign_of_life};
-ghost use Rattle.receiver_core.specs.ControlBlock.{bare, AreFew};
+ghost use Rattle.receiver_core.specs.ControlBlock.{bare};
 ghost use Rattle.receiver_core.specs.Response.{arms_of, response_value};
 ghost use Rattle.receiver_core.specs.PlanParts.{IsWithEvent, IsNext, is_quiet};
 
-use crate::response::Response;
 use crate::control::ControlBlock;
+use crate::response::Response;
 use cfdp_types::{Condition, Deposit, TimerKind};
-use core_steps::{Anew, Change as TimerChange, Changes, paused_after};
-use pdu_codec::{Body, Eof, Prompt, What};
+use pdu_values::{Body, Eof, Prompt};
+use txn_events::{CountResets, TimerChange, TimerChanges, What, paused_after};
 
 // The EOF without an error that an event brings.
 fn eof_in(event: &What) -> Option<Eof>
@@ -71,10 +71,10 @@ fn waiting_after(waiting: Option<u32>, event: &What, deposit: Option<Deposit>) -
 }
 
 // Of which timers the count begins again where more of the file comes, or not.
-fn anew(more: bool) -> Anew
+fn resets(more: bool) -> CountResets
     ensures { result ≡ record { ack = false; nak = more } }
 {
-    Anew {
+    CountResets {
         ack: false,
         nak: more,
     }
@@ -83,7 +83,7 @@ fn anew(more: bool) -> Anew
 /// Where a reception stands with an event, before it is answered; `more` says whether the event
 /// brings more of the file.
 pub(crate) fn with_event(control: &ControlBlock, event: &What, more: bool) -> ControlBlock
-    requires few { AreFew control.now }
+    requires few { AreFew control.now.entries control.now.tries }
     requires small { is_too_large event.now ≡ false }
     ensures { IsWithEvent control.now event.now more result }
 {
@@ -95,7 +95,7 @@ pub(crate) fn with_event(control: &ControlBlock, event: &What, more: bool) -> Co
             Some(eof) => Some(eof),
         },
         waiting: waiting_after(control.waiting, event, None),
-        tries: control.tries.after(event, &[], anew(more)),
+        tries: control.tries.after(event, &[], resets(more)),
         ..*control
     }
 }
@@ -110,7 +110,7 @@ pub(crate) fn next(
     deposit: Option<Deposit>,
     more: bool,
 ) -> ControlBlock
-    requires few { AreFew control.now }
+    requires few { AreFew control.now.entries control.now.tries }
     ensures { IsNext control.now now event.now response.now deposit more result }
 {
     let inds = response.inds.as_slice();
@@ -122,7 +122,7 @@ pub(crate) fn next(
         },
         paused: paused_after(control.paused, inds),
         ended: control.ended || response.inds.has_end(),
-        tries: control.tries.after(event, inds, anew(more)),
+        tries: control.tries.after(event, inds, resets(more)),
         ..now
     }
 }
@@ -169,10 +169,11 @@ fn change_of(next: &ControlBlock, event: &What, response: &Response, kind: Timer
 }
 
 /// What a step does with each timer, where it leads to a control block.
-pub(crate) fn changes(next: &ControlBlock, event: &What, response: &Response) -> Changes
-    ensures { (kind : TimerKind) → effects result kind ≡ effect_of (response_value response.now) (bare next.now) event.now kind }
+pub(crate) fn changes(next: &ControlBlock, event: &What, response: &Response) -> TimerChanges
+    ensures { (kind : TimerKind) → effects result kind ≡ effect_of (response_value response.now) (bare next.now)
+        event.now kind }
 {
-    Changes {
+    TimerChanges {
         ack: change_of(next, event, response, TimerKind::Ack),
         nak: change_of(next, event, response, TimerKind::Nak),
         check: change_of(next, event, response, TimerKind::Check),

@@ -15,20 +15,20 @@ use Rattle.cfdp_types.specs.declared.names.FileStatus.{FileStatus}
 use Rattle.cfdp_types.specs.declared.names.FileStatus.TheVariants.{Discarded, Retained}
 use Rattle.cfdp_types.specs.declared.names.TimerKind.{TimerKind}
 use Rattle.cfdp_types.specs.declared.names.TimerKind.TheVariants.{Ack, Nak, Check, Inactivity}
-use Rattle.pdu_format.specs.declared.pdu.Header.{Header}
-use Rattle.pdu_format.specs.declared.pdu.Body.{Body}
-use Rattle.pdu_format.specs.declared.pdu.Body.TheVariants as body
-use Rattle.pdu_format.specs.declared.bodies.Eof.{Eof}
-use Rattle.pdu_format.specs.declared.bodies.Finished.{Finished}
-use Rattle.pdu_format.specs.declared.bodies.Prompt.{Prompt}
-use Rattle.pdu_format.specs.declared.bodies.Prompt.TheVariants as prompt
-use Rattle.pdu_codec.specs.declared.event.What.{What}
-use Rattle.pdu_codec.specs.declared.event.What.TheVariants as what
-use Rattle.pdu_codec.specs.declared.event.Refusal.TheVariants as refusal
-use Rattle.pdu_codec.specs.Events.{is_two, is_of_other_class, is_stale_timer, needs_room, body_of_event}
-use Rattle.ind_words.specs.declared.indication.Indication.{Indication}
-use Rattle.ind_words.specs.declared.indication.Indication.TheVariants as told
-use Rattle.ind_words.specs.Words.{is_end, MayFinish, IsFilled}
+use Rattle.pdu_values.specs.declared.pdu.Header.{Header}
+use Rattle.pdu_values.specs.declared.pdu.Body.{Body}
+use Rattle.pdu_values.specs.declared.pdu.Body.TheVariants as body
+use Rattle.pdu_values.specs.declared.bodies.Eof.{Eof}
+use Rattle.pdu_values.specs.declared.bodies.Finished.{Finished}
+use Rattle.pdu_values.specs.declared.bodies.Prompt.{Prompt}
+use Rattle.pdu_values.specs.declared.bodies.Prompt.TheVariants as prompt
+use Rattle.txn_events.specs.declared.event.What.{What}
+use Rattle.txn_events.specs.declared.event.What.TheVariants as what
+use Rattle.txn_events.specs.declared.refusal.Refusal.TheVariants as refusal
+use Rattle.txn_events.specs.Events.{is_two, is_of_other_class, is_stale_timer, needs_room, body_of_event}
+use Rattle.indications.specs.declared.indication.Indication.{Indication}
+use Rattle.indications.specs.declared.indication.Indication.TheVariants as told
+use Rattle.indications.specs.Words.{is_end, MayFinish, IsFilled}
 use Rattle.receiver_table.specs.Reception.{Reception, State, step, is_closing, is_storing, is_suspended, waiting_after, metadata_of, eof_of, file_data_of, octet_at}
 use Rattle.receiver_table.specs.Refusals.{refusal_at, is_stale_store, waits_for_store, is_pdu_misplaced, is_misplaced, is_body_too_large, is_too_large, is_full}
 use Rattle.receiver_table.specs.Answers.{Response, nothing, tells, with_event, finish_response, fault_response, cancel_response, examines, acknowledges, on_eof, on_prompt, ends_as_finished, on_body, is_below, on_timer, on_stored, response_to, ◌and_then◌}

@@ -13,23 +13,23 @@ use Rattle.cfdp_types.specs.declared.names.TimerKind.{TimerKind}
 use Rattle.cfdp_types.specs.declared.names.TimerKind.TheVariants.{Ack}
 use Rattle.gap_list.specs.Runs.{is_within}
 use Rattle.gap_list.proofs.RunLemmas.{is_within_tells}
-use Rattle.pdu_format.specs.declared.bodies.Metadata.{Metadata}
-use Rattle.pdu_format.specs.declared.bodies.Eof.{Eof}
-use Rattle.pdu_format.specs.declared.bodies.FileData.{FileData}
-use Rattle.pdu_format.specs.declared.bodies.Finished.{Finished}
-use Rattle.pdu_codec.specs.declared.event.What.{What}
-use Rattle.pdu_codec.specs.Events.{body_of_event}
-use Rattle.ind_words.specs.declared.indication.Indication.{Indication}
-use Rattle.ind_words.specs.declared.indication.Indication.TheVariants as told
-use Rattle.ind_words.specs.Words.{is_end, is_metadata, is_eof, is_paused, tells_of, MayFollow, MayFinish}
-use Rattle.ind_words.specs.Told.{paused_after}
-use Rattle.ind_words.proofs.WordLemmas.{told_onto, told_onto-append, MayFollow-append, list_any-told_onto}
+use Rattle.pdu_values.specs.declared.bodies.Metadata.{Metadata}
+use Rattle.pdu_values.specs.declared.bodies.Eof.{Eof}
+use Rattle.pdu_values.specs.declared.bodies.FileData.{FileData}
+use Rattle.pdu_values.specs.declared.bodies.Finished.{Finished}
+use Rattle.txn_events.specs.declared.event.What.{What}
+use Rattle.txn_events.specs.Events.{body_of_event}
+use Rattle.indications.specs.declared.indication.Indication.{Indication}
+use Rattle.indications.specs.declared.indication.Indication.TheVariants as told
+use Rattle.indications.specs.Words.{is_end, is_metadata, is_eof, is_paused, tells_of, MayFollow, MayFinish}
+use Rattle.indications.specs.Words.{paused_after}
+use Rattle.indications.proofs.WordLemmas.{told_onto, told_onto-append, MayFollow-append, list_any-told_onto}
 use Rattle.receiver_table.specs.Reception.{Reception, State, step, metadata_of, eof_of, file_data_of, octet_at, extent_of, waiting_after}
 use Rattle.receiver_table.specs.Answers.{Response}
 use Rattle.receiver_laws.specs.LegalReceptions.{IsGood}
 use Rattle.receiver_laws.proofs.ReceptionSteps.{answered, finished_then, armed_then, waits_then}
 use Rattle.cfdp_types.proofs.StepLemmas.{older_or-none, newer_or-none}
-use Rattle.ind_words.proofs.ToldLemmas.{is_paused-told_onto}
+use Rattle.indications.proofs.WordLemmas.{is_paused-told_onto}
 
 -- ---- good files, by the parts of a state that say so
 

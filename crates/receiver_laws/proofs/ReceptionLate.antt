@@ -15,13 +15,13 @@ use Rattle.cfdp_types.specs.declared.names.Handler.TheVariants as handler
 use Rattle.cfdp_types.specs.declared.names.TimerKind.{TimerKind}
 use Rattle.gap_list.proofs.SetLemmas.{full_from_missing_runs}
 use Rattle.modular_sum.specs.Sum.{sum}
-use Rattle.pdu_format.specs.declared.bodies.Metadata.{Metadata}
-use Rattle.pdu_format.specs.declared.bodies.Eof.{Eof}
-use Rattle.pdu_format.specs.declared.bodies.Finished.{Finished}
-use Rattle.pdu_codec.specs.Events.{is_two}
-use Rattle.ind_words.specs.declared.indication.Indication.{Indication}
-use Rattle.ind_words.specs.declared.indication.Indication.TheVariants as told
-use Rattle.ind_words.specs.Words.{is_end, is_metadata, is_eof, is_paused, tells_of, IsNext}
+use Rattle.pdu_values.specs.declared.bodies.Metadata.{Metadata}
+use Rattle.pdu_values.specs.declared.bodies.Eof.{Eof}
+use Rattle.pdu_values.specs.declared.bodies.Finished.{Finished}
+use Rattle.txn_events.specs.Events.{is_two}
+use Rattle.indications.specs.declared.indication.Indication.{Indication}
+use Rattle.indications.specs.declared.indication.Indication.TheVariants as told
+use Rattle.indications.specs.Words.{is_end, is_metadata, is_eof, is_paused, tells_of, IsNext}
 use Rattle.receiver_table.specs.Reception.{Reception, State, is_suspended, is_received}
 use Rattle.receiver_table.specs.Answers.{Response, nothing, stores, handler_of, finish_response, fault_response, octets_from, missing_below, is_unsupported, is_beyond, is_whole, agrees, waits_for_rest, looks_at_eof, examines, acknowledges, ◌and_then◌}
 use Rattle.receiver_laws.proofs.ReceptionFacts.{Late, LateRow, IsGoodFile, is_complete}

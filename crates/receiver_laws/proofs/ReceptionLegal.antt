@@ -4,14 +4,14 @@ use Rattle.std.specs.List.{list_any}
 use Rattle.std.proofs.lemmas.List.Folds.{list_any-from_Any}
 use Rattle.std.proofs.Math.Bool.{or-false}
 use Rattle.cfdp_types.specs.declared.names.Delivery.TheVariants.{Complete}
-use Rattle.pdu_codec.specs.declared.event.What.{What}
-use Rattle.pdu_codec.specs.declared.event.Refusal.{Refusal}
-use Rattle.pdu_codec.specs.Refusal.{unless_refused}
-use Rattle.ind_words.specs.declared.indication.Indication.{Indication}
-use Rattle.ind_words.specs.declared.indication.Indication.TheVariants as told
-use Rattle.ind_words.specs.Words.{is_end, MayFollow, IsBegun}
-use Rattle.ind_words.proofs.WordLemmas.{told_onto, told_onto-append, MayFollow-append, list_any-told_onto}
-use Rattle.core_steps.specs.declared.answer.Answer.{Answer}
+use Rattle.txn_events.specs.declared.event.What.{What}
+use Rattle.txn_events.specs.declared.refusal.Refusal.{Refusal}
+use Rattle.txn_events.specs.Refusal.{unless_refused}
+use Rattle.indications.specs.declared.indication.Indication.{Indication}
+use Rattle.indications.specs.declared.indication.Indication.TheVariants as told
+use Rattle.indications.specs.Words.{is_end, MayFollow, IsBegun}
+use Rattle.indications.proofs.WordLemmas.{told_onto, told_onto-append, MayFollow-append, list_any-told_onto}
+use Rattle.txn_events.specs.declared.answer.Answer.{Answer}
 use Rattle.receiver_table.specs.Reception.{Reception, Entry, State, initial, step, state_of, issued}
 use Rattle.receiver_table.specs.Refusals.{refusal_at}
 use Rattle.receiver_table.specs.Answers.{accepted_at, answer_at, response_to, with_event}

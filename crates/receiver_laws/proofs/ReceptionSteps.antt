@@ -9,11 +9,11 @@ use Rattle.cfdp_types.specs.declared.names.TimerKind.{TimerKind}
 use Rattle.cfdp_types.specs.declared.names.TimerKind.TheVariants.{Ack, Inactivity}
 use Rattle.cfdp_types.specs.Params.{timer_length}
 use Rattle.cfdp_types.specs.declared.limits.TheConstants.{NAK_REQUESTS}
-use Rattle.pdu_format.specs.declared.pdu.Body.{Body}
-use Rattle.pdu_format.specs.declared.pdu.Body.TheVariants as body
-use Rattle.pdu_format.specs.declared.bodies.Finished.{Finished}
-use Rattle.pdu_codec.specs.declared.event.What.{What}
-use Rattle.ind_words.specs.Words.{is_end}
+use Rattle.pdu_values.specs.declared.pdu.Body.{Body}
+use Rattle.pdu_values.specs.declared.pdu.Body.TheVariants as body
+use Rattle.pdu_values.specs.declared.bodies.Finished.{Finished}
+use Rattle.txn_events.specs.declared.event.What.{What}
+use Rattle.indications.specs.Words.{is_end}
 use Rattle.receiver_table.specs.Reception.{Reception, Entry, State, step, finished_in, finished_among, waiting_after}
 use Rattle.receiver_table.specs.Answers.{Response, with_event, without_timers, with_timers, effect_of, bodies_of, pdu_to_sender, nak_of, ack_of, requests_of, last_end, scope_of, is_sign_of_life, if_there, if_so}
 

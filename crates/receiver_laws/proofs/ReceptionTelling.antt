@@ -11,23 +11,23 @@ use Rattle.gap_list.specs.declared.run.Run.{Run}
 use Rattle.gap_list.specs.Runs.{is_within, in_runs, runs_of, IsRisingFrom}
 use Rattle.gap_list.proofs.RunLemmas.{in_runs-runs_of, IsRisingFrom-runs_of}
 use Rattle.gap_list.proofs.SetLemmas.{below_rising}
-use Rattle.pdu_format.specs.declared.pdu.Header.{Header}
-use Rattle.pdu_format.specs.declared.pdu.Body.TheVariants as body
-use Rattle.pdu_format.specs.declared.bodies.Metadata.{Metadata}
-use Rattle.pdu_format.specs.declared.bodies.Eof.{Eof}
-use Rattle.pdu_format.specs.declared.bodies.FileData.{FileData}
-use Rattle.pdu_codec.specs.declared.event.What.{What}
-use Rattle.pdu_codec.specs.declared.event.What.TheVariants as what
-use Rattle.pdu_codec.specs.Events.{body_of_event}
-use Rattle.ind_words.specs.declared.indication.Indication.{Indication}
-use Rattle.ind_words.specs.declared.indication.Indication.TheVariants as told
-use Rattle.ind_words.specs.Words.{is_end, is_metadata, is_eof, is_paused, tells_of, MayFollow}
-use Rattle.ind_words.specs.Told.{paused_after}
-use Rattle.ind_words.proofs.WordLemmas.{told_onto, list_any-told_onto}
+use Rattle.pdu_values.specs.declared.pdu.Header.{Header}
+use Rattle.pdu_values.specs.declared.pdu.Body.TheVariants as body
+use Rattle.pdu_values.specs.declared.bodies.Metadata.{Metadata}
+use Rattle.pdu_values.specs.declared.bodies.Eof.{Eof}
+use Rattle.pdu_values.specs.declared.bodies.FileData.{FileData}
+use Rattle.txn_events.specs.declared.event.What.{What}
+use Rattle.txn_events.specs.declared.event.What.TheVariants as what
+use Rattle.txn_events.specs.Events.{body_of_event}
+use Rattle.indications.specs.declared.indication.Indication.{Indication}
+use Rattle.indications.specs.declared.indication.Indication.TheVariants as told
+use Rattle.indications.specs.Words.{is_end, is_metadata, is_eof, is_paused, tells_of, MayFollow}
+use Rattle.indications.specs.Words.{paused_after}
+use Rattle.indications.proofs.WordLemmas.{told_onto, list_any-told_onto}
 use Rattle.receiver_table.specs.Reception.{Reception, State, step, octet_at, file_data_of, is_received, added_runs}
 use Rattle.receiver_table.specs.Answers.{nothing, tells, segment_told, with_event, examines, on_metadata, on_file_data, acknowledges, ◌and_then◌}
 use Rattle.cfdp_types.proofs.StepLemmas.{older_or-none}
-use Rattle.ind_words.proofs.ToldLemmas.{is_paused-told_onto}
+use Rattle.indications.proofs.WordLemmas.{is_paused-told_onto}
 use Rattle.receiver_laws.proofs.ReceptionFacts.{Fits, Announces, Goes, GoodWith, LateRow, open_goes, reached_then, octet_there, unsaid}
 use Rattle.receiver_laws.proofs.ReceptionLate.{examined_late, acknowledged_late}
 

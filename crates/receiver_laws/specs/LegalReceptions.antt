@@ -1,24 +1,18 @@
 -- Which logs a reception of either class can have, and when its file is good.
 use Rattle.std.specs.Prelude.{◌≡◌, ℕ, ◌<◌, false, IsSome, List, [], ◌∷◌, Some, Ok}
 use Rattle.cfdp_types.specs.ChecksumType as checksum
-use Rattle.pdu_codec.specs.declared.event.What.{What}
-use Rattle.pdu_codec.specs.declared.event.What.TheVariants as what
-use Rattle.pdu_format.specs.declared.pdu.Body.{Body}
-use Rattle.pdu_format.specs.declared.pdu.Body.TheVariants as body
-use Rattle.pdu_format.specs.declared.bodies.Metadata.{Metadata}
-use Rattle.pdu_format.specs.declared.bodies.Eof.{Eof}
+use Rattle.txn_events.specs.declared.event.What.{What}
+use Rattle.txn_events.specs.declared.event.What.TheVariants as what
+use Rattle.pdu_values.specs.declared.pdu.Body.{Body}
+use Rattle.pdu_values.specs.declared.pdu.Body.TheVariants as body
+use Rattle.pdu_values.specs.declared.bodies.Metadata.{Metadata}
+use Rattle.pdu_values.specs.declared.bodies.Eof.{Eof}
 use Rattle.modular_sum.specs.Sum.{sum}
-use Rattle.core_steps.specs.Logs.{log_after}
-use Rattle.core_steps.specs.declared.answer.Answer.{Answer}
+pub use Rattle.txn_events.specs.Events.{BodyOpens}
+use Rattle.txn_events.specs.Logs.{log_after}
+use Rattle.txn_events.specs.declared.answer.Answer.{Answer}
 use Rattle.receiver_table.specs.Reception.{Reception, Entry, State, state_of}
 use Rattle.receiver_table.specs.Answers.{accepted_at, answer_at, octets_from}
-
--- Metadata, File Data and EOF open a reception
-abbrev pub BodyOpens : Body → Type 0
-BodyOpens (body.Metadata m) = Unit {0}
-BodyOpens (body.FileData d) = Unit {0}
-BodyOpens (body.Eof e) = Unit {0}
-BodyOpens _ = ⊥
 
 -- the event opens this reception: a PDU of its key, whose header it takes over
 abbrev pub Opens : Reception → What → Type 0

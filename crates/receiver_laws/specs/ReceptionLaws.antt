@@ -3,8 +3,8 @@ use Rattle.std.specs.Prelude.{◌≡◌, ℕ, ◌<◌, true, List, length, slice
 use Rattle.cfdp_types.specs.declared.image.Image.{Image}
 use Rattle.cfdp_types.specs.declared.names.Delivery.TheVariants.{Complete}
 use Rattle.cfdp_types.specs.declared.names.FileStatus.{FileStatus}
-use Rattle.ind_words.specs.declared.indication.Indication.TheVariants as told
-use Rattle.ind_words.specs.Words.{IsBegun, IsWord}
+use Rattle.indications.specs.declared.indication.Indication.TheVariants as told
+use Rattle.indications.specs.Words.{IsBegun, IsWord}
 use Rattle.receiver_table.specs.Reception.{Reception, Entry, State, state_of, issued}
 use Rattle.receiver_laws.specs.LegalReceptions.{IsLegal, IsGood}
 use Rattle.receiver_table.specs.Images.{image_at}

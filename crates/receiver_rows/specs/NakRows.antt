@@ -5,13 +5,13 @@ use Rattle.cfdp_types.specs.declared.names.Delivery.TheVariants.{Complete, Incom
 use Rattle.cfdp_types.specs.declared.names.FileStatus.TheVariants.{Discarded, Retained}
 use Rattle.cfdp_types.specs.declared.names.Handler.TheVariants.{Ignore}
 use Rattle.cfdp_types.specs.declared.names.TimerKind.TheVariants.{Ack, Nak, Inactivity}
-use Rattle.pdu_codec.specs.declared.event.What.TheVariants as what
-use Rattle.pdu_format.specs.Numbers.{digits}
-use Rattle.pdu_format.specs.Spelling.{spelling, written}
-use Rattle.pdu_format.specs.Tlvs.{width_from}
-use Rattle.pdu_format.specs.declared.pdu.Body.TheVariants as body
-use Rattle.pdu_format.specs.declared.bodies.Prompt.TheVariants as prompt
-use Rattle.ind_words.specs.declared.indication.Indication.TheVariants as told
+use Rattle.txn_events.specs.declared.event.What.TheVariants as what
+use Rattle.pdu_values.specs.Numbers.{digits}
+use Rattle.pdu_values.specs.Spelling.{spelling, written}
+use Rattle.pdu_values.specs.Tlvs.{width_from}
+use Rattle.pdu_values.specs.declared.pdu.Body.TheVariants as body
+use Rattle.pdu_values.specs.declared.bodies.Prompt.TheVariants as prompt
+use Rattle.indications.specs.declared.indication.Indication.TheVariants as told
 use Rattle.gap_list.specs.Runs.{runs_of, runs_from}
 use Rattle.receiver_table.specs.Reception.{initial, step, state_of}
 use Rattle.receiver_table.specs.Answers.{answer_at}

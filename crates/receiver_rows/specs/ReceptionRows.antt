@@ -19,27 +19,27 @@ use Rattle.cfdp_types.specs.declared.names.Handler.TheVariants.{Ignore}
 use Rattle.cfdp_types.specs.declared.names.Role.TheVariants.{RecvOne, RecvTwo}
 use Rattle.cfdp_types.specs.declared.names.TimerKind.TheVariants.{Ack, Nak, Check}
 use Rattle.cfdp_types.specs.declared.timer_op.TimerOp.{TimerOp}
-use Rattle.pdu_codec.specs.Events.{echo_of}
-use Rattle.pdu_codec.specs.declared.event.What.{What}
-use Rattle.pdu_codec.specs.declared.event.What.TheVariants as what
-use Rattle.pdu_codec.specs.declared.event.Refusal.{Refusal}
-use Rattle.pdu_format.specs.Numbers.{digits}
-use Rattle.pdu_format.specs.Pdu.{PduValue}
-use Rattle.pdu_format.specs.Spelling.{written}
-use Rattle.pdu_format.specs.declared.pdu.Direction.TheVariants.{TowardReceiver}
-use Rattle.pdu_format.specs.declared.pdu.Header.{Header}
-use Rattle.pdu_format.specs.declared.pdu.Body.{Body}
-use Rattle.pdu_format.specs.declared.pdu.Body.TheVariants as body
-use Rattle.pdu_format.specs.declared.bodies.Metadata.{Metadata}
-use Rattle.pdu_format.specs.declared.bodies.Eof.{Eof}
-use Rattle.pdu_format.specs.declared.bodies.Acknowledged.TheVariants as acknowledged
-use Rattle.pdu_format.specs.declared.bodies.TransactionStatus.TheVariants.{Terminated}
-use Rattle.pdu_format.specs.declared.bodies.Prompt.{Prompt}
-use Rattle.pdu_format.specs.declared.bodies.Prompt.TheVariants as prompt
-use Rattle.ind_words.specs.declared.indication.Indication.{Indication}
-use Rattle.ind_words.specs.declared.indication.Indication.TheVariants as told
+use Rattle.txn_events.specs.Events.{echo_of}
+use Rattle.txn_events.specs.declared.event.What.{What}
+use Rattle.txn_events.specs.declared.event.What.TheVariants as what
+use Rattle.txn_events.specs.declared.refusal.Refusal.{Refusal}
+use Rattle.pdu_values.specs.Numbers.{digits}
+use Rattle.pdu_values.specs.Pdu.{PduValue}
+use Rattle.pdu_values.specs.Spelling.{written}
+use Rattle.pdu_values.specs.declared.pdu.Direction.TheVariants.{TowardReceiver}
+use Rattle.pdu_values.specs.declared.pdu.Header.{Header}
+use Rattle.pdu_values.specs.declared.pdu.Body.{Body}
+use Rattle.pdu_values.specs.declared.pdu.Body.TheVariants as body
+use Rattle.pdu_values.specs.declared.bodies.Metadata.{Metadata}
+use Rattle.pdu_values.specs.declared.bodies.Eof.{Eof}
+use Rattle.pdu_values.specs.declared.bodies.Acknowledged.TheVariants as acknowledged
+use Rattle.pdu_values.specs.declared.bodies.TransactionStatus.TheVariants.{Terminated}
+use Rattle.pdu_values.specs.declared.bodies.Prompt.{Prompt}
+use Rattle.pdu_values.specs.declared.bodies.Prompt.TheVariants as prompt
+use Rattle.indications.specs.declared.indication.Indication.{Indication}
+use Rattle.indications.specs.declared.indication.Indication.TheVariants as told
 use Rattle.gap_list.specs.Runs.{runs_of, runs_from}
-use Rattle.core_steps.specs.declared.answer.Answer.{Answer}
+use Rattle.txn_events.specs.declared.answer.Answer.{Answer}
 use Rattle.receiver_table.specs.Reception.{Reception, Entry, State, initial, step, state_of, issued, octet_at, is_closing, is_suspended}
 use Rattle.receiver_table.specs.Answers.{empty_answer, answer_at}
 use Rattle.receiver_laws.specs.LegalReceptions.{log_of, IsLegal, IsGood}

@@ -4,16 +4,16 @@ use Rattle.cfdp_types.specs.declared.names.Class.TheVariants.{One, Two}
 use Rattle.cfdp_types.specs.declared.names.Delivery.TheVariants.{Complete, Incomplete}
 use Rattle.cfdp_types.specs.declared.names.FileStatus.TheVariants.{Discarded, Retained}
 use Rattle.cfdp_types.specs.declared.names.TimerKind.TheVariants.{Nak}
-use Rattle.pdu_codec.specs.declared.event.What.{What}
-use Rattle.pdu_codec.specs.declared.event.What.TheVariants as what
-use Rattle.pdu_codec.specs.declared.event.Refusal.TheVariants as refusal
-use Rattle.pdu_format.specs.Numbers.{digits}
-use Rattle.pdu_format.specs.declared.pdu.Body.TheVariants as body
-use Rattle.pdu_format.specs.declared.bodies.Acknowledged.TheVariants as acknowledged
-use Rattle.pdu_format.specs.declared.bodies.TransactionStatus.TheVariants.{Terminated}
-use Rattle.pdu_format.specs.declared.bodies.Prompt.TheVariants as prompt
-use Rattle.ind_words.specs.declared.indication.Indication.TheVariants as told
-use Rattle.ind_words.specs.declared.indication.Phase.TheVariants as phase
+use Rattle.txn_events.specs.declared.event.What.{What}
+use Rattle.txn_events.specs.declared.event.What.TheVariants as what
+use Rattle.txn_events.specs.declared.refusal.Refusal.TheVariants as refusal
+use Rattle.pdu_values.specs.Numbers.{digits}
+use Rattle.pdu_values.specs.declared.pdu.Body.TheVariants as body
+use Rattle.pdu_values.specs.declared.bodies.Acknowledged.TheVariants as acknowledged
+use Rattle.pdu_values.specs.declared.bodies.TransactionStatus.TheVariants.{Terminated}
+use Rattle.pdu_values.specs.declared.bodies.Prompt.TheVariants as prompt
+use Rattle.indications.specs.declared.indication.Indication.TheVariants as told
+use Rattle.indications.specs.declared.indication.Phase.TheVariants as phase
 use Rattle.gap_list.specs.Runs.{runs_of, runs_from}
 use Rattle.receiver_table.specs.Reception.{State, initial, step, state_of}
 use Rattle.receiver_table.specs.Answers.{answer_at}

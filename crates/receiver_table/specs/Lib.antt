@@ -4,6 +4,6 @@ pub mod Answers
 pub mod Images
 pub use Rattle.cfdp_types.specs.Condition
 pub use Rattle.cfdp_types.specs.ChecksumType
-pub use Rattle.pdu_format.specs.Pdu
-pub use Rattle.ind_words.specs.Words
+pub use Rattle.pdu_values.specs.Pdu
+pub use Rattle.indications.specs.Words
 pub use Rattle.modular_sum.specs.Sum

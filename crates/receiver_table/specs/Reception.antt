@@ -11,22 +11,22 @@ use Rattle.cfdp_types.specs.declared.names.TimerKind.TheVariants.{Nak}
 use Rattle.cfdp_types.specs.declared.timer_op.TimerOp.{TimerOp}
 use Rattle.gap_list.specs.Runs.{new_runs}
 use Rattle.gap_list.specs.declared.run.Run.{Run}
-use Rattle.pdu_codec.specs.declared.event.What.{What}
-use Rattle.pdu_codec.specs.declared.event.What.TheVariants as what
-use Rattle.pdu_format.specs.Pdu.{PduValue}
-use Rattle.pdu_format.specs.declared.pdu.Header.{Header}
-use Rattle.pdu_format.specs.declared.pdu.Body.{Body}
-use Rattle.pdu_format.specs.declared.pdu.Body.TheVariants as body
-use Rattle.pdu_format.specs.declared.bodies.Metadata.{Metadata}
-use Rattle.pdu_format.specs.declared.bodies.Eof.{Eof}
-use Rattle.pdu_format.specs.declared.bodies.FileData.{FileData}
-use Rattle.pdu_format.specs.declared.bodies.Finished.{Finished}
-use Rattle.ind_words.specs.declared.indication.Indication.{Indication}
-use Rattle.ind_words.specs.Words.{is_end}
-use Rattle.ind_words.specs.Told.{paused_after, is_resumed, is_fault}
-use Rattle.pdu_codec.specs.Events.{body_of_event, is_expiration}
-pub use Rattle.core_steps.specs.Logs.{issued}
-use Rattle.core_steps.specs.Logs as logs
+use Rattle.txn_events.specs.declared.event.What.{What}
+use Rattle.txn_events.specs.declared.event.What.TheVariants as what
+use Rattle.pdu_values.specs.Pdu.{PduValue}
+use Rattle.pdu_values.specs.declared.pdu.Header.{Header}
+use Rattle.pdu_values.specs.declared.pdu.Body.{Body}
+use Rattle.pdu_values.specs.declared.pdu.Body.TheVariants as body
+use Rattle.pdu_values.specs.declared.bodies.Metadata.{Metadata}
+use Rattle.pdu_values.specs.declared.bodies.Eof.{Eof}
+use Rattle.pdu_values.specs.declared.bodies.FileData.{FileData}
+use Rattle.pdu_values.specs.declared.bodies.Finished.{Finished}
+use Rattle.indications.specs.declared.indication.Indication.{Indication}
+use Rattle.indications.specs.Words.{is_end}
+use Rattle.indications.specs.Words.{paused_after, is_resumed, is_fault}
+use Rattle.txn_events.specs.Events.{body_of_event, is_expiration}
+pub use Rattle.txn_events.specs.Logs.{issued}
+use Rattle.txn_events.specs.Logs as logs
 
 -- what is settled when a reception opens
 pub record Reception : Type 0 where

@@ -2,14 +2,15 @@
 use Rattle.std.specs.Prelude.{◌+◌, ◌-◌, Bool, true, false, not, ◌||◌, ◌&&◌, nat_le, nat_lt, ◌==◌, if◌then◌else◌, length, Option, Some, None}
 use Rattle.cfdp_types.specs.Condition as condition
 use Rattle.cfdp_types.specs.declared.limits.TheConstants.{FILE_OCTETS, JOURNAL_ENTRIES, JOURNAL_ENTRIES_KEPT}
-use Rattle.pdu_codec.specs.declared.event.What.{What}
-use Rattle.pdu_codec.specs.declared.event.What.TheVariants as what
-use Rattle.pdu_codec.specs.declared.event.Refusal.{Refusal}
-use Rattle.pdu_codec.specs.declared.event.Refusal.TheVariants as refusal
-use Rattle.pdu_format.specs.declared.pdu.Body.{Body}
-use Rattle.pdu_format.specs.declared.pdu.Body.TheVariants as body
-use Rattle.pdu_format.specs.Pdu.{ack_is_toward_sender}
-use Rattle.pdu_codec.specs.Events.{is_two, is_of_other_class, is_stale_timer, needs_room}
+use Rattle.txn_events.specs.declared.event.What.{What}
+use Rattle.txn_events.specs.declared.event.What.TheVariants as what
+use Rattle.txn_events.specs.declared.refusal.Refusal.{Refusal}
+use Rattle.txn_events.specs.declared.refusal.Refusal.TheVariants as refusal
+use Rattle.pdu_values.specs.declared.pdu.Body.{Body}
+use Rattle.pdu_values.specs.declared.pdu.Body.TheVariants as body
+use Rattle.pdu_values.specs.Pdu.{ack_is_toward_sender}
+pub use Rattle.txn_events.specs.Events.{is_body_too_large, is_too_large}
+use Rattle.txn_events.specs.Events.{is_two, is_of_other_class, is_stale_timer, needs_room}
 use Rattle.cfdp_types.specs.Steps.{is_stamp}
 use Rattle.receiver_table.specs.Reception.{Reception, State, is_closing, is_storing, is_suspended}
 
@@ -45,18 +46,6 @@ is_misplaced reception state what.Resume = not (is_suspended state)
 is_misplaced reception state what.Suspend = not (is_two reception.header.class) || is_suspended state || is_closing state
 is_misplaced reception state what.Cancel = is_closing state
 is_misplaced reception state _ = false
-
--- TooLarge: the size of Metadata, the end of File Data, and the size of an EOF without an error
-abbrev pub is_body_too_large : Body → Bool
-is_body_too_large (body.Metadata m) = nat_lt FILE_OCTETS m.size
-is_body_too_large (body.FileData d) = nat_lt FILE_OCTETS (d.offset + length d.octets)
-is_body_too_large (body.Eof e) = e.condition == condition.no_error && nat_lt FILE_OCTETS e.size
-is_body_too_large _ = false
-
--- an event whose body is too large
-abbrev pub is_too_large : What → Bool
-is_too_large (what.Pdu pdu) = is_body_too_large pdu.body
-is_too_large _ = false
 
 -- JournalFull: the last entries are kept for the file store's answer and for Abandon
 abbrev pub is_full : State → Bool

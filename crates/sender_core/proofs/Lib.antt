@@ -1,5 +1,4 @@
 pub mod RemainingLemmas
-pub mod PduFits
 pub mod CoreLemmas
 pub mod ResponseData
 pub mod PlanLemmas

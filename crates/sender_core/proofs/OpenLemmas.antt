@@ -5,9 +5,9 @@ use Rattle.std.proofs.lemmas.Bool.{cases_Bool, ltb-true, le-ltb, lt-ltb}
 use Rattle.std.specs.Prelude.{IsOk, Err}
 use Rattle.cfdp_types.specs.declared.timer_op.TimerOp.{TimerOp}
 use Rattle.gap_list.specs.declared.run.Run.{Run}
-use Rattle.ind_words.specs.declared.indication.Indication.{Indication}
-use Rattle.pdu_format.specs.Pdu.{PduValue}
-use Rattle.pdu_codec.specs.declared.event.Refusal.TheVariants as refusal
+use Rattle.indications.specs.declared.indication.Indication.{Indication}
+use Rattle.pdu_values.specs.Pdu.{PduValue}
+use Rattle.txn_events.specs.declared.refusal.Refusal.TheVariants as refusal
 use Rattle.sender_core.specs.Core.{IsPlanOf, remainder_of, plan_answer, sending_of, shown}
 use Rattle.sender_core.specs.declared.plan.Remainder.TheVariants as remainder
 use Rattle.sender_core.specs.declared.plan.Plan.{Plan}
@@ -16,9 +16,9 @@ use Rattle.std.proofs.lemmas.Bool.Decides.{nat_tests}
 use Rattle.cfdp_types.specs.declared.names.TimerKind.{TimerKind}
 use Rattle.cfdp_types.specs.declared.names.TimerKind.TheVariants.{Ack, Nak, Check, Inactivity}
 use Rattle.gap_list.specs.Runs.{in_runs}
-use Rattle.ind_words.specs.declared.indication.Indication.TheVariants as told
-use Rattle.core_steps.specs.declared.answer.Answer.{Answer}
-use Rattle.core_steps.proofs.AnswerLemmas.{answer_of_parts, same_answer}
+use Rattle.indications.specs.declared.indication.Indication.TheVariants as told
+use Rattle.txn_events.specs.declared.answer.Answer.{Answer}
+use Rattle.txn_events.proofs.AnswerLemmas.{answer_of_parts, same_answer}
 use Rattle.sender_table.specs.Sending.{Sending, State, put, initial, step, state_of}
 use Rattle.sender_table.specs.Answers.{answer_at}
 use Rattle.sender_core.specs.Remaining.{whole}
@@ -106,10 +106,10 @@ put_plan core plan stands next is_left inds pdus timers nothing =
       answered = record {
         accepted = ap (λ st. answer_at s (state_from st remains) put) stands ∙ put_answered s remains core.small ∙ ap Ok (sym answer);
         follows = ap (λ n. state_from n (remainder_of core.remaining plan.remainder)) next
-          ∙ ap (λ l. state_from (first 1) (remainder_of core.remaining l)) is_left
-          ∙ put_follows s remains
-          ∙ ap (λ st. step s (state_from st remains) (record { event = put; answer = empty })) (sym stands)
-          ∙ ap (λ a. step s (shown core) (record { event = put; answer = a })) (sym answer);
+            ∙ ap (λ l. state_from (first 1) (remainder_of core.remaining l)) is_left
+            ∙ put_follows s remains
+            ∙ ap (λ st. step s (state_from st remains) (record { event = put; answer = empty })) (sym stands)
+            ∙ ap (λ a. step s (shown core) (record { event = put; answer = a })) (sym answer);
       };
       nothing = nothing;
       inside = λ i has. core.inside i (ap (λ l. remainder_of core.remaining l i) (sym is_left) ∙ has);

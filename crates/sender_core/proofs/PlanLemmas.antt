@@ -19,24 +19,24 @@ use Rattle.cfdp_types.specs.declared.names.Handler.TheVariants as handler
 use Rattle.cfdp_types.specs.declared.names.TimerKind.{TimerKind}
 use Rattle.cfdp_types.specs.declared.names.TimerKind.TheVariants.{Ack, Nak, Check, Inactivity}
 use Rattle.cfdp_types.specs.declared.timer_op.TimerOp.{TimerOp}
-use Rattle.ind_words.specs.Words.{is_end}
-use Rattle.ind_words.specs.Told.{paused_after}
-use Rattle.ind_words.specs.declared.indication.Indication.{Indication}
-use Rattle.pdu_codec.specs.declared.event.What.{What}
-use Rattle.pdu_codec.specs.declared.event.What.TheVariants as what
-use Rattle.pdu_codec.specs.declared.event.Refusal.{Refusal}
-use Rattle.pdu_codec.specs.declared.event.Refusal.TheVariants as refusal
-use Rattle.pdu_codec.specs.Events.{is_of_other_class, is_stale_timer, needs_room}
-use Rattle.pdu_format.specs.Pdu.{PduValue}
-use Rattle.pdu_format.specs.declared.bodies.Eof.{Eof}
+use Rattle.indications.specs.Words.{is_end}
+use Rattle.indications.specs.Words.{paused_after}
+use Rattle.indications.specs.declared.indication.Indication.{Indication}
+use Rattle.txn_events.specs.declared.event.What.{What}
+use Rattle.txn_events.specs.declared.event.What.TheVariants as what
+use Rattle.txn_events.specs.declared.refusal.Refusal.{Refusal}
+use Rattle.txn_events.specs.declared.refusal.Refusal.TheVariants as refusal
+use Rattle.txn_events.specs.Events.{is_of_other_class, is_stale_timer, needs_room}
+use Rattle.pdu_values.specs.Pdu.{PduValue}
+use Rattle.pdu_values.specs.declared.bodies.Eof.{Eof}
 use Rattle.sender_table.specs.Sending.{Sending, State, Event, happens, Entry, step, state_of, covers, asks_for, requests_of, eof_among, extent_of}
 use Rattle.sender_table.specs.Refusals.{refusal_of, is_stale_store, is_misplaced, is_full}
 use Rattle.sender_table.specs.Answers.{Response, cancel_response, fault_response, response_to, with_event, without_timers, with_timers, accepted_at, answer_at, effect_of}
-use Rattle.sender_core.specs.ControlBlock.{state_from, nowhere, AreFew, IsSound, IsInside}
-use Rattle.core_steps.specs.Timers.{stamp_of}
-use Rattle.core_steps.specs.declared.answer.Answer.{Answer}
-use Rattle.core_steps.proofs.AnswerLemmas.{answer_of_parts, same_answer}
-use Rattle.core_steps.proofs.TimerLemmas.{armed_follows, counted}
+use Rattle.sender_core.specs.ControlBlock.{state_from, nowhere, IsSound, IsInside}
+use Rattle.txn_events.specs.Timers.{AreFew, stamp_of}
+use Rattle.txn_events.specs.declared.answer.Answer.{Answer}
+use Rattle.txn_events.proofs.AnswerLemmas.{answer_of_parts, same_answer}
+use Rattle.txn_events.proofs.TimerLemmas.{armed_follows, counted}
 use Rattle.sender_core.specs.Core.{shown, sending_of, pdus_of_response, IsResponse, IsNext, HoldsResponse, IsPlanOf, IsWhy, StandsAfter, effect_by, arming, remainder_of, remains_after, plan_answer}
 use Rattle.sender_core.specs.declared.plan.Remainder.{Remainder}
 use Rattle.sender_core.specs.declared.plan.Plan.{Plan}
@@ -205,7 +205,7 @@ pub sound_after : (core : SenderCore) (event : What) (response : response_type.R
     → extent_of (option_to_list response.pdu) ≤ length core.request.file → core.control.ended ≡ false → IsSound (length core.request.file) plan.next
 sound_after core event response remainder plan taken is planned inside runs =
     let next = planned.next in
-    let old : AreFew core.control = core.sound.few in
+    let old : AreFew core.control.entries core.control.tries = core.sound.few in
     let few : core.control.entries ≤ (JOURNAL_ENTRIES - JOURNAL_ENTRIES_KEPT) = core.sound.goes_on runs in
     let entries : plan.next.entries ≡ core.control.entries + 1 = next.entries in
     record {

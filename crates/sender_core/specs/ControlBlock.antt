@@ -2,7 +2,7 @@
 use Rattle.std.specs.Prelude.{◌≡◌, ℕ, ◌-◌, ◌<◌, ◌≤◌, Bool, true, false, None}
 use Rattle.cfdp_types.specs.declared.limits.TheConstants.{JOURNAL_ENTRIES, JOURNAL_ENTRIES_KEPT}
 use Rattle.sender_table.specs.Sending.{State}
-use Rattle.core_steps.specs.Timers.{stamp_of, tries_of, AreUpTo}
+use Rattle.txn_events.specs.Timers.{stamp_of, tries_of, AreFew}
 use Rattle.sender_core.specs.declared.control.ControlBlock.{ControlBlock}
 
 -- what a sender stands at that has these offsets still to send
@@ -38,14 +38,9 @@ first entries = record {
 abbrev pub nowhere : ℕ → Bool
 nowhere i = false
 
--- numbers that can be counted up: no timer expired more often than there were events
-pub record AreFew (control : ControlBlock) : Type 0 where
-  pub entries : control.entries ≤ JOURNAL_ENTRIES
-  pub tries : AreUpTo control.entries control.tries
-
--- besides, the journal has room where the transaction goes on, and nothing was sent that is not in the file
+-- numbers can be counted up, the journal has room where the transaction goes on, and nothing was sent that is not in the file
 pub record IsSound (size : ℕ) (control : ControlBlock) : Type 0 where
-  pub few : AreFew control
+  pub few : AreFew control.entries control.tries
   pub goes_on : control.ended ≡ false → control.entries ≤ JOURNAL_ENTRIES - JOURNAL_ENTRIES_KEPT
   pub progress : control.progress ≤ size
 

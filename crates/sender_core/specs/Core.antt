@@ -6,26 +6,26 @@ use Rattle.cfdp_types.specs.declared.names.TimerKind.TheVariants.{Ack}
 use Rattle.cfdp_types.specs.declared.names.TimerKind.{TimerKind}
 use Rattle.cfdp_types.specs.Steps.{newer_or, Effect, operations}
 use Rattle.cfdp_types.specs.Params.{ParamsValue, timer_length}
-use Rattle.ind_words.specs.Told.{paused_after}
-use Rattle.ind_words.specs.Words.{is_end}
+use Rattle.indications.specs.Words.{paused_after}
+use Rattle.indications.specs.Words.{is_end}
 use Rattle.std.specs.List.{list_any}
-use Rattle.pdu_codec.specs.declared.event.What.{What}
-use Rattle.core_steps.specs.Timers.{tries_of, stamp_of, stamp_by}
+use Rattle.txn_events.specs.declared.event.What.{What}
+use Rattle.txn_events.specs.Timers.{tries_of, stamp_of, stamp_by}
 use Rattle.sender_core.specs.declared.control.ControlBlock.{ControlBlock}
 use Rattle.cfdp_types.specs.Put.{PutValue}
 use Rattle.gap_list.specs.declared.run.Run.{Run}
 use Rattle.gap_list.specs.Runs.{in_runs}
-use Rattle.pdu_format.specs.Pdu.{PduValue}
-use Rattle.pdu_codec.specs.declared.event.Refusal.{Refusal}
-use Rattle.pdu_codec.specs.declared.event.Refusal.TheVariants as refusal
+use Rattle.pdu_values.specs.Pdu.{PduValue}
+use Rattle.txn_events.specs.declared.refusal.Refusal.{Refusal}
+use Rattle.txn_events.specs.declared.refusal.Refusal.TheVariants as refusal
 use Rattle.sender_table.specs.Sending.{Sending, Event, happens, State, Entry, state_of, step, is_metadata, asks_for_metadata, requests_of, extent_of, eof_among, acknowledges_eof, tries_after, covers, asks_for}
 use Rattle.sender_table.specs.Answers.{answer_at, header_of}
 use Rattle.sender_table.specs.Answers as table
 use Rattle.sender_core.specs.Remaining.{without_first}
 use Rattle.sender_core.specs.ControlBlock.{state_from, nowhere, IsSound, IsInside}
-use Rattle.core_steps.specs.declared.answer.Answer.{Answer}
-pub use Rattle.core_steps.specs.Logs.{IsWhy}
-use Rattle.core_steps.specs.Logs.{StandsAt, IsAnswered}
+use Rattle.txn_events.specs.declared.answer.Answer.{Answer}
+pub use Rattle.txn_events.specs.Logs.{IsWhy}
+use Rattle.txn_events.specs.Logs.{StandsAt, IsAnswered}
 use Rattle.sender_core.specs.declared.plan.Remainder.{Remainder}
 use Rattle.sender_core.specs.declared.plan.Remainder.TheVariants as remainder
 use Rattle.sender_core.specs.declared.plan.Plan.{Plan}
@@ -55,7 +55,7 @@ plan_answer plan = plan.answer
 abbrev pub remainder_of : List Run → Remainder → ℕ → Bool
 remainder_of runs remainder.Same = in_runs runs
 remainder_of runs (remainder.Without count) = in_runs (without_first count runs)
-remainder_of runs (remainder.Anew others) = in_runs others
+remainder_of runs (remainder.Requested others) = in_runs others
 
 -- the PDU and the rest of a response of the table
 abbrev pub pdus_of_response : Sending → table.Response → List PduValue

@@ -2,7 +2,7 @@
 use Rattle.std.specs.Prelude.{ℕ, ◌+◌, ◌-◌, ◌<◌, Bool, ◌||◌, ◌&&◌, nat_lt, ◌==◌, if◌then◌else◌, List, [], ◌∷◌}
 use Rattle.std.specs.List.{list_any}
 use Rattle.gap_list.specs.declared.run.Run.{Run}
-use Rattle.pdu_format.specs.declared.requests.SegmentRequest.{SegmentRequest}
+use Rattle.pdu_values.specs.declared.requests.SegmentRequest.{SegmentRequest}
 use Rattle.sender_table.specs.Sending.{asks_for}
 
 -- every offset of a file

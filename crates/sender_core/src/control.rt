@@ -1,9 +1,9 @@
 ghost use Rattle.std.specs.Prelude.{◌≡◌};
 
 use cfdp_types::Condition;
-use core_steps::{Stamps, Tries};
-use ind_words::Phase;
-use pdu_codec::Eof;
+use indications::Phase;
+use pdu_values::Eof;
+use txn_events::{Stamps, Tries};
 
 /// Where a sender stands, but for the octets that are still to be sent.
 #[derive(Clone, Copy, Debug, PartialEq, Eq)]

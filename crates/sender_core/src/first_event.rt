@@ -1,16 +1,14 @@
 //! How a sender is opened.
-use core_steps::Answer;
+use crate::control::ControlBlock;
 use crate::pdus::header_of;
-use crate::plan::{Remainder, Plan};
+use crate::plan::{Plan, Remainder};
 use crate::remaining::Remaining;
 use crate::sender::SenderCore;
-use crate::control::ControlBlock;
 use cfdp_types::limits::FILE_OCTETS;
 use cfdp_types::{Params, PutRequest, TxnKey};
-use core_steps::{Pdus, TimerOps};
-use ind_words::{Indication, Indications};
-use pdu_codec::Refusal;
+use indications::{Indication, Indications};
 use std::alloc::Global;
+use txn_events::{Answer, Pdus, Refusal, TimerOps};
 
 impl SenderCore {
     ghost use Rattle.std.specs.Prelude.{◌≡◌, false, [], IfOk, IfErr};
@@ -29,7 +27,8 @@ impl SenderCore {
         ensures stands { IfOk result (λ opened. StandsAfter opened.0 []) }
         ensures runs { IfOk result (λ opened. (shown opened.0).ended ≡ false) }
         ensures planned { IfOk result (λ opened. IsPlanOf opened.0 opened.1 put) }
-        ensures refused { IfErr result (λ why. IsWhy (answer_at (sending_by key params request.now) (initial (sending_by key params request.now)) put) why) }
+        ensures refused { IfErr result (λ why. IsWhy
+            (answer_at (sending_by key params request.now) (initial (sending_by key params request.now)) put) why) }
     {
         let size = request.file().as_slice().len();
         if size > FILE_OCTETS as usize {
@@ -41,7 +40,10 @@ impl SenderCore {
         let request = request.copy()?;
         let header = header_of(key, &params, &request);
         let first = ControlBlock::first();
-        let next = ControlBlock { entries: 1, ..first };
+        let next = ControlBlock {
+            entries: 1,
+            ..first
+        };
         let core = SenderCore {
             alloc,
             key,

@@ -2,20 +2,20 @@
 //! the code, which plans an event and then carries it out.
 #![tactic(auto)]
 
-pub mod laws;
-mod remainder;
+mod control;
 mod first_event;
+pub mod laws;
 mod pdus;
 mod plan;
 mod planning;
 mod refusals;
+mod remainder;
 mod remaining;
 mod response;
 mod responses;
 mod sender;
-mod control;
 mod steps;
 
-pub use core_steps::{Answer, Pdus, TimerOps};
 pub use plan::Plan;
 pub use sender::SenderCore;
+pub use txn_events::{Answer, Pdus, TimerOps};

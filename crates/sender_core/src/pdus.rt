@@ -1,34 +1,16 @@
 //! The PDUs that a sender sends.
 ghost use Rattle.std.specs.Prelude.{◌≡◌, ◌<◌, ◌≤◌, ◌^◌, ◌+◌, false, length, take, drop, IfOk};
-ghost use Rattle.cfdp_types.specs.Params.{IsIdLength};
-ghost use Rattle.gap_list.specs.Runs.{is_within};
-ghost use Rattle.pdu_format.specs.Spelling.{HeaderFits, Fits, IsLocation};
-ghost use Rattle.pdu_format.specs.declared.pdu.Body.TheVariants as body;
-ghost use Rattle.pdu_format.specs.declared.bodies.Acknowledged.TheVariants as acknowledged;
-ghost use Rattle.pdu_format.specs.declared.bodies.TransactionStatus.TheVariants.{Terminated};
-ghost use Rattle.sender_table.specs.Answers.{octets_for, header_of, metadata_of, file_data_of};
-ghost use Rattle.sender_table.specs.Sending.{Sending};
+ghost use Rattle.pdu_values.specs.Spelling.{HeaderFits, file_data_limit};
+ghost use Rattle.pdu_values.specs.declared.pdu.Body.TheVariants as body;
+ghost use Rattle.pdu_values.specs.declared.bodies.Acknowledged.TheVariants as acknowledged;
+ghost use Rattle.pdu_values.specs.declared.bodies.TransactionStatus.TheVariants.{Terminated};
+ghost use Rattle.sender_table.specs.Answers.{header_of};
 
-use cfdp_types::{ChecksumType, Condition, EntityId, Octets, Params, PutRequest, TxnKey};
-use pdu_codec::{
-    Ack, Acknowledged, Body, Direction, Eof, FileData, Header, Metadata, Pdu, TransactionStatus,
+use cfdp_types::{ChecksumType, Condition, Octets, Params, PutRequest, TxnKey};
+use pdu_values::{
+    Ack, Acknowledged, Direction, FileData, Header, Metadata, Pdu, TransactionStatus, octets_for,
 };
 use std::alloc::{AllocError, Global};
-
-// The least number of octets, from this one on, that holds a number.
-#[tactic(auto, unfolding(pdu_format::specs::Tlvs::width_from))]
-fn octets_for(least: u8, number: u64) -> u8
-    requires { IsIdLength least }
-    ensures value { result ≡ octets_for least number }
-    ensures range { IsIdLength result }
-    ensures holds { number < 256 ^ result }
-{
-    let mut octets = least;
-    while octets < 8 && number >= 256_u64.pow(u32::from(octets)) {
-        octets += 1;
-    }
-    octets
-}
 
 /// The header of every PDU of a transaction.
 pub(crate) fn header_of(key: TxnKey, params: &Params, request: &PutRequest) -> Header
@@ -72,7 +54,7 @@ pub(crate) fn metadata(header: Header, request: &PutRequest) -> Result<Pdu, Allo
         destination_name: request.destination_name().copy()?,
         messages: request.messages().copy()?,
     };
-    Ok(Pdu::new(header, Body::Metadata(metadata)))
+    Ok(Pdu::metadata(header, metadata))
 }
 
 /// The PDU with so many of the octets of a file, from one on.
@@ -85,70 +67,36 @@ pub(crate) fn file_data(
 ) -> Result<Pdu, AllocError>
     requires header { HeaderFits header }
     requires inside { start + count ≤ length file.now }
-    requires few { count ≤ 65531 }
-    ensures { IfOk result (λ pdu. pdu ≡ record { header = header; body = body.FileData (record { offset = start; octets = take count (drop start file.now) }) }) }
+    requires few { count ≤ file_data_limit }
+    ensures { IfOk result (λ pdu. pdu ≡ record {
+      header = header;
+      body = body.FileData
+          (record { offset = start; octets = take count (drop start file.now) });
+    }) }
 {
     let from = start as usize;
     let octets = Octets::from_slice(alloc, &file[from..from + count as usize])?;
-    Ok(Pdu::new(
-        header,
-        Body::FileData(FileData {
-            offset: start,
-            octets,
-        }),
-    ))
-}
-
-// What the type of a number says of it.
-fn word(number: u32) -> u32
-    ensures { number < 2 ^ 32 }
-{
-    number
-}
-
-fn long_word(number: u64) -> u64
-    ensures { number < 2 ^ 64 }
-{
-    number
-}
-
-// What the type of a fault location says of it.
-fn has_location(location: Option<EntityId>) -> bool
-    ensures { IsLocation location }
-{
-    match location {
-        None => false,
-        Some(id) => {
-            let _id = long_word(id.0);
-            true
-        }
-    }
-}
-
-/// An EOF.
-pub(crate) fn eof(header: Header, eof: Eof) -> Pdu
-    requires { HeaderFits header }
-    ensures { result ≡ record { header = header; body = body.Eof eof } }
-{
-    let _code = eof.condition.code();
-    let _checksum = word(eof.checksum);
-    let _size = word(eof.size);
-    let _location = has_location(eof.location);
-    Pdu::new(header, Body::Eof(eof))
+    let offset = start;
+    Ok(Pdu::file_data(header, FileData { offset, octets }))
 }
 
 /// The ACK of a Finished with a condition.
 pub(crate) fn ack(header: Header, condition: Condition) -> Pdu
     requires { HeaderFits header }
-    ensures { result ≡ record { header = header; body = body.Ack (record { of = acknowledged.Finished; condition = condition; status = Terminated }) } }
+    ensures { result ≡ record {
+      header = header;
+      body = body.Ack
+          (record { of = acknowledged.Finished; condition = condition; status = Terminated });
+    } }
 {
-    let _code = condition.code();
-    Pdu::new(
+    let of = Acknowledged::Finished;
+    let status = TransactionStatus::Terminated;
+    Pdu::ack(
         header,
-        Body::Ack(Ack {
-            of: Acknowledged::Finished,
+        Ack {
+            of,
             condition,
-            status: TransactionStatus::Terminated,
-        }),
+            status,
+        },
     )
 }

@@ -1,6 +1,6 @@
-use core_steps::Answer;
-use crate::remaining::Remaining;
 use crate::control::ControlBlock;
+use crate::remaining::Remaining;
+use txn_events::Answer;
 
 /// What an event makes of the offsets that are still to be sent.
 #[derive(Debug, Drop)]
@@ -10,7 +10,7 @@ pub(crate) enum Remainder {
     /// So many of the first offsets of the lowest run are sent.
     Without(u32),
     /// More are asked for.
-    Anew(Remaining),
+    Requested(Remaining),
 }
 
 /// An event that is accepted, with its answer and all memory that it takes. It can be carried out

@@ -2,15 +2,14 @@
 ghost use Rattle.std.specs.Prelude.{◌≡◌, IfOk};
 ghost use Rattle.std.specs.Option.{option_to_list};
 
-use core_steps::Answer;
-use crate::plan::{Remainder, Plan};
+use crate::control::ControlBlock;
+use crate::plan::{Plan, Remainder};
 use crate::response::Response;
 use crate::sender::SenderCore;
-use crate::control::ControlBlock;
 use crate::steps::{changes, next};
-use core_steps::{Changes, Clock, Pdus, TimerOps, operations};
-use pdu_codec::{Pdu, Refusal, What};
+use pdu_values::Pdu;
 use std::alloc::{AllocError, Global};
+use txn_events::{Answer, Pdus, Refusal, TimerChanges, TimerContext, TimerOps, What, operations};
 
 impl SenderCore {
     ghost use Rattle.std.specs.Prelude.{◌≡◌, ◌≤◌, IfOk, IfErr, List, Ok};
@@ -20,29 +19,23 @@ impl SenderCore {
     ghost use Rattle.cfdp_types.specs.Params.{timer_length};
     ghost use Rattle.sender_table.specs.Sending.{Entry, happens, extent_of, state_of};
     ghost use Rattle.sender_table.specs.Answers.{answer_at};
-    ghost use Rattle.core_steps.specs.Timers.{effects, stamp_of};
+    ghost use Rattle.txn_events.specs.Timers.{effects, stamp_of};
     ghost use Rattle.sender_core.specs.Core.{shown, sending_of, plan_answer, StandsAfter, HoldsResponse, IsPlanOf, IsWhy};
 
-    // The operations that tell what a step does with the timers.
-    fn timer_ops(&self, changes: Changes) -> Result<TimerOps, AllocError>
-        ensures { IfOk result (λ ops. ops ≡ steps.operations self.now.key (timer_length self.now.params.timers) self.now.control.entries (effects changes) (stamp_of self.now.control.armed)) }
-    {
-        let clock = Clock {
-            key: self.key,
-            lengths: self.params.timers(),
-            place: self.control.entries,
-        };
-        operations(self.alloc, &clock, changes, &self.control.armed)
-    }
-
     // The plan of an event that is answered by a response, and leaves so much to be sent.
-    fn planned(&self, event: &What, response: Response, remainder: Remainder) -> Result<Plan, AllocError>
+    fn plan_response(
+        &self,
+        event: &What,
+        response: Response,
+        remainder: Remainder,
+    ) -> Result<Plan, AllocError>
         requires { extent_of (option_to_list response.pdu) ≤ FILE_OCTETS }
         ensures { IfOk result (λ plan. HoldsResponse self.now event.now response remainder plan) }
     {
         let next = next(&self.control, event, &response);
         let changes = changes(&next, event, response.arms);
-        let timers = self.timer_ops(changes)?;
+        let context = TimerContext::new(self.key, &self.params, self.control.entries);
+        let timers = operations(self.alloc, &context, changes, &self.control.armed)?;
         let pdus = listed(self.alloc, response.pdu)?;
         let armed = self.control.armed.after(changes, self.control.entries);
         Ok(Plan {
@@ -67,7 +60,7 @@ impl SenderCore {
         }
         let response = self.response_to(event)?;
         let remainder = self.remainder(event)?;
-        let plan = self.planned(event, response, remainder)?;
+        let plan = self.plan_response(event, response, remainder)?;
         Ok(plan)
     }
 
@@ -76,9 +69,11 @@ impl SenderCore {
     pub fn plan(&self, event: &What) -> Result<Plan, Refusal>
         ensures planned { IfOk result (λ plan. IsPlanOf self.now plan (happens event.now)) }
         ensures accepted { (log : List Entry) → StandsAfter self.now log
-            → IfOk result (λ plan. answer_at (sending_of self.now) (state_of (sending_of self.now) log) (happens event.now) ≡ Ok (plan_answer plan)) }
+            → IfOk result (λ plan. answer_at (sending_of self.now) (state_of (sending_of self.now) log)
+            (happens event.now) ≡ Ok (plan_answer plan)) }
         ensures refused { (log : List Entry) → StandsAfter self.now log
-            → IfErr result (λ why. IsWhy (answer_at (sending_of self.now) (state_of (sending_of self.now) log) (happens event.now)) why) }
+            → IfErr result (λ why. IsWhy
+            (answer_at (sending_of self.now) (state_of (sending_of self.now) log) (happens event.now)) why) }
     {
         self.plan_now(event)
     }

@@ -5,8 +5,8 @@ ghost use Rattle.sender_table.specs.Refusals.{is_last_eof};
 use crate::sender::SenderCore;
 use cfdp_types::limits::{JOURNAL_ENTRIES, JOURNAL_ENTRIES_KEPT};
 use cfdp_types::{Class, Condition};
-use core_steps::{is_of_other_class, is_stale_timer, needs_room};
-use pdu_codec::{Body, Eof, Pdu, Refusal, What};
+use pdu_values::{Body, Eof, Pdu};
+use txn_events::{Refusal, What, is_of_other_class, is_stale_timer, needs_room};
 
 impl SenderCore {
     ghost use Rattle.std.specs.Prelude.{◌≡◌, nat_lt, length};
@@ -55,9 +55,7 @@ impl SenderCore {
         match event {
             What::Pdu(pdu) => self.is_pdu_misplaced(pdu),
             What::Pump => {
-                self.control.is_suspended()
-                    || self.control.is_closing()
-                    || !self.has_more_to_send()
+                self.control.is_suspended() || self.control.is_closing() || !self.has_more_to_send()
             }
             What::Resume => !self.control.is_suspended(),
             What::Suspend => self.control.is_suspended() || self.control.is_closing(),

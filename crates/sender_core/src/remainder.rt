@@ -3,17 +3,18 @@ use crate::plan::Remainder;
 use crate::remaining::Remaining;
 use crate::sender::SenderCore;
 use crate::steps::requests_of;
-use pdu_codec::What;
 use std::alloc::AllocError;
+use txn_events::What;
 
 impl SenderCore {
     ghost use Rattle.std.specs.Prelude.{◌≡◌, ℕ, IfOk};
-    ghost use Rattle.pdu_codec.specs.declared.event.What.TheVariants as what;
+    ghost use Rattle.txn_events.specs.declared.event.What.TheVariants as what;
     ghost use Rattle.sender_core.specs.Core.{shown, sending_of, remainder_of, remains_after};
 
     // What is left once the next PDU is sent.
     fn remainder_by_pump(&self) -> Remainder
-        ensures { (i : ℕ) → remainder_of self.now.remaining result i ≡ remains_after (sending_of self.now) (shown self.now) what.Pump i }
+        ensures { (i : ℕ) → remainder_of self.now.remaining result i ≡ remains_after (sending_of self.now)
+            (shown self.now) what.Pump i }
     {
         if self.control.metadata_remains {
             return Remainder::Same;
@@ -26,7 +27,8 @@ impl SenderCore {
 
     /// What is left after an event that is accepted in the present state.
     pub(crate) fn remainder(&self, event: &What) -> Result<Remainder, AllocError>
-        ensures { IfOk result (λ remainder. (i : ℕ) → remainder_of self.now.remaining remainder i ≡ remains_after (sending_of self.now) (shown self.now) event.now i) }
+        ensures { IfOk result (λ remainder. (i : ℕ) → remainder_of self.now.remaining remainder i ≡ remains_after
+            (sending_of self.now) (shown self.now) event.now i) }
     {
         if matches!(event, What::Pump) {
             return Ok(self.remainder_by_pump());
@@ -35,7 +37,7 @@ impl SenderCore {
             None => Ok(Remainder::Same),
             Some(requests) => {
                 let size = self.request.file().as_slice().len() as u32;
-                Ok(Remainder::Anew(self.remaining.with(requests, size)?))
+                Ok(Remainder::Requested(self.remaining.with(requests, size)?))
             }
         }
     }
@@ -52,6 +54,6 @@ pub(crate) fn apply_remainder(remaining: &mut Remaining, remainder: Remainder)
     match remainder {
         Remainder::Same => {}
         Remainder::Without(count) => remaining.take_front(count),
-        Remainder::Anew(others) => *remaining = others,
+        Remainder::Requested(others) => *remaining = others,
     }
 }

@@ -4,7 +4,7 @@ ghost use Rattle.gap_list.specs.Runs.{in_runs, is_within, IsRisingFrom, SameSet}
 ghost use Rattle.sender_core.specs.Remaining.{EndBelow, with_requests};
 
 use gap_list::Run;
-use pdu_codec::SegmentRequest;
+use pdu_values::SegmentRequest;
 use std::alloc::{AllocError, Global};
 use std::marker::Model;
 
@@ -91,7 +91,8 @@ impl Remaining {
         requests: &[SegmentRequest],
         limit: u32,
     ) -> Result<Remaining, AllocError>
-        ensures { IfOk result (λ remaining. SameSet (in_runs remaining) (with_requests (in_runs self.now) requests.now limit)) }
+        ensures { IfOk result
+            (λ remaining. SameSet (in_runs remaining) (with_requests (in_runs self.now) requests.now limit)) }
     {
         let alloc = *self.runs.allocator();
         let mut runs = Vec::from_slice(alloc, self.rest())?;
@@ -112,7 +113,8 @@ fn put_requests(
 ) -> Result<(), AllocError>
     requires { All (λ run. run.start < run.end) runs.old.items }
     ensures filled { OnOk result (All (λ run. run.start < run.end) runs.new.items) }
-    ensures same { OnOk result (SameSet (in_runs runs.new.items) (with_requests (in_runs runs.old.items) requests.now limit)) }
+    ensures same { OnOk result
+        (SameSet (in_runs runs.new.items) (with_requests (in_runs runs.old.items) requests.now limit)) }
 {
     for request in requests {
         let end = request.end.min(limit);
@@ -133,7 +135,8 @@ fn put(runs: &mut Vec<Run>, run: Run) -> Result<(), AllocError>
     requires above { EndBelow run.start runs.old.items }
     ensures rising { OnOk result (IsRisingFrom 0 runs.new.items) }
     ensures below { OnOk result ((limit : ℕ) → run.end < limit → EndBelow limit runs.new.items) }
-    ensures same { OnOk result ((i : ℕ) → in_runs runs.new.items i ≡ (in_runs runs.old.items i || is_within run.start run.end i)) }
+    ensures same { OnOk result
+        ((i : ℕ) → in_runs runs.new.items i ≡ (in_runs runs.old.items i || is_within run.start run.end i)) }
 {
     if run.start < run.end {
         runs.push(run)?;

@@ -1,8 +1,8 @@
 ghost use Rattle.std.specs.Prelude.{◌≡◌, [], ◌∷◌, None, Some, IfOk};
 
 use cfdp_types::TimerKind;
-use ind_words::{Indication, Indications};
-use pdu_codec::Pdu;
+use indications::{Indication, Indications};
+use pdu_values::Pdu;
 use std::alloc::{AllocError, Global};
 
 /// What a response of the table gives: what the user is told, the PDU that is sent, and the timer that it

@@ -6,18 +6,19 @@ use crate::response::Response;
 use crate::sender::SenderCore;
 use cfdp_types::{Class, Condition, Delivery, FileStatus, Handler, TimerKind};
 use gap_list::Run;
-use ind_words::{Indication, Indications};
+use indications::{Indication, Indications};
 use modular_sum::sum_of;
-use pdu_codec::{Ack, Body, Eof, Finished, What};
+use pdu_values::{Ack, Body, Eof, Finished, Pdu};
 use std::alloc::AllocError;
+use txn_events::What;
 
 impl SenderCore {
     ghost use Rattle.sender_table.specs.Refusals.{runs_to_send};
     ghost use Rattle.cfdp_types.specs.declared.limits.TheConstants.{SEGMENT_OCTETS_MOST};
     ghost use Rattle.std.specs.Prelude.{◌≡◌, ◌≤◌, IfOk, ◌-◌, min, [], ◌∷◌, None, Some};
-    ghost use Rattle.pdu_codec.specs.declared.event.What.TheVariants as what;
-    ghost use Rattle.pdu_format.specs.declared.pdu.Body.TheVariants as body;
-    ghost use Rattle.ind_words.specs.declared.indication.Indication.TheVariants as told;
+    ghost use Rattle.txn_events.specs.declared.event.What.TheVariants as what;
+    ghost use Rattle.pdu_values.specs.declared.pdu.Body.TheVariants as body;
+    ghost use Rattle.indications.specs.declared.indication.Indication.TheVariants as told;
     ghost use Rattle.sender_table.specs.Sending.{happens};
     ghost use Rattle.std.specs.Option.{option_to_list};
     ghost use Rattle.sender_core.specs.Core.{shown, sending_of, IsResponse, eof_again};
@@ -59,9 +60,10 @@ impl SenderCore {
 
     // The transaction is cancelled.
     fn cancel_response(&self, condition: Condition) -> Result<Response, AllocError>
-        ensures { IfOk result (λ response. IsResponse (sending_of self.now) response (cancel_response (sending_of self.now) (shown self.now) condition)) }
+        ensures { IfOk result (λ response. IsResponse (sending_of self.now) response
+            (cancel_response (sending_of self.now) (shown self.now) condition)) }
     {
-        let pdu = pdus::eof(self.header, self.cancel_eof(condition));
+        let pdu = Pdu::eof(self.header, self.cancel_eof(condition));
         let mut inds = Indications::new(self.alloc);
         match self.request.class() {
             Class::One => {
@@ -82,7 +84,8 @@ impl SenderCore {
 
     // A fault, by its handler.
     fn fault_response(&self, kind: TimerKind, condition: Condition) -> Result<Response, AllocError>
-        ensures { IfOk result (λ response. IsResponse (sending_of self.now) response (fault_response (sending_of self.now) (shown self.now) kind condition)) }
+        ensures { IfOk result (λ response. IsResponse (sending_of self.now) response
+            (fault_response (sending_of self.now) (shown self.now) kind condition)) }
     {
         let progress = self.control.progress;
         match self.params.tables().send.action(condition) {
@@ -109,9 +112,10 @@ impl SenderCore {
 
     // The EOF, where all else was sent.
     fn sends_eof(&self) -> Result<Response, AllocError>
-        ensures { IfOk result (λ response. IsResponse (sending_of self.now) response (sends_eof (sending_of self.now))) }
+        ensures { IfOk result
+            (λ response. IsResponse (sending_of self.now) response (sends_eof (sending_of self.now))) }
     {
-        let pdu = pdus::eof(self.header, self.whole_eof());
+        let pdu = Pdu::eof(self.header, self.whole_eof());
         let mut inds = Indications::new(self.alloc);
         inds.push(Indication::EofSent)?;
         match self.request.class() {
@@ -142,7 +146,8 @@ impl SenderCore {
     // What remains of the file, and then the EOF.
     fn sends_next(&self) -> Result<Response, AllocError>
         ensures runs { runs_to_send (sending_of self.now) (shown self.now) ≡ self.now.remaining }
-        ensures response { IfOk result (λ response. IsResponse (sending_of self.now) response (sends_next (sending_of self.now) self.now.remaining)) }
+        ensures response { IfOk result (λ response. IsResponse (sending_of self.now) response
+            (sends_next (sending_of self.now) self.now.remaining)) }
     {
         match self.remaining.first() {
             None => self.sends_eof(),
@@ -161,7 +166,8 @@ impl SenderCore {
 
     // The Metadata first.
     fn on_pump(&self) -> Result<Response, AllocError>
-        ensures { IfOk result (λ response. IsResponse (sending_of self.now) response (on_pump (sending_of self.now) (shown self.now))) }
+        ensures { IfOk result
+            (λ response. IsResponse (sending_of self.now) response (on_pump (sending_of self.now) (shown self.now))) }
     {
         if self.control.metadata_remains {
             let pdu = pdus::metadata(self.header, &self.request)?;
@@ -183,7 +189,8 @@ impl SenderCore {
     }
 
     fn on_body(&self, body: &Body) -> Result<Response, AllocError>
-        ensures { IfOk result (λ response. IsResponse (sending_of self.now) response (on_body (shown self.now) body.now)) }
+        ensures { IfOk result
+            (λ response. IsResponse (sending_of self.now) response (on_body (shown self.now) body.now)) }
     {
         match body {
             Body::Ack(ack) => self.on_ack(*ack),
@@ -194,7 +201,8 @@ impl SenderCore {
 
     // The receiver says how it went, and is told that this came.
     fn on_finished(&self, finished: Finished) -> Result<Response, AllocError>
-        ensures { IfOk result (λ response. IsResponse (sending_of self.now) response (on_body (shown self.now) (body.Finished finished))) }
+        ensures { IfOk result (λ response. IsResponse (sending_of self.now) response
+            (on_body (shown self.now) (body.Finished finished))) }
     {
         let told = Indication::TransactionFinished {
             condition: finished.condition,
@@ -208,7 +216,8 @@ impl SenderCore {
 
     // Ack: the EOF once more; at the limit a fault, or in the closing phase the end.
     fn on_ack_timer(&self) -> Result<Response, AllocError>
-        ensures { IfOk result (λ response. IsResponse (sending_of self.now) response (on_ack_timer (sending_of self.now) (shown self.now) (shown self.now))) }
+        ensures { IfOk result (λ response. IsResponse (sending_of self.now) response
+            (on_ack_timer (sending_of self.now) (shown self.now) (shown self.now))) }
     {
         if self.control.tries.ack + 1 < u32::from(self.params.limits().ack) {
             Ok(self.sends_eof_again())
@@ -226,18 +235,22 @@ impl SenderCore {
             inds: Indications::new(self.alloc),
             pdu: match self.control.eof {
                 None => None,
-                Some(eof) => Some(pdus::eof(self.header, eof)),
+                Some(eof) => Some(Pdu::eof(self.header, eof)),
             },
             arms: Some(TimerKind::Ack),
         }
     }
 
     fn on_timer(&self, kind: TimerKind) -> Result<Response, AllocError>
-        ensures { IfOk result (λ response. IsResponse (sending_of self.now) response (on_timer (sending_of self.now) (shown self.now) (shown self.now) kind)) }
+        ensures { IfOk result (λ response. IsResponse (sending_of self.now) response
+            (on_timer (sending_of self.now) (shown self.now) (shown self.now) kind)) }
     {
         match kind {
             TimerKind::Ack => self.on_ack_timer(),
-            TimerKind::Inactivity => self.fault_response(TimerKind::Inactivity, Condition::INACTIVITY),
+            TimerKind::Inactivity => self.fault_response(
+                TimerKind::Inactivity,
+                Condition::INACTIVITY,
+            ),
             TimerKind::Nak | TimerKind::Check => Ok(Response::nothing(self.alloc)),
         }
     }
@@ -256,7 +269,8 @@ impl SenderCore {
     }
 
     fn on_resume(&self) -> Result<Response, AllocError>
-        ensures { IfOk result (λ response. IsResponse (sending_of self.now) response (response_to (sending_of self.now) (shown self.now) (shown self.now) (happens what.Resume))) }
+        ensures { IfOk result (λ response. IsResponse (sending_of self.now) response
+            (response_to (sending_of self.now) (shown self.now) (shown self.now) (happens what.Resume))) }
     {
         let progress = self.control.progress;
         let mut response = Response::telling(self.alloc, Indication::Resumed { progress })?;
@@ -266,7 +280,8 @@ impl SenderCore {
 
     /// The response of an event, in the present state.
     pub(crate) fn response_to(&self, event: &What) -> Result<Response, AllocError>
-        ensures { IfOk result (λ response. IsResponse (sending_of self.now) response (response_to (sending_of self.now) (shown self.now) (shown self.now) (happens event.now))) }
+        ensures { IfOk result (λ response. IsResponse (sending_of self.now) response
+            (response_to (sending_of self.now) (shown self.now) (shown self.now) (happens event.now))) }
     {
         let progress = self.control.progress;
         match event {
@@ -296,7 +311,7 @@ impl SenderCore {
     }
 }
 
-ghost use Rattle.ind_words.specs.declared.indication.Indication.TheVariants as told;
+ghost use Rattle.indications.specs.declared.indication.Indication.TheVariants as told;
 ghost use Rattle.cfdp_types.specs.declared.names.Delivery.TheVariants.{Incomplete};
 ghost use Rattle.cfdp_types.specs.declared.names.FileStatus.TheVariants.{Unreported};
 

@@ -1,18 +1,18 @@
 ghost use Rattle.std.specs.Prelude.{◌≡◌, ◌≤◌, length};
 ghost use Rattle.cfdp_types.specs.declared.limits.TheConstants.{FILE_OCTETS};
-ghost use Rattle.pdu_format.specs.Spelling.{HeaderFits};
+ghost use Rattle.pdu_values.specs.Spelling.{HeaderFits};
 ghost use Rattle.gap_list.specs.Runs.{in_runs};
 ghost use Rattle.sender_table.specs.Answers.{header_of};
 ghost use Rattle.sender_core.specs.ControlBlock.{IsSound, IsInside};
 
-use core_steps::Answer;
-use crate::remainder::apply_remainder;
-use crate::plan::Plan;
-use crate::remaining::Remaining;
 use crate::control::ControlBlock;
+use crate::plan::Plan;
+use crate::remainder::apply_remainder;
+use crate::remaining::Remaining;
 use cfdp_types::{Params, PutRequest, TxnKey};
-use pdu_codec::Header;
+use pdu_values::Header;
 use std::alloc::Global;
+use txn_events::Answer;
 
 /// The sending end of one transaction, in either class.
 #[derive(Debug, Drop)]
@@ -35,7 +35,7 @@ pub struct SenderCore {
 impl SenderCore {
     ghost use Rattle.std.specs.Prelude.{◌≡◌, ◌<◌, ◌∷◌, [], None, false, List, IfOk, IfErr, length};
     ghost use Rattle.cfdp_types.specs.declared.limits.TheConstants.{FILE_OCTETS};
-    ghost use Rattle.pdu_codec.specs.declared.event.Refusal.TheVariants as refusal;
+    ghost use Rattle.txn_events.specs.declared.refusal.Refusal.TheVariants as refusal;
     ghost use Rattle.sender_table.specs.Sending.{Event, Entry};
     ghost use Rattle.sender_core.specs.Core.{shown, sending_of, IsPlanOf, StandsAfter, plan_answer};
 
@@ -56,7 +56,11 @@ impl SenderCore {
         ensures stands { (event : Event) (log : List Entry) → IsPlanOf self.old plan event → StandsAfter self.old log
             → StandsAfter self.new (record { event = event; answer = plan_answer plan } ∷ log) }
     {
-        let Plan { next, remainder, answer } = plan;
+        let Plan {
+            next,
+            remainder,
+            answer,
+        } = plan;
         apply_remainder(&mut self.remaining, remainder);
         self.control = next;
         answer

@@ -8,15 +8,15 @@ ghost use Rattle.cfdp_types.specs.Steps.{is_kind};
 ghost use Rattle.sender_table.specs.Sending as sending_of_file;
 ghost use Rattle.sender_table.specs.Sending.{is_suspended, happens, begins_phase, eof_among, extent_of, acknowledges_eof, requests_of, asks_for_metadata, tries_after};
 ghost use Rattle.sender_table.specs.Answers.{effect_of};
-ghost use Rattle.sender_core.specs.ControlBlock.{state_from, nowhere, AreFew};
+ghost use Rattle.sender_core.specs.ControlBlock.{state_from, nowhere};
 ghost use Rattle.sender_core.specs.Core.{IsNext, entry_without_timers, arming};
-ghost use Rattle.core_steps.specs.Timers.{effects, effect_of_change, tries_of};
+ghost use Rattle.txn_events.specs.Timers.{AreFew, effects, effect_of_change, tries_of};
 
-use crate::response::Response;
 use crate::control::ControlBlock;
+use crate::response::Response;
 use cfdp_types::{Condition, TimerKind};
-use core_steps::{Anew, Change, Changes, Tries, is_pdu, paused_after};
-use pdu_codec::{Acknowledged, Body, Eof, Pdu, SegmentRequest, What};
+use pdu_values::{Acknowledged, Body, Eof, Pdu, SegmentRequest};
+use txn_events::{CountResets, TimerChange, TimerChanges, Tries, What, is_pdu, paused_after};
 
 // The EOF that is sent, if one is.
 fn eof_in(pdu: &Option<Pdu>) -> Option<Eof>
@@ -77,7 +77,8 @@ fn begins_phase(before: Option<Eof>, new: Option<Eof>) -> bool
 
 /// The segment requests of a NAK.
 pub(crate) fn requests_of(event: &What) -> Option<&[SegmentRequest]>
-    ensures { MatchOption result (requests_of (happens event.now) ≡ []) (λ requests. requests.now ≡ requests_of (happens event.now)) }
+    ensures { MatchOption result (requests_of (happens event.now) ≡ [])
+        (λ requests. requests.now ≡ requests_of (happens event.now)) }
 {
     match event {
         What::Pdu(pdu) => match pdu.body() {
@@ -115,20 +116,21 @@ fn acknowledges(event: &What) -> bool
 
 // The expirations that are counted after an event that is answered by a response.
 fn tries_after(control: &ControlBlock, event: &What, response: &Response) -> Tries
-    requires { AreFew control.now }
-    ensures { (kind : TimerKind) → tries_of result kind ≡ tries_after (state_from control.now nowhere) (entry_without_timers event.now response.now) kind }
+    requires { AreFew control.now.entries control.now.tries }
+    ensures { (kind : TimerKind) → tries_of result kind ≡ tries_after (state_from control.now nowhere)
+        (entry_without_timers event.now response.now) kind }
 {
-    let anew = Anew {
+    let resets = CountResets {
         ack: begins_phase(control.eof, eof_in(&response.pdu)),
         nak: false,
     };
-    control.tries.after(event, response.inds.as_slice(), anew)
+    control.tries.after(event, response.inds.as_slice(), resets)
 }
 
 /// Where a sender stands after an event that is answered by a response, but for its timers, which stay as
 /// they were.
 pub(crate) fn next(control: &ControlBlock, event: &What, response: &Response) -> ControlBlock
-    requires few { AreFew control.now }
+    requires few { AreFew control.now.entries control.now.tries }
     requires inside { extent_of (option_to_list response.now.pdu) ≤ FILE_OCTETS }
     ensures next { IsNext control.now event.now response.now result }
 {
@@ -167,28 +169,34 @@ fn is_armed(arms: Option<TimerKind>, kind: TimerKind) -> bool
 }
 
 // What a step does with the timer of a kind, where it leads to a control block.
-fn change_of(next: &ControlBlock, event: &What, arms: Option<TimerKind>, kind: TimerKind) -> Change
+fn change_of(
+    next: &ControlBlock,
+    event: &What,
+    arms: Option<TimerKind>,
+    kind: TimerKind,
+) -> TimerChange
     ensures { effect_of_change result ≡ effect_of (arming arms) (state_from next.now nowhere) (happens event.now) kind }
 {
     let is_ack = kind == TimerKind::Ack;
     if is_over(next) || (next.is_closing() && !is_ack) {
-        Change::Stops
+        TimerChange::Stops
     } else if is_armed(arms, kind) {
-        Change::Arms
+        TimerChange::Arms
     } else if is_ack && acknowledges(event) {
-        Change::Stops
+        TimerChange::Stops
     } else if kind == TimerKind::Inactivity && is_pdu(event) && next.acknowledged {
-        Change::Arms
+        TimerChange::Arms
     } else {
-        Change::Keeps
+        TimerChange::Keeps
     }
 }
 
 /// What a step does with each timer, where it leads to a control block.
-pub(crate) fn changes(next: &ControlBlock, event: &What, arms: Option<TimerKind>) -> Changes
-    ensures { (kind : TimerKind) → effects result kind ≡ effect_of (arming arms) (state_from next.now nowhere) (happens event.now) kind }
+pub(crate) fn changes(next: &ControlBlock, event: &What, arms: Option<TimerKind>) -> TimerChanges
+    ensures { (kind : TimerKind) → effects result kind ≡ effect_of (arming arms) (state_from next.now nowhere)
+        (happens event.now) kind }
 {
-    Changes {
+    TimerChanges {
         ack: change_of(next, event, arms, TimerKind::Ack),
         nak: change_of(next, event, arms, TimerKind::Nak),
         check: change_of(next, event, arms, TimerKind::Check),

@@ -15,18 +15,18 @@ use Rattle.cfdp_types.specs.declared.names.Handler.TheVariants as handler
 use Rattle.cfdp_types.specs.declared.names.TimerKind.{TimerKind}
 use Rattle.cfdp_types.specs.declared.names.TimerKind.TheVariants.{Ack, Nak, Check, Inactivity}
 use Rattle.gap_list.specs.declared.run.Run.{Run}
-use Rattle.pdu_codec.specs.declared.event.What.{What}
-use Rattle.pdu_codec.specs.declared.event.What.TheVariants as what
-use Rattle.pdu_codec.specs.declared.event.Refusal.{Refusal}
-use Rattle.pdu_codec.specs.declared.event.Refusal.TheVariants as refusal
-use Rattle.pdu_codec.specs.Events.{is_of_other_class, is_stale_timer}
-use Rattle.pdu_format.specs.declared.pdu.Header.{Header}
-use Rattle.pdu_format.specs.declared.pdu.Body.{Body}
-use Rattle.pdu_format.specs.declared.pdu.Body.TheVariants as body
-use Rattle.ind_words.specs.declared.indication.Indication.{Indication}
-use Rattle.ind_words.specs.declared.indication.Indication.TheVariants as told
-use Rattle.ind_words.specs.declared.side.Side.TheVariants.{Sender}
-use Rattle.ind_words.specs.Words.{is_end, is_eof_sent, is_paused, IsOpened, IsNextOfSender, MayFollowOf}
+use Rattle.txn_events.specs.declared.event.What.{What}
+use Rattle.txn_events.specs.declared.event.What.TheVariants as what
+use Rattle.txn_events.specs.declared.refusal.Refusal.{Refusal}
+use Rattle.txn_events.specs.declared.refusal.Refusal.TheVariants as refusal
+use Rattle.txn_events.specs.Events.{is_of_other_class, is_stale_timer}
+use Rattle.pdu_values.specs.declared.pdu.Header.{Header}
+use Rattle.pdu_values.specs.declared.pdu.Body.{Body}
+use Rattle.pdu_values.specs.declared.pdu.Body.TheVariants as body
+use Rattle.indications.specs.declared.indication.Indication.{Indication}
+use Rattle.indications.specs.declared.indication.Indication.TheVariants as told
+use Rattle.indications.specs.declared.side.Side.TheVariants.{Sender}
+use Rattle.indications.specs.Words.{is_end, is_eof_sent, is_paused, IsOpened, IsNextOfSender, MayFollowOf}
 use Rattle.sender_table.specs.Sending.{Sending, happens, State, is_closing, is_suspended, is_cancel, eof_among}
 use Rattle.sender_table.specs.Refusals.{refusal_of, is_stale_store, is_misplaced, runs_to_send}
 use Rattle.sender_table.specs.Answers.{Response, response_to, cancel_response, fault_response, sends_eof, sends_next, on_pump, on_body, on_timer, ends_unreported, condition_of, phase_of}

@@ -9,17 +9,17 @@ use Rattle.cfdp_types.specs.Steps.{Effect, stops, is_kind, newer_or}
 use Rattle.cfdp_types.specs.declared.names.TimerKind.{TimerKind}
 use Rattle.cfdp_types.specs.declared.names.TimerKind.TheVariants.{Ack, Inactivity}
 use Rattle.cfdp_types.proofs.StepLemmas.{armed_by, armed_after-operations}
-use Rattle.pdu_codec.specs.Refusal.{unless_refused}
-use Rattle.pdu_codec.specs.declared.event.Refusal.{Refusal}
-use Rattle.pdu_codec.specs.declared.event.What.{What}
-use Rattle.pdu_format.specs.declared.bodies.Eof.{Eof}
-use Rattle.ind_words.specs.declared.indication.Indication.{Indication}
-use Rattle.ind_words.specs.declared.side.Side.TheVariants.{Sender}
-use Rattle.ind_words.specs.Words.{is_end, is_eof_sent, is_transaction, is_paused, IsOpened, IsBegunOf, MayFollowOf, told_onto}
-use Rattle.ind_words.specs.Told.{paused_after}
-use Rattle.ind_words.proofs.WordLemmas.{MayFollowOf-append, list_any-told_onto, told_onto-append}
-use Rattle.ind_words.proofs.ToldLemmas.{is_paused-told_onto}
-use Rattle.core_steps.specs.declared.answer.Answer.{Answer}
+use Rattle.txn_events.specs.Refusal.{unless_refused}
+use Rattle.txn_events.specs.declared.refusal.Refusal.{Refusal}
+use Rattle.txn_events.specs.declared.event.What.{What}
+use Rattle.pdu_values.specs.declared.bodies.Eof.{Eof}
+use Rattle.indications.specs.declared.indication.Indication.{Indication}
+use Rattle.indications.specs.declared.side.Side.TheVariants.{Sender}
+use Rattle.indications.specs.Words.{is_end, is_eof_sent, is_transaction, is_paused, IsOpened, IsBegunOf, MayFollowOf, told_onto}
+use Rattle.indications.specs.Words.{paused_after}
+use Rattle.indications.proofs.WordLemmas.{MayFollowOf-append, list_any-told_onto, told_onto-append}
+use Rattle.indications.proofs.WordLemmas.{is_paused-told_onto}
+use Rattle.txn_events.specs.declared.answer.Answer.{Answer}
 use Rattle.sender_table.specs.Sending.{Sending, Event, put, happens, Entry, State, initial, step, state_of, issued, is_closing, is_suspended, eof_among}
 use Rattle.sender_table.specs.Refusals.{refusal_at}
 use Rattle.sender_table.specs.Answers.{Response, response_to, with_event, without_timers, accepted_at, answer_at, effect_of, header_of}

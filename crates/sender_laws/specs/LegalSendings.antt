@@ -1,7 +1,7 @@
 -- Which logs a sender of either class can have.
 use Rattle.std.specs.Prelude.{◌≡◌, false, List, [], ◌∷◌, Ok}
-use Rattle.core_steps.specs.Logs.{log_after}
-use Rattle.core_steps.specs.declared.answer.Answer.{Answer}
+use Rattle.txn_events.specs.Logs.{log_after}
+use Rattle.txn_events.specs.declared.answer.Answer.{Answer}
 use Rattle.sender_table.specs.Sending.{Sending, Event, put, happens, Entry, state_of}
 use Rattle.sender_table.specs.Answers.{accepted_at, answer_at}
 

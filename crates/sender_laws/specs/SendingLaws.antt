@@ -1,7 +1,7 @@
 -- What holds of every sender.
 use Rattle.std.specs.Prelude.{◌≡◌, true, List}
-use Rattle.ind_words.specs.Words.{IsBegunOf, IsWordOf}
-use Rattle.ind_words.specs.declared.side.Side.TheVariants.{Sender}
+use Rattle.indications.specs.Words.{IsBegunOf, IsWordOf}
+use Rattle.indications.specs.declared.side.Side.TheVariants.{Sender}
 use Rattle.sender_table.specs.Sending.{Sending, Entry, state_of, issued}
 use Rattle.sender_laws.specs.LegalSendings.{IsLegal}
 

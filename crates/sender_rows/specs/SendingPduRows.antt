@@ -5,14 +5,14 @@ use Rattle.cfdp_types.specs.declared.names.Class.TheVariants.{One}
 use Rattle.cfdp_types.specs.declared.names.Delivery.TheVariants.{Complete, Incomplete}
 use Rattle.cfdp_types.specs.declared.names.FileStatus.TheVariants.{Retained, Unreported}
 use Rattle.cfdp_types.specs.declared.names.TimerKind.TheVariants.{Ack}
-use Rattle.pdu_codec.specs.declared.event.What.TheVariants as what
-use Rattle.pdu_codec.specs.declared.event.Refusal.TheVariants as refusal
-use Rattle.pdu_format.specs.Numbers.{digits}
-use Rattle.pdu_format.specs.Spelling.{spelling, written}
-use Rattle.pdu_format.specs.Tlvs.{width_from}
-use Rattle.pdu_format.specs.declared.pdu.Body.TheVariants as body
-use Rattle.ind_words.specs.declared.indication.Indication.TheVariants as told
-use Rattle.ind_words.specs.declared.indication.Phase.TheVariants as phase
+use Rattle.txn_events.specs.declared.event.What.TheVariants as what
+use Rattle.txn_events.specs.declared.refusal.Refusal.TheVariants as refusal
+use Rattle.pdu_values.specs.Numbers.{digits}
+use Rattle.pdu_values.specs.Spelling.{spelling, written}
+use Rattle.pdu_values.specs.Tlvs.{width_from}
+use Rattle.pdu_values.specs.declared.pdu.Body.TheVariants as body
+use Rattle.indications.specs.declared.indication.Indication.TheVariants as told
+use Rattle.indications.specs.declared.indication.Phase.TheVariants as phase
 use Rattle.gap_list.specs.Runs.{runs_of, runs_from}
 use Rattle.sender_table.specs.Sending.{Sending, put, happens, initial, step, state_of}
 use Rattle.sender_table.specs.Answers.{answer_at}

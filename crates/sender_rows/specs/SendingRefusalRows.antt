@@ -4,21 +4,21 @@ use Rattle.std.proofs.Common.{ap, subst, arith}
 use Rattle.cfdp_types.specs.declared.limits.TheConstants.{FILE_OCTETS}
 use Rattle.cfdp_types.specs.declared.names.Class.TheVariants.{One}
 use Rattle.cfdp_types.specs.declared.names.TimerKind.TheVariants.{Ack}
-use Rattle.pdu_codec.specs.declared.event.What.TheVariants as what
-use Rattle.pdu_codec.specs.declared.event.Refusal.TheVariants as refusal
-use Rattle.pdu_format.specs.Numbers.{digits}
-use Rattle.pdu_format.specs.Spelling.{spelling, written}
-use Rattle.pdu_format.specs.Tlvs.{width_from}
-use Rattle.pdu_format.specs.declared.pdu.Body.TheVariants as body
-use Rattle.pdu_format.specs.declared.bodies.Acknowledged.TheVariants as acknowledged
-use Rattle.pdu_format.specs.declared.bodies.TransactionStatus.TheVariants.{Active}
-use Rattle.ind_words.specs.declared.indication.Indication.TheVariants as told
-use Rattle.ind_words.specs.declared.indication.Phase.TheVariants as phase
+use Rattle.txn_events.specs.declared.event.What.TheVariants as what
+use Rattle.txn_events.specs.declared.refusal.Refusal.TheVariants as refusal
+use Rattle.pdu_values.specs.Numbers.{digits}
+use Rattle.pdu_values.specs.Spelling.{spelling, written}
+use Rattle.pdu_values.specs.Tlvs.{width_from}
+use Rattle.pdu_values.specs.declared.pdu.Body.TheVariants as body
+use Rattle.pdu_values.specs.declared.bodies.Acknowledged.TheVariants as acknowledged
+use Rattle.pdu_values.specs.declared.bodies.TransactionStatus.TheVariants.{Active}
+use Rattle.indications.specs.declared.indication.Indication.TheVariants as told
+use Rattle.indications.specs.declared.indication.Phase.TheVariants as phase
 use Rattle.gap_list.specs.Runs.{runs_of, runs_from}
 use Rattle.sender_table.specs.Sending.{Event, put, happens, Entry, State, initial, step, state_of}
 use Rattle.sender_table.specs.Refusals.{refusal_at}
 use Rattle.sender_table.specs.Answers.{accepted_at, answer_at}
-use Rattle.core_steps.specs.Logs.{log_after}
+use Rattle.txn_events.specs.Logs.{log_after}
 use Rattle.sender_laws.specs.LegalSendings.{answer_behind}
 use Rattle.sender_rows.specs.SendingRows.{sending, one, two, pump, report, pdu_in, pdu, eof_acknowledged, nak, sent_all, acknowledged_all, after, last, tells, sends}
 

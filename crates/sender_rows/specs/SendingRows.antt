@@ -13,19 +13,19 @@ use Rattle.cfdp_types.specs.declared.names.Handler.{Handler}
 use Rattle.cfdp_types.specs.declared.names.Role.TheVariants.{Send}
 use Rattle.cfdp_types.specs.declared.names.TimerKind.TheVariants.{Ack}
 use Rattle.cfdp_types.specs.declared.timer_op.TimerOp.{TimerOp}
-use Rattle.pdu_codec.specs.declared.event.What.TheVariants as what
-use Rattle.pdu_codec.specs.declared.event.Refusal.{Refusal}
-use Rattle.pdu_format.specs.Spelling.{written}
-use Rattle.pdu_format.specs.declared.pdu.Direction.TheVariants.{TowardSender}
-use Rattle.pdu_format.specs.declared.pdu.Body.{Body}
-use Rattle.pdu_format.specs.declared.pdu.Body.TheVariants as body
-use Rattle.pdu_format.specs.declared.bodies.Acknowledged.TheVariants as acknowledged
-use Rattle.pdu_format.specs.declared.bodies.TransactionStatus.TheVariants.{Active}
-use Rattle.pdu_format.specs.declared.requests.SegmentRequest.{SegmentRequest}
-use Rattle.ind_words.specs.declared.indication.Indication.{Indication}
-use Rattle.ind_words.specs.declared.indication.Indication.TheVariants as told
+use Rattle.txn_events.specs.declared.event.What.TheVariants as what
+use Rattle.txn_events.specs.declared.refusal.Refusal.{Refusal}
+use Rattle.pdu_values.specs.Spelling.{written}
+use Rattle.pdu_values.specs.declared.pdu.Direction.TheVariants.{TowardSender}
+use Rattle.pdu_values.specs.declared.pdu.Body.{Body}
+use Rattle.pdu_values.specs.declared.pdu.Body.TheVariants as body
+use Rattle.pdu_values.specs.declared.bodies.Acknowledged.TheVariants as acknowledged
+use Rattle.pdu_values.specs.declared.bodies.TransactionStatus.TheVariants.{Active}
+use Rattle.pdu_values.specs.declared.requests.SegmentRequest.{SegmentRequest}
+use Rattle.indications.specs.declared.indication.Indication.{Indication}
+use Rattle.indications.specs.declared.indication.Indication.TheVariants as told
 use Rattle.gap_list.specs.Runs.{runs_of, runs_from}
-use Rattle.core_steps.specs.declared.answer.Answer.{Answer}
+use Rattle.txn_events.specs.declared.answer.Answer.{Answer}
 use Rattle.sender_table.specs.Sending.{Sending, Event, put, happens, Entry, initial, step, state_of, issued}
 use Rattle.sender_table.specs.Answers.{empty_answer, answer_at}
 use Rattle.sender_laws.specs.LegalSendings.{log_of, IsLegal}

@@ -15,27 +15,27 @@ use Rattle.cfdp_types.specs.declared.names.Handler.TheVariants as handler
 use Rattle.cfdp_types.specs.declared.names.TimerKind.{TimerKind}
 use Rattle.cfdp_types.specs.declared.names.TimerKind.TheVariants.{Ack, Nak, Check, Inactivity}
 use Rattle.gap_list.specs.declared.run.Run.{Run}
-use Rattle.pdu_codec.specs.declared.event.What.TheVariants as what
-use Rattle.pdu_codec.specs.Refusal.{unless_refused}
-use Rattle.pdu_codec.specs.declared.event.Refusal.{Refusal}
-use Rattle.pdu_codec.specs.Events.{is_pdu}
-pub use Rattle.pdu_format.specs.Tlvs.{octets_for}
-use Rattle.pdu_format.specs.declared.pdu.Direction.TheVariants.{TowardReceiver}
-use Rattle.pdu_format.specs.declared.pdu.Header.{Header}
-use Rattle.pdu_format.specs.declared.pdu.Body.{Body}
-use Rattle.pdu_format.specs.declared.pdu.Body.TheVariants as body
-use Rattle.pdu_format.specs.declared.bodies.Acknowledged.TheVariants as acknowledged
-use Rattle.pdu_format.specs.declared.bodies.TransactionStatus.TheVariants.{Terminated}
-use Rattle.pdu_format.specs.declared.bodies.Eof.{Eof}
-use Rattle.pdu_format.specs.declared.bodies.Finished.{Finished}
-use Rattle.pdu_format.specs.declared.bodies.Ack as ack_type
-use Rattle.ind_words.specs.declared.indication.Indication.{Indication}
-use Rattle.ind_words.specs.declared.indication.Indication.TheVariants as told
-use Rattle.ind_words.specs.declared.indication.Phase.{Phase}
-use Rattle.ind_words.specs.declared.indication.Phase.TheVariants as phase
+use Rattle.txn_events.specs.declared.event.What.TheVariants as what
+use Rattle.txn_events.specs.Refusal.{unless_refused}
+use Rattle.txn_events.specs.declared.refusal.Refusal.{Refusal}
+use Rattle.txn_events.specs.Events.{is_pdu}
+pub use Rattle.pdu_values.specs.Tlvs.{octets_for}
+use Rattle.pdu_values.specs.declared.pdu.Direction.TheVariants.{TowardReceiver}
+use Rattle.pdu_values.specs.declared.pdu.Header.{Header}
+use Rattle.pdu_values.specs.declared.pdu.Body.{Body}
+use Rattle.pdu_values.specs.declared.pdu.Body.TheVariants as body
+use Rattle.pdu_values.specs.declared.bodies.Acknowledged.TheVariants as acknowledged
+use Rattle.pdu_values.specs.declared.bodies.TransactionStatus.TheVariants.{Terminated}
+use Rattle.pdu_values.specs.declared.bodies.Eof.{Eof}
+use Rattle.pdu_values.specs.declared.bodies.Finished.{Finished}
+use Rattle.pdu_values.specs.declared.bodies.Ack as ack_type
+use Rattle.indications.specs.declared.indication.Indication.{Indication}
+use Rattle.indications.specs.declared.indication.Indication.TheVariants as told
+use Rattle.indications.specs.declared.indication.Phase.{Phase}
+use Rattle.indications.specs.declared.indication.Phase.TheVariants as phase
 use Rattle.modular_sum.specs.Sum.{sum}
-pub use Rattle.core_steps.specs.Logs.{empty_answer}
-use Rattle.core_steps.specs.declared.answer.Answer.{Answer}
+pub use Rattle.txn_events.specs.Logs.{empty_answer}
+use Rattle.txn_events.specs.declared.answer.Answer.{Answer}
 use Rattle.sender_table.specs.Sending.{Sending, Event, put, happens, State, step, is_closing, is_suspended, acknowledges_eof}
 use Rattle.sender_table.specs.Refusals.{refusal_at, runs_to_send}
 

@@ -3,15 +3,15 @@ use Rattle.std.specs.Prelude.{ℕ, ◌-◌, Bool, true, false, not, ◌||◌, �
 use Rattle.cfdp_types.specs.declared.limits.TheConstants.{FILE_OCTETS, JOURNAL_ENTRIES, JOURNAL_ENTRIES_KEPT}
 use Rattle.gap_list.specs.Runs.{runs_of}
 use Rattle.gap_list.specs.declared.run.Run.{Run}
-use Rattle.pdu_codec.specs.declared.event.What.{What}
-use Rattle.pdu_codec.specs.declared.event.What.TheVariants as what
-use Rattle.pdu_codec.specs.declared.event.Refusal.{Refusal}
-use Rattle.pdu_codec.specs.declared.event.Refusal.TheVariants as refusal
-use Rattle.pdu_codec.specs.Events.{is_two, is_of_other_class, is_stale_timer, needs_room}
-use Rattle.pdu_format.specs.declared.pdu.Body.{Body}
-use Rattle.pdu_format.specs.declared.pdu.Body.TheVariants as body
-use Rattle.pdu_format.specs.declared.bodies.Eof.{Eof}
-use Rattle.pdu_format.specs.Pdu.{is_toward_sender}
+use Rattle.txn_events.specs.declared.event.What.{What}
+use Rattle.txn_events.specs.declared.event.What.TheVariants as what
+use Rattle.txn_events.specs.declared.refusal.Refusal.{Refusal}
+use Rattle.txn_events.specs.declared.refusal.Refusal.TheVariants as refusal
+use Rattle.txn_events.specs.Events.{is_two, is_of_other_class, is_stale_timer, needs_room}
+use Rattle.pdu_values.specs.declared.pdu.Body.{Body}
+use Rattle.pdu_values.specs.declared.pdu.Body.TheVariants as body
+use Rattle.pdu_values.specs.declared.bodies.Eof.{Eof}
+use Rattle.pdu_values.specs.Pdu.{is_toward_sender}
 use Rattle.sender_table.specs.Sending.{Sending, Event, put, happens, State, is_closing, is_suspended}
 
 -- what remains of the file, as maximal runs, rising

@@ -10,19 +10,19 @@ use Rattle.cfdp_types.specs.declared.names.TimerKind.{TimerKind}
 use Rattle.cfdp_types.specs.declared.names.TimerKind.TheVariants.{Ack}
 use Rattle.cfdp_types.specs.declared.timer_op.TimerOp.{TimerOp}
 use Rattle.gap_list.specs.Runs.{is_within}
-use Rattle.pdu_codec.specs.declared.event.What.{What}
-use Rattle.pdu_codec.specs.declared.event.What.TheVariants as what
-use Rattle.pdu_codec.specs.Events.{is_expiration}
-use Rattle.pdu_format.specs.Pdu.{PduValue, ack_is_toward_sender}
-use Rattle.pdu_format.specs.declared.pdu.Body.{Body}
-use Rattle.pdu_format.specs.declared.pdu.Body.TheVariants as body
-use Rattle.pdu_format.specs.declared.bodies.Eof.{Eof}
-use Rattle.pdu_format.specs.declared.requests.SegmentRequest.{SegmentRequest}
-use Rattle.ind_words.specs.declared.indication.Indication.{Indication}
-use Rattle.ind_words.specs.Words.{is_end}
-pub use Rattle.core_steps.specs.Logs.{issued}
-use Rattle.core_steps.specs.Logs as logs
-use Rattle.ind_words.specs.Told.{paused_after, is_resumed, is_fault}
+use Rattle.txn_events.specs.declared.event.What.{What}
+use Rattle.txn_events.specs.declared.event.What.TheVariants as what
+use Rattle.txn_events.specs.Events.{is_expiration}
+use Rattle.pdu_values.specs.Pdu.{PduValue, ack_is_toward_sender}
+use Rattle.pdu_values.specs.declared.pdu.Body.{Body}
+use Rattle.pdu_values.specs.declared.pdu.Body.TheVariants as body
+use Rattle.pdu_values.specs.declared.bodies.Eof.{Eof}
+use Rattle.pdu_values.specs.declared.requests.SegmentRequest.{SegmentRequest}
+use Rattle.indications.specs.declared.indication.Indication.{Indication}
+use Rattle.indications.specs.Words.{is_end}
+pub use Rattle.txn_events.specs.Logs.{issued}
+use Rattle.txn_events.specs.Logs as logs
+use Rattle.indications.specs.Words.{paused_after, is_resumed, is_fault}
 
 -- what is settled when a file is put
 pub record Sending : Type 0 where

@@ -3,10 +3,10 @@ use Rattle.std.proofs.Common.{◌≡◌, ℕ, List, [], ◌∷◌, ◌++◌, Opt
 use Rattle.std.specs.Option.{option_map}
 use Rattle.cfdp_types.specs.declared.key.EntityId.{EntityId}
 use Rattle.cfdp_types.specs.declared.key.TxnKey.{TxnKey}
-use Rattle.ind_words.specs.declared.bundle.Bundle.{Bundle}
-use Rattle.ind_words.specs.declared.indication.Indication.{Indication}
-use Rattle.ind_words.specs.LaneLists.{IsLaneList}
-use Rattle.txn_lane.specs.declared.event.Event.{Event}
+use Rattle.indications.specs.declared.bundle.Bundle.{Bundle}
+use Rattle.indications.specs.declared.indication.Indication.{Indication}
+use Rattle.indications.specs.LaneLists.{IsLaneList}
+use Rattle.txn_events.specs.declared.event.Event.{Event}
 use Rattle.txn_lane.specs.Lane.{State, key_at, key_of, IsSound}
 use Rattle.txn_lane.specs.Steps.{IsKeyed, opened_log, refusal_at, stepped, answer_of}
 use Rattle.txn_lane.specs.Keeping.{Keeps}

@@ -1,15 +1,15 @@
 -- What the code's lane holds after a step that its end planned.
 use Rattle.std.proofs.Common.{◌≡◌, List, ◌∷◌, ◌++◌, Option, Some, None, Ok, refl, sym, ap, ◌∙◌, subst}
 use Rattle.std.specs.Option.{option_map, option_or}
-use Rattle.pdu_codec.specs.Refusal.{unless_refused}
-use Rattle.pdu_codec.specs.declared.event.Refusal.{Refusal}
+use Rattle.txn_events.specs.Refusal.{unless_refused}
+use Rattle.txn_events.specs.declared.refusal.Refusal.{Refusal}
 use Rattle.sender_table.specs.Sending as sender
 use Rattle.sender_table.specs.Refusals as sender_refusals
 use Rattle.sender_table.specs.Answers.{accepted_at, answer_at}
 use Rattle.sender_core.specs.Core.{shown, sending_of, StandsAfter, IsPlanOf, plan_answer}
 use Rattle.sender_core.specs.declared.plan.Plan.{Plan}
 use Rattle.sender_core.specs.declared.sender.SenderCore.{SenderCore}
-use Rattle.txn_lane.specs.declared.event.Event.{Event}
+use Rattle.txn_events.specs.declared.event.Event.{Event}
 use Rattle.txn_lane.specs.declared.running.Running.{Running}
 use Rattle.txn_lane.specs.Logs.{sent, to_sender}
 use Rattle.txn_lane.specs.Lane.{State, log_of, IsSound}

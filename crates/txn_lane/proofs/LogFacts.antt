@@ -3,18 +3,18 @@ use Rattle.std.proofs.Common.{◌≡◌, Bool, true, false, List, [], ◌∷◌,
 use Rattle.std.proofs.lemmas.Bool.{false≢true}
 use Rattle.std.proofs.lemmas.List.{map-append}
 use Rattle.cfdp_types.specs.declared.key.TxnKey.{TxnKey}
-use Rattle.pdu_codec.specs.Refusal.{unless_refused}
-use Rattle.pdu_codec.specs.declared.event.What.{What}
-use Rattle.pdu_codec.specs.declared.event.What.TheVariants as what
-use Rattle.pdu_format.specs.declared.pdu.Body.{Body}
-use Rattle.pdu_format.specs.declared.pdu.Body.TheVariants as body
-use Rattle.ind_words.specs.declared.indication.Indication.{Indication}
-use Rattle.ind_words.specs.declared.side.Side.{Side}
-use Rattle.ind_words.specs.declared.side.Side.TheVariants.{Sender, Receiver}
-use Rattle.ind_words.specs.Words.{IsBegunOf, IsWordOf, is_transaction}
-use Rattle.ind_words.specs.LaneLists.{side_by, IsBegunGroup, IsWordGroup}
-use Rattle.ind_words.specs.declared.indication.Indication.TheVariants as told
-use Rattle.ind_words.proofs.WordLemmas.{opens_sender}
+use Rattle.txn_events.specs.Refusal.{unless_refused}
+use Rattle.txn_events.specs.declared.event.What.{What}
+use Rattle.txn_events.specs.declared.event.What.TheVariants as what
+use Rattle.pdu_values.specs.declared.pdu.Body.{Body}
+use Rattle.pdu_values.specs.declared.pdu.Body.TheVariants as body
+use Rattle.indications.specs.declared.indication.Indication.{Indication}
+use Rattle.indications.specs.declared.side.Side.{Side}
+use Rattle.indications.specs.declared.side.Side.TheVariants.{Sender, Receiver}
+use Rattle.indications.specs.Words.{IsBegunOf, IsWordOf, is_transaction}
+use Rattle.indications.specs.LaneLists.{side_by, IsBegunGroup, IsWordGroup}
+use Rattle.indications.specs.declared.indication.Indication.TheVariants as told
+use Rattle.indications.proofs.WordLemmas.{opens_sender}
 use Rattle.sender_table.specs.Sending as sender
 use Rattle.sender_table.specs.Sending.{initial, state_of}
 use Rattle.sender_table.specs.Answers as sender_answers
@@ -25,12 +25,12 @@ use Rattle.receiver_table.specs.Reception as receiver
 use Rattle.receiver_table.specs.Answers as receiver_answers
 use Rattle.receiver_laws.specs.LegalReceptions as receiver_logs
 use Rattle.receiver_laws.proofs.ReceptionLegal as receiver_laws
-use Rattle.txn_lane.specs.declared.event.Event.{Event}
-use Rattle.txn_lane.specs.declared.event.Event.TheVariants.{Put, On}
+use Rattle.txn_events.specs.declared.event.Event.{Event}
+use Rattle.txn_events.specs.declared.event.Event.TheVariants.{Put, On}
 use Rattle.txn_lane.specs.declared.lane_side.LaneSide.{LaneSide}
 use Rattle.txn_lane.specs.declared.lane_side.LaneSide.TheVariants.{Sending, Receiving}
 use Rattle.txn_lane.specs.Logs.{Transaction, sends, receives, Log, sent, received, body_opens, opened_by, to_sender, to_receiver, log_by, issued, has_ended, IsLegal, refused_behind, last_answer}
-use Rattle.core_steps.proofs.AnswerLemmas.{log_after-append, log_after-rest}
+use Rattle.txn_events.proofs.AnswerLemmas.{log_after-append, log_after-rest}
 use Rattle.txn_lane.specs.LaneLaws.{TellsWords}
 
 -- ---- one event more
@@ -117,16 +117,6 @@ abbrev pub IsOfPdu : Event → TxnKey → Type 0
 IsOfPdu (Put request params) key = Unit {0}
 IsOfPdu (On named event) key = IsOfKey event key
 
-opening_body : (b : Body) → body_opens b ≡ true → receiver_logs.BodyOpens b
-opening_body (body.Metadata m) is = tt
-opening_body (body.FileData d) is = tt
-opening_body (body.Eof e) is = tt
-opening_body (body.Finished f) is = absurd (false≢true is)
-opening_body (body.Ack a) is = absurd (false≢true is)
-opening_body (body.Nak n) is = absurd (false≢true is)
-opening_body (body.Prompt p) is = absurd (false≢true is)
-opening_body (body.KeepAlive k) is = absurd (false≢true is)
-
 if_opens : (b : Bool) (transaction : Transaction) (P : Transaction → Type 0) → (b ≡ true → P transaction)
     → IfOpened (if b then Some transaction else None) P
 if_opens true transaction P holds = holds refl
@@ -138,7 +128,7 @@ first_place (Sending numbers greatest) key (Put request params) keyed = tt
 first_place (Receiving params) key (On named (what.Pdu pdu)) keyed =
     if_opens (body_opens pdu.body) (receives (record { key = key; params = params; header = pdu.header }))
     (λ transaction. HasPlace (log_by transaction []) (On named (what.Pdu pdu)))
-    (λ opens. (opening_body pdu.body opens, refl, keyed.0, keyed.1))
+    (λ opens. (opens, refl, keyed.0, keyed.1))
 first_place (Sending numbers greatest) key (On named event) keyed = tt
 first_place (Receiving params) key (Put request others) keyed = tt
 first_place (Receiving params) key (On named what.Cancel) keyed = tt

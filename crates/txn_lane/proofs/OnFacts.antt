@@ -2,12 +2,12 @@
 use Rattle.std.proofs.Common.{◌≡◌, ℕ, Bool, true, false, if◌then◌else◌, List, [], ◌∷◌, ◌++◌, Option, Some, None, refl, sym, ap, ◌∙◌, subst}
 use Rattle.cfdp_types.specs.declared.key.EntityId.{EntityId}
 use Rattle.cfdp_types.specs.declared.key.TxnKey.{TxnKey}
-use Rattle.pdu_codec.specs.declared.event.What.{What}
+use Rattle.txn_events.specs.declared.event.What.{What}
 use Rattle.sender_table.specs.Sending as sender
 use Rattle.sender_table.specs.Answers.{answer_at}
 use Rattle.sender_core.specs.Core.{shown, sending_of}
-use Rattle.txn_lane.specs.declared.event.Event.{Event}
-use Rattle.txn_lane.specs.declared.event.Event.TheVariants.{On}
+use Rattle.txn_events.specs.declared.event.Event.{Event}
+use Rattle.txn_events.specs.declared.event.Event.TheVariants.{On}
 use Rattle.txn_lane.specs.declared.lane_side.Numbers.{Numbers}
 use Rattle.txn_lane.specs.declared.running.Running.{Running}
 use Rattle.txn_lane.specs.Lane.{State, is_above, log_of}

@@ -6,8 +6,8 @@ use Rattle.cfdp_types.specs.declared.key.EntityId.{EntityId}
 use Rattle.sender_core.specs.Core.{sending_by}
 use Rattle.sender_table.specs.Answers.{answer_at}
 use Rattle.sender_table.specs.Sending.{Sending, put, initial, state_of}
-use Rattle.txn_lane.specs.declared.event.Event.{Event}
-use Rattle.txn_lane.specs.declared.event.Event.TheVariants.{Put}
+use Rattle.txn_events.specs.declared.event.Event.{Event}
+use Rattle.txn_events.specs.declared.event.Event.TheVariants.{Put}
 use Rattle.txn_lane.specs.declared.lane_side.Numbers.{Numbers}
 use Rattle.txn_lane.specs.Lane.{State, key_at, IsSound}
 use Rattle.txn_lane.specs.LaneCode.{sending_state}

@@ -5,11 +5,11 @@ use Rattle.std.proofs.lemmas.Bool.{ne_eqb}
 use Rattle.std.proofs.lemmas.List.{append-nil}
 use Rattle.cfdp_types.specs.declared.key.EntityId.{EntityId}
 use Rattle.cfdp_types.specs.declared.key.TxnKey.{TxnKey}
-use Rattle.ind_words.specs.declared.bundle.Bundle.{Bundle}
-use Rattle.ind_words.specs.declared.indication.Indication.{Indication}
-use Rattle.ind_words.specs.LaneLists.{IsLaneList}
+use Rattle.indications.specs.declared.bundle.Bundle.{Bundle}
+use Rattle.indications.specs.declared.indication.Indication.{Indication}
+use Rattle.indications.specs.LaneLists.{IsLaneList}
 use Rattle.receiver_laws.proofs.ReceptionLegal as receiver_laws
-use Rattle.txn_lane.specs.declared.event.Event.{Event}
+use Rattle.txn_events.specs.declared.event.Event.{Event}
 use Rattle.txn_lane.specs.Logs.{Transaction, Log}
 use Rattle.txn_lane.specs.Lane.{State, idle, key_at, key_of, log_of, IsRun, IsSound}
 use Rattle.txn_lane.specs.Steps.{IsKeyed, refusal_at, opened_log, stepped_by, stepped, answer_in, answer_of}

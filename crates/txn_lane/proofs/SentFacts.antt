@@ -4,10 +4,10 @@ use Rattle.std.proofs.lemmas.Bool.{cases_eq, ne_eqb, eqb-true, false≢true, or_
 use Rattle.std.proofs.lemmas.List.Elements.{All-nil, All-head, All-tail, All-push, All-weaker}
 use Rattle.std.proofs.Math.Bool.{or-false}
 use Rattle.cfdp_types.specs.declared.key.EntityId.{EntityId}
-use Rattle.ind_words.specs.declared.bundle.Bundle.{Bundle}
-use Rattle.ind_words.specs.declared.indication.Indication.{Indication}
-use Rattle.ind_words.specs.LaneLists.{number_of, told_of, has_number, tells, IsBegunGroup, IsWordGroup}
-use Rattle.ind_words.proofs.LaneLemmas.{IsLaneList-nil, IsLaneList-more, told_of-more, told_of-other, told_of-none, has_number-append}
+use Rattle.indications.specs.declared.bundle.Bundle.{Bundle}
+use Rattle.indications.specs.declared.indication.Indication.{Indication}
+use Rattle.indications.specs.LaneLists.{number_of, told_of, has_number, tells, IsBegunGroup, IsWordGroup}
+use Rattle.indications.proofs.LaneLemmas.{IsLaneList-nil, IsLaneList-more, told_of-more, told_of-other, told_of-none, has_number-append}
 use Rattle.txn_lane.specs.Lane.{IsRisen}
 use Rattle.txn_lane.specs.Keeping.{IsUpTo, AreSent}
 

@@ -2,20 +2,20 @@
 use Rattle.std.proofs.Common.{◌≡◌, ℕ, Bool, true, false, not, ◌&&◌, List, [], ◌∷◌, ◌++◌, Option, Some, None, is_some, Result, Ok, Err, IsOk, IsSome, inl, inr, refl, sym, ap, ◌∙◌, subst}
 use Rattle.std.specs.Option.{option_map, option_or}
 use Rattle.std.proofs.lemmas.Bool.{false≢true, true≢false, eqb-true}
-use Rattle.core_steps.specs.declared.answer.Answer.{Answer}
+use Rattle.txn_events.specs.declared.answer.Answer.{Answer}
 use Rattle.cfdp_types.specs.Steps.{is_stamp}
 use Rattle.cfdp_types.specs.declared.key.TxnKey.{TxnKey}
-use Rattle.ind_words.specs.declared.bundle.Bundle.{Bundle}
-use Rattle.ind_words.specs.declared.indication.Indication.{Indication}
-use Rattle.pdu_codec.specs.Refusal.{unless_refused}
-use Rattle.pdu_codec.specs.declared.event.Refusal.{Refusal}
-use Rattle.pdu_codec.specs.declared.event.What.{What}
+use Rattle.indications.specs.declared.bundle.Bundle.{Bundle}
+use Rattle.indications.specs.declared.indication.Indication.{Indication}
+use Rattle.txn_events.specs.Refusal.{unless_refused}
+use Rattle.txn_events.specs.declared.refusal.Refusal.{Refusal}
+use Rattle.txn_events.specs.declared.event.What.{What}
 use Rattle.sender_table.specs.Sending as sender
 use Rattle.sender_table.specs.Answers.{answer_at}
 use Rattle.sender_core.specs.Core.{shown, sending_of, StandsAfter}
 use Rattle.txn_lane.specs.declared.done.Done.{Done}
-use Rattle.txn_lane.specs.declared.event.Event.{Event}
-use Rattle.txn_lane.specs.declared.event.Event.TheVariants.{On}
+use Rattle.txn_events.specs.declared.event.Event.{Event}
+use Rattle.txn_events.specs.declared.event.Event.TheVariants.{On}
 use Rattle.txn_lane.specs.declared.running.Running.{Running}
 use Rattle.txn_lane.specs.Handing.{bundle_for, MayHandOver, IsHandedOver}
 use Rattle.txn_lane.specs.Keeping.{Keeps, bundle_by, bundle_of}

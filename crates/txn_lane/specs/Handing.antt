@@ -1,9 +1,9 @@
 -- How a step's bundle is handed to the user's queue.
 use Rattle.std.specs.Prelude.{◌≡◌, ℕ, List, [], ◌∷◌, ◌++◌, Option, Some, None}
 use Rattle.cfdp_types.specs.declared.key.TxnKey.{TxnKey}
-use Rattle.ind_words.specs.declared.bundle.Bundle.{Bundle}
-use Rattle.ind_words.specs.declared.indication.Indication.{Indication}
-use Rattle.ind_words.specs.LaneLists.{IsLaneList}
+use Rattle.indications.specs.declared.bundle.Bundle.{Bundle}
+use Rattle.indications.specs.declared.indication.Indication.{Indication}
+use Rattle.indications.specs.LaneLists.{IsLaneList}
 
 -- the bundle of what is told under a key, if anything is
 abbrev pub bundle_for : ℕ → ℕ → TxnKey → List Indication → Option Bundle

@@ -3,13 +3,13 @@ use Rattle.std.specs.Prelude.{◌≡◌, ℕ, Bool, not, ◌||◌, ◌&&◌, ◌
 use Rattle.cfdp_types.specs.Steps.{is_stamp}
 use Rattle.cfdp_types.specs.declared.key.EntityId.{EntityId}
 use Rattle.cfdp_types.specs.declared.key.TxnKey.{TxnKey}
-use Rattle.pdu_codec.specs.declared.event.What.{What}
-use Rattle.pdu_codec.specs.declared.event.Refusal.TheVariants as refusal
+use Rattle.txn_events.specs.declared.event.What.{What}
+use Rattle.txn_events.specs.declared.refusal.Refusal.TheVariants as refusal
 use Rattle.sender_core.specs.Core.{sending_of, StandsAfter}
 use Rattle.sender_table.specs.Sending.{issued}
 use Rattle.txn_lane.specs.declared.running.Running.{Running}
-use Rattle.txn_lane.specs.declared.event.Event.{Event}
-use Rattle.txn_lane.specs.declared.event.Event.TheVariants.{On}
+use Rattle.txn_events.specs.declared.event.Event.{Event}
+use Rattle.txn_events.specs.declared.event.Event.TheVariants.{On}
 use Rattle.txn_lane.specs.declared.refused.Refused.{Refused}
 use Rattle.txn_lane.specs.declared.lane_side.LaneSide.TheVariants.{Sending}
 use Rattle.txn_lane.specs.declared.lane_side.Numbers.{Numbers}

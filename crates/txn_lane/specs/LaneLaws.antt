@@ -3,13 +3,13 @@ use Rattle.std.specs.Prelude.{◌≡◌, ℕ, true, List, ◌++◌, None, Contai
 use Rattle.cfdp_types.specs.declared.key.EntityId.{EntityId}
 use Rattle.cfdp_types.specs.declared.names.Delivery.TheVariants.{Complete}
 use Rattle.cfdp_types.specs.declared.names.FileStatus.{FileStatus}
-use Rattle.ind_words.specs.declared.indication.Indication.TheVariants as told
-use Rattle.ind_words.specs.declared.bundle.Bundle.{Bundle}
-use Rattle.ind_words.specs.LaneLists.{IsLaneList}
-use Rattle.ind_words.specs.Words.{IsBegunOf, IsWordOf}
+use Rattle.indications.specs.declared.indication.Indication.TheVariants as told
+use Rattle.indications.specs.declared.bundle.Bundle.{Bundle}
+use Rattle.indications.specs.LaneLists.{IsLaneList}
+use Rattle.indications.specs.Words.{IsBegunOf, IsWordOf}
 use Rattle.receiver_table.specs.Reception.{Reception, Entry, state_of}
 use Rattle.receiver_laws.specs.LegalReceptions.{IsGood}
-use Rattle.txn_lane.specs.declared.event.Event.{Event}
+use Rattle.txn_events.specs.declared.event.Event.{Event}
 use Rattle.txn_lane.specs.declared.lane_side.LaneSide.{LaneSide}
 use Rattle.txn_lane.specs.Lane.{State, idle, IsNumbered, IsSound}
 use Rattle.txn_lane.specs.Steps.{IsKeyed, refusal_at, stepped}

@@ -1,18 +1,19 @@
 -- A transaction at either of its ends, with its log, and what a lane asks of both in the same words.
 use Rattle.std.specs.Prelude.{ℕ, Bool, true, false, if◌then◌else◌, List, [], ◌∷◌, map, Option, Some, None, Result, Err}
-pub use Rattle.core_steps.specs.declared.answer.Answer.{Answer}
-use Rattle.core_steps.specs.Logs.{empty_answer}
+pub use Rattle.txn_events.specs.declared.answer.Answer.{Answer}
+pub use Rattle.txn_events.specs.Events.{body_opens}
+use Rattle.txn_events.specs.Logs.{empty_answer}
 use Rattle.cfdp_types.specs.declared.key.TxnKey.{TxnKey}
 use Rattle.cfdp_types.specs.declared.image.Image.{Image}
-use Rattle.pdu_codec.specs.declared.event.What.{What}
-use Rattle.pdu_codec.specs.declared.event.What.TheVariants as what
-use Rattle.pdu_codec.specs.declared.event.Refusal.{Refusal}
-use Rattle.pdu_codec.specs.declared.event.Refusal.TheVariants.{StaleStored}
-use Rattle.pdu_format.specs.declared.pdu.Body.{Body}
-use Rattle.pdu_format.specs.declared.pdu.Body.TheVariants as body
-use Rattle.ind_words.specs.declared.indication.Indication.{Indication}
-use Rattle.ind_words.specs.declared.side.Side.{Side}
-use Rattle.ind_words.specs.declared.side.Side.TheVariants.{Sender, Receiver}
+use Rattle.txn_events.specs.declared.event.What.{What}
+use Rattle.txn_events.specs.declared.event.What.TheVariants as what
+use Rattle.txn_events.specs.declared.refusal.Refusal.{Refusal}
+use Rattle.txn_events.specs.declared.refusal.Refusal.TheVariants.{StaleStored}
+use Rattle.pdu_values.specs.declared.pdu.Body.{Body}
+use Rattle.pdu_values.specs.declared.pdu.Body.TheVariants as body
+use Rattle.indications.specs.declared.indication.Indication.{Indication}
+use Rattle.indications.specs.declared.side.Side.{Side}
+use Rattle.indications.specs.declared.side.Side.TheVariants.{Sender, Receiver}
 use Rattle.sender_table.specs.Sending as sender
 use Rattle.sender_table.specs.Refusals as sender_refusals
 use Rattle.sender_laws.specs.LegalSendings as sender_logs
@@ -21,8 +22,8 @@ use Rattle.receiver_table.specs.Refusals as receiver_refusals
 use Rattle.receiver_table.specs.Answers as receiver_answers
 use Rattle.receiver_laws.specs.LegalReceptions as receiver_logs
 use Rattle.receiver_table.specs.Images.{image_at}
-use Rattle.txn_lane.specs.declared.event.Event.{Event}
-use Rattle.txn_lane.specs.declared.event.Event.TheVariants.{Put, On}
+use Rattle.txn_events.specs.declared.event.Event.{Event}
+use Rattle.txn_events.specs.declared.event.Event.TheVariants.{Put, On}
 use Rattle.txn_lane.specs.declared.lane_side.LaneSide.{LaneSide}
 use Rattle.txn_lane.specs.declared.lane_side.LaneSide.TheVariants.{Sending, Receiving}
 
@@ -37,13 +38,6 @@ pub data Log : Type 0 where
   received : receiver.Reception → List receiver.Entry → Log
 
 -- ---- what opens a transaction
-
--- the PDUs that open a reception
-abbrev pub body_opens : Body → Bool
-body_opens (body.Metadata m) = true
-body_opens (body.FileData d) = true
-body_opens (body.Eof e) = true
-body_opens _ = false
 
 -- the transaction that an event opens at a side, under a key
 abbrev pub opened_by : LaneSide → TxnKey → Event → Option Transaction

@@ -1,7 +1,7 @@
 -- How the code keeps the transaction that a lane runs, and the step that it plans.
 use Rattle.std.specs.Prelude.{◌≡◌, ◌+◌, ◌<◌, ◌≤◌, vec_len, vec_capacity}
 use Rattle.sender_core.specs.Core.{IsPlanOf, plan_answer}
-use Rattle.txn_lane.specs.declared.event.Event.{Event}
+use Rattle.txn_events.specs.declared.event.Event.{Event}
 use Rattle.txn_lane.specs.declared.running.Running.{Running}
 use Rattle.txn_lane.specs.declared.running.Step.{Step}
 use Rattle.txn_lane.specs.Logs.{to_sender}

@@ -1,14 +1,14 @@
 -- What a step does with the outlet, and why an event is not taken.
 use Rattle.std.specs.Prelude.{◌≡◌, ℕ, List, [], ◌∷◌, None, Some, ◌⊎◌, Result, Ok, IsSome}
-use Rattle.core_steps.specs.declared.answer.Answer.{Answer}
+use Rattle.txn_events.specs.declared.answer.Answer.{Answer}
 use Rattle.cfdp_types.specs.declared.key.TxnKey.{TxnKey}
-use Rattle.ind_words.specs.declared.bundle.Bundle.{Bundle}
-use Rattle.pdu_codec.specs.declared.event.Refusal.{Refusal}
-use Rattle.pdu_codec.specs.declared.event.Refusal.TheVariants as refusal
+use Rattle.indications.specs.declared.bundle.Bundle.{Bundle}
+use Rattle.txn_events.specs.declared.refusal.Refusal.{Refusal}
+use Rattle.txn_events.specs.declared.refusal.Refusal.TheVariants as refusal
 use Rattle.sender_core.specs.Core.{IsWhy}
 use Rattle.sender_table.specs.Sending as sender
 use Rattle.txn_lane.specs.declared.done.Done.{Done}
-use Rattle.txn_lane.specs.declared.event.Event.{Event}
+use Rattle.txn_events.specs.declared.event.Event.{Event}
 use Rattle.txn_lane.specs.declared.refused.Refused.{Refused}
 use Rattle.txn_lane.specs.Handing.{bundle_for}
 use Rattle.txn_lane.specs.Keeping.{bundle_of}

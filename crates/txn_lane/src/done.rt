@@ -1,5 +1,5 @@
 use cfdp_types::{Deposit, TxnKey};
-use sender_core::{Pdus, TimerOps};
+use txn_events::{Pdus, TimerOps};
 
 /// What a step gives, but for what its user is told.
 #[derive(Debug, Drop)]

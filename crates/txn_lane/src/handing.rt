@@ -1,13 +1,13 @@
 //! How what a step tells is copied, and handed to the user's queue.
 ghost use Rattle.std.specs.Prelude.{◌≡◌, IfOk, OnOk, IfErr, OnErr, IsSome};
-ghost use Rattle.pdu_codec.specs.declared.event.Refusal.TheVariants as refusal;
+ghost use Rattle.txn_events.specs.declared.refusal.Refusal.TheVariants as refusal;
 ghost use Rattle.txn_lane.specs.Handing.{bundle_for, MayHandOver, IsHandedOver};
 
 use crate::outlet::Outlet;
 use cfdp_types::TxnKey;
-use ind_words::{Bundle, Indication, Indications};
-use pdu_codec::Refusal;
+use indications::{Bundle, Indication, Indications};
 use std::alloc::{AllocError, Global};
+use txn_events::Refusal;
 
 /// Copies of what a step tells.
 pub(crate) fn copies(alloc: Global, inds: &Indications) -> Result<Vec<Indication>, AllocError>

@@ -1,5 +1,4 @@
 use crate::done::Done;
-use crate::event::Event;
 use crate::lane_refusals::{plainly, refused_by_key, refused_put};
 use crate::lane_side::Numbers;
 use crate::outlet::Outlet;
@@ -7,10 +6,10 @@ use crate::refused::Refused;
 use crate::running::Running;
 use crate::stepping::{Place, advance, done, start};
 use cfdp_types::{EntityId, Params, PutRequest, TxnKey};
-use ind_words::Indication;
-use pdu_codec::{Refusal, What};
+use indications::Indication;
 use std::alloc::Global;
 use std::marker::Model;
+use txn_events::{Event, Refusal, What};
 
 /// A lane of a user, which runs one sending transaction after the other. Contracts see what it
 /// stands at.
@@ -40,11 +39,11 @@ impl Model for Lane {
 
 impl Lane {
     ghost use Rattle.std.specs.Prelude.{◌≡◌, ◌<◌, ◌++◌, true, false, List, IfSome, IfNone, IfOk, IfErr, OnOk, OnErr};
-    ghost use Rattle.ind_words.specs.declared.bundle.Bundle.{Bundle};
+    ghost use Rattle.indications.specs.declared.bundle.Bundle.{Bundle};
     ghost use Rattle.txn_lane.specs.Keeping.{Keeps, bundle_of};
     ghost use Rattle.txn_lane.specs.Stepping.{IsOffered, IsWhyNot, IsTaken};
     ghost use Rattle.txn_lane.specs.Steps.{IsKeyed, IsDone, plainly, refused_by_lane, refusal_at, stepped, next_number, exceeds};
-    ghost use Rattle.txn_lane.specs.declared.event.Event.TheVariants.{Put, On};
+    ghost use Rattle.txn_events.specs.declared.event.Event.TheVariants.{Put, On};
     ghost use Rattle.txn_lane.specs.declared.lane_side.LaneSide.TheVariants.{Sending};
     ghost use Rattle.txn_lane.specs.Lane.{idle, key_of, is_running, issued_by, IsSound};
 
@@ -129,7 +128,8 @@ impl Lane {
 
     // The number of the next Put, where the sequence length holds it.
     pub(crate) fn next_number(&self) -> Option<u64>
-        ensures held { IfSome result (λ number. (number ≡ next_number self.now) × (exceeds self.now.side number ≡ false)) }
+        ensures held { IfSome result
+            (λ number. (number ≡ next_number self.now) × (exceeds self.now.side number ≡ false)) }
         ensures beyond { IfNone result (exceeds self.now.side (next_number self.now) ≡ true) }
     {
         self.numbers
@@ -197,7 +197,8 @@ impl Lane {
         ensures taken { IfOk result (λ done. IsTaken self.old (Put request.now params) self.new done) }
         ensures offered { OnOk result (IsOffered O.takes outlet.old outlet.new (bundle_of self.new)) }
         ensures same { IfErr result (λ why. self.new ≡ self.old) }
-        ensures why { IfErr result (λ why. IsWhyNot O.returns self.old (Put request.now params) outlet.old outlet.new (plainly why)) }
+        ensures why { IfErr result
+            (λ why. IsWhyNot O.returns self.old (Put request.now params) outlet.old outlet.new (plainly why)) }
     {
         let Some(seq) = self.next_number() else {
             return Err(Refusal::SeqExhausted);
@@ -227,7 +228,8 @@ impl Lane {
         ensures taken { IfOk result (λ done. IsTaken self.old (On key what.now) self.new done) }
         ensures offered { OnOk result (IsOffered O.takes outlet.old outlet.new (bundle_of self.new)) }
         ensures same { IfErr result (λ why. self.new ≡ self.old) }
-        ensures why { IfErr result (λ why. IsWhyNot O.returns self.old (On key what.now) outlet.old outlet.new (plainly why)) }
+        ensures why { IfErr result
+            (λ why. IsWhyNot O.returns self.old (On key what.now) outlet.old outlet.new (plainly why)) }
     {
         let place = self.place();
         let Some(running) = &mut self.running else {

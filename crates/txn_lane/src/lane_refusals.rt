@@ -1,19 +1,18 @@
 //! Why a lane refuses an event before its end is asked.
 ghost use Rattle.std.specs.Prelude.{◌≡◌, ◌==◌};
-ghost use Rattle.pdu_codec.specs.Events.{echo_of};
-ghost use Rattle.pdu_format.specs.Spelling.{HeaderFits};
-ghost use Rattle.pdu_format.specs.declared.pdu.Body.TheVariants as body;
-ghost use Rattle.pdu_format.specs.declared.bodies.TransactionStatus.TheVariants.{Terminated};
+ghost use Rattle.txn_events.specs.Events.{echo_of};
+ghost use Rattle.pdu_values.specs.Spelling.{HeaderFits};
+ghost use Rattle.pdu_values.specs.declared.pdu.Body.TheVariants as body;
+ghost use Rattle.pdu_values.specs.declared.bodies.TransactionStatus.TheVariants.{Terminated};
 ghost use Rattle.cfdp_types.specs.declared.key.TxnKey.{TxnKey as KeyValue};
-ghost use Rattle.txn_lane.specs.declared.event.Event.TheVariants.{On};
+ghost use Rattle.txn_events.specs.declared.event.Event.TheVariants.{On};
 ghost use Rattle.txn_lane.specs.Steps.{echo_to};
 ghost use Rattle.txn_lane.specs.LaneCode.{refused_by_key, refused_put};
 
 use crate::refused::Refused;
 use cfdp_types::{Class, Condition, EntityId, TxnKey};
-use pdu_codec::{
-    Ack, Acknowledged, Body, Direction, Header, Pdu, Refusal, TransactionStatus, What,
-};
+use pdu_values::{Ack, Acknowledged, Body, Direction, Header, Pdu, TransactionStatus};
+use txn_events::{Refusal, What};
 
 /// A refusal without an echo.
 pub(crate) fn plainly(why: Refusal) -> Refused
@@ -25,16 +24,17 @@ pub(crate) fn plainly(why: Refusal) -> Refused
 // The ACK of an EOF or a Finished PDU, with its condition, of a transaction that is over.
 fn late_ack(header: Header, of: Acknowledged, condition: Condition) -> Pdu
     requires { HeaderFits header }
-    ensures { result ≡ record { header = header; body = body.Ack (record { of = of; condition = condition; status = Terminated }) } }
+    ensures { result ≡ record
+        { header = header; body = body.Ack (record { of = of; condition = condition; status = Terminated }) } }
 {
-    let _code = condition.code();
-    Pdu::new(
+    let status = TransactionStatus::Terminated;
+    Pdu::ack(
         header,
-        Body::Ack(Ack {
+        Ack {
             of,
             condition,
-            status: TransactionStatus::Terminated,
-        }),
+            status,
+        },
     )
 }
 

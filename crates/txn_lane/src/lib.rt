@@ -3,7 +3,6 @@
 #![tactic(auto)]
 
 mod done;
-mod event;
 mod handing;
 mod lane;
 mod lane_refusals;
@@ -15,11 +14,11 @@ mod running;
 mod stepping;
 
 pub use done::Done;
-pub use event::Event;
 pub use lane::Lane;
 pub use lane_side::{LaneSide, Numbers};
 pub use outlet::Outlet;
 pub use refused::Refused;
+pub use txn_events::Event;
 
 #[cfg(test)]
 mod tests;

@@ -1,8 +1,8 @@
 ghost use Rattle.std.specs.Prelude.{◌≡◌, ℕ, List, [], ◌∷◌, ◌++◌, OnOk, IfErr, OnErr};
-ghost use Rattle.ind_words.specs.LaneLists.{IsLaneList};
-ghost use Rattle.ind_words.specs.declared.bundle.Bundle.{Bundle as BundleValue};
+ghost use Rattle.indications.specs.LaneLists.{IsLaneList};
+ghost use Rattle.indications.specs.declared.bundle.Bundle.{Bundle as BundleValue};
 
-use ind_words::Bundle;
+use indications::Bundle;
 
 /// The end of a user's queue that one lane puts its bundles into.
 pub trait Outlet {

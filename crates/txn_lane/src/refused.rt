@@ -1,4 +1,5 @@
-use pdu_codec::{Pdu, Refusal};
+use pdu_values::Pdu;
+use txn_events::Refusal;
 
 /// Why a lane does not take an event, which then changes nothing.
 #[derive(Debug, Drop)]

@@ -1,12 +1,11 @@
 ghost use Rattle.std.specs.Prelude.{◌≡◌, ◌++◌, ◌+◌, ◌≤◌, vec_len, vec_capacity};
 
-use crate::event::{Event, copy_of};
 use crate::handing::copies;
 use cfdp_types::{Params, PutRequest, TxnKey};
-use ind_words::Indication;
-use pdu_codec::{Refusal, What};
-use sender_core::{Answer, Plan, SenderCore};
+use indications::Indication;
+use sender_core::{Plan, SenderCore};
 use std::alloc::Global;
+use txn_events::{Answer, Event, Refusal, What};
 
 /// The transaction that a lane runs or ran last.
 #[derive(Debug, Drop)]
@@ -29,12 +28,12 @@ pub(crate) struct Step {
 
 impl Running {
     ghost use Rattle.std.specs.Prelude.{◌≡◌, ◌∷◌, ◌++◌, [], false, List, IfOk, IfErr};
-    ghost use Rattle.pdu_codec.specs.declared.event.Refusal.TheVariants as refusal;
+    ghost use Rattle.txn_events.specs.declared.refusal.Refusal.TheVariants as refusal;
     ghost use Rattle.sender_table.specs.Sending.{Entry, put, happens, initial};
     ghost use Rattle.sender_table.specs.Answers.{answer_at};
     ghost use Rattle.sender_core.specs.Core.{shown, sending_of, sending_by, StandsAfter, IsPlanOf, IsWhy, plan_answer};
-    ghost use Rattle.txn_lane.specs.declared.event.Event.{Event as EventValue};
-    ghost use Rattle.txn_lane.specs.declared.event.Event.TheVariants.{Put, On};
+    ghost use Rattle.txn_events.specs.declared.event.Event.{Event as EventValue};
+    ghost use Rattle.txn_events.specs.declared.event.Event.TheVariants.{Put, On};
     ghost use Rattle.txn_lane.specs.Logs.{to_sender};
     ghost use Rattle.txn_lane.specs.RunningCode.{IsStepOf};
 
@@ -50,7 +49,8 @@ impl Running {
         ensures runs { IfOk result (λ opened. (shown opened.0.core).ended ≡ false) }
         ensures empty { IfOk result (λ opened. (opened.0.journal.items ≡ []) × (opened.0.trace.items ≡ [])) }
         ensures planned { IfOk result (λ opened. IsStepOf opened.0 (Put request.now params) opened.1) }
-        ensures refused { IfErr result (λ why. IsWhy (answer_at (sending_by key params request.now) (initial (sending_by key params request.now)) put) why) }
+        ensures refused { IfErr result (λ why. IsWhy
+            (answer_at (sending_by key params request.now) (initial (sending_by key params request.now)) put) why) }
     {
         let (core, plan) = SenderCore::open(alloc, key, request, params)?;
         let told = copies(alloc, &plan.answer().inds)?;
@@ -73,11 +73,12 @@ impl Running {
         ensures trace { self.new.trace.items ≡ self.old.trace.items }
         ensures planned { IfOk result (λ step. IsStepOf self.new (On key what.now) step) }
         ensures refused { (log : List Entry) → StandsAfter self.old.core log
-            → IfErr result (λ why. IsWhy (answer_at (sending_of self.old.core) (shown self.old.core) (happens what.now)) why) }
+            → IfErr result
+            (λ why. IsWhy (answer_at (sending_of self.old.core) (shown self.old.core) (happens what.now)) why) }
     {
         let plan = self.core.plan(what)?;
         let told = copies(alloc, &plan.answer().inds)?;
-        let event = Event::On(key, copy_of(what)?);
+        let event = Event::On(key, what.copy()?);
         self.journal.reserve(1)?;
         self.trace.reserve(told.len())?;
         Ok(Step { event, plan, told })
@@ -91,7 +92,8 @@ impl Running {
         ensures nothing { result.deposit ≡ None }
         ensures sending { sending_of self.new.core ≡ sending_of self.old.core }
         ensures stands { (log : List Entry) → StandsAfter self.old.core log
-            → StandsAfter self.new.core (record { event = to_sender step.event; answer = plan_answer step.plan } ∷ log) }
+            → StandsAfter self.new.core
+            (record { event = to_sender step.event; answer = plan_answer step.plan } ∷ log) }
         ensures journal { self.new.journal.items ≡ self.old.journal.items ++ step.event ∷ [] }
         ensures trace { self.new.trace.items ≡ self.old.trace.items ++ (plan_answer step.plan).inds }
     {

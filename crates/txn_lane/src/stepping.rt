@@ -1,12 +1,12 @@
 //! How an event of a transaction is carried out: it is planned, what it tells is offered, and only
 //! then does the transaction go on.
 ghost use Rattle.std.specs.Prelude.{◌≡◌, ◌∷◌, ◌++◌, [], false, List, Ok, IfOk, IfErr, OnOk, OnErr, IsSome};
-ghost use Rattle.pdu_codec.specs.declared.event.Refusal.TheVariants as refusal;
+ghost use Rattle.txn_events.specs.declared.refusal.Refusal.TheVariants as refusal;
 ghost use Rattle.sender_table.specs.Sending.{Entry, Answer as AnswerValue, put, happens, initial};
 ghost use Rattle.sender_table.specs.Answers.{answer_at};
 ghost use Rattle.sender_core.specs.Core.{shown, sending_of, sending_by, StandsAfter, IsWhy, plan_answer};
-ghost use Rattle.txn_lane.specs.declared.event.Event.{Event as EventValue};
-ghost use Rattle.txn_lane.specs.declared.event.Event.TheVariants.{Put, On};
+ghost use Rattle.txn_events.specs.declared.event.Event.{Event as EventValue};
+ghost use Rattle.txn_events.specs.declared.event.Event.TheVariants.{Put, On};
 ghost use Rattle.txn_lane.specs.Handing.{bundle_for, MayHandOver, IsHandedOver};
 ghost use Rattle.txn_lane.specs.Logs.{to_sender};
 ghost use Rattle.txn_lane.specs.RunningCode.{IsStepOf};
@@ -17,10 +17,10 @@ use crate::handing::{bundle_for, hand_over};
 use crate::outlet::Outlet;
 use crate::running::{Running, Step};
 use cfdp_types::{Params, PutRequest, TxnKey};
-use ind_words::Bundle;
-use pdu_codec::{Refusal, What};
+use indications::Bundle;
 use sender_core::Answer;
 use std::alloc::Global;
+use txn_events::{Refusal, What};
 
 /// What a step gives, but for what its user is told.
 pub(crate) fn done(key: TxnKey, answer: Answer) -> Done
@@ -58,7 +58,8 @@ fn open(
     ensures empty { IfOk result (λ opened. (opened.0.journal.items ≡ []) × (opened.0.trace.items ≡ [])) }
     ensures planned { IfOk result (λ opened. IsStepOf opened.0 (Put request.now params) opened.1) }
     ensures bundle { IfOk result (λ opened. opened.2 ≡ bundle_for place.user place.lane key (plan_answer opened.1.plan).inds) }
-    ensures refused { IfErr result (λ why. IsWhy (answer_at (sending_by key params request.now) (initial (sending_by key params request.now)) put) why) }
+    ensures refused { IfErr result (λ why. IsWhy
+        (answer_at (sending_by key params request.now) (initial (sending_by key params request.now)) put) why) }
 {
     let (running, step) = Running::open(place.alloc, key, request, params)?;
     let bundle = bundle_for(place.user, place.lane, key, &step.plan.answer().inds)?;
@@ -76,9 +77,11 @@ fn plan(
     ensures journal { running.new.journal.items ≡ running.old.journal.items }
     ensures trace { running.new.trace.items ≡ running.old.trace.items }
     ensures planned { IfOk result (λ planned. IsStepOf running.new (On key what.now) planned.0) }
-    ensures bundle { IfOk result (λ planned. planned.1 ≡ bundle_for place.user place.lane key (plan_answer planned.0.plan).inds) }
+    ensures bundle { IfOk result
+        (λ planned. planned.1 ≡ bundle_for place.user place.lane key (plan_answer planned.0.plan).inds) }
     ensures refused { (log : List Entry) → StandsAfter running.old.core log
-        → IfErr result (λ why. IsWhy (answer_at (sending_of running.old.core) (shown running.old.core) (happens what.now)) why) }
+        → IfErr result
+        (λ why. IsWhy (answer_at (sending_of running.old.core) (shown running.old.core) (happens what.now)) why) }
 {
     let step = running.plan(place.alloc, key, what)?;
     let bundle = bundle_for(place.user, place.lane, key, &step.plan.answer().inds)?;
@@ -99,7 +102,8 @@ fn carry_out<O: Outlet>(
     ensures nothing { IfOk result (λ answer. answer.deposit ≡ None) }
     ensures sending { OnOk result (sending_of running.new.core ≡ sending_of running.old.core) }
     ensures stands { OnOk result ((log : List Entry) → StandsAfter running.old.core log
-        → StandsAfter running.new.core (record { event = to_sender step.event; answer = plan_answer step.plan } ∷ log)) }
+        → StandsAfter running.new.core
+        (record { event = to_sender step.event; answer = plan_answer step.plan } ∷ log)) }
     ensures journal { OnOk result (running.new.journal.items ≡ running.old.journal.items ++ step.event ∷ []) }
     ensures trace { OnOk result (running.new.trace.items ≡ running.old.trace.items ++ (plan_answer step.plan).inds) }
     ensures offered { OnOk result (IsHandedOver O.takes outlet.old outlet.new bundle) }
@@ -118,15 +122,19 @@ pub(crate) fn start<O: Outlet>(
     params: Params,
     outlet: &mut O,
 ) -> Result<(Running, Answer), Refusal>
-    requires may { (answer : AnswerValue) → answer_at (sending_by key params request.now) (initial (sending_by key params request.now)) put ≡ Ok answer
-        → MayHandOver (O.user outlet.old) (O.lane outlet.old) (O.stands outlet.old) (bundle_for place.user place.lane key answer.inds) }
-    ensures answer { IfOk result (λ started. answer_at (sending_by key params request.now) (initial (sending_by key params request.now)) put ≡ Ok started.1) }
+    requires may { (answer : AnswerValue) → answer_at (sending_by key params request.now)
+        (initial (sending_by key params request.now)) put ≡ Ok answer
+        → MayHandOver (O.user outlet.old) (O.lane outlet.old) (O.stands outlet.old)
+        (bundle_for place.user place.lane key answer.inds) }
+    ensures answer { IfOk result (λ started. answer_at (sending_by key params request.now)
+        (initial (sending_by key params request.now)) put ≡ Ok started.1) }
     ensures nothing { IfOk result (λ started. started.1.deposit ≡ None) }
     ensures sending { IfOk result (λ started. sending_of started.0.core ≡ sending_by key params request.now) }
     ensures stands { IfOk result (λ started. StandsAfter started.0.core (record { event = put; answer = started.1 } ∷ [])) }
     ensures journal { IfOk result (λ started. started.0.journal.items ≡ Put request.now params ∷ []) }
     ensures trace { IfOk result (λ started. started.0.trace.items ≡ started.1.inds) }
-    ensures offered { IfOk result (λ started. IsHandedOver O.takes outlet.old outlet.new (bundle_for place.user place.lane key started.1.inds)) }
+    ensures offered { IfOk result (λ started. IsHandedOver O.takes outlet.old outlet.new
+        (bundle_for place.user place.lane key started.1.inds)) }
     ensures refused { IfErr result (λ why. IsNotCarried O.returns outlet.old outlet.new place.user place.lane key
         (answer_at (sending_by key params request.now) (initial (sending_by key params request.now)) put) why) }
 {
@@ -145,16 +153,20 @@ pub(crate) fn advance<O: Outlet>(
 ) -> Result<Answer, Refusal>
     requires stands { (log : List Entry) × StandsAfter running.old.core log }
     requires runs { (shown running.old.core).ended ≡ false }
-    requires may { (answer : AnswerValue) → answer_at (sending_of running.old.core) (shown running.old.core) (happens what.now) ≡ Ok answer
-        → MayHandOver (O.user outlet.old) (O.lane outlet.old) (O.stands outlet.old) (bundle_for place.user place.lane key answer.inds) }
-    ensures answer { IfOk result (λ answer. answer_at (sending_of running.old.core) (shown running.old.core) (happens what.now) ≡ Ok answer) }
+    requires may { (answer : AnswerValue) → answer_at (sending_of running.old.core) (shown running.old.core)
+        (happens what.now) ≡ Ok answer
+        → MayHandOver (O.user outlet.old) (O.lane outlet.old) (O.stands outlet.old)
+        (bundle_for place.user place.lane key answer.inds) }
+    ensures answer { IfOk result
+        (λ answer. answer_at (sending_of running.old.core) (shown running.old.core) (happens what.now) ≡ Ok answer) }
     ensures nothing { IfOk result (λ answer. answer.deposit ≡ None) }
     ensures sending { sending_of running.new.core ≡ sending_of running.old.core }
     ensures stands { IfOk result (λ answer. (log : List Entry) → StandsAfter running.old.core log
         → StandsAfter running.new.core (record { event = happens what.now; answer = answer } ∷ log)) }
     ensures journal { OnOk result (running.new.journal.items ≡ running.old.journal.items ++ On key what.now ∷ []) }
     ensures trace { IfOk result (λ answer. running.new.trace.items ≡ running.old.trace.items ++ answer.inds) }
-    ensures offered { IfOk result (λ answer. IsHandedOver O.takes outlet.old outlet.new (bundle_for place.user place.lane key answer.inds)) }
+    ensures offered { IfOk result
+        (λ answer. IsHandedOver O.takes outlet.old outlet.new (bundle_for place.user place.lane key answer.inds)) }
     ensures same_core { IfErr result (λ why. running.new.core ≡ running.old.core) }
     ensures same_journal { IfErr result (λ why. running.new.journal.items ≡ running.old.journal.items) }
     ensures same_trace { IfErr result (λ why. running.new.trace.items ≡ running.old.trace.items) }

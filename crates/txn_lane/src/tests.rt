@@ -1,7 +1,7 @@
 mod bounded;
 
 ghost use Rattle.std.specs.Prelude.{◌≡◌, [], ◌∷◌, OnOk, IfErr, IfOk, IfSome};
-ghost use Rattle.ind_words.specs.declared.indication.Indication.TheVariants as told;
+ghost use Rattle.indications.specs.declared.indication.Indication.TheVariants as told;
 ghost use Rattle.txn_lane.specs.Lane.{idle};
 ghost use Rattle.txn_lane.specs.Steps.{IsKeyed};
 
@@ -11,10 +11,10 @@ use cfdp_types::{
     Class, EntityId, ExpirationLimits, FaultTable, FaultTables, HeaderLengths, Params, PutRequest,
     Role, TimerLengths, TxnKey,
 };
-use ind_words::{Bundle, Indication, Indications};
-use pdu_codec::What;
+use indications::{Bundle, Indication, Indications};
 use std::alloc::{AllocError, Global};
 use std::test::*;
+use txn_events::What;
 
 // What lane 2 of user 0 is told of an EOF.
 fn told_of_eof(alloc: Global, seq: u64) -> Result<Bundle, AllocError>

@@ -2,7 +2,7 @@ ghost use Rattle.std.specs.Prelude.{◌≡◌, [], ◌++◌, ◌∷◌, length, 
 ghost use Rattle.std.proofs.Common.{ap, ◌∙◌};
 
 use crate::outlet::Outlet;
-use ind_words::{Bundle, Indication};
+use indications::{Bundle, Indication};
 use std::alloc::{AllocError, Global};
 
 /// A queue of one lane, with room for so many bundles.

@@ -1,14 +1,14 @@
 use Rattle.std.proofs.Common.{◌≡◌, ℕ, List, inl, inr, ◌⊎◌, Result, Ok, Err, sym, arith}
 use Rattle.std.specs.Prelude.{IfErr}
-use Rattle.pdu_format.specs.declared.fault.DecodeFault.{DecodeFault}
-use Rattle.pdu_format.specs.declared.fault.DecodeFault.TheVariants.{NoMemory}
-use Rattle.pdu_format.specs.Pdu.{PduValue}
-use Rattle.pdu_format.specs.Reading.{reading, IsUnlessMemory}
-use Rattle.pdu_format.specs.FirstFault.{IsFirstFault}
-use Rattle.pdu_format.proofs.FaultLaws.{read_fault_is_first}
-use Rattle.pdu_format.proofs.Numbers.{IsOctets, IsOctets-at_each}
-use Rattle.pdu_format.proofs.MemoryLaws.{memory_last}
-use Rattle.pdu_format.proofs.ReadingLaws.{is_found, is_only}
+use Rattle.pdu_reading.specs.declared.fault.DecodeFault.{DecodeFault}
+use Rattle.pdu_reading.specs.declared.fault.DecodeFault.TheVariants.{NoMemory}
+use Rattle.pdu_values.specs.Pdu.{PduValue}
+use Rattle.pdu_reading.specs.Reading.{reading, IsUnlessMemory}
+use Rattle.pdu_reading.specs.FirstFault.{IsFirstFault}
+use Rattle.pdu_reading.proofs.FaultLaws.{read_fault_is_first}
+use Rattle.pdu_values.proofs.Numbers.{IsOctets, IsOctets-at_each}
+use Rattle.pdu_reading.proofs.MemoryLaws.{memory_last}
+use Rattle.pdu_reading.proofs.ReadingLaws.{is_found, is_only}
 use Rattle.pdu_codec.proofs.decoding.decode.Goals as goal
 
 abbrev err : DecodeFault → Result PduValue DecodeFault

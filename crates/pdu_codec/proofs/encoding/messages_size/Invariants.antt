@@ -1,7 +1,7 @@
 use Rattle.std.proofs.Common.{◌≡◌, ◌+◌, length, drop, map}
 use Rattle.std.specs.List.{flat_map}
-use Rattle.pdu_format.specs.Tlvs.{message_tlv}
-use Rattle.pdu_format.specs.Spelling.{tlv}
+use Rattle.pdu_values.specs.Tlvs.{message_tlv}
+use Rattle.pdu_values.specs.Spelling.{tlv}
 use Rattle.pdu_codec.proofs.encoding.messages_size.Given as goal
 
 abbrev pub invariant-loop-message : goal.invariant-loop-message

@@ -1,6 +1,6 @@
 use Rattle.std.proofs.Common.{◌+◌, ◌*◌, length, get_or, drop, arith}
-use Rattle.pdu_format.proofs.Numbers.{IsOctets, IsOctets-at_each, number_goes_on, number_in_range, number_is_read, number_of-below}
-use Rattle.pdu_format.specs.Numbers.{number_of}
+use Rattle.pdu_values.proofs.Numbers.{IsOctets, IsOctets-at_each, number_goes_on, number_in_range, number_is_read, number_of-below}
+use Rattle.pdu_values.specs.Numbers.{number_of}
 use Rattle.pdu_codec.proofs.fields.number_of.Goals as goal
 
 pub overflow_mul-number : goal.overflow_mul-number

@@ -1,5 +1,5 @@
 use Rattle.std.proofs.Common.{◌≡◌, ◌+◌, ◌*◌, ◌^◌, length, drop}
-use Rattle.pdu_format.specs.Numbers.{number_of}
+use Rattle.pdu_values.specs.Numbers.{number_of}
 use Rattle.pdu_codec.proofs.fields.number_of.Given as goal
 
 abbrev pub invariant-loop-octet : goal.invariant-loop-octet

@@ -1,6 +1,6 @@
 use Rattle.std.proofs.Common.{◌≡◌, length, is_some}
-use Rattle.pdu_format.specs.Items.{items_to_end}
-use Rattle.pdu_format.specs.Reading.{tlv_at}
+use Rattle.pdu_reading.specs.Items.{items_to_end}
+use Rattle.pdu_reading.specs.Reading.{tlv_at}
 use Rattle.pdu_codec.proofs.options.are_options.Given as goal
 
 abbrev pub invariant-loop-rest : goal.invariant-loop-rest

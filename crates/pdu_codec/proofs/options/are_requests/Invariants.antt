@@ -1,7 +1,7 @@
 use Rattle.std.proofs.Common.{◌≡◌, length, is_some}
-use Rattle.pdu_format.specs.Items.{items_to_end}
-use Rattle.pdu_format.specs.Reading.{request_at}
-use Rattle.pdu_format.specs.Spelling.{size_octets}
+use Rattle.pdu_reading.specs.Items.{items_to_end}
+use Rattle.pdu_reading.specs.Reading.{request_at}
+use Rattle.pdu_values.specs.Spelling.{size_octets}
 use Rattle.pdu_codec.proofs.options.are_requests.Given as goal
 
 abbrev pub invariant-loop-rest : goal.invariant-loop-rest

@@ -1,8 +1,8 @@
 use Rattle.std.proofs.Common.{◌≡◌, length}
 use Rattle.std.specs.Option.{option_map}
-use Rattle.pdu_format.specs.Items.{items_to_end}
-use Rattle.pdu_format.specs.Tlvs.{location_in}
-use Rattle.pdu_format.specs.Reading.{location_tlv_at}
+use Rattle.pdu_reading.specs.Items.{items_to_end}
+use Rattle.pdu_values.specs.Tlvs.{location_in}
+use Rattle.pdu_reading.specs.Reading.{location_tlv_at}
 use Rattle.cfdp_types.specs.Steps.{older_or}
 use Rattle.pdu_codec.proofs.options.location_at.Given as goal
 

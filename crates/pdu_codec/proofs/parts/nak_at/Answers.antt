@@ -1,6 +1,6 @@
 use Rattle.std.proofs.Common.{refl, sym}
-use Rattle.pdu_format.specs.Reading.{nak_at, request_at}
-use Rattle.pdu_format.specs.Spelling.{size_octets}
+use Rattle.pdu_reading.specs.Reading.{nak_at, request_at}
+use Rattle.pdu_values.specs.Spelling.{size_octets}
 use Rattle.pdu_codec.proofs.ItemLaws.{all_read}
 use Rattle.pdu_codec.proofs.FieldLaws.{request_shortens}
 use Rattle.pdu_codec.proofs.parts.nak_at.Goals as goal

@@ -1,5 +1,6 @@
 use Rattle.std.proofs.Common.{◌≡◌, ◌-◌, ◌^◌, ◌∙◌, ap, arith}
-use Rattle.pdu_codec.proofs.WriteLaws.{pow_fits, digits_go_on, below_power, octet_room, octet_len, all_digits}
+use Rattle.pdu_values.proofs.WidthLaws.{pow_fits}
+use Rattle.pdu_codec.proofs.WriteLaws.{digits_go_on, below_power, octet_room, octet_len, all_digits}
 use Rattle.pdu_codec.proofs.writing.put_number.Goals as goal
 
 pub pow-power-requires : goal.pow-power-requires

@@ -1,6 +1,6 @@
 use Rattle.std.proofs.Common.{◌≡◌, ◌<◌, ◌≤◌, ◌+◌, ◌^◌, ◌++◌}
 use Rattle.std.specs.Prelude.{vec_len, vec_capacity}
-use Rattle.pdu_format.specs.Numbers.{digits}
+use Rattle.pdu_values.specs.Numbers.{digits}
 use Rattle.pdu_codec.proofs.writing.put_number.Given as goal
 
 abbrev pub invariant-loop-left : goal.invariant-loop-left

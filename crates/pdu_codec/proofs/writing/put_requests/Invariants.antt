@@ -1,6 +1,6 @@
 use Rattle.std.proofs.Common.{drop}
 use Rattle.std.specs.List.{flat_map}
-use Rattle.pdu_format.specs.Spelling.{size_octets, request}
+use Rattle.pdu_values.specs.Spelling.{size_octets, request}
 use Rattle.pdu_codec.specs.Writing.{WritesWith}
 use Rattle.pdu_codec.proofs.writing.put_requests.Given as goal
 

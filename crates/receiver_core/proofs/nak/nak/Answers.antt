@@ -3,4 +3,4 @@ use Rattle.receiver_core.proofs.NakLemmas.{take_short}
 use Rattle.receiver_core.proofs.nak.nak.Goals as goal
 
 pub returns-clause-few : goal.returns-clause-few
-returns-clause-few c = rw c.in_ok-requests.ensures.value (take_short NAK_REQUESTS _)
+returns-clause-few c = rw c.in_ok-requests.ensures (take_short NAK_REQUESTS _)

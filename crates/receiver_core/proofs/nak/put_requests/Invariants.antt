@@ -1,11 +1,6 @@
 use Rattle.std.proofs.Common.{◌≡◌, ◌++◌, take, map}
-use Rattle.std.specs.List.{AllByRecursion}
-use Rattle.pdu_format.specs.Spelling.{size_octets, RequestFits}
 use Rattle.receiver_table.specs.Answers.{request_of}
 use Rattle.receiver_core.proofs.nak.put_requests.Given as goal
 
 abbrev pub invariant-loop-run : goal.invariant-loop-run
-invariant-loop-run l = record {
-  value : l.requests ≡ l.initial.requests ++ map request_of (take l.run-index l.runs);
-  fits : AllByRecursion (RequestFits size_octets) l.initial.requests → AllByRecursion (RequestFits size_octets) l.requests;
-}
+invariant-loop-run l = l.requests ≡ l.initial.requests ++ map request_of (take l.run-index l.runs)

@@ -1,5 +1,5 @@
 use Rattle.std.proofs.Common.{arith}
-use Rattle.pdu_format.proofs.FitLaws.{ack_fits}
+use Rattle.pdu_values.proofs.FitLaws.{ack_fits}
 use Rattle.txn_lane.proofs.lane_refusals.late_ack.Goals as goal
 
 pub new-requires : goal.new-requires

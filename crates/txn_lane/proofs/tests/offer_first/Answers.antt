@@ -1,9 +1,9 @@
 use Rattle.std.proofs.Common.{◌≡◌, ℕ, ◌≤◌, true, List, [], ◌∷◌, ◌++◌, refl}
 use Rattle.std.proofs.lemmas.Bool.{false≢true}
 use Rattle.std.proofs.lemmas.List.Elements.{All-nil}
-use Rattle.ind_words.specs.declared.bundle.Bundle.{Bundle}
-use Rattle.ind_words.specs.LaneLists.{number_of, tells, IsBegunGroup}
-use Rattle.ind_words.proofs.LaneLemmas.{IsLaneList-nil, IsLaneList-more}
+use Rattle.indications.specs.declared.bundle.Bundle.{Bundle}
+use Rattle.indications.specs.LaneLists.{number_of, tells, IsBegunGroup}
+use Rattle.indications.proofs.LaneLemmas.{IsLaneList-nil, IsLaneList-more}
 use Rattle.txn_lane.proofs.tests.offer_first.Goals as goal
 
 pub offer-requires-clause-goes_on : goal.offer-requires-clause-goes_on

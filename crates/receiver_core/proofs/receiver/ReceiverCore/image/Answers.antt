@@ -1,7 +1,7 @@
 use Rattle.std.specs.Prelude.{Ok}
 use Rattle.receiver_table.specs.Reception.{state_of}
 use Rattle.receiver_table.specs.Images.{image_at}
-use Rattle.core_steps.proofs.AnswerLemmas.{accepted_over, refused_over}
+use Rattle.txn_events.proofs.AnswerLemmas.{accepted_over, refused_over}
 use Rattle.receiver_core.specs.Core.{shown}
 use Rattle.receiver_core.proofs.receiver.ReceiverCore.image.Goals as goal
 

@@ -1,15 +1,11 @@
 use Rattle.std.proofs.Common.{◌≡◌, sym, ap, ◌∙◌, arith}
-use Rattle.pdu_format.specs.declared.pdu.Body.{Body}
-use Rattle.pdu_format.specs.declared.pdu.Body.TheVariants as body
-use Rattle.pdu_format.proofs.FitLaws.{nak_fits}
+use Rattle.pdu_values.specs.declared.pdu.Body.{Body}
+use Rattle.pdu_values.specs.declared.pdu.Body.TheVariants as body
 use Rattle.receiver_table.specs.Answers.{pdu_to_sender, missing_below}
 use Rattle.receiver_core.specs.Core.{reception_of, now_state, metadata_after, covered_after}
 use Rattle.receiver_core.proofs.FindingLemmas.{missing_same}
 use Rattle.receiver_core.proofs.NakLemmas.{nak_is}
 use Rattle.receiver_core.proofs.receiver.ReceiverCore.nak.Goals as goal
-
-pub new-requires : goal.new-requires
-new-requires c = nak_fits c.header.result c.in_ok-nak.nak c.header.ensures.fits c.in_ok-nak.ensures.fits (omega (arith, c.in_ok-nak.ensures.few))
 
 pub returns : goal.returns
 returns c =
@@ -19,6 +15,6 @@ returns c =
     c.as_slice.ensures.value ∙ c.in_ok-runs.ensures
     ∙ (rw c.gaps_after.ensures
     (sym (missing_same c.args.now.now (metadata_after core.metadata c.args.change.now) core.file.octets.items (covered_after core.file c.args.change.now) c.scope-scope.result c.requires))) in
-    c.new.ensures ∙ sym (c.header.ensures.value (body.Nak c.in_ok-nak.nak))
+    c.nak-2.ensures ∙ sym (c.reply_header.ensures.value (body.Nak c.in_ok-nak.nak))
     ∙ ap (λ (b : Body). pdu_to_sender (reception_of core) b)
     (ap body.Nak c.in_ok-nak.ensures.value ∙ nak_is state c.has_metadata_after.result c.scope-scope.result c.as_slice.result.now c.has_metadata_after.ensures c.scope-scope.ensures runs)

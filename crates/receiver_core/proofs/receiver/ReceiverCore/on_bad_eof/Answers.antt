@@ -1,8 +1,8 @@
 use Rattle.std.proofs.Common.{[], ◌∷◌, List}
 use Rattle.cfdp_types.specs.declared.names.Delivery.TheVariants.{Incomplete}
 use Rattle.cfdp_types.specs.declared.names.FileStatus.TheVariants.{Discarded}
-use Rattle.ind_words.specs.declared.indication.Indication.{Indication}
-use Rattle.ind_words.specs.declared.indication.Indication.TheVariants as told
+use Rattle.indications.specs.declared.indication.Indication.{Indication}
+use Rattle.indications.specs.declared.indication.Indication.TheVariants as told
 use Rattle.receiver_table.specs.Answers.{tells}
 use Rattle.receiver_core.specs.Response.{IsResponse}
 use Rattle.receiver_core.specs.Core.{reception_of}

@@ -1,6 +1,6 @@
 use Rattle.receiver_table.specs.Reception.{state_of}
 use Rattle.receiver_table.specs.Answers.{answer_at}
-use Rattle.core_steps.proofs.AnswerLemmas.{accepted_over, refused_over}
+use Rattle.txn_events.proofs.AnswerLemmas.{accepted_over, refused_over}
 use Rattle.receiver_core.specs.Core.{shown, reception_of, plan_answer, IsPlanOf}
 use Rattle.receiver_core.proofs.ChangeLemmas.{same_shown, plan_still, accepted_before}
 use Rattle.receiver_core.proofs.receiver.ReceiverCore.plan.Goals as goal

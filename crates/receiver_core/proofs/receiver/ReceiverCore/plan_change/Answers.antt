@@ -1,4 +1,4 @@
-use Rattle.pdu_codec.specs.Events.{body_of_event}
+use Rattle.txn_events.specs.Events.{body_of_event}
 use Rattle.receiver_core.specs.Core.{adds}
 use Rattle.receiver_core.specs.PlanParts.{IsWithEvent}
 use Rattle.receiver_core.proofs.ChangeLemmas.{runs_filled}
@@ -12,5 +12,5 @@ pub returns : goal.returns
 returns c =
     let core = c.args.self.now in
     let with_event : IsWithEvent core.control c.args.event.now (adds c.args.change) c.with_event-now.result = rw c.adds.ensures at c.with_event-now.ensures in
-    is_plan_if core c.args.event.now c.with_event-now.result c.in_ok-response.response c.args.change c.planned.result c.requires.taken with_event c.requires.change c.requires.room c.requires.laid
-    c.in_ok-response.ensures c.planned.ensures
+    is_plan_if core c.args.event.now c.with_event-now.result c.in_ok-response.response c.args.change c.plan_response.result c.requires.taken with_event c.requires.change c.requires.room c.requires.laid
+    c.in_ok-response.ensures c.plan_response.ensures

@@ -1,6 +1,6 @@
 use Rattle.sender_table.specs.Sending.{happens, state_of}
 use Rattle.sender_table.specs.Answers.{answer_at}
-use Rattle.core_steps.proofs.AnswerLemmas.{accepted_over, refused_over}
+use Rattle.txn_events.proofs.AnswerLemmas.{accepted_over, refused_over}
 use Rattle.sender_core.specs.Core.{shown, sending_of, plan_answer, IsPlanOf}
 use Rattle.sender_core.proofs.sender.SenderCore.plan.Goals as goal
 

@@ -8,8 +8,8 @@ use Rattle.sender_core.proofs.ResponseData.{extent_inside}
 use Rattle.sender_core.proofs.PlanLemmas.{is_plan, refused_is, answered_is}
 use Rattle.sender_core.proofs.sender.SenderCore.plan_now.Goals as goal
 
-pub planned-requires : goal.planned-requires
-planned-requires c =
+pub plan_response-requires : goal.plan_response-requires
+plan_response-requires c =
     let core = c.args.self.now in
     rw c.in_ok-response.ensures.pdus (omega (arith, extent_inside (sending_of core) (shown core) c.args.event.now, core.small))
 

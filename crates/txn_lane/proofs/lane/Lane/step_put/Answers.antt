@@ -6,7 +6,7 @@ use Rattle.txn_lane.specs.Lane.{key_at}
 use Rattle.txn_lane.specs.LaneCode.{journal_of, IsHeld}
 use Rattle.txn_lane.specs.Stepping.{IsOffered, IsNotCarried}
 use Rattle.txn_lane.specs.Steps.{IsDone}
-use Rattle.txn_lane.specs.declared.event.Event.TheVariants.{Put}
+use Rattle.txn_events.specs.declared.event.Event.TheVariants.{Put}
 use Rattle.txn_lane.proofs.TakenFacts.{free_if, may_then, offered_then, why_not, held_then, done_then}
 use Rattle.txn_lane.proofs.PutFacts.{meets_put, next_put, says_put}
 use Rattle.txn_lane.proofs.lane.Lane.step_put.Goals as goal

@@ -1,6 +1,0 @@
-use Rattle.std.proofs.Common.{◌≡◌, drop}
-use Rattle.ind_words.specs.Told.{paused_after}
-use Rattle.core_steps.proofs.telling.paused_after.Given as goal
-
-abbrev pub invariant-loop-indication : goal.invariant-loop-indication
-invariant-loop-indication l = paused_after l.now (drop l.indication-index l.inds) ≡ paused_after l.paused l.inds

@@ -1,0 +1,4 @@
+pub mod WordLemmas
+pub mod LaneLemmas
+pub mod WordRows
+pub mod LaneRows

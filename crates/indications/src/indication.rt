@@ -1,0 +1,160 @@
+ghost use Rattle.std.specs.Prelude.{◌≡◌, [], ◌∷◌, ◌++◌, IfOk, OnOk, OnErr};
+ghost use Rattle.std.specs.List.{list_any};
+ghost use Rattle.indications.specs.Kinds.{kind_of};
+ghost use Rattle.indications.specs.Words.{is_end};
+
+use crate::kind::IndicationKind;
+use cfdp_types::{Condition, Delivery, EntityId, FileStatus, Messages, Octets};
+use std::alloc::{AllocError, Global};
+use std::marker::Model;
+
+/// What a transaction does at the moment of a report.
+#[derive(Clone, Copy, Debug, PartialEq, Eq)]
+pub enum Phase {
+    /// None of the others.
+    Active,
+    Suspended,
+    /// The file is whole, and the file store has not yet answered.
+    Storing,
+    /// The end is agreed on with the other entity.
+    Closing,
+}
+
+/// What a local user is told of a transaction (CCSDS 727.0-B-5, 3.4).
+#[derive(Clone, Debug, Drop, PartialEq, Eq)]
+pub enum Indication {
+    Transaction,
+    EofSent,
+    EofRecv,
+    TransactionFinished {
+        condition: Condition,
+        delivery: Delivery,
+        status: FileStatus,
+    },
+    MetadataRecv {
+        source: EntityId,
+        size: u32,
+        source_name: Octets,
+        destination_name: Octets,
+        messages: Messages,
+    },
+    FileSegmentRecv {
+        offset: u32,
+        length: u32,
+    },
+    Suspended {
+        condition: Condition,
+    },
+    Resumed {
+        progress: u32,
+    },
+    Report {
+        phase: Phase,
+        progress: u32,
+    },
+    Fault {
+        condition: Condition,
+        progress: u32,
+    },
+    Abandoned {
+        condition: Condition,
+        progress: u32,
+    },
+}
+
+impl Indication {
+    /// The same indication once more.
+    pub fn copy(&self) -> Result<Indication, AllocError>
+        ensures { IfOk result (λ copy. copy ≡ self.now) }
+    {
+        self.clone()
+    }
+
+    /// Whether it tells the end of the transaction.
+    pub fn is_end(&self) -> bool
+        ensures { result ≡ is_end self.now }
+    {
+        matches!(self.kind(), IndicationKind::End(_))
+    }
+
+    /// What it says of its transaction.
+    pub fn kind(&self) -> IndicationKind
+        ensures { result ≡ kind_of self.now }
+    {
+        match self {
+            Indication::Transaction => IndicationKind::Opening,
+            Indication::EofSent => IndicationKind::EofSent,
+            Indication::EofRecv => IndicationKind::EofRecv,
+            Indication::TransactionFinished { delivery, .. } => IndicationKind::End(*delivery),
+            Indication::MetadataRecv { .. } => IndicationKind::Metadata,
+            Indication::FileSegmentRecv { offset, length } => IndicationKind::Segment {
+                offset: *offset,
+                length: *length,
+            },
+            Indication::Suspended { .. } => IndicationKind::Suspension,
+            Indication::Resumed { .. } => IndicationKind::Resumption,
+            Indication::Report { .. } | Indication::Fault { .. } => IndicationKind::Notice,
+            Indication::Abandoned { .. } => IndicationKind::End(Delivery::Incomplete),
+        }
+    }
+}
+
+/// The indications of one step or of one transaction, in order. Contracts see their list.
+#[derive(Debug, Drop)]
+pub struct Indications {
+    items: Vec<Indication>,
+}
+
+impl Model for Indications {
+    ghost use Rattle.std.specs.Prelude.{List};
+    ghost use Rattle.indications.specs.declared.indication.Indication.{Indication};
+
+    ghost Value = { List Indication };
+
+    ghost view = { λ s. s.items.items };
+}
+
+impl Indications {
+    /// No indication.
+    pub fn new(alloc: Global) -> Indications
+        ensures { result ≡ [] }
+    {
+        Indications {
+            items: Vec::new(alloc),
+        }
+    }
+
+    /// The indications, in order.
+    pub fn as_slice(&self) -> &[Indication]
+        ensures { result.now ≡ self.now }
+    {
+        self.items.as_slice()
+    }
+
+    /// Whether one of them tells the end of the transaction.
+    pub fn has_end(&self) -> bool
+        ensures { result ≡ list_any is_end self.now }
+    {
+        self.items.iter().any(|indication| indication.is_end())
+    }
+
+    /// The same indications once more.
+    pub fn copy(&self) -> Result<Indications, AllocError>
+        ensures { IfOk result (λ copy. copy ≡ self.now) }
+    {
+        let mut items = Vec::with_capacity(*self.items.allocator(), self.items.len())?;
+        for indication in &self.items {
+            items.push(indication.copy()?)?;
+        }
+        Ok(Indications { items })
+    }
+
+    /// Adds an indication at the end.
+    pub fn push(&mut self, indication: Indication) -> Result<(), AllocError>
+        ensures ok { OnOk result (self.new ≡ self.old ++ indication ∷ []) }
+        ensures err { OnErr result (self.new ≡ self.old) }
+    {
+        self.items.push(indication)?;
+        Ok(())
+    }
+}

@@ -1,0 +1,15 @@
+//! Indications: what a local user learns of a transaction, and in which order it may learn it.
+#![tactic(auto)]
+
+mod bundle;
+mod indication;
+mod kind;
+mod side;
+
+pub use bundle::Bundle;
+pub use indication::{Indication, Indications, Phase};
+pub use kind::IndicationKind;
+pub use side::Side;
+
+#[cfg(test)]
+mod tests;

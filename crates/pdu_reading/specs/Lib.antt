@@ -1,0 +1,5 @@
+pub mod Fault
+pub mod FixedHeader
+pub mod Items
+pub mod Reading
+pub mod FirstFault

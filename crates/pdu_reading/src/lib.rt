@@ -1,0 +1,11 @@
+//! How octets read as protocol data units, and which fault comes first: the definitions and their laws.
+#![tactic(auto)]
+
+mod fault;
+mod fixed_header;
+
+pub use fault::DecodeFault;
+pub use fixed_header::FixedHeader;
+
+#[cfg(test)]
+mod tests;

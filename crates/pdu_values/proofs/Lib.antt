@@ -1,0 +1,4 @@
+pub mod Numbers
+pub mod WidthLaws
+pub mod FitLaws
+pub mod ValueRows

@@ -1,6 +1,0 @@
-use Rattle.std.proofs.Common.{arith}
-use Rattle.pdu_format.proofs.FitLaws.{ack_fits}
-use Rattle.sender_core.proofs.pdus.ack.Goals as goal
-
-pub new-requires : goal.new-requires
-new-requires c = ack_fits c.args.header _ c.requires (record { condition = omega (arith, c.code-code.ensures.value, c.code-code.ensures.below) })

@@ -1,0 +1,3 @@
+pub mod EventRows
+pub mod AnswerLemmas
+pub mod TimerLemmas

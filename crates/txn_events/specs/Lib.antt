@@ -1,0 +1,4 @@
+pub mod Refusal
+pub mod Events
+pub mod Timers
+pub mod Logs

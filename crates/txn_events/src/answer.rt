@@ -1,0 +1,16 @@
+use crate::lists::{Pdus, TimerOps};
+use cfdp_types::Deposit;
+use indications::Indications;
+
+/// What one accepted event gives, at either end.
+#[derive(Debug, Drop)]
+pub struct Answer {
+    /// What the user is told, in order.
+    pub inds: Indications,
+    /// What goes to the other entity, in order.
+    pub pdus: Pdus,
+    /// What is done with the transaction's timers, in order.
+    pub timers: TimerOps,
+    /// A received file that is handed out to be stored: never at a sender.
+    pub deposit: Option<Deposit>,
+}

@@ -1,0 +1,98 @@
+//! What both ends ask of an event.
+ghost use Rattle.std.specs.Prelude.{◌≡◌, not};
+ghost use Rattle.cfdp_types.specs.Steps.{is_stamp};
+ghost use Rattle.txn_events.specs.Events as asked;
+ghost use Rattle.txn_events.specs.Timers.{stamp_of};
+
+use crate::event::What;
+use crate::timers::Stamps;
+use cfdp_types::limits::FILE_OCTETS;
+use cfdp_types::{Class, Condition, TimerKind};
+use pdu_values::Body;
+
+/// Whether the event is a PDU whose mode is not the transaction's class.
+pub fn is_of_other_class(class: Class, event: &What) -> bool
+    ensures { result ≡ asked.is_of_other_class class event.now }
+{
+    match event {
+        What::Pdu(pdu) => pdu.header().class != class,
+        _ => false,
+    }
+}
+
+/// Whether the event is taken only where the journal has room: the file store's answer and Abandon
+/// are taken although it is full.
+pub fn needs_room(event: &What) -> bool
+    ensures { result ≡ asked.needs_room event.now }
+{
+    !matches!(event, What::Stored(_, _) | What::Abandon)
+}
+
+/// Whether a PDU came.
+pub fn is_pdu(event: &What) -> bool
+    ensures { result ≡ asked.is_pdu event.now }
+{
+    matches!(event, What::Pdu(_))
+}
+
+/// Whether the timer of this kind expired.
+pub fn is_expiration(kind: TimerKind, event: &What) -> bool
+    ensures { result ≡ asked.is_expiration kind event.now }
+{
+    match event {
+        What::Timer(expired, _) => *expired == kind,
+        _ => false,
+    }
+}
+
+// Whether the timer of a kind does not run with this stamp.
+fn is_stale(armed: &Stamps, kind: TimerKind, stamp: u32) -> bool
+    ensures { result ≡ not (is_stamp (stamp_of armed.now kind) stamp) }
+{
+    match armed.of(kind) {
+        None => true,
+        Some(kept) => kept != stamp,
+    }
+}
+
+/// Whether a timer expired that does not run, or was armed again since.
+pub fn is_stale_timer(armed: &Stamps, event: &What) -> bool
+    ensures { result ≡ asked.is_stale_timer (stamp_of armed.now) event.now }
+{
+    match event {
+        What::Timer(kind, stamp) => is_stale(armed, *kind, *stamp),
+        _ => false,
+    }
+}
+
+/// Whether a PDU with this body opens a reception that is not there yet: Metadata, File Data and EOF
+/// do.
+pub fn body_opens(body: &Body) -> bool
+    ensures { result ≡ asked.body_opens body.now }
+{
+    matches!(body, Body::Metadata(_) | Body::FileData(_) | Body::Eof(_))
+}
+
+/// Whether a size or an end of a part is larger than the entity takes.
+pub fn is_body_too_large(body: &Body) -> bool
+    ensures { result ≡ asked.is_body_too_large body.now }
+{
+    match body {
+        Body::Metadata(metadata) => metadata.size > FILE_OCTETS,
+        Body::FileData(part) => {
+            part.offset as usize + part.octets.as_slice().len() > FILE_OCTETS as usize
+        }
+        Body::Eof(eof) => eof.condition == Condition::NO_ERROR && eof.size > FILE_OCTETS,
+        _ => false,
+    }
+}
+
+/// The same of the PDU that an event is.
+pub fn is_too_large(event: &What) -> bool
+    ensures { result ≡ asked.is_too_large event.now }
+{
+    match event {
+        What::Pdu(pdu) => is_body_too_large(pdu.body()),
+        _ => false,
+    }
+}
