@@ -142,3 +142,10 @@ pub record IsPlanOf (core : ReceiverCore) (plan : Plan) (event : What) : Type 0 
   pub fits : FitsFile core.file plan.change
   pub room : HasRoom core.file plan.change
   pub sound : core.control.ended ≡ false → IsSound plan.next
+
+-- a PDU opened the reception of a key: nothing happened to it yet, and the PDU is planned as its first event
+pub record IsOpenedBy (key : TxnKey) (params : ParamsValue) (pdu : PduValue) (core : ReceiverCore) (plan : Plan) : Type 0 where
+  pub reception : reception_of core ≡ reception_by key params pdu.header
+  pub stands : StandsAfter core []
+  pub runs : (shown core).ended ≡ false
+  pub planned : IsPlanOf core plan (what.Pdu pdu)

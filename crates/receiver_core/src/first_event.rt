@@ -15,7 +15,7 @@ impl ReceiverCore {
     ghost use Rattle.receiver_table.specs.Reception.{initial};
     ghost use Rattle.receiver_table.specs.Answers.{answer_at};
     ghost use Rattle.receiver_laws.specs.LegalReceptions.{Opens};
-    ghost use Rattle.receiver_core.specs.Core.{shown, reception_of, reception_by, MayOpen, StandsAfter, IsPlanOf, IsWhy};
+    ghost use Rattle.receiver_core.specs.Core.{shown, reception_of, reception_by, MayOpen, IsOpenedBy, IsWhy};
 
     /// Whether a PDU opens the reception of a key: its own key is that one, and it is Metadata, File
     /// Data or an EOF.
@@ -51,11 +51,8 @@ impl ReceiverCore {
         params: Params,
     ) -> Result<(ReceiverCore, Plan), Refusal>
         requires opens { MayOpen key pdu.now }
-        ensures reception { IfOk result (λ opened. reception_of opened.0 ≡ reception_by key params pdu.now.header) }
-        ensures opens { IfOk result (λ opened. Opens (reception_of opened.0) (what.Pdu pdu.now)) }
-        ensures stands { IfOk result (λ opened. StandsAfter opened.0 []) }
-        ensures runs { IfOk result (λ opened. (shown opened.0).ended ≡ false) }
-        ensures planned { IfOk result (λ opened. IsPlanOf opened.0 opened.1 (what.Pdu pdu.now)) }
+        ensures opened { IfOk result (λ opened. IsOpenedBy key params pdu.now opened.0 opened.1) }
+        ensures begins { IfOk result (λ opened. Opens (reception_of opened.0) (what.Pdu pdu.now)) }
         ensures refused { IfErr result
             (λ why. IsWhy (answer_at (reception_by key params pdu.now.header) initial (what.Pdu pdu.now)) why) }
     {

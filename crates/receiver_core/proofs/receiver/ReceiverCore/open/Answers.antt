@@ -2,6 +2,7 @@ use Rattle.std.proofs.Common.{◌≡◌, false, [], sym, ap, ◌∙◌, inl, inr
 use Rattle.std.proofs.lemmas.Result.{err_from_is_err_and}
 use Rattle.receiver_table.specs.Reception.{State, initial, state_of}
 use Rattle.receiver_table.specs.Refusals.{is_body_too_large}
+use Rattle.receiver_core.specs.Core.{reception_by}
 use Rattle.receiver_core.proofs.FirstLemmas.{first_refused, first_taken}
 use Rattle.receiver_core.proofs.receiver.ReceiverCore.open.Goals as goal
 
@@ -22,10 +23,11 @@ returns-in_err-plan-clause-refused c =
     let p = err_from_is_err_and c.from_residual-in_err-plan.result c.from_residual-in_err-plan.ensures.1 in
     rw (p.1, p.2) (rw (c.empty-core.ensures.reception, c.parts.ensures.header, c.in_ok-clone.ensures.cases) at (c.in_err-plan.ensures.refused [] c.empty-core.ensures.stands))
 
-pub returns-clause-stands : goal.returns-clause-stands
-unfolding state_of
-returns-clause-stands c = c.plan.ensures.same ∙ c.empty-core.ensures.stands
-
-pub returns-clause-runs : goal.returns-clause-runs
-unfolding initial
-returns-clause-runs c = ap (λ (s : State). s.ended) (c.plan.ensures.same ∙ c.empty-core.ensures.stands)
+pub returns-clause-opened : goal.returns-clause-opened
+unfolding state_of initial
+returns-clause-opened c = record {
+  reception = c.plan.ensures.reception ∙ c.empty-core.ensures.reception ∙ ap (λ h. reception_by c.args.key c.args.params h) c.parts.ensures.header;
+  stands = c.plan.ensures.same ∙ c.empty-core.ensures.stands;
+  runs = ap (λ (s : State). s.ended) (c.plan.ensures.same ∙ c.empty-core.ensures.stands);
+  planned = rw c.in_ok-clone.ensures.cases at c.in_ok-plan.ensures.planned;
+}
