@@ -1,22 +1,26 @@
-.PHONY: demo test bench
+SHELL := /bin/bash
+.SHELLFLAGS := -o pipefail -c
+.PHONY: demo build test bench
 
 program := crates/cfdp_replay/out/cfdp_replay
 
-# the main job: a file is received from a script of datagrams, and its user is told
+# a first look: a file is received from a script of datagrams, and its user is told; nothing is proved
 demo:
-	@echo "Proving and building the program: about four minutes the first time, seconds after that."
-	@cd crates/cfdp_replay && rt run < /dev/null > demo.log 2>&1 || { cat demo.log; exit 1; }
-	@rm -f crates/cfdp_replay/demo.log
-	@echo "Each line of the script, and below it, indented, what the entity answers:"
-	@echo
-	@examples/transcript.sh $(program) examples/reception.script
+	@examples/demo.sh examples/reception.script
+
+# the script program, proved and built
+build:
+	@echo "Proving the script program and all that it stands on, and building it: some minutes the first time."
+	@cd crates/cfdp_replay && rt run < /dev/null 2>&1 | tee build.log \
+	    | sed -un 's/^rt: chose --jobs [0-9]* for \(.*\)/    \1 .../p; s/^crate \([a-z_]*\): .*/    \1 is proved/p' \
+	    || { cat build.log; exit 1; }
+	@rm -f crates/cfdp_replay/build.log
+	@echo "The program: $(program)"
 
 # the gate: every proof from nothing, the must-fail edits, the tests and the programs
 test:
 	rt ci
 
 # how fast and how large a run is; no part of the gate
-bench:
-	@cd crates/cfdp_replay && rt run < /dev/null > demo.log 2>&1 || { cat demo.log; exit 1; }
-	@rm -f crates/cfdp_replay/demo.log
+bench: build
 	python3 bench/bench.py $(program)

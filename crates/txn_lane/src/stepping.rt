@@ -2,7 +2,8 @@
 //! then does the transaction go on.
 ghost use Rattle.std.specs.Prelude.{◌≡◌, ◌∷◌, ◌++◌, [], false, List, Ok, IfOk, IfErr, OnOk, OnErr, IsSome};
 ghost use Rattle.txn_events.specs.declared.refusal.Refusal.TheVariants as refusal;
-ghost use Rattle.sender_table.specs.Sending.{Entry, Answer as AnswerValue, put, happens, initial};
+ghost use Rattle.txn_events.specs.declared.answer.Answer.{Answer as AnswerValue};
+ghost use Rattle.sender_table.specs.Sending.{Entry, put, happens, initial};
 ghost use Rattle.sender_table.specs.Answers.{answer_at};
 ghost use Rattle.sender_core.specs.Core.{shown, sending_of, sending_by, StandsAfter, IsWhy, plan_answer};
 ghost use Rattle.txn_events.specs.declared.event.Event.{Event as EventValue};
@@ -18,7 +19,7 @@ use crate::outlet::Outlet;
 use crate::running::{Running, Step};
 use cfdp_types::{Params, PutRequest, TxnKey};
 use indications::Bundle;
-use sender_core::Answer;
+use txn_events::Answer;
 use std::alloc::Global;
 use txn_events::{Refusal, What};
 
