@@ -1,4 +1,7 @@
 pub mod RunLemmas
-pub mod GapLemmas
 pub mod SetLemmas
 pub mod RunRows
+pub mod RisingLemmas
+pub mod SearchLemmas
+pub mod EditLemmas
+pub mod WalkLemmas

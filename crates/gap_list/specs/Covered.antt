@@ -1,8 +1,13 @@
 -- What a gap list covers.
-use Rattle.std.specs.Prelude.{ℕ, Bool}
-use Rattle.gap_list.specs.declared.gaps.Gaps.{Gaps}
+use Rattle.std.specs.Prelude.{ℕ, Bool, List}
+use Rattle.gap_list.specs.declared.run.Run.{Run}
 use Rattle.gap_list.specs.Runs.{in_runs}
 
+-- what contracts see of a gap list: its runs, which make up a set, and for how many more there is room
+pub record GapsValue : Type 0 where
+  pub runs : List Run
+  pub room : ℕ
+
 -- whether an offset is covered
-unfoldable pub covered : Gaps → ℕ → Bool
-covered gaps offset = in_runs gaps.runs.items offset
+unfoldable pub covered : GapsValue → ℕ → Bool
+covered gaps offset = in_runs gaps.runs offset

@@ -1,5 +1,5 @@
 -- Sets of offsets, as tests of an offset, and the runs that they are made of.
-use Rattle.std.specs.Prelude.{◌≡◌, ℕ, zero, suc, ◌+◌, ◌-◌, ◌<◌, ◌≤◌, Bool, true, false, ◌&&◌, ◌||◌, ◌==◌, not, nat_le, nat_lt, cond, List, [], ◌∷◌, IsTrue, refl}
+use Rattle.std.specs.Prelude.{◌≡◌, ℕ, zero, suc, ◌+◌, ◌-◌, ◌<◌, ◌≤◌, Bool, true, false, ◌&&◌, ◌||◌, ◌==◌, not, nat_le, nat_lt, cond, List, [], ◌∷◌, IsTrue, Option, Some, None, slice_get, take, refl}
 use Rattle.std.specs.List.{list_any}
 use Rattle.gap_list.specs.declared.run.Run.{Run}
 
@@ -14,6 +14,14 @@ SameSet set other = (offset : ℕ) → set offset ≡ other offset
 -- a set and the offsets from start to end - 1
 abbrev pub with_range : (ℕ → Bool) → ℕ → ℕ → ℕ → Bool
 with_range set start end offset = set offset || is_within start end offset
+
+-- a set without the offsets from start to end - 1
+abbrev pub without_range : (ℕ → Bool) → ℕ → ℕ → ℕ → Bool
+without_range set start end offset = set offset && not (is_within start end offset)
+
+-- none of the offsets from start to end - 1 is in the set
+abbrev pub IsFree : (ℕ → Bool) → ℕ → ℕ → Type 0
+IsFree set start end = (offset : ℕ) → start ≤ offset → offset < end → set offset ≡ false
 
 -- whether an offset is in one of the runs
 abbrev pub in_runs : List Run → ℕ → Bool
@@ -47,6 +55,10 @@ new_runs set start end = runs_of (λ offset. is_within start end offset && not (
 -- the maximal runs below a limit of what isn't in the set
 abbrev pub missing_runs : (ℕ → Bool) → ℕ → List Run
 missing_runs set limit = runs_of (λ offset. not (set offset)) limit
+
+-- the lowest maximal run below a limit of what isn't in the set
+abbrev pub first_missing : (ℕ → Bool) → ℕ → Option Run
+first_missing set limit = slice_get (missing_runs set limit) 0
 
 -- one more than the greatest offset of the set, or 0 where it has none
 pub record IsExtent (set : ℕ → Bool) (extent : ℕ) : Type 0 where
@@ -89,3 +101,32 @@ two_parts = in_runs (record { start = 0; end = 2 } ∷ record { start = 4; end =
 new_runs_between_and_above : new_runs two_parts 0 8 ≡ record { start = 2; end = 4 } ∷ record { start = 6; end = 8 } ∷ []
 unfolding runs_of runs_from
 new_runs_between_and_above = refl
+
+-- a range that is taken out leaves the parts before and after it
+runs_without : runs_of (without_range two_runs 2 10) 13 ≡ record { start = 0; end = 2 } ∷ record { start = 10; end = 12 } ∷ []
+unfolding runs_of runs_from
+runs_without = refl
+
+-- and one within a run cuts it in two
+runs_without_middle : runs_of (without_range two_runs 9 11) 13
+    ≡ record { start = 0; end = 4 } ∷ record { start = 8; end = 9 } ∷ record { start = 11; end = 12 } ∷ []
+unfolding runs_of runs_from
+runs_without_middle = refl
+
+-- a range between two runs that touches neither is free, and one that shares an offset with a run is not
+free_between : IsTrue (not (two_runs 4)) × IsTrue (not (two_runs 7)) × IsTrue (two_runs 8)
+free_between = (refl, refl, refl)
+
+-- the lowest run that is missing, and none where nothing is
+first_missing_between : first_missing two_runs 13 ≡ Some (record { start = 4; end = 8 })
+unfolding runs_of runs_from
+first_missing_between = refl
+
+first_missing_none : first_missing two_runs 4 ≡ None
+unfolding runs_of runs_from
+first_missing_none = refl
+
+-- the first run that is missing, once a range is added to two parts
+missing_first_with : take 1 (missing_runs (with_range two_parts 2 3) 8) ≡ record { start = 3; end = 4 } ∷ []
+unfolding runs_of runs_from
+missing_first_with = refl

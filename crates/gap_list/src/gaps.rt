@@ -1,21 +1,34 @@
-ghost use Rattle.std.specs.Prelude.{◌<◌, All};
-
 use crate::run::Run;
-use crate::scan;
+use crate::{edit, search, walk};
 use std::alloc::{AllocError, Global};
+use std::marker::Model;
 
-/// Which offsets of a file are covered: contracts see a set, and not when each came.
+/// Which offsets of a file are covered, as a set: contracts see it by `covered`, and for how many more
+/// runs there is room.
+///
+/// The runs rise and don't touch, so that data in order costs one of them.
 #[derive(Debug, Drop)]
 pub struct Gaps {
     runs: Vec<Run>,
-    ghost filled: { All (λ run. run.start < run.end) runs.items },
+}
+
+impl Model for Gaps {
+    ghost use Rattle.std.specs.Prelude.{◌-◌, vec_len, vec_capacity};
+    ghost use Rattle.gap_list.specs.Covered.{GapsValue};
+    ghost use Rattle.gap_list.specs.Runs.{IsRisingFrom};
+
+    ghost Value = { GapsValue };
+
+    ghost view = { λ g. record { runs = g.runs.items; room = vec_capacity g.runs - vec_len g.runs } };
+
+    ghost invariant = { λ g. IsRisingFrom 0 g.runs.items };
 }
 
 #[tactic(auto, unfolding(crate::specs::Covered::covered))]
 impl Gaps {
-    ghost use Rattle.std.specs.Prelude.{◌≡◌, ◌↔◌, ℕ, ◌<◌, ◌≤◌, false, IfOk, OnOk, OnErr, IsTrue};
+    ghost use Rattle.std.specs.Prelude.{◌≡◌, ◌↔◌, ℕ, ◌+◌, ◌<◌, ◌≤◌, false, take, IfOk, OnOk, OnErr, IsTrue};
     ghost use Rattle.gap_list.specs.Covered.{covered};
-    ghost use Rattle.gap_list.specs.Runs.{SameSet, with_range, new_runs, missing_runs, IsExtent};
+    ghost use Rattle.gap_list.specs.Runs.{SameSet, IsFree, with_range, without_range, new_runs, missing_runs, first_missing, IsExtent};
 
     /// Covers nothing.
     pub fn new(alloc: Global) -> Gaps
@@ -23,6 +36,49 @@ impl Gaps {
     {
         Gaps {
             runs: Vec::new(alloc),
+        }
+    }
+
+    /// Covers nothing, with room for so many runs.
+    pub fn with_room(alloc: Global, count: usize) -> Result<Gaps, AllocError>
+        ensures none { IfOk result (λ gaps. (offset : ℕ) → covered gaps offset ≡ false) }
+        ensures room { IfOk result (λ gaps. count ≤ gaps.room) }
+    {
+        Ok(Gaps {
+            runs: Vec::with_capacity(alloc, count)?,
+        })
+    }
+
+    /// Makes room for so many more runs: each `add` and each `remove` takes one at the most.
+    pub fn reserve(&mut self, count: usize) -> Result<(), AllocError>
+        ensures same { SameSet (covered self.new) (covered self.old) }
+        ensures room { OnOk result (count ≤ self.new.room) }
+        ensures kept { self.old.room ≤ self.new.room }
+    {
+        self.runs.reserve(count)
+    }
+
+    /// Adds the offsets from `start` to `end` - 1, in room that is there.
+    pub fn add(&mut self, start: u32, end: u32)
+        requires ordered { start ≤ end }
+        requires room { 0 < self.old.room }
+        ensures added { SameSet (covered self.new) (with_range (covered self.old) start end) }
+        ensures room { self.old.room ≤ self.new.room + 1 }
+    {
+        if start < end {
+            edit::add(&mut self.runs, start, end);
+        }
+    }
+
+    /// Takes the offsets from `start` to `end` - 1 out, in room that is there: a run may be cut in two.
+    pub fn remove(&mut self, start: u32, end: u32)
+        requires ordered { start ≤ end }
+        requires room { 0 < self.old.room }
+        ensures removed { SameSet (covered self.new) (without_range (covered self.old) start end) }
+        ensures room { self.old.room ≤ self.new.room + 1 }
+    {
+        if start < end {
+            edit::remove(&mut self.runs, start, end);
         }
     }
 
@@ -35,16 +91,71 @@ impl Gaps {
         ensures answer { IfOk result (λ runs. runs.items ≡ new_runs (covered self.old) start end) }
         ensures refused { OnErr result (SameSet (covered self.new) (covered self.old)) }
     {
-        let new = scan::gaps_within(*self.runs.allocator(), self.runs.as_slice(), start, end)?;
-        self.runs.extend_from_slice(new.as_slice())?;
+        let new = self.new_within(start, end)?;
+        self.reserve(1)?;
+        self.add(start, end);
         Ok(new)
+    }
+
+    /// What of the offsets from `start` to `end` - 1 isn't covered, as maximal runs from the lowest up.
+    pub fn new_within(&self, start: u32, end: u32) -> Result<Vec<Run>, AllocError>
+        ensures { IfOk result (λ runs. runs.items ≡ new_runs (covered self.now) start end) }
+    {
+        let mut new = Vec::new(*self.runs.allocator());
+        walk::put_gaps(&mut new, self.runs.as_slice(), start, end, end as usize)?;
+        Ok(new)
+    }
+
+    /// Whether none of the offsets from `start` to `end` - 1 is covered.
+    pub fn is_free(&self, start: u32, end: u32) -> bool
+        ensures { IsTrue result ↔ IsFree (covered self.now) start end }
+    {
+        start >= end || search::is_free(self.runs.as_slice(), start, end)
     }
 
     /// The maximal runs below the limit that aren't covered, rising.
     pub fn missing(&self, limit: u32) -> Result<Vec<Run>, AllocError>
         ensures { IfOk result (λ runs. runs.items ≡ missing_runs (covered self.now) limit) }
     {
-        scan::gaps_within(*self.runs.allocator(), self.runs.as_slice(), 0, limit)
+        self.missing_first(limit, limit as usize)
+    }
+
+    /// The first so many of the maximal runs below the limit that aren't covered.
+    pub fn missing_first(&self, limit: u32, count: usize) -> Result<Vec<Run>, AllocError>
+        ensures { IfOk result (λ runs. runs.items ≡ take count (missing_runs (covered self.now) limit)) }
+    {
+        let mut missing = Vec::new(*self.runs.allocator());
+        walk::put_gaps(&mut missing, self.runs.as_slice(), 0, limit, count)?;
+        Ok(missing)
+    }
+
+    /// The same once the offsets from `start` to `end` - 1 are added.
+    pub fn missing_first_with(
+        &self,
+        start: u32,
+        end: u32,
+        limit: u32,
+        count: usize,
+    ) -> Result<Vec<Run>, AllocError>
+        requires { start ≤ end }
+        ensures { IfOk result (λ runs. runs.items ≡ take count (missing_runs (with_range (covered self.now) start end) limit)) }
+    {
+        let mut missing = Vec::new(*self.runs.allocator());
+        walk::put_gaps_with(
+            &mut missing,
+            self.runs.as_slice(),
+            Run { start, end },
+            limit,
+            count,
+        )?;
+        Ok(missing)
+    }
+
+    /// The lowest of the maximal runs below the limit that aren't covered.
+    pub fn first_missing(&self, limit: u32) -> Option<Run>
+        ensures { result ≡ first_missing (covered self.now) limit }
+    {
+        search::first_gap(self.runs.as_slice(), limit)
     }
 
     /// One that covers the same offsets.
@@ -60,14 +171,21 @@ impl Gaps {
     pub fn is_full(&self, limit: u32) -> bool
         ensures { IsTrue result ↔ ((offset : ℕ) → offset < limit → IsTrue (covered self.now offset)) }
     {
-        scan::covered_end(self.runs.as_slice(), 0, limit) == limit
+        limit <= search::end_from(self.runs.as_slice(), 0)
+    }
+
+    /// Whether nothing is missing below the limit once the offsets from `start` to `end` - 1 are added.
+    pub fn is_full_with(&self, start: u32, end: u32, limit: u32) -> bool
+        ensures { IsTrue result ↔ ((offset : ℕ) → offset < limit → IsTrue (with_range (covered self.now) start end offset)) }
+    {
+        limit <= search::end_with(self.runs.as_slice(), start, end)
     }
 
     /// One more than the greatest covered offset, or 0 where nothing is covered.
     pub fn extent(&self) -> u32
         ensures { IsExtent (covered self.now) result }
     {
-        scan::greatest_end(self.runs.as_slice())
+        search::greatest_end(self.runs.as_slice())
     }
 }
 

@@ -1,9 +1,11 @@
 //! Which octets of a file have come and which are missing.
 #![tactic(auto)]
 
+mod edit;
 mod gaps;
 mod run;
-mod scan;
+mod search;
+mod walk;
 
 pub use gaps::Gaps;
 pub use run::Run;

@@ -17,12 +17,23 @@ total_from-append offset (x ∷ xs) ys =
 pub sum_below : (octets : List ℕ) → sum octets < 2 ^ 32
 sum_below octets = mod_below (total_from 0 octets) (2 ^ 32) (omega arith)
 
--- adding the octet at an offset and then the rest is adding all that stands from the offset on
+-- adding the octet at an index and then the rest is adding all that stands from there on
+pub total_from_next : (octets : List ℕ) (offset index total : ℕ) → index < length octets
+    → ((total + get_or octets index 0 * weight_of offset) % 2 ^ 32 + total_from (offset + 1) (drop (index + 1) octets)) % 2 ^ 32
+    ≡ (total + total_from offset (drop index octets)) % 2 ^ 32
+total_from_next octets offset index total inside =
+    rw (mod-add-mod, drop_more octets index 0 inside) (ap (λ n. n % 2 ^ 32) (omega arith))
+
+-- the same where the first octet stands at the offset 0
 pub total_from_more : (octets : List ℕ) (offset total : ℕ) → offset < length octets
     → ((total + get_or octets offset 0 * weight_of offset) % 2 ^ 32 + total_from (offset + 1) (drop (offset + 1) octets)) % 2 ^ 32
     ≡ (total + total_from offset (drop offset octets)) % 2 ^ 32
-total_from_more octets offset total inside =
-    rw (mod-add-mod, drop_more octets offset 0 inside) (ap (λ n. n % 2 ^ 32) (omega arith))
+total_from_more octets offset total inside = total_from_next octets offset offset total inside
+
+-- an offset counts for what its place in the word of four does
+pub weight_of_place : (place offset : ℕ) → place ≡ offset % 4 → weight_of place ≡ weight_of offset
+weight_of_place place offset is =
+    let same : place % 4 ≡ offset % 4 = omega arith in ap (λ n. 256 ^ (3 - n)) same
 
 -- a shift by whole octets multiplies by a power of 256
 shift_by_octets : (k : ℕ) → k < 4 → 2 ^ (8 * k) ≡ 256 ^ k

@@ -1,8 +1,13 @@
 //! The modular checksum of a file in the CCSDS File Delivery Protocol.
 #![tactic(auto)]
 
+pub mod laws;
+mod running;
+
 ghost use Rattle.std.specs.Prelude.{◌≡◌, ◌*◌};
 ghost use Rattle.modular_sum.specs.Sum.{sum, weight_of};
+
+pub use running::Running;
 
 /// The modular checksum of a whole file: its octets as big-endian words of four, the last one
 /// filled up with zeros, added modulo 2^32.
@@ -26,14 +31,4 @@ fn term_of(offset: usize, octet: u8) -> u32
 }
 
 #[cfg(test)]
-mod tests {
-    use super::*;
-
-    #[test]
-    fn sums_of_files(rt: HostRuntime) {
-        assert_eq!(rt; sum_of(b""), 0);
-        assert_eq!(rt; sum_of(b"abc"), 0x6162_6300);
-        assert_eq!(rt; sum_of(&[1, 2, 3, 4, 5]), 0x0602_0304);
-        assert_eq!(rt; sum_of(&[0xff, 0xff, 0xff, 0xff, 0, 0, 0, 2]), 1);
-    }
-}
+mod tests;

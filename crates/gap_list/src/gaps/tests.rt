@@ -88,3 +88,133 @@ fn refused_memory(rt: HostRuntime) -> Result<(), Fail> {
     assert!(rt; gaps.extent() == 9 && gaps.is_full(9));
     Ok(())
 }
+
+// Each call once where there is memory.
+#[test]
+fn parts_in_room(rt: HostRuntime) -> Result<(), Fail> {
+    let mut gaps = Gaps::with_room(rt.alloc(), 1)?;
+    gaps.add(2, 6);
+    gaps.reserve(2)?;
+    gaps.add(6, 8);
+    gaps.add(10, 12);
+    assert_eq!(rt;
+        gaps.new_within(4, 11)?.as_slice(),
+        [Run { start: 8, end: 10 }].as_slice()
+    );
+    assert!(rt; gaps.is_free(8, 10) && !gaps.is_free(8, 11) && !gaps.is_free(7, 8));
+    gaps.reserve(1)?;
+    gaps.remove(3, 5);
+    let missing = [
+        Run { start: 0, end: 2 },
+        Run { start: 3, end: 5 },
+        Run { start: 8, end: 10 },
+    ];
+    assert_eq!(rt; gaps.missing(12)?.as_slice(), missing.as_slice());
+    assert_eq!(rt; gaps.missing_first(12, 2)?.as_slice(), &missing[..2]);
+    assert_eq!(rt; gaps.extent(), 12);
+    Ok(())
+}
+
+#[test]
+fn plans(rt: HostRuntime) -> Result<(), Fail> {
+    let mut gaps = Gaps::new(rt.alloc());
+    let _ = gaps.cover(0, 4)?;
+    let _ = gaps.cover(8, 12)?;
+    assert_eq!(rt; gaps.first_missing(13), Some(Run { start: 4, end: 8 }));
+    assert_eq!(rt; gaps.first_missing(6), Some(Run { start: 4, end: 6 }));
+    assert_eq!(rt; gaps.first_missing(4), None);
+    let missing = [Run { start: 4, end: 5 }, Run { start: 12, end: 20 }];
+    assert_eq!(rt;
+        gaps.missing_first_with(5, 10, 20, 9)?.as_slice(),
+        missing.as_slice()
+    );
+    assert_eq!(rt;
+        gaps.missing_first_with(5, 10, 20, 1)?.as_slice(),
+        &missing[..1]
+    );
+    assert_eq!(rt; gaps.missing_first_with(6, 6, 8, 9)?.len(), 1);
+    assert!(rt; gaps.is_full_with(4, 8, 12) && !gaps.is_full_with(4, 8, 13));
+    assert!(rt; !gaps.is_full_with(5, 8, 12) && gaps.is_full_with(5, 8, 4));
+    assert!(rt; gaps.is_full(4) && !gaps.is_full(5));
+    Ok(())
+}
+
+// A place in a list of flags from a number that a generator gives.
+fn place(number: u32) -> u32 {
+    number / 65536 % 65
+}
+
+fn next(number: u32) -> u32 {
+    number.wrapping_mul(1_103_515_245).wrapping_add(12_345)
+}
+
+fn set_flags(flags: &mut Vec<bool>, start: u32, end: u32, to: bool) {
+    for (offset, flag) in flags.iter_mut().enumerate() {
+        if start as usize <= offset && offset < end as usize {
+            *flag = to;
+        }
+    }
+}
+
+// The runs of the offsets that have no flag.
+fn runs_without(flags: &Vec<bool>) -> Result<Vec<Run>, AllocError> {
+    let mut runs = Vec::new(*flags.allocator());
+    let mut start = 0u32;
+    for offset in 0..65u32 {
+        if flags.get(offset as usize).copied().unwrap_or(true) {
+            if start < offset {
+                runs.push(Run { start, end: offset })?;
+            }
+            start = offset + 1;
+        }
+    }
+    Ok(runs)
+}
+
+fn agrees(gaps: &Gaps, flags: &Vec<bool>) -> Result<bool, AllocError> {
+    let expected = runs_without(flags)?;
+    let missing = gaps.missing(64)?;
+    let first = expected.as_slice().first().copied();
+    Ok(
+        missing.as_slice() == expected.as_slice()
+            && gaps.first_missing(64) == first
+            && gaps.is_full(64) == expected.is_empty(),
+    )
+}
+
+#[test]
+fn mixed_order(rt: HostRuntime) -> Result<(), Fail> {
+    let mut gaps = Gaps::new(rt.alloc());
+    let mut flags = vec![in rt.alloc(); false; 64]?;
+    let mut number = 7u32;
+    for step in 0..600u32 {
+        let from = place(number);
+        number = next(number);
+        let to = place(number).max(from).min(from.saturating_add(9)).min(64);
+        number = next(number);
+        gaps.reserve(1)?;
+        if from <= to {
+            if step % 5 < 3 {
+                gaps.add(from, to);
+            } else {
+                gaps.remove(from, to);
+            }
+        }
+        set_flags(&mut flags, from, to, step % 5 < 3);
+        assert!(rt; agrees(&gaps, &flags)?, "after step {step}");
+    }
+    Ok(())
+}
+
+#[test]
+fn falling_octets(rt: HostRuntime) -> Result<(), Fail> {
+    let mut gaps = Gaps::new(rt.alloc());
+    for number in 0..20_000u32 {
+        let offset = 2 * (20_000 - number);
+        gaps.reserve(1)?;
+        gaps.add(offset, offset + 1);
+    }
+    assert_eq!(rt; gaps.missing_first(40_001, 3)?.len(), 3);
+    assert_eq!(rt; gaps.extent(), 40_001);
+    Ok(())
+}

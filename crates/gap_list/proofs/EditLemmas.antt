@@ -1,0 +1,408 @@
+-- Rising runs after a range was added or taken out.
+use Rattle.std.proofs.Common.{◌≡◌, ℕ, suc, ◌+◌, ◌-◌, ◌<◌, ◌≤◌, max, min, Bool, true, false, ◌&&◌, ◌||◌, not, nat_le, nat_lt, List, [], ◌∷◌, ◌++◌, length, get_or, take, drop, refl, ap, sym, ◌∙◌, arith, subst, ⊎_elim, add-zero, length-drop}
+use Rattle.std.specs.List.{All}
+use Rattle.std.proofs.lemmas.Bool.{cond_both, cases_lt, and_parts, or_from, leb-true, ltb-true, ltb-false}
+use Rattle.std.proofs.Math.Bool.{or-false}
+use Rattle.std.proofs.lemmas.Bool.Decides.{nat_tests}
+use Rattle.std.proofs.lemmas.List.{take-append-drop, drop_more, drop-drop, drop-take, get_or-drop, get_or-take, get_or_read, length-take-le, drop_at, take_at}
+use Rattle.std.proofs.lemmas.List.Elements.{All-head, All-tail, All-same, All-take, All-drop, All-weaker}
+use Rattle.std.proofs.lemmas.List.Folds.{list_any-append}
+use Rattle.gap_list.specs.declared.run.Run.{Run}
+use Rattle.gap_list.specs.Runs.{is_within, in_runs, with_range, without_range, SameSet, IsRisingFrom}
+use Rattle.gap_list.specs.Places.{last_end, kept}
+use Rattle.gap_list.proofs.RunLemmas.{IsRisingFrom-lower}
+use Rattle.gap_list.proofs.SearchLemmas.{last_end-rises, last_end-at, below_run}
+use Rattle.gap_list.proofs.RisingLemmas.{beyond, rising_front, rising_rest, rising_append, beyond_ends, past_ends, edges_rise}
+
+-- runs with a range, and without one
+pub record IsAdded (old new : List Run) (start end : ℕ) : Type 0 where
+  pub rising : IsRisingFrom 0 new
+  pub added : SameSet (in_runs new) (with_range (in_runs old) start end)
+
+pub record IsRemoved (old new : List Run) (start end : ℕ) : Type 0 where
+  pub rising : IsRisingFrom 0 new
+  pub removed : SameSet (in_runs new) (without_range (in_runs old) start end)
+
+-- ---- ranges that touch
+
+joined_two : (start end low high i : ℕ) → start ≤ high → low ≤ end → start ≤ end → low ≤ high
+    → (is_within low high i || is_within start end i) ≡ is_within (min start low) (max end high) i
+joined_two start end low high i a b c d = grind (arith, nat_tests)
+
+or_later : (a b c : Bool) → ((a || b) || c) ≡ (a || (b || c))
+or_later true b c = refl
+or_later false b c = refl
+
+-- a range is one run with the runs that it touches
+spanned : (run : Run) (runs : List Run) (low start end i : ℕ) → IsRisingFrom low (run ∷ runs) → start < end
+    → All (λ run. start ≤ run.end) (run ∷ runs) → All (λ run. run.start ≤ end) (run ∷ runs)
+    → (in_runs (run ∷ runs) i || is_within start end i) ≡ is_within (min start run.start) (max end (last_end run.end runs)) i
+spanned run [] low start end i rising filled ended begun =
+    or_later (is_within run.start run.end i) false (is_within start end i)
+    ∙ joined_two start end run.start run.end i
+    (All-head (λ (run : Run). start ≤ run.end) run [] ended) (All-head (λ (run : Run). run.start ≤ end) run [] begun)
+    (omega arith) (omega (arith, rising.1))
+spanned run (next ∷ runs) low start end i rising filled ended begun =
+    let later = spanned next runs (run.end + 1) start end i rising.2 filled
+    (All-tail (λ (run : Run). start ≤ run.end) run (next ∷ runs) ended)
+    (All-tail (λ (run : Run). run.start ≤ end) run (next ∷ runs) begun) in
+    let reached : start ≤ run.end = All-head (λ (run : Run). start ≤ run.end) run (next ∷ runs) ended in
+    let begins : run.start ≤ end = All-head (λ (run : Run). run.start ≤ end) run (next ∷ runs) begun in
+    let above : next.end ≤ last_end next.end runs = last_end-rises next.end runs rising.2.2 in
+    let least : min (min start next.start) run.start ≡ min start run.start = omega (arith, rising.1, rising.2.0) in
+    let most : max (max end (last_end next.end runs)) run.end ≡ max end (last_end next.end runs) = omega (arith, rising.2.0, rising.2.1) in
+    or_later (is_within run.start run.end i) (in_runs (next ∷ runs) i) (is_within start end i)
+    ∙ ap (λ (b : Bool). is_within run.start run.end i || b) later
+    ∙ joined_two (min start next.start) (max end (last_end next.end runs)) run.start run.end i
+    (omega arith) (omega arith) (omega arith) (omega (arith, rising.1))
+    ∙ ap (λ n. is_within n (max (max end (last_end next.end runs)) run.end) i) least
+    ∙ ap (λ n. is_within (min start run.start) n i) most
+
+-- the runs after others begin above the last end of those
+beyond_last : (low : ℕ) (run : Run) (runs : List Run) → beyond low (run ∷ runs) ≡ last_end run.end runs + 1
+beyond_last low run [] = refl
+beyond_last low run (next ∷ runs) = beyond_last (run.end + 1) next runs
+
+-- runs that begin above an offset rise from there on
+pub rising_above : (low offset : ℕ) (runs : List Run) → IsRisingFrom low runs → All (λ run. offset < run.start) runs → IsRisingFrom (max low (offset + 1)) runs
+rising_above low offset [] rising above = tt
+rising_above low offset (run ∷ runs) rising above =
+    let first : offset < run.start = All-head (λ (run : Run). offset < run.start) run runs above in
+    (omega (arith, rising.0), rising.1, rising.2)
+
+or_between : (a b c d : Bool) → (a || ((b || d) || c)) ≡ ((a || (b || c)) || d)
+or_between true b c d = refl
+or_between false true c d = refl
+or_between false false true true = refl
+or_between false false true false = refl
+or_between false false false d = or_both d
+  where
+    or_both : (d : Bool) → (d || false) ≡ d
+    or_both true = refl
+    or_both false = refl
+
+-- the offsets of runs in three parts
+in_three : (xs : List Run) (run : Run) (runs ys : List Run) (i : ℕ)
+    → in_runs (xs ++ ((run ∷ runs) ++ ys)) i ≡ (in_runs xs i || (in_runs (run ∷ runs) i || in_runs ys i))
+in_three xs run runs ys i =
+    list_any-append (λ run. is_within run.start run.end i) xs ((run ∷ runs) ++ ys)
+    ∙ ap (λ (b : Bool). in_runs xs i || b) (list_any-append (λ run. is_within run.start run.end i) (run ∷ runs) ys)
+
+-- the runs that a range touches are one with it
+joined_span : (xs : List Run) (run : Run) (runs ys : List Run) (start end : ℕ) → IsRisingFrom 0 (xs ++ ((run ∷ runs) ++ ys)) → start < end
+    → All (λ run. run.end < start) xs → All (λ run. start ≤ run.end) (run ∷ runs) → All (λ run. run.start ≤ end) (run ∷ runs)
+    → All (λ run. end < run.start) ys
+    → IsAdded (xs ++ ((run ∷ runs) ++ ys)) (xs ++ record { start = min start run.start; end = max end (last_end run.end runs) } ∷ ys) start end
+joined_span xs run runs ys start end rising filled below ended begun above =
+    let rest : IsRisingFrom (beyond 0 xs) ((run ∷ runs) ++ ys) = rising_rest 0 xs ((run ∷ runs) ++ ys) rising in
+    let middle : IsRisingFrom (beyond 0 xs) (run ∷ runs) = rising_front (beyond 0 xs) (run ∷ runs) ys rest in
+    let last : IsRisingFrom (last_end run.end runs + 1) ys =
+    subst (λ low. IsRisingFrom low ys) (beyond_last (beyond 0 xs) run runs) (rising_rest (beyond 0 xs) (run ∷ runs) ys rest) in
+    let from : beyond 0 xs ≤ start = beyond_ends 0 start xs (omega arith) below in
+    let reaches : IsRisingFrom (max end (last_end run.end runs) + 1) ys =
+    let e : max (last_end run.end runs + 1) (end + 1) ≡ max end (last_end run.end runs) + 1 = omega arith in
+    subst (λ low. IsRisingFrom low ys) e (rising_above (last_end run.end runs + 1) end ys last above) in
+    record {
+      rising = rising_append 0 xs (record { start = min start run.start; end = max end (last_end run.end runs) } ∷ ys)
+          (rising_front 0 xs ((run ∷ runs) ++ ys) rising)
+          (omega (arith, middle.0), omega arith, reaches);
+      added = λ i.
+          list_any-append (λ run. is_within run.start run.end i) xs (record { start = min start run.start; end = max end (last_end run.end runs) } ∷ ys)
+          ∙ ap (λ (b : Bool). in_runs xs i || (b || in_runs ys i)) (sym (spanned run runs (beyond 0 xs) start end i middle filled ended begun))
+          ∙ or_between (in_runs xs i) (in_runs (run ∷ runs) i) (in_runs ys i) (is_within start end i)
+          ∙ ap (λ (b : Bool). b || is_within start end i) (sym (in_three xs run runs ys i));
+    }
+
+or_last : (a b c : Bool) → (a || (b || c)) ≡ ((a || c) || b)
+or_last true b c = refl
+or_last false true true = refl
+or_last false true false = refl
+or_last false false true = refl
+or_last false false false = refl
+
+-- a range that touches no run is a run of its own
+apart : (xs ys : List Run) (start end : ℕ) → IsRisingFrom 0 (xs ++ ys) → start < end
+    → All (λ run. run.end < start) xs → All (λ run. end < run.start) ys
+    → IsAdded (xs ++ ys) (xs ++ record { start = start; end = end } ∷ ys) start end
+apart xs ys start end rising filled below above =
+    let rest : IsRisingFrom (max (beyond 0 xs) (end + 1)) ys = rising_above (beyond 0 xs) end ys (rising_rest 0 xs ys rising) above in
+    let from : beyond 0 xs ≤ start = beyond_ends 0 start xs (omega arith) below in
+    record {
+      rising = rising_append 0 xs (record { start = start; end = end } ∷ ys) (rising_front 0 xs ys rising)
+          (from, filled, IsRisingFrom-lower (end + 1) (max (beyond 0 xs) (end + 1)) ys (omega arith) rest);
+      added = λ i.
+          list_any-append (λ run. is_within run.start run.end i) xs (record { start = start; end = end } ∷ ys)
+          ∙ or_last (in_runs xs i) (is_within start end i) (in_runs ys i)
+          ∙ ap (λ (b : Bool). b || is_within start end i) (sym (list_any-append (λ run. is_within run.start run.end i) xs ys));
+    }
+
+-- ---- a range that is taken out of the runs that it meets
+
+pub no_offset : (start end i : ℕ) → end ≤ start → is_within start end i ≡ false
+no_offset start end i le = grind (arith, nat_tests)
+
+-- runs that begin at or above an end don't have what is below
+before_starts : (end offset : ℕ) (runs : List Run) → offset < end → All (λ run. end ≤ run.start) runs → in_runs runs offset ≡ false
+before_starts end offset [] below above = refl
+before_starts end offset (run ∷ runs) below above =
+    let first : end ≤ run.start = All-head (λ (run : Run). end ≤ run.start) run runs above in
+    or_from (is_within run.start run.end offset) (in_runs runs offset)
+    (below_run run.start run.end offset (omega arith))
+    (before_starts end offset runs below (All-tail (λ (run : Run). end ≤ run.start) run runs above))
+
+cut_one : (low high start end i : ℕ) → start ≤ high → low < end → start < end
+    → (is_within low high i && not (is_within start end i)) ≡ (is_within low start i || is_within end high i)
+cut_one low high start end i a b c = grind (arith, nat_tests)
+
+and_or : (a b c : Bool) → ((a || b) && c) ≡ ((a && c) || (b && c))
+and_or true b true = refl
+and_or true true false = refl
+and_or true false false = refl
+and_or false b c = refl
+
+-- of the runs that a range meets, what lies below it and what lies above
+cut_span : (run : Run) (runs : List Run) (low start end i : ℕ) → IsRisingFrom low (run ∷ runs) → start < end
+    → All (λ run. start ≤ run.end) (run ∷ runs) → All (λ run. run.start < end) (run ∷ runs)
+    → (in_runs (run ∷ runs) i && not (is_within start end i)) ≡ (is_within run.start start i || is_within end (last_end run.end runs) i)
+cut_span run [] low start end i rising filled ended begun =
+    ap (λ (b : Bool). b && not (is_within start end i)) (or-false (is_within run.start run.end i))
+    ∙ cut_one run.start run.end start end i
+    (All-head (λ (run : Run). start ≤ run.end) run [] ended) (All-head (λ (run : Run). run.start < end) run [] begun) filled
+cut_span run (next ∷ runs) low start end i rising filled ended begun =
+    let later = cut_span next runs (run.end + 1) start end i rising.2 filled
+    (All-tail (λ (run : Run). start ≤ run.end) run (next ∷ runs) ended)
+    (All-tail (λ (run : Run). run.start < end) run (next ∷ runs) begun) in
+    let reached : start ≤ run.end = All-head (λ (run : Run). start ≤ run.end) run (next ∷ runs) ended in
+    let begins : next.start < end =
+    All-head (λ (run : Run). run.start < end) next runs (All-tail (λ (run : Run). run.start < end) run (next ∷ runs) begun) in
+    let none_above : is_within end run.end i ≡ false = no_offset end run.end i (omega (arith, rising.2.0)) in
+    let none_below : is_within next.start start i ≡ false = no_offset next.start start i (omega (arith, rising.2.0)) in
+    and_or (is_within run.start run.end i) (in_runs (next ∷ runs) i) (not (is_within start end i))
+    ∙ ap (λ (b : Bool). (is_within run.start run.end i && not (is_within start end i)) || b) later
+    ∙ ap (λ (b : Bool). b || (is_within next.start start i || is_within end (last_end next.end runs) i))
+    (cut_one run.start run.end start end i reached (omega (arith, rising.1, rising.2.0)) filled)
+    ∙ ap (λ (b : Bool). (is_within run.start start i || b) || (is_within next.start start i || is_within end (last_end next.end runs) i)) none_above
+    ∙ ap (λ (b : Bool). (is_within run.start start i || false) || (b || is_within end (last_end next.end runs) i)) none_below
+    ∙ ap (λ (b : Bool). b || is_within end (last_end next.end runs) i) (or-false (is_within run.start start i))
+
+-- a run that is kept where it is not empty
+pub in_kept : (run : Run) (runs : List Run) (i : ℕ) → in_runs (kept run runs) i ≡ (is_within run.start run.end i || in_runs runs i)
+in_kept run runs i =
+    cond_both (nat_lt run.start run.end) (run ∷ runs) runs
+    (λ (l : List Run). in_runs l i ≡ (is_within run.start run.end i || in_runs runs i))
+    (λ _. refl)
+    (λ empty. ap (λ (b : Bool). b || in_runs runs i) (sym (no_offset run.start run.end i (ltb-false run.start run.end empty))))
+
+pub rising_kept : (low : ℕ) (run : Run) (runs : List Run) → low ≤ run.start → IsRisingFrom low runs
+    → (run.start < run.end → IsRisingFrom (run.end + 1) runs) → IsRisingFrom low (kept run runs)
+rising_kept low run runs from rest above =
+    cond_both (nat_lt run.start run.end) (run ∷ runs) runs (IsRisingFrom low)
+    (λ filled. (from, ltb-true run.start run.end filled, above (ltb-true run.start run.end filled)))
+    (λ _. rest)
+
+-- the offsets outside a range
+outside : (a m b w : Bool) → (w ≡ true → (a ≡ false) × (b ≡ false)) → (a || ((m && not w) || b)) ≡ ((a || (m || b)) && not w)
+outside a m b true none =
+    rw ((none refl).0, (none refl).1) (both_no m)
+  where
+    both_no : (m : Bool) → ((m && false) || false) ≡ ((m || false) && false)
+    both_no true = refl
+    both_no false = refl
+outside true m b false none = refl
+outside false true b false none = refl
+outside false false true false none = refl
+outside false false false false none = refl
+
+cut_from : (xs : List Run) (run : Run) (runs ys : List Run) (start end : ℕ) → IsRisingFrom 0 (xs ++ ((run ∷ runs) ++ ys)) → start < end
+    → All (λ run. run.end < start) xs → All (λ run. start ≤ run.end) (run ∷ runs) → All (λ run. run.start < end) (run ∷ runs)
+    → All (λ run. end ≤ run.start) ys
+    → IsRemoved (xs ++ ((run ∷ runs) ++ ys))
+    (xs ++ kept (record { start = run.start; end = start }) (kept (record { start = end; end = last_end run.end runs }) ys)) start end
+cut_from xs run runs ys start end rising filled below ended begun above =
+    let rest : IsRisingFrom (beyond 0 xs) ((run ∷ runs) ++ ys) = rising_rest 0 xs ((run ∷ runs) ++ ys) rising in
+    let middle : IsRisingFrom (beyond 0 xs) (run ∷ runs) = rising_front (beyond 0 xs) (run ∷ runs) ys rest in
+    let last : IsRisingFrom (last_end run.end runs + 1) ys =
+    subst (λ low. IsRisingFrom low ys) (beyond_last (beyond 0 xs) run runs) (rising_rest (beyond 0 xs) (run ∷ runs) ys rest) in
+    let from : beyond 0 xs ≤ start = beyond_ends 0 start xs (omega arith) below in
+    let reached : start ≤ last_end run.end runs =
+    omega (arith, All-head (λ (run : Run). start ≤ run.end) run runs ended, last_end-rises run.end runs middle.2) in
+    let upper : Run = record { start = end; end = last_end run.end runs } in
+    let lower : Run = record { start = run.start; end = start } in
+    let from_upper : IsRisingFrom (start + 1) (kept upper ys) =
+    rising_kept (start + 1) upper ys (omega arith) (IsRisingFrom-lower (start + 1) (last_end run.end runs + 1) ys (omega arith) last) (λ _. last) in
+    record {
+      rising = rising_append 0 xs (kept lower (kept upper ys)) (rising_front 0 xs ((run ∷ runs) ++ ys) rising)
+          (rising_kept (beyond 0 xs) lower (kept upper ys) middle.0
+          (IsRisingFrom-lower (beyond 0 xs) (start + 1) (kept upper ys) (omega arith) from_upper) (λ _. from_upper));
+      removed = λ i.
+          list_any-append (λ run. is_within run.start run.end i) xs (kept lower (kept upper ys))
+          ∙ ap (λ (b : Bool). in_runs xs i || b) (in_kept lower (kept upper ys) i)
+          ∙ ap (λ (b : Bool). in_runs xs i || (is_within run.start start i || b)) (in_kept upper ys i)
+          ∙ ap (λ (b : Bool). in_runs xs i || b)
+          (sym (or_later (is_within run.start start i) (is_within end (last_end run.end runs) i) (in_runs ys i)))
+          ∙ ap (λ (b : Bool). in_runs xs i || (b || in_runs ys i)) (sym (cut_span run runs (beyond 0 xs) start end i middle filled ended begun))
+          ∙ outside (in_runs xs i) (in_runs (run ∷ runs) i) (in_runs ys i) (is_within start end i)
+          (λ inside. let parts = and_parts (nat_le start i) (nat_lt i end) inside in
+          (past_ends start i xs (omega (arith, leb-true start i parts.0)) below, before_starts end i ys (ltb-true i end parts.1) above))
+          ∙ ap (λ (b : Bool). b && not (is_within start end i)) (sym (in_three xs run runs ys i));
+    }
+
+-- a range that meets no run
+met_none : (xs ys : List Run) (start end : ℕ) → All (λ run. run.end < start) xs → All (λ run. end ≤ run.start) ys
+    → SameSet (in_runs (xs ++ ys)) (without_range (in_runs (xs ++ ys)) start end)
+met_none xs ys start end below above i =
+    let whole = list_any-append (λ run. is_within run.start run.end i) xs ys in
+    whole
+    ∙ outside (in_runs xs i) false (in_runs ys i) (is_within start end i)
+    (λ inside. let parts = and_parts (nat_le start i) (nat_lt i end) inside in
+    (past_ends start i xs (omega (arith, leb-true start i parts.0)) below, before_starts end i ys (ltb-true i end parts.1) above))
+    ∙ ap (λ (b : Bool). b && not (is_within start end i)) (sym whole)
+
+-- ---- runs in three parts, by places
+
+module _ (runs : List Run) (first count last : ℕ) (d : Run) (ordered : first + suc count ≡ last) (within : last ≤ length runs) where
+  -- the runs from one place to another
+  begins_with : take (suc count) (drop first runs) ≡ get_or runs first d ∷ take count (drop (first + 1) runs)
+  begins_with = rw (drop_more runs first d (omega arith)) refl
+
+  three_parts : runs ≡ take first runs ++ ((get_or runs first d ∷ take count (drop (first + 1) runs)) ++ drop last runs)
+  three_parts =
+      let rest : drop (suc count) (drop first runs) ≡ drop last runs =
+      drop-drop (suc count) first runs ∙ ap (λ n. drop n runs) ordered in
+      sym (take-append-drop first runs)
+      ∙ ap (λ (l : List Run). take first runs ++ l)
+      (sym (take-append-drop (suc count) (drop first runs))
+      ∙ ap (λ (l : List Run). take (suc count) (drop first runs) ++ l) rest
+      ∙ ap (λ (l : List Run). l ++ drop last runs) begins_with)
+
+  middle_above : (P : Run → Type 0) → All P (drop first runs) → All P (get_or runs first d ∷ take count (drop (first + 1) runs))
+  middle_above P all = All-same P _ _ (sym begins_with) (All-take P (suc count) (drop first runs) all)
+
+  middle_below : (P : Run → Type 0) → All P (take last runs) → All P (get_or runs first d ∷ take count (drop (first + 1) runs))
+  middle_below P all =
+      let same : drop first (take last runs) ≡ take (suc count) (drop first runs) =
+      ap (λ n. drop first (take n runs)) (sym ordered) ∙ drop-take first (suc count) runs in
+      All-same P _ _ (sym begins_with ∙ sym same) (All-drop P first (take last runs) all)
+
+  middle_last : last_end (get_or runs first d).end (take count (drop (first + 1) runs)) ≡ (get_or runs (last - 1) d).end
+  middle_last =
+      let size : length (take (suc count) (drop first runs)) ≡ suc count =
+      length-take-le (suc count) (drop first runs) (omega (arith, length-drop first runs)) in
+      let place : first + (suc count - 1) ≡ last - 1 = omega arith in
+      ap (λ (l : List Run). last_end 0 l) (sym begins_with)
+      ∙ last_end-at 0 (take (suc count) (drop first runs)) d (omega arith)
+      ∙ ap (λ n. (get_or (take (suc count) (drop first runs)) (n - 1) d).end) size
+      ∙ ap (λ (run : Run). run.end) (get_or-take (suc count) (drop first runs) (suc count - 1) d (omega arith) ∙ get_or-drop first runs (suc count - 1) d)
+      ∙ ap (λ n. (get_or runs n d).end) place
+
+-- ---- what the code makes
+
+pub added_joined : (runs new : List Run) (first last start end : ℕ) (lower upper joined : Run) → IsRisingFrom 0 runs → start < end
+    → first < last → last ≤ length runs
+    → All (λ run. run.end < start) (take first runs) → All (λ run. start ≤ run.end) (drop first runs)
+    → All (λ run. run.start ≤ end) (take last runs) → All (λ run. end < run.start) (drop last runs)
+    → lower ≡ get_or runs first lower → upper ≡ get_or runs (last - 1) upper
+    → joined.start ≡ min lower.start start → joined.end ≡ max upper.end end
+    → new ≡ take first runs ++ joined ∷ drop last runs
+    → IsAdded runs new start end
+added_joined runs new first last start end lower upper joined rising filled some within below ended begun above lower_is upper_is low high is =
+    let count : ℕ = last - first - 1 in
+    let ordered : first + suc count ≡ last = omega arith in
+    let run : Run = get_or runs first lower in
+    let middle : List Run = take count (drop (first + 1) runs) in
+    let parts : runs ≡ take first runs ++ ((run ∷ middle) ++ drop last runs) = three_parts runs first count last lower ordered within in
+    let made = joined_span (take first runs) run middle (drop last runs) start end
+    (subst (IsRisingFrom 0) parts rising) filled below
+    (middle_above runs first count last lower ordered within (λ run. start ≤ run.end) ended)
+    (middle_below runs first count last lower ordered within (λ run. run.start ≤ end) begun) above in
+    let lowest : lower.start ≡ run.start = ap (λ (r : Run). r.start) lower_is in
+    let highest : upper.end ≡ last_end run.end middle =
+    ap (λ (r : Run). r.end) (get_or_read runs (last - 1) upper (omega arith) upper_is lower)
+    ∙ sym (middle_last runs first count last lower ordered within) in
+    let least : joined.start ≡ min start run.start = omega arith in
+    let most : joined.end ≡ max end (last_end run.end middle) = omega arith in
+    let of : ℕ → ℕ → List Run = λ from to. take first runs ++ record { start = from; end = to } ∷ drop last runs in
+    let new_is : new ≡ take first runs ++ record { start = min start run.start; end = max end (last_end run.end middle) } ∷ drop last runs =
+    is ∙ ap (λ (n : ℕ). of n joined.end) least ∙ ap (λ (n : ℕ). of (min start run.start) n) most in
+    subst (λ l. IsAdded l new start end) (sym parts)
+    (subst (λ l. IsAdded (take first runs ++ ((run ∷ middle) ++ drop last runs)) l start end) (sym new_is) made)
+
+-- runs that end below an offset begin below it, so that the places don't cross
+pub places_meet : (runs : List Run) (first last start end : ℕ) → IsRisingFrom 0 runs → start < end → last ≤ first → first ≤ length runs
+    → All (λ run. run.end < start) (take first runs) → All (λ run. end ≤ run.start) (drop last runs) → last ≡ first
+places_meet runs first last start end rising filled le within below above =
+    ⊎_elim
+    (λ (less : last < first).
+    let d : Run = record { start = 0; end = 0 } in
+    let ends : (get_or runs last d).end < start = rw (get_or-take first runs last d less) at (below last d (omega (arith, length-take-le first runs within))) in
+    let begins : end ≤ (get_or runs (last + 0) d).start = rw (get_or-drop last runs 0 d) at (above 0 d (omega (arith, length-drop last runs))) in
+    let here : get_or runs (last + 0) d ≡ get_or runs last d = ap (λ n. get_or runs n d) (add-zero last) in
+    let run_begins : end ≤ (get_or runs last d).start = rw here at begins in
+    absurd (omega (arith, (edges_rise 0 runs rising last last d (omega arith) (omega arith)).3)))
+    (λ (same : first ≤ last). omega arith)
+    (cases_lt last first)
+
+pub added_apart : (runs new : List Run) (first last start end : ℕ) → IsRisingFrom 0 runs → start < end → last ≤ first → first ≤ length runs
+    → All (λ run. run.end < start) (take first runs) → All (λ run. end < run.start) (drop last runs)
+    → new ≡ take first runs ++ record { start = start; end = end } ∷ drop first runs
+    → IsAdded runs new start end
+added_apart runs new first last start end rising filled le within below above is =
+    let same : last ≡ first = places_meet runs first last start end rising filled le within below
+    (All-weaker (λ (run : Run). end < run.start) (λ (run : Run). end ≤ run.start) (λ run less. omega arith) (drop last runs) above) in
+    let parts : take first runs ++ drop first runs ≡ runs = take-append-drop first runs in
+    let made = apart (take first runs) (drop first runs) start end (subst (IsRisingFrom 0) (sym parts) rising) filled below
+    (subst (λ n. All (λ run. end < run.start) (drop n runs)) same above) in
+    subst (λ l. IsAdded l new start end) parts
+    (subst (λ l. IsAdded (take first runs ++ drop first runs) l start end) (sym is) made)
+
+pub removed_cut : (runs after_cut after_upper new : List Run) (first last start end : ℕ) (lower upper : Run) → IsRisingFrom 0 runs → start < end
+    → first < last → last ≤ length runs
+    → All (λ run. run.end < start) (take first runs) → All (λ run. start ≤ run.end) (drop first runs)
+    → All (λ run. run.start ≤ end - 1) (take last runs) → All (λ run. end - 1 < run.start) (drop last runs)
+    → lower ≡ get_or runs first lower → upper ≡ get_or runs (last - 1) upper
+    → after_cut ≡ take first runs ++ drop last runs
+    → after_upper ≡ take first after_cut ++ kept (record { start = end; end = upper.end }) (drop first after_cut)
+    → new ≡ take first after_upper ++ kept (record { start = lower.start; end = start }) (drop first after_upper)
+    → IsRemoved runs new start end
+removed_cut runs after_cut after_upper new first last start end lower upper rising filled some within below ended begun above lower_is upper_is cut_is upper_put is =
+    let count : ℕ = last - first - 1 in
+    let ordered : first + suc count ≡ last = omega arith in
+    let run : Run = get_or runs first lower in
+    let middle : List Run = take count (drop (first + 1) runs) in
+    let parts : runs ≡ take first runs ++ ((run ∷ middle) ++ drop last runs) = three_parts runs first count last lower ordered within in
+    let made = cut_from (take first runs) run middle (drop last runs) start end
+    (subst (IsRisingFrom 0) parts rising) filled below
+    (middle_above runs first count last lower ordered within (λ run. start ≤ run.end) ended)
+    (All-weaker (λ (run : Run). run.start ≤ end - 1) (λ (run : Run). run.start < end) (λ run le. omega arith) (run ∷ middle)
+    (middle_below runs first count last lower ordered within (λ run. run.start ≤ end - 1) begun))
+    (All-weaker (λ (run : Run). end - 1 < run.start) (λ (run : Run). end ≤ run.start) (λ run less. omega arith) (drop last runs) above) in
+    let size : length (take first runs) ≡ first = length-take-le first runs (omega arith) in
+    let lowest : lower.start ≡ run.start = ap (λ (r : Run). r.start) lower_is in
+    let highest : upper.end ≡ last_end run.end middle =
+    ap (λ (r : Run). r.end) (get_or_read runs (last - 1) upper (omega arith) upper_is lower)
+    ∙ sym (middle_last runs first count last lower ordered within) in
+    let higher : List Run = kept (record { start = end; end = upper.end }) (drop last runs) in
+    let front : take first after_cut ≡ take first runs = ap (take first) cut_is ∙ take_at (take first runs) (drop last runs) first size in
+    let back : drop first after_cut ≡ drop last runs = ap (drop first) cut_is ∙ drop_at (take first runs) (drop last runs) first size in
+    let upper_is_put : after_upper ≡ take first runs ++ higher =
+    upper_put ∙ ap (λ (l : List Run). l ++ kept (record { start = end; end = upper.end }) (drop first after_cut)) front
+    ∙ ap (λ (l : List Run). take first runs ++ kept (record { start = end; end = upper.end }) l) back in
+    let front' : take first after_upper ≡ take first runs = ap (take first) upper_is_put ∙ take_at (take first runs) higher first size in
+    let back' : drop first after_upper ≡ higher = ap (drop first) upper_is_put ∙ drop_at (take first runs) higher first size in
+    let of : ℕ → ℕ → List Run =
+    λ from to. take first runs ++ kept (record { start = from; end = start }) (kept (record { start = end; end = to }) (drop last runs)) in
+    let new_is : new ≡ of run.start (last_end run.end middle) =
+    is ∙ ap (λ (l : List Run). l ++ kept (record { start = lower.start; end = start }) (drop first after_upper)) front'
+    ∙ ap (λ (l : List Run). take first runs ++ kept (record { start = lower.start; end = start }) l) back'
+    ∙ ap (λ (n : ℕ). of n upper.end) lowest ∙ ap (λ (n : ℕ). of run.start n) highest in
+    subst (λ l. IsRemoved l new start end) (sym parts)
+    (subst (λ l. IsRemoved (take first runs ++ ((run ∷ middle) ++ drop last runs)) l start end) (sym new_is) made)
+
+pub removed_none : (runs : List Run) (first last start end : ℕ) → IsRisingFrom 0 runs → start < end → last ≤ first → first ≤ length runs
+    → All (λ run. run.end < start) (take first runs) → All (λ run. end - 1 < run.start) (drop last runs)
+    → SameSet (in_runs runs) (without_range (in_runs runs) start end)
+removed_none runs first last start end rising filled le within below above =
+    let from_end = All-weaker (λ (run : Run). end - 1 < run.start) (λ (run : Run). end ≤ run.start) (λ run less. omega arith) (drop last runs) above in
+    let same : last ≡ first = places_meet runs first last start end rising filled le within below from_end in
+    subst (λ l. SameSet (in_runs l) (without_range (in_runs l) start end)) (take-append-drop first runs)
+    (met_none (take first runs) (drop first runs) start end below (subst (λ n. All (λ run. end ≤ run.start) (drop n runs)) same from_end))

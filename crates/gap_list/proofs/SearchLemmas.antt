@@ -1,0 +1,275 @@
+-- What is found at a place among rising runs.
+use Rattle.std.proofs.Common.{◌≡◌, ℕ, suc, ◌+◌, ◌-◌, ◌<◌, ◌≤◌, max, min, Bool, true, false, ◌||◌, ◌⊎◌, ◌↔◌, IsTrue, not, nat_le, nat_lt, List, [], ◌∷◌, length, get_or, take, drop, refl, ap, sym, ◌∙◌, arith, subst, ⊎_elim, Some, None, slice_get}
+use Rattle.std.specs.List.{All}
+use Rattle.std.proofs.lemmas.Bool.{cond_both, le-leb, lt-leb, lt-ltb, le-ltb, and_right, leb-true, leb-false, or_left, or_right, or_from, true≢false, false≢true, not-false, not-true}
+use Rattle.std.proofs.lemmas.List.Elements.{All-head, All-tail}
+use Rattle.std.proofs.lemmas.Option.{slice_get_within, get_or_from_slice_get}
+use Rattle.gap_list.specs.declared.run.Run.{Run}
+use Rattle.gap_list.specs.Runs.{is_within, in_runs, runs_from, runs_of, missing_runs, first_missing, IsFree, IsExtent, IsRisingFrom}
+use Rattle.gap_list.specs.Places.{end_or, start_or, begins_from, last_end}
+use Rattle.gap_list.proofs.RunLemmas.{is_within_tells, runs_from-none, runs_from-all, in_runs-runs_of, IsRisingFrom-runs_of}
+use Rattle.gap_list.proofs.SetLemmas.{below_rising, missing_runs-full, ends-runs_of, in_set-runs_of, full_from_missing_runs}
+use Rattle.gap_list.proofs.RisingLemmas.{beyond, rising_drop, in_parts, in_rest}
+
+-- an offset within a run, and one outside
+pub within_run : (start end i : ℕ) → start ≤ i → i < end → is_within start end i ≡ true
+within_run start end i from to = rw (le-leb start i from, lt-ltb i end to) refl
+
+pub below_run : (start end i : ℕ) → i < start → is_within start end i ≡ false
+below_run start end i before = rw (lt-leb start i before) refl
+
+pub above_run : (start end i : ℕ) → end ≤ i → is_within start end i ≡ false
+above_run start end i after = and_right (nat_le start i) (nat_lt i end) (le-ltb i end after)
+
+either_false-left : (a b : Bool) → (a || b) ≡ false → a ≡ false
+either_false-left true b e = e
+either_false-left false b e = refl
+
+pub either_false-right : (a b : Bool) → (a || b) ≡ false → b ≡ false
+either_false-right true b e = absurd (true≢false e)
+either_false-right false b e = e
+
+-- ---- the end of the run that has an offset
+
+pub end_or-after : (offset : ℕ) (runs : List Run) → All (λ run. offset ≤ run.end) runs → offset ≤ end_or offset runs
+end_or-after offset [] above = omega arith
+end_or-after offset (run ∷ runs) above =
+    let first : offset ≤ run.end = All-head (λ (run : Run). offset ≤ run.end) run runs above in
+    cond_both (nat_le run.start offset) run.end offset (λ end. offset ≤ end) (λ _. first) (λ _. omega arith)
+
+end_or-covered : (offset i : ℕ) (runs : List Run) → offset ≤ i → i < end_or offset runs → in_runs runs i ≡ true
+end_or-covered offset i [] from to = absurd (omega arith)
+end_or-covered offset i (run ∷ runs) from to =
+    cond_both (nat_le run.start offset) run.end offset (λ end. i < end → in_runs (run ∷ runs) i ≡ true)
+    (λ begun less. or_left (is_within run.start run.end i) (in_runs runs i)
+    (within_run run.start run.end i (omega (arith, leb-true run.start offset begun)) less))
+    (λ _ less. absurd (omega arith))
+    to
+
+end_or-stops : (low offset : ℕ) (runs : List Run) → IsRisingFrom low runs → in_runs runs (end_or offset runs) ≡ false
+end_or-stops low offset [] rising = refl
+end_or-stops low offset (run ∷ runs) rising =
+    cond_both (nat_le run.start offset) run.end offset (λ end. in_runs (run ∷ runs) end ≡ false)
+    (λ _. or_from (is_within run.start run.end run.end) (in_runs runs run.end)
+    (above_run run.start run.end run.end (omega arith)) (below_rising (run.end + 1) runs run.end rising.2 (omega arith)))
+    (λ apart. below_rising run.start (run ∷ runs) offset (omega arith, rising.1, rising.2) (leb-false run.start offset apart))
+
+pub end_from-covered : (runs : List Run) (place offset i : ℕ) → All (λ run. run.end < offset) (take place runs)
+    → offset ≤ i → i < end_or offset (drop place runs) → in_runs runs i ≡ true
+end_from-covered runs place offset i below from to =
+    in_rest runs place offset i (omega arith) below ∙ end_or-covered offset i (drop place runs) from to
+
+pub end_from-stops : (runs : List Run) (place offset : ℕ) → IsRisingFrom 0 runs → All (λ run. run.end < offset) (take place runs)
+    → All (λ run. offset ≤ run.end) (drop place runs) → in_runs runs (end_or offset (drop place runs)) ≡ false
+end_from-stops runs place offset rising below above =
+    let after : offset ≤ end_or offset (drop place runs) = end_or-after offset (drop place runs) above in
+    in_rest runs place offset (end_or offset (drop place runs)) (omega arith) below
+    ∙ end_or-stops (beyond 0 (take place runs)) offset (drop place runs) (rising_drop runs place rising)
+
+-- ---- where the next run begins
+
+pub start_or-after : (offset limit : ℕ) (runs : List Run) → offset < limit → All (λ run. offset < run.start) runs → offset < start_or limit runs
+start_or-after offset limit [] below above = below
+start_or-after offset limit (run ∷ runs) below above =
+    let first : offset < run.start = All-head (λ (run : Run). offset < run.start) run runs above in omega arith
+
+-- runs that begin at or below an offset that they don't have end there
+begun_without : (offset i : ℕ) (runs : List Run) → All (λ run. run.start ≤ offset) runs → in_runs runs offset ≡ false → offset ≤ i → in_runs runs i ≡ false
+begun_without offset i [] begun missing from = refl
+begun_without offset i (run ∷ runs) begun missing from =
+    let first : run.start ≤ offset = All-head (λ (run : Run). run.start ≤ offset) run runs begun in
+    let out : is_within run.start run.end offset ≡ false = either_false-left (is_within run.start run.end offset) (in_runs runs offset) missing in
+    let ended : run.end ≤ offset = ⊎_elim
+    (λ (has : (is_within run.start run.end offset ≡ true) × (run.start ≤ offset) × (offset < run.end)). absurd (true≢false (sym has.0 ∙ out)))
+    (λ (is : (is_within run.start run.end offset ≡ false) × ((offset < run.start) ⊎ (run.end ≤ offset))). ⊎_elim
+    (λ (before : offset < run.start). absurd (omega arith))
+    (λ (after : run.end ≤ offset). after)
+    is.1)
+    (is_within_tells run.start run.end offset) in
+    or_from (is_within run.start run.end i) (in_runs runs i)
+    (above_run run.start run.end i (omega arith))
+    (begun_without offset i runs (All-tail (λ (run : Run). run.start ≤ offset) run runs begun)
+    (either_false-right (is_within run.start run.end offset) (in_runs runs offset) missing) from)
+
+start_or-missing : (low limit i : ℕ) (runs : List Run) → IsRisingFrom low runs → i < start_or limit runs → in_runs runs i ≡ false
+start_or-missing low limit i [] rising to = refl
+start_or-missing low limit i (run ∷ runs) rising to =
+    below_rising run.start (run ∷ runs) i (omega arith, rising.1, rising.2) (omega arith)
+
+start_or-stops : (low limit : ℕ) (runs : List Run) → IsRisingFrom low runs → start_or limit runs < limit → in_runs runs (start_or limit runs) ≡ true
+start_or-stops low limit [] rising to = absurd (omega arith)
+start_or-stops low limit (run ∷ runs) rising to =
+    let e : min run.start limit ≡ run.start = omega arith in
+    subst (λ n. in_runs (run ∷ runs) n ≡ true) (sym e)
+    (or_left (is_within run.start run.end run.start) (in_runs runs run.start) (within_run run.start run.end run.start (omega arith) rising.1))
+
+pub gap_end-missing : (runs : List Run) (place offset limit i : ℕ) → IsRisingFrom 0 runs → All (λ run. run.start ≤ offset) (take place runs)
+    → in_runs runs offset ≡ false → offset ≤ i → i < start_or limit (drop place runs) → in_runs runs i ≡ false
+gap_end-missing runs place offset limit i rising below missing from to =
+    let front : in_runs (take place runs) offset ≡ false =
+    either_false-left (in_runs (take place runs) offset) (in_runs (drop place runs) offset) (sym (in_parts runs place offset) ∙ missing) in
+    in_parts runs place i
+    ∙ or_from (in_runs (take place runs) i) (in_runs (drop place runs) i)
+    (begun_without offset i (take place runs) below front from)
+    (start_or-missing (beyond 0 (take place runs)) limit i (drop place runs) (rising_drop runs place rising) to)
+
+pub gap_end-stops : (runs : List Run) (place limit : ℕ) → IsRisingFrom 0 runs → start_or limit (drop place runs) < limit
+    → in_runs runs (start_or limit (drop place runs)) ≡ true
+gap_end-stops runs place limit rising to =
+    in_parts runs place (start_or limit (drop place runs))
+    ∙ or_right (in_runs (take place runs) (start_or limit (drop place runs))) (in_runs (drop place runs) (start_or limit (drop place runs)))
+    (start_or-stops (beyond 0 (take place runs)) limit (drop place runs) (rising_drop runs place rising) to)
+
+-- ---- the lowest run that is missing
+
+pub first_missing-some : (set : ℕ → Bool) (start end limit : ℕ) → start < end → end ≤ limit
+    → ((i : ℕ) → 0 ≤ i → i < start → set i ≡ true) → ((i : ℕ) → start ≤ i → i < end → set i ≡ false) → (end < limit → set end ≡ true)
+    → first_missing set limit ≡ Some (record { start = start; end = end })
+unfolding runs_of
+first_missing-some set start end limit filled below front missing stops =
+    let left_out : ℕ → Bool = λ i. not (set i) in
+    let whole : limit - 0 ≡ limit = omega arith in
+    let skipped : runs_from left_out 0 limit ≡ runs_from left_out start (limit - start) =
+    rw whole at (runs_from-none left_out 0 start limit (omega arith) (omega arith) (λ i from to. ap not (front i from to))) in
+    let first : runs_from left_out start (limit - start) ≡ record { start = start; end = end } ∷ runs_from left_out end (limit - end) =
+    runs_from-all left_out start end limit filled below (λ i from to. ap not (missing i from to)) (λ less. ap not (stops less)) in
+    ap (λ (l : List Run). slice_get l 0) (skipped ∙ first)
+
+pub first_missing-none : (set : ℕ → Bool) (limit reached : ℕ) → limit ≤ reached → ((i : ℕ) → 0 ≤ i → i < reached → set i ≡ true)
+    → first_missing set limit ≡ None
+first_missing-none set limit reached le front =
+    ap (λ (l : List Run). slice_get l 0) (missing_runs-full set limit (λ i below. front i (omega arith) (omega arith)))
+
+-- what the lowest missing run says of the set
+pub record IsFirstMissing (set : ℕ → Bool) (limit : ℕ) (run : Run) : Type 0 where
+  pub filled : run.start < run.end
+  pub within : run.end ≤ limit
+  pub covered : (i : ℕ) → i < run.start → IsTrue (set i)
+  pub missing : (i : ℕ) → run.start ≤ i → i < run.end → set i ≡ false
+  pub stops : run.end < limit → IsTrue (set run.end)
+
+-- what runs don't have of what isn't in the set is in the set
+covered_by_rest : (set : ℕ → Bool) (limit i : ℕ) (runs : List Run) → missing_runs set limit ≡ runs → i < limit → in_runs runs i ≡ false → IsTrue (set i)
+covered_by_rest set limit i runs is below none =
+    let out : not (set i) ≡ false =
+    rw (lt-ltb i limit below) at (sym (in_runs-runs_of (λ offset. not (set offset)) limit i) ∙ ap (λ (l : List Run). in_runs l i) is ∙ none) in
+    not-false (set i) out
+
+first_of_runs : (set : ℕ → Bool) (limit : ℕ) (run : Run) (first : Run) (runs : List Run) → missing_runs set limit ≡ first ∷ runs
+    → Some first ≡ Some run → IsFirstMissing set limit first
+first_of_runs set limit run first runs is same =
+    let left_out : ℕ → Bool = λ offset. not (set offset) in
+    let rising : IsRisingFrom 0 (first ∷ runs) = subst (IsRisingFrom 0) is (IsRisingFrom-runs_of left_out limit) in
+    let one : 0 < length (first ∷ runs) = omega arith in
+    let end : first.end ≤ limit = subst (All (λ run. run.end ≤ limit)) is (ends-runs_of left_out limit) 0 first one in
+    record {
+      filled = rising.1;
+      within = end;
+      covered = λ i below.
+          covered_by_rest set limit i (first ∷ runs) is (omega (arith, rising.1))
+          (below_rising first.start (first ∷ runs) i (omega arith, rising.1, rising.2) below);
+      missing = λ i from to.
+          not-true (set i)
+          (subst (All (λ run. (offset : ℕ) → run.start ≤ offset → offset < run.end → (offset < limit) × IsTrue (not (set offset)))) is
+          (in_set-runs_of left_out limit) 0 first one i from to).1;
+      stops = λ less.
+          covered_by_rest set limit first.end (first ∷ runs) is less
+          (or_from (is_within first.start first.end first.end) (in_runs runs first.end)
+          (above_run first.start first.end first.end (omega arith)) (below_rising (first.end + 1) runs first.end rising.2 (omega arith)));
+    }
+
+first_of_list : (set : ℕ → Bool) (limit : ℕ) (run : Run) (runs : List Run) → missing_runs set limit ≡ runs → slice_get runs 0 ≡ Some run
+    → IsFirstMissing set limit run
+first_of_list set limit run [] is first = absurd cc
+first_of_list set limit run (one ∷ runs) is first =
+    let same : one ≡ run = cc in
+    subst (IsFirstMissing set limit) same (first_of_runs set limit run one runs is first)
+
+pub first_missing_tells : (set : ℕ → Bool) (limit : ℕ) (run : Run) → first_missing set limit ≡ Some run → IsFirstMissing set limit run
+first_missing_tells set limit run first = first_of_list set limit run (missing_runs set limit) refl first
+
+none_of_list : (set : ℕ → Bool) (limit : ℕ) (runs : List Run) → missing_runs set limit ≡ runs → slice_get runs 0 ≡ None
+    → (offset : ℕ) → offset < limit → IsTrue (set offset)
+none_of_list set limit [] is none = full_from_missing_runs set limit is
+none_of_list set limit (one ∷ runs) is none = absurd cc
+
+-- where no run is the lowest missing one, nothing is missing
+pub full_from_first_missing : (set : ℕ → Bool) (limit : ℕ) → first_missing set limit ≡ None → (offset : ℕ) → offset < limit → IsTrue (set offset)
+full_from_first_missing set limit none = none_of_list set limit (missing_runs set limit) refl none
+
+-- ---- a free range
+
+free_rest : (low start end : ℕ) (runs : List Run) → IsRisingFrom low runs → begins_from end runs ≡ true → IsFree (in_runs runs) start end
+free_rest low start end [] rising from i at below = refl
+free_rest low start end (run ∷ runs) rising from i at below =
+    let le : end ≤ run.start = leb-true end run.start from in
+    below_rising run.start (run ∷ runs) i (omega arith, rising.1, rising.2) (omega arith)
+
+taken_rest : (low start end : ℕ) (runs : List Run) → start < end → All (λ run. start + 1 ≤ run.end) runs → IsRisingFrom low runs
+    → begins_from end runs ≡ false → IsFree (in_runs runs) start end → ⊥
+taken_rest low start end [] filled above rising from free = true≢false from
+taken_rest low start end (run ∷ runs) filled above rising from free =
+    let lt : run.start < end = leb-false end run.start from in
+    let past : start + 1 ≤ run.end = All-head (λ (run : Run). start + 1 ≤ run.end) run runs above in
+    let has : in_runs (run ∷ runs) (max start run.start) ≡ true =
+    or_left (is_within run.start run.end (max start run.start)) (in_runs runs (max start run.start))
+    (within_run run.start run.end (max start run.start) (omega arith) (omega (arith, rising.1))) in
+    true≢false (sym has ∙ free (max start run.start) (omega arith) (omega arith))
+
+pub free_exact : (runs : List Run) (place start end : ℕ) (result : Bool) → IsRisingFrom 0 runs → start < end
+    → All (λ run. run.end < start + 1) (take place runs) → All (λ run. start + 1 ≤ run.end) (drop place runs)
+    → result ≡ begins_from end (drop place runs) → IsTrue result ↔ IsFree (in_runs runs) start end
+free_exact runs place start end true rising filled below above is = (
+  λ _ i from to. in_rest runs place (start + 1) i (omega arith) below
+      ∙ free_rest (beyond 0 (take place runs)) start end (drop place runs) (rising_drop runs place rising) (sym is) i from to,
+  λ _. refl,
+)
+free_exact runs place start end false rising filled below above is = (
+  λ wrong. absurd (false≢true wrong),
+  λ free. absurd (taken_rest (beyond 0 (take place runs)) start end (drop place runs) filled above (rising_drop runs place rising) (sym is)
+      (λ i from to. sym (in_rest runs place (start + 1) i (omega arith) below) ∙ free i from to)),
+)
+
+-- ---- the last end
+
+pub last_end-rises : (end : ℕ) (runs : List Run) → IsRisingFrom (end + 1) runs → end ≤ last_end end runs
+last_end-rises end [] rising = omega arith
+last_end-rises end (run ∷ runs) rising = omega (arith, rising.0, rising.1, last_end-rises run.end runs rising.2)
+
+last_end-above : (low start : ℕ) (runs : List Run) (i : ℕ) → IsRisingFrom low runs → last_end start runs ≤ i → in_runs runs i ≡ false
+last_end-above low start [] i rising past = refl
+last_end-above low start (run ∷ runs) i rising past =
+    or_from (is_within run.start run.end i) (in_runs runs i)
+    (above_run run.start run.end i (omega (arith, last_end-rises run.end runs rising.2)))
+    (last_end-above (run.end + 1) run.end runs i rising.2 past)
+
+last_end-in : (low : ℕ) (run : Run) (runs : List Run) → IsRisingFrom low (run ∷ runs) → in_runs (run ∷ runs) (last_end run.end runs - 1) ≡ true
+last_end-in low run [] rising =
+    or_left (is_within run.start run.end (run.end - 1)) false (within_run run.start run.end (run.end - 1) (omega (arith, rising.1)) (omega (arith, rising.1)))
+last_end-in low run (next ∷ runs) rising =
+    or_right (is_within run.start run.end (last_end next.end runs - 1)) (in_runs (next ∷ runs) (last_end next.end runs - 1))
+    (last_end-in (run.end + 1) next runs rising.2)
+
+last_of_positive : (runs : List Run) → IsRisingFrom 0 runs → 0 < last_end 0 runs → in_runs runs (last_end 0 runs - 1) ≡ true
+last_of_positive [] rising positive = absurd (omega arith)
+last_of_positive (run ∷ runs) rising positive = last_end-in 0 run runs rising
+
+pub IsExtent-last_end : (runs : List Run) → IsRisingFrom 0 runs → IsExtent (in_runs runs) (last_end 0 runs)
+IsExtent-last_end runs rising = record {
+  above = λ i past. last_end-above 0 0 runs i rising past;
+  last = λ positive. last_of_positive runs rising positive;
+}
+
+-- the last run's end
+pub last_end-at : (start : ℕ) (runs : List Run) (d : Run) → 0 < length runs → last_end start runs ≡ (get_or runs (length runs - 1) d).end
+last_end-at start [] d positive = absurd (omega arith)
+last_end-at start (run ∷ []) d positive = refl
+last_end-at start (run ∷ next ∷ runs) d positive =
+    let e : length (run ∷ next ∷ runs) - 1 ≡ suc (length (next ∷ runs) - 1) = omega arith in
+    rw e (last_end-at run.end (next ∷ runs) d (omega arith))
+
+pub last_end-read : (runs : List Run) (last : Run) → Some last ≡ slice_get runs (length runs - 1) → last.end ≡ last_end 0 runs
+last_end-read runs last read =
+    let within : length runs - 1 < length runs = slice_get_within runs (length runs - 1) last (sym read) in
+    ap (λ (run : Run). run.end) (sym (get_or_from_slice_get runs (length runs - 1) last last (sym read)))
+    ∙ sym (last_end-at 0 runs last (omega arith))

@@ -1,0 +1,109 @@
+//! Ranges that are added to rising runs and taken out of them, in room that is there.
+ghost use Rattle.std.specs.Prelude.{◌≡◌, ℕ, ◌+◌, ◌<◌, ◌≤◌, ◌++◌, ◌∷◌, take, drop, vec_len, vec_capacity};
+ghost use Rattle.std.specs.List.{insert};
+ghost use Rattle.gap_list.specs.Places.{kept};
+ghost use Rattle.gap_list.specs.Runs.{in_runs, with_range, without_range, SameSet, IsRisingFrom};
+
+use crate::run::Run;
+use crate::search::{begun_by, ended_below};
+
+// Takes the runs from one place to another out.
+fn cut(runs: &mut Vec<Run>, first: usize, last: usize)
+    requires ordered { first ≤ last }
+    requires within { last ≤ vec_len runs.old }
+    ensures items { runs.new.items ≡ take first runs.old.items ++ drop last runs.old.items }
+    ensures len { vec_len runs.new + last ≡ vec_len runs.old + first }
+    ensures room { vec_capacity runs.new ≡ vec_capacity runs.old }
+{
+    let len = runs.len();
+    runs.copy_within(last..len, first);
+    runs.truncate(first + (len - last));
+}
+
+// Puts a run in the place of those from one place to another.
+fn replace(runs: &mut Vec<Run>, first: usize, last: usize, run: Run)
+    requires ordered { first < last }
+    requires within { last ≤ vec_len runs.old }
+    ensures items { runs.new.items ≡ take first runs.old.items ++ run ∷ drop last runs.old.items }
+    ensures len { vec_len runs.new ≤ vec_len runs.old }
+    ensures room { vec_capacity runs.new ≡ vec_capacity runs.old }
+{
+    runs[first] = run;
+    cut(runs, first + 1, last);
+}
+
+// Puts a run at a place, in room that is there.
+fn insert_run(runs: &mut Vec<Run>, place: usize, run: Run)
+    requires within { place ≤ vec_len runs.old }
+    requires room { vec_len runs.old < vec_capacity runs.old }
+    ensures items { runs.new.items ≡ insert runs.old.items place run }
+    ensures len { vec_len runs.new ≡ vec_len runs.old + 1 }
+    ensures room { vec_capacity runs.new ≡ vec_capacity runs.old }
+{
+    let inserted = runs.insert(place, run);
+    inserted.unwrap()
+}
+
+// Adds a range: one run with those that it touches.
+pub fn add(runs: &mut Vec<Run>, start: u32, end: u32)
+    requires filled { start < end }
+    requires rising { IsRisingFrom 0 runs.old.items }
+    requires room { vec_len runs.old < vec_capacity runs.old }
+    ensures rising { IsRisingFrom 0 runs.new.items }
+    ensures added { SameSet (in_runs runs.new.items) (with_range (in_runs runs.old.items) start end) }
+    ensures len { vec_len runs.new ≤ vec_len runs.old + 1 }
+    ensures room { vec_capacity runs.new ≡ vec_capacity runs.old }
+{
+    let first = ended_below(runs.as_slice(), start);
+    let last = begun_by(runs.as_slice(), end);
+    if first < last {
+        let joined = Run {
+            start: runs[first].start.min(start),
+            end: runs[last - 1].end.max(end),
+        };
+        replace(runs, first, last, joined);
+    } else {
+        insert_run(runs, first, Run { start, end });
+    }
+}
+
+// Puts a run at a place where it is not empty, in room that is there.
+fn insert_filled(runs: &mut Vec<Run>, place: usize, run: Run)
+    requires within { place ≤ vec_len runs.old }
+    requires room { vec_len runs.old < vec_capacity runs.old }
+    ensures items { runs.new.items ≡ take place runs.old.items ++ kept run (drop place runs.old.items) }
+    ensures len { vec_len runs.new ≤ vec_len runs.old + 1 }
+    ensures grown { vec_len runs.old ≤ vec_len runs.new }
+    ensures room { vec_capacity runs.new ≡ vec_capacity runs.old }
+{
+    if run.start < run.end {
+        insert_run(runs, place, run);
+    }
+}
+
+// Takes a range out: of the runs that it meets, what lies below and above it stays.
+pub fn remove(runs: &mut Vec<Run>, start: u32, end: u32)
+    requires filled { start < end }
+    requires rising { IsRisingFrom 0 runs.old.items }
+    requires room { vec_len runs.old < vec_capacity runs.old }
+    ensures rising { IsRisingFrom 0 runs.new.items }
+    ensures removed { SameSet (in_runs runs.new.items) (without_range (in_runs runs.old.items) start end) }
+    ensures len { vec_len runs.new ≤ vec_len runs.old + 1 }
+    ensures room { vec_capacity runs.new ≡ vec_capacity runs.old }
+{
+    let first = ended_below(runs.as_slice(), start);
+    let last = begun_by(runs.as_slice(), end - 1);
+    if first < last {
+        let below = Run {
+            start: runs[first].start,
+            end: start,
+        };
+        let above = Run {
+            start: end,
+            end: runs[last - 1].end,
+        };
+        cut(runs, first, last);
+        insert_filled(runs, first, above);
+        insert_filled(runs, first, below);
+    }
+}

@@ -1,0 +1,144 @@
+//! Where an offset stands among rising runs, found by halves.
+ghost use Rattle.std.specs.Prelude.{◌≡◌, ◌↔◌, ℕ, ◌<◌, ◌≤◌, true, false, IsTrue, nat_le, nat_lt, length, take, drop, All};
+ghost use Rattle.gap_list.specs.Runs.{in_runs, with_range, first_missing, IsFree, IsExtent, IsRisingFrom};
+ghost use Rattle.gap_list.specs.Places.{end_or, start_or, begins_from, last_end};
+
+use crate::run::Run;
+
+// How many runs end below the offset.
+pub fn ended_below(runs: &[Run], offset: u32) -> usize
+    requires { IsRisingFrom 0 runs.now }
+    ensures within { result ≤ length runs.now }
+    ensures below { All (λ run. run.end < offset) (take result runs.now) }
+    ensures above { All (λ run. offset ≤ run.end) (drop result runs.now) }
+{
+    runs.partition_point(
+        |run: &Run| -> bool
+            ensures { result ≡ nat_lt run.now.end offset }
+        { run.end < offset },
+    )
+}
+
+// How many runs begin at or below the offset.
+pub fn begun_by(runs: &[Run], offset: u32) -> usize
+    requires { IsRisingFrom 0 runs.now }
+    ensures within { result ≤ length runs.now }
+    ensures below { All (λ run. run.start ≤ offset) (take result runs.now) }
+    ensures above { All (λ run. offset < run.start) (drop result runs.now) }
+{
+    runs.partition_point(
+        |run: &Run| -> bool
+            ensures { result ≡ nat_le run.now.start offset }
+        { run.start <= offset },
+    )
+}
+
+// The end of the run at a place, where it begins at or below the offset, and else the offset.
+fn end_at(runs: &[Run], place: usize, offset: u32) -> u32
+    ensures { result ≡ end_or offset (drop place runs.now) }
+{
+    match runs.get(place) {
+        None => offset,
+        Some(run) => { if run.start <= offset { run.end } else { offset } }
+    }
+}
+
+// Where the run at a place begins, but no more than the limit.
+fn start_at(runs: &[Run], place: usize, limit: u32) -> u32
+    ensures { result ≡ start_or limit (drop place runs.now) }
+{
+    match runs.get(place) {
+        None => limit,
+        Some(run) => run.start.min(limit),
+    }
+}
+
+// Whether no run from a place on begins below the offset.
+fn begins_at(runs: &[Run], place: usize, offset: u32) -> bool
+    ensures { result ≡ begins_from offset (drop place runs.now) }
+{
+    match runs.get(place) {
+        None => true,
+        Some(run) => offset <= run.start,
+    }
+}
+
+// The first offset from this one on that no run has.
+pub fn end_from(runs: &[Run], offset: u32) -> u32
+    requires { IsRisingFrom 0 runs.now }
+    ensures at_or_after { offset ≤ result }
+    ensures covered { (i : ℕ) → offset ≤ i → i < result → in_runs runs.now i ≡ true }
+    ensures stops { in_runs runs.now result ≡ false }
+{
+    end_at(runs, ended_below(runs, offset), offset)
+}
+
+// The first offset above this one that a run has, or the limit where there is none below it.
+pub fn gap_end(runs: &[Run], offset: u32, limit: u32) -> u32
+    requires rising { IsRisingFrom 0 runs.now }
+    requires below { offset < limit }
+    requires missing { in_runs runs.now offset ≡ false }
+    ensures after { offset < result }
+    ensures within { result ≤ limit }
+    ensures missing { (i : ℕ) → offset ≤ i → i < result → in_runs runs.now i ≡ false }
+    ensures stops { result < limit → in_runs runs.now result ≡ true }
+{
+    start_at(runs, begun_by(runs, offset), limit)
+}
+
+// The first offset that neither a run nor the range from start to end - 1 has.
+pub fn end_with(runs: &[Run], start: u32, end: u32) -> u32
+    requires { IsRisingFrom 0 runs.now }
+    ensures covered { (i : ℕ) → i < result → with_range (in_runs runs.now) start end i ≡ true }
+    ensures stops { with_range (in_runs runs.now) start end result ≡ false }
+{
+    let reached = end_from(runs, 0);
+    if start <= reached {
+        end_from(runs, end.max(reached))
+    } else {
+        reached
+    }
+}
+
+// The lowest maximal run below the limit that no run has.
+pub fn first_gap(runs: &[Run], limit: u32) -> Option<Run>
+    requires { IsRisingFrom 0 runs.now }
+    ensures { result ≡ first_missing (in_runs runs.now) limit }
+{
+    let start = end_from(runs, 0);
+    if start < limit {
+        Some(Run {
+            start,
+            end: gap_end(runs, start, limit),
+        })
+    } else {
+        None
+    }
+}
+
+// Whether no run has any of the offsets from start to end - 1.
+pub fn is_free(runs: &[Run], start: u32, end: u32) -> bool
+    requires rising { IsRisingFrom 0 runs.now }
+    requires filled { start < end }
+    ensures { IsTrue result ↔ IsFree (in_runs runs.now) start end }
+{
+    begins_at(runs, ended_below(runs, start + 1), end)
+}
+
+// One more than the greatest offset of the runs, or 0.
+pub fn greatest_end(runs: &[Run]) -> u32
+    requires { IsRisingFrom 0 runs.now }
+    ensures { IsExtent (in_runs runs.now) result }
+{
+    last_end(runs)
+}
+
+// Where the last run ends, or 0.
+fn last_end(runs: &[Run]) -> u32
+    ensures { result ≡ last_end 0 runs.now }
+{
+    match runs.last() {
+        None => 0,
+        Some(run) => run.end,
+    }
+}

@@ -1,0 +1,70 @@
+//! What rising runs leave out.
+ghost use Rattle.std.specs.Prelude.{◌≡◌, ◌≤◌, ◌-◌, ◌++◌, OnOk, length, take, []};
+ghost use Rattle.gap_list.specs.Places.{kept};
+ghost use Rattle.gap_list.specs.Runs.{in_runs, new_runs, missing_runs, with_range, IsRisingFrom};
+
+use crate::run::Run;
+use crate::search::ended_below;
+use std::alloc::AllocError;
+
+// Adds a run at the end, where it is not empty.
+fn put(gaps: &mut Vec<Run>, run: Run) -> Result<(), AllocError>
+    ensures { OnOk result (gaps.new.items ≡ gaps.old.items ++ kept run []) }
+{
+    if run.start < run.end {
+        gaps.push(run)?;
+    }
+    Ok(())
+}
+
+// Adds the runs of the offsets from `start` to `end` - 1 that no run has, from the lowest up, until
+// there are so many in all.
+pub fn put_gaps(
+    gaps: &mut Vec<Run>,
+    runs: &[Run],
+    start: u32,
+    end: u32,
+    most: usize,
+) -> Result<(), AllocError>
+    requires { IsRisingFrom 0 runs.now }
+    ensures { OnOk result (gaps.new.items ≡ gaps.old.items ++ take (most - length gaps.old.items) (new_runs (in_runs runs.now) start end)) }
+{
+    let mut place = ended_below(runs, start);
+    let mut offset = start;
+    while place < runs.len() && offset < end && gaps.len() < most {
+        let run = runs[place];
+        let gap = Run {
+            start: offset,
+            end: run.start.min(end),
+        };
+        put(gaps, gap)?;
+        offset = run.end.max(offset);
+        place += 1;
+    }
+    if gaps.len() < most {
+        put(gaps, Run { start: offset, end })?;
+    }
+    Ok(())
+}
+
+// Adds the first so many runs of the offsets below the limit that neither a run nor the range has.
+pub fn put_gaps_with(
+    gaps: &mut Vec<Run>,
+    runs: &[Run],
+    range: Run,
+    limit: u32,
+    most: usize,
+) -> Result<(), AllocError>
+    requires ordered { range.start ≤ range.end }
+    requires rising { IsRisingFrom 0 runs.now }
+    requires empty { gaps.old.items ≡ [] }
+    ensures { OnOk result (gaps.new.items ≡ take most (missing_runs (with_range (in_runs runs.now) range.start range.end) limit)) }
+{
+    if range.start == range.end {
+        put_gaps(gaps, runs, 0, limit, most)?;
+    } else {
+        put_gaps(gaps, runs, 0, range.start.min(limit), most)?;
+        put_gaps(gaps, runs, range.end, limit, most)?;
+    }
+    Ok(())
+}

@@ -1,0 +1,51 @@
+ghost use Rattle.std.specs.Prelude.{◌≡◌};
+ghost use Rattle.modular_sum.specs.Pieces.{sum_with};
+
+use crate::term_of;
+use std::marker::Model;
+
+/// The checksum of a file whose octets come at their offsets, in any order: each adds what it counts
+/// for where it stands, modulo 2^32. Contracts see the sum so far.
+#[derive(Clone, Copy, Debug, PartialEq, Eq)]
+pub struct Running {
+    word: u32,
+}
+
+impl Model for Running {
+    ghost use Rattle.std.specs.Prelude.{ℕ, ◌<◌, ◌^◌};
+
+    ghost Value = { ℕ };
+
+    ghost view = { λ r. r.word };
+
+    ghost invariant = { λ r. r.word < 2 ^ 32 };
+
+    ghost inverse = { λ n. record { word = n } };
+}
+
+impl Running {
+    /// The sum of no octets.
+    pub fn new() -> Running
+        ensures { result ≡ 0 }
+    {
+        Running { word: 0 }
+    }
+
+    /// Adds octets, the first of which stands at the offset. An octet that is added twice counts twice.
+    pub fn add(&mut self, offset: u32, octets: &[u8])
+        ensures { self.new ≡ sum_with self.old offset octets.now }
+    {
+        let mut place = offset as usize % 4;
+        for octet in octets {
+            self.word = self.word.wrapping_add(term_of(place, *octet));
+            place = (place + 1) % 4;
+        }
+    }
+
+    /// The sum so far.
+    pub fn value(&self) -> u32
+        ensures { result ≡ self.now }
+    {
+        self.word
+    }
+}
