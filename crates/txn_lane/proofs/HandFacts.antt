@@ -8,7 +8,7 @@ use Rattle.indications.specs.declared.indication.Indication.{Indication}
 use Rattle.indications.specs.LaneLists.{IsLaneList}
 use Rattle.txn_events.specs.declared.event.Event.{Event}
 use Rattle.txn_lane.specs.Lane.{State, key_at, key_of, IsSound}
-use Rattle.txn_lane.specs.Steps.{IsKeyed, opened_log, refusal_at, stepped, answer_of}
+use Rattle.txn_lane.specs.Steps.{IsKeyed, new_transaction, refusal_at, stepped, answer_of}
 use Rattle.txn_lane.specs.Keeping.{Keeps}
 use Rattle.txn_lane.specs.Handing.{bundle_for, MayHandOver}
 use Rattle.txn_lane.proofs.SentFacts.{some_is}
@@ -27,7 +27,7 @@ pub may_hand_over : (state : State) (event : Event) (bundles : List Bundle) (sta
 may_hand_over state event bundles stands key sound keyed free keeps stood of_key [] told = tt
 may_hand_over state event bundles stands key sound keyed free keeps stood of_key (first ∷ rest) told =
     let next : State = stepped state event in
-    let same : IsSame state next = same_by state event (opened_log state event) in
+    let same : IsSame state next = same_by state event (new_transaction state event) in
     let bundle : Bundle = record { user = state.user; lane = state.lane; key = key; inds = first ∷ rest } in
     let kept : Keeps next (bundles ++ bundle ∷ []) =
     keeps_bundle state event bundles bundle sound keeps keyed free

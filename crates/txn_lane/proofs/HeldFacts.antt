@@ -11,9 +11,9 @@ use Rattle.sender_core.specs.declared.plan.Plan.{Plan}
 use Rattle.sender_core.specs.declared.sender.SenderCore.{SenderCore}
 use Rattle.txn_events.specs.declared.event.Event.{Event}
 use Rattle.txn_lane.specs.declared.running.Running.{Running}
-use Rattle.txn_lane.specs.Logs.{sent, to_sender}
+use Rattle.txn_lane.specs.Logs.{Answer, sent, to_sender}
 use Rattle.txn_lane.specs.Lane.{State, log_of, IsSound}
-use Rattle.txn_lane.specs.Steps.{IsKeyed, opened_log, log_before, plainly, refused_by_end, refused_by_lane, refusal_at, stepped, answer_in, answer_of}
+use Rattle.txn_lane.specs.Steps.{IsKeyed, new_transaction, log_before, plainly, refused_by_end, refused_by_lane, refusal_at, stepped, answer_in, answer_of}
 use Rattle.txn_lane.specs.LaneCode.{Stands, IsHeld}
 use Rattle.txn_lane.proofs.LogFacts.{log_with}
 use Rattle.txn_lane.proofs.SentFacts.{some_is}
@@ -38,18 +38,18 @@ planned_answer core plan sending front event is stood planned =
 -- ---- an event that the lane and its end take
 
 pub taken_by_both : (state : State) (event : Event) (sending : sender.Sending) (front : List sender.Entry)
-    → refused_by_lane state event ≡ None → log_before state (opened_log state event) ≡ Some (sent sending front)
+    → refused_by_lane state event ≡ None → log_before state (new_transaction state event) ≡ Some (sent sending front)
     → sender_refusals.refusal_at sending (sender.state_of sending front) (to_sender event) ≡ None
     → refusal_at state event ≡ None
 taken_by_both state event sending front free before taken =
-    ap (λ o. option_or o (option_map plainly (refused_by_end (log_before state (opened_log state event)) event))) free
+    ap (λ o. option_or o (option_map plainly (refused_by_end (log_before state (new_transaction state event)) event))) free
     ∙ ap (λ o. option_map plainly (refused_by_end o event)) before
     ∙ ap (option_map plainly) taken
 
 -- the log that a planned step makes
 pub log_after_step : (state : State) (event : Event) (core : SenderCore) (plan : Plan) (sending : sender.Sending) (front : List sender.Entry)
     → IsSound state → IsKeyed event → refusal_at state event ≡ None
-    → log_before state (opened_log state event) ≡ Some (sent sending front)
+    → log_before state (new_transaction state event) ≡ Some (sent sending front)
     → sending_of core ≡ sending → StandsAfter core front → IsPlanOf core plan (to_sender event)
     → log_of (stepped state event) ≡ Some (sent sending (record { event = to_sender event; answer = plan_answer plan } ∷ front))
 log_after_step state event core plan sending front sound keyed free before is stood planned =
@@ -68,7 +68,7 @@ answer_after_step state event sending entry front after = ap answer_in after
 
 pub held_after_step : (state : State) (event : Event) (running next : Running) (plan : Plan) (sending : sender.Sending) (front : List sender.Entry)
     → IsSound state → IsKeyed event → refusal_at state event ≡ None
-    → log_before state (opened_log state event) ≡ Some (sent sending front)
+    → log_before state (new_transaction state event) ≡ Some (sent sending front)
     → Stands (Some running) (Some (sent sending front)) → IsPlanOf running.core plan (to_sender event)
     → sending_of next.core ≡ sending_of running.core
     → StandsAfter next.core (record { event = to_sender event; answer = plan_answer plan } ∷ front)

@@ -13,7 +13,7 @@ use Rattle.txn_lane.specs.declared.running.Running.{Running}
 use Rattle.txn_lane.specs.Lane.{State, is_above, log_of}
 use Rattle.txn_lane.specs.LaneCode.{sending_state, journal_of, IsHeld}
 use Rattle.txn_lane.specs.Logs.{Transaction}
-use Rattle.txn_lane.specs.Steps.{IsKeyed, opened_log, refused_by_lane, stepped, stepped_by}
+use Rattle.txn_lane.specs.Steps.{IsKeyed, new_transaction, refused_by_lane, stepped, stepped_by}
 use Rattle.txn_lane.proofs.TakenFacts.{Meets, IsFound, found_by, of_last, meets_last, stands_same}
 
 if_same : (b : Bool) → (if b then (let none : Option Transaction = None in none) else None) ≡ None
@@ -21,12 +21,12 @@ if_same true = refl
 if_same false = refl
 
 opening_none : (numbers : Numbers) (greatest user lane : ℕ) (source : EntityId) (last before : Option ℕ) (journal : List Event) (key : TxnKey) (what : What)
-    → opened_log (sending_state numbers greatest user lane source last before journal) (On key what) ≡ None
+    → new_transaction (sending_state numbers greatest user lane source last before journal) (On key what) ≡ None
 opening_none numbers greatest user lane source last before journal key what = if_same (is_above key.seq last)
 
 -- the lane's transaction is the code's, and takes the event
 pub record GoesOn (state : State) (key : TxnKey) (what : What) (running : Running) : Type 0 where
-  pub none : opened_log state (On key what) ≡ None
+  pub none : new_transaction state (On key what) ≡ None
   pub found : IsFound running (log_of state)
   pub meets : Meets state (On key what) key found.sending found.front
 
@@ -37,8 +37,8 @@ pub goes_on_by : (numbers : Numbers) (greatest user lane : ℕ) (source : Entity
     → IsKeyed (On key what) → refused_by_lane state (On key what) ≡ None
     → GoesOn state key what running
 goes_on_by numbers greatest user lane source last before held running state key what view holds is keyed passed =
-    let none : opened_log state (On key what) ≡ None =
-    subst (λ s. opened_log s (On key what) ≡ None) (sym view) (opening_none numbers greatest user lane source last before (journal_of held) key what) in
+    let none : new_transaction state (On key what) ≡ None =
+    subst (λ s. new_transaction s (On key what) ≡ None) (sym view) (opening_none numbers greatest user lane source last before (journal_of held) key what) in
     let now : IsHeld state (Some running) =
     subst (λ s. IsHeld s (Some running)) (sym view) (subst (IsHeld (sending_state numbers greatest user lane source last before (journal_of held))) is holds) in
     let found : IsFound running (log_of state) = found_by running (log_of state) now.stands (of_last state key what none passed).runs in
@@ -67,7 +67,7 @@ held_same numbers greatest user lane source last before held running next holds 
 pub next_on : (numbers : Numbers) (greatest user lane : ℕ) (source : EntityId) (last before : Option ℕ) (held : Option Running) (running next : Running)
     (state : State) (key : TxnKey) (what : What)
     → state ≡ sending_state numbers greatest user lane source last before (journal_of held) → held ≡ Some running
-    → opened_log state (On key what) ≡ None → next.journal.items ≡ running.journal.items ++ On key what ∷ []
+    → new_transaction state (On key what) ≡ None → next.journal.items ≡ running.journal.items ++ On key what ∷ []
     → sending_state numbers greatest user lane source last before next.journal.items ≡ stepped state (On key what)
 next_on numbers greatest user lane source last before held running next state key what view is none journal =
     let at : List Event → State = sending_state numbers greatest user lane source last before in

@@ -12,7 +12,7 @@ use Rattle.receiver_laws.proofs.ReceptionLegal as receiver_laws
 use Rattle.txn_events.specs.declared.event.Event.{Event}
 use Rattle.txn_lane.specs.Logs.{Transaction, Log}
 use Rattle.txn_lane.specs.Lane.{State, idle, key_at, key_of, log_of, IsRun, IsSound}
-use Rattle.txn_lane.specs.Steps.{IsKeyed, refusal_at, opened_log, stepped_by, stepped, answer_in, answer_of}
+use Rattle.txn_lane.specs.Steps.{IsKeyed, refusal_at, new_transaction, stepped_by, stepped, answer_in, answer_of}
 use Rattle.txn_lane.specs.Keeping.{Keeps, bundle_by, bundle_of, sent_after, AreTaken}
 use Rattle.txn_lane.specs.LaneLaws.{CompletesGood, SendsLaneLists, StepsKeep}
 use Rattle.txn_lane.proofs.StepFacts.{stays_sound, idle_sound, keeps_bundle, keeps_quiet, idle_keeps}
@@ -72,7 +72,7 @@ runs_on user lane source state bundles [] sound keeps of_user of_lane of_source 
     (subst (λ s. IsLaneList state.user state.lane s bundles) of_source keeps.list)))
 runs_on user lane source state bundles (event ∷ later) sound keeps of_user of_lane of_source taken =
     let next : State = stepped state event in
-    let same : IsSame state next = same_by state event (opened_log state event) in
+    let same : IsSame state next = same_by state event (new_transaction state event) in
     subst (IsLaneList user lane source) (append_assoc bundles (bundle_of next) (sent_after next later))
     (runs_on user lane source next (bundles ++ bundle_of next) later
     (stays_sound state event sound taken.0 taken.1) (step_keeps state event bundles sound keeps taken.0 taken.1)

@@ -18,7 +18,7 @@ use Rattle.txn_lane.specs.declared.lane_side.LaneSide.{LaneSide}
 use Rattle.txn_lane.specs.declared.lane_side.LaneSide.TheVariants.{Sending, Receiving}
 use Rattle.txn_lane.specs.Logs.{Transaction, Log, opened_by, log_by, issued, has_ended, IsLegal, last_answer, side_of}
 use Rattle.txn_lane.specs.Lane.{State, idle, key_at, is_above, log_from, log_of, goes_on, is_running, issued_in, issued_by, IsNumbered, IsRun, IsRisen, IsSound}
-use Rattle.txn_lane.specs.Steps.{IsKeyed, next_in, next_number, number_in, is_foreign, is_new, opened_log, log_before, is_unknown, is_old, is_busy, plainly, refused_by_end, refused_by_lane, refusal_at, stepped_by, stepped, answer_in, answer_of, IsBundle}
+use Rattle.txn_lane.specs.Steps.{IsKeyed, next_in, next_number, number_in, is_foreign, is_new, new_transaction, log_before, is_unknown, is_old, is_busy, plainly, refused_by_end, refused_by_lane, refusal_at, stepped_by, stepped, answer_in, answer_of, IsBundle}
 use Rattle.txn_lane.specs.Keeping.{AreSent, Keeps}
 use Rattle.txn_lane.proofs.LogFacts.{log_with, log_by-more, HasPlace, issued_with, legal_with, nothing_legal, nothing_ended, nothing_issued, IfOpened, IsOfPdu, first_place, later_place, lane_words, begun_group, word_group}
 use Rattle.txn_lane.proofs.SentFacts.{some_is, nothing_sent, IsOver, number_opens, bundle_more}
@@ -37,7 +37,7 @@ record IsTaken (state : State) (event : Event) : Type 0 where
   known : is_unknown state event ≡ false
   young : is_old state event ≡ false
   free : is_busy state event ≡ false
-  allowed : refused_by_end (log_before state (opened_log state event)) event ≡ None
+  allowed : refused_by_end (log_before state (new_transaction state event)) event ≡ None
 
 or_none : {A : Type 0} (o rest : Option A) → option_or o rest ≡ None → (o ≡ None) × (rest ≡ None)
 or_none None rest e = (refl, e)
@@ -45,11 +45,11 @@ or_none (Some x) rest e = absurd cc
 
 taken_by : (state : State) (event : Event) → refusal_at state event ≡ None → IsTaken state event
 taken_by state event e =
-    let both = or_none (refused_by_lane state event) (option_map plainly (refused_by_end (log_before state (opened_log state event)) event)) e in
+    let both = or_none (refused_by_lane state event) (option_map plainly (refused_by_end (log_before state (new_transaction state event)) event)) e in
     let one = if_none (is_unknown state event) _ _ both.0 in
     let two = if_none (is_old state event) _ _ one.1 in
     let three = if_none (is_busy state event) _ _ two.1 in
-    record { known = one.0; young = two.0; free = three.0; allowed = map_none plainly (refused_by_end (log_before state (opened_log state event)) event) both.1 }
+    record { known = one.0; young = two.0; free = three.0; allowed = map_none plainly (refused_by_end (log_before state (new_transaction state event)) event) both.1 }
 
 -- ---- tests
 
@@ -74,7 +74,7 @@ is_true false e = absurd (true≢false e)
 -- an event comes to a log, and it and its answer make the log of the lane's next state
 pub record ComesTo (state : State) (event : Event) : Type 0 where
   pub log : Log
-  pub before : log_before state (opened_log state event) ≡ Some log
+  pub before : log_before state (new_transaction state event) ≡ Some log
   pub after : log_of (stepped state event) ≡ Some (log_with log event)
   pub legal : IsLegal log
   pub goes : has_ended log ≡ false
@@ -128,11 +128,11 @@ going (Some log) goes = (log, refl, is_false (has_ended log) goes)
 -- ---- an event behind the first
 
 comes_behind : (state : State) (key : TxnKey) (event : What) → IsSound state → IsTaken state (On key event)
-    → opened_log state (On key event) ≡ None → ComesTo state (On key event)
+    → new_transaction state (On key event) ≡ None → ComesTo state (On key event)
 comes_behind state key event sound taken none =
-    let found : is_some (opened_log state (On key event)) ≡ false = ap is_some none in
-    let unknown = both_false (is_foreign state (On key event)) (is_new state (On key event) && not (is_some (opened_log state (On key event)))) taken.known in
-    let reached : is_new state (On key event) ≡ false = new_false (is_new state (On key event)) (is_some (opened_log state (On key event))) found unknown.1 in
+    let found : is_some (new_transaction state (On key event)) ≡ false = ap is_some none in
+    let unknown = both_false (is_foreign state (On key event)) (is_new state (On key event) && not (is_some (new_transaction state (On key event)))) taken.known in
+    let reached : is_new state (On key event) ≡ false = new_false (is_new state (On key event)) (is_some (new_transaction state (On key event))) found unknown.1 in
     let runs = both_true (is_stamp state.last key.seq) (is_running state)
     (is_true (is_stamp state.last key.seq && is_running state) (old_false (is_new state (On key event)) _ reached taken.young)) in
     let log = going (log_of state) runs.1 in
@@ -178,11 +178,11 @@ of_pdu state (On named (what.Timer kind stamp)) keyed known = tt
 of_pdu state (On named (what.Stored stamp kept)) keyed known = tt
 
 comes_first : (state : State) (event : Event) (transaction : Transaction) → IsKeyed event → IsTaken state event
-    → opened_log state event ≡ Some transaction → ComesTo state event
+    → new_transaction state event ≡ Some transaction → ComesTo state event
 comes_first state event transaction keyed taken is =
     let key : TxnKey = key_at state.source (number_in state event) in
     let opened = (if_some (is_new state event) (opened_by state.side key event) transaction is).1 in
-    let foreign = (both_false (is_foreign state event) (is_new state event && not (is_some (opened_log state event))) taken.known).0 in
+    let foreign = (both_false (is_foreign state event) (is_new state event && not (is_some (new_transaction state event))) taken.known).0 in
     record {
       log = log_by transaction [];
       before = ap (log_before state) is;
@@ -195,7 +195,7 @@ comes_first state event transaction keyed taken is =
     }
 
 comes_by : (state : State) (event : Event) → IsSound state → IsKeyed event → IsTaken state event
-    → (opened : Option Transaction) → opened_log state event ≡ opened → ComesTo state event
+    → (opened : Option Transaction) → new_transaction state event ≡ opened → ComesTo state event
 comes_by state event sound keyed taken (Some transaction) is = comes_first state event transaction keyed taken is
 comes_by state (On key event) sound keyed taken None is = comes_behind state key event sound taken is
 comes_by state (Put request params) sound keyed taken None is =
@@ -203,7 +203,7 @@ comes_by state (Put request params) sound keyed taken None is =
 
 -- every event that is taken comes to a log that goes on
 pub comes_to : (state : State) (event : Event) → IsSound state → IsKeyed event → refusal_at state event ≡ None → ComesTo state event
-comes_to state event sound keyed free = comes_by state event sound keyed (taken_by state event free) (opened_log state event) refl
+comes_to state event sound keyed free = comes_by state event sound keyed (taken_by state event free) (new_transaction state event) refl
 
 -- its end does not refuse it, so the log that it makes is legal
 pub comes_legal : (state : State) (event : Event) → refusal_at state event ≡ None → (came : ComesTo state event) → IsLegal (log_with came.log event)
@@ -224,7 +224,7 @@ above_risen : (number : ℕ) (last : Option ℕ) → is_above number last ≡ tr
 above_risen number None above = tt
 above_risen number (Some last) above = ltb-true last number above
 
-pub rises : (state : State) (event : Event) (transaction : Transaction) → IsNumbered state.side → opened_log state event ≡ Some transaction
+pub rises : (state : State) (event : Event) (transaction : Transaction) → IsNumbered state.side → new_transaction state event ≡ Some transaction
     → IsRisen state.last (Some (number_in state event))
 rises state (Put request params) transaction numbered is =
     rises_by state.side state.user state.lane state.last (key_at state.source (next_number state)) request params transaction numbered is
@@ -239,7 +239,7 @@ run_after None (Some other) log next run is legal = absurd run
 run_after (Some number) found log next run is legal = legal
 
 sound_by : (state : State) (event : Event) (opened : Option Transaction) (log next : Log) → IsSound state
-    → (opened_log state event ≡ opened) → log_before state opened ≡ Some log → log_of (stepped_by state event opened) ≡ Some next → IsLegal next
+    → (new_transaction state event ≡ opened) → log_before state opened ≡ Some log → log_of (stepped_by state event opened) ≡ Some next → IsLegal next
     → IsSound (stepped_by state event opened)
 sound_by state event None log next sound is before after legal = record {
   numbered = sound.numbered;
@@ -255,7 +255,7 @@ sound_by state event (Some transaction) log next sound is before after legal = r
 pub stays_sound : (state : State) (event : Event) → IsSound state → IsKeyed event → refusal_at state event ≡ None → IsSound (stepped state event)
 stays_sound state event sound keyed free =
     let came = comes_to state event sound keyed free in
-    sound_by state event (opened_log state event) came.log (log_with came.log event) sound refl came.before came.after (comes_legal state event free came)
+    sound_by state event (new_transaction state event) came.log (log_with came.log event) sound refl came.before came.after (comes_legal state event free came)
 
 pub idle_sound : (side : LaneSide) (user lane : ℕ) (source : EntityId) → IsNumbered side → IsSound (idle side user lane source)
 idle_sound side user lane source numbered = record { numbered = numbered; run = tt; risen = tt }
@@ -269,7 +269,7 @@ over_by (Some number) (Some log) run over =
     word_group (side_of log) (issued log) ((lane_words log run).1 (is_true (has_ended log) over))
 
 sent_by : (state : State) (event : Event) (bundles : List Bundle) → IsSound state → IsTaken state event → Keeps state bundles
-    → (opened : Option Transaction) → opened_log state event ≡ opened → (log : Log) → log_before state opened ≡ Some log
+    → (opened : Option Transaction) → new_transaction state event ≡ opened → (log : Log) → log_before state opened ≡ Some log
     → let next = stepped_by state event opened in AreSent next.user next.lane next.source next.last next.before (issued log) bundles
 sent_by state event bundles sound taken keeps None is log before =
     subst (λ told. AreSent state.user state.lane state.source state.last state.before told bundles) (ap issued_in before) keeps
@@ -306,7 +306,7 @@ keeps_bundle state event bundles bundle sound keeps keyed free is some =
     subst (λ told. AreSent next.user next.lane next.source next.last next.before told (bundles ++ bundle ∷ []))
     (ap (λ l. issued came.log ++ l) inds ∙ sym (issued_with came.log event came.place) ∙ sym (ap issued_in came.after))
     (more_if next.user next.lane next.source next.last next.before (issued came.log) bundles bundle
-    (sent_by state event bundles sound (taken_by state event free) keeps (opened_log state event) refl came.log came.before)
+    (sent_by state event bundles sound (taken_by state event free) keeps (new_transaction state event) refl came.log came.before)
     is.user is.lane is.key some
     (rw inds (begun_by came.log event (comes_legal state event free came) came.place)))
 
@@ -320,7 +320,7 @@ keeps_quiet state event bundles sound keeps keyed free none =
     let inds : (last_answer (log_with came.log event)).inds ≡ [] = sym (ap (λ o. (answer_in o).inds) came.after) ∙ none in
     subst (λ told. AreSent next.user next.lane next.source next.last next.before told bundles)
     (sym (append-nil (issued came.log)) ∙ ap (λ l. issued came.log ++ l) (sym inds) ∙ sym (issued_with came.log event came.place) ∙ sym (ap issued_in came.after))
-    (sent_by state event bundles sound (taken_by state event free) keeps (opened_log state event) refl came.log came.before)
+    (sent_by state event bundles sound (taken_by state event free) keeps (new_transaction state event) refl came.log came.before)
 
 -- before the first event
 pub idle_keeps : (side : LaneSide) (user lane : ℕ) (source : EntityId) → Keeps (idle side user lane source) []

@@ -23,7 +23,7 @@ use Rattle.txn_lane.specs.Lane.{State, key_at, key_of, log_of, goes_on, is_runni
 use Rattle.txn_lane.specs.LaneCode.{Stands, IsHeld}
 use Rattle.txn_lane.specs.Logs.{Log, sent, received, to_sender}
 use Rattle.txn_lane.specs.Stepping.{IsOffered, IsWhyNot, IsNotCarried}
-use Rattle.txn_lane.specs.Steps.{IsKeyed, opened_log, log_before, is_foreign, is_new, is_old, is_unknown, plainly, refused_by_end, refused_by_lane, refusal_at, stepped, stepped_by, answer_in, answer_of, IsDone}
+use Rattle.txn_lane.specs.Steps.{IsKeyed, new_transaction, log_before, is_foreign, is_new, is_old, is_unknown, plainly, refused_by_end, refused_by_lane, refusal_at, stepped, stepped_by, answer_in, answer_of, IsDone}
 use Rattle.txn_lane.proofs.HandFacts.{may_hand_over}
 use Rattle.txn_lane.proofs.HeldFacts.{taken_by_both}
 use Rattle.txn_lane.proofs.LogFacts.{log_with}
@@ -36,7 +36,7 @@ pub record Meets (state : State) (event : Event) (key : TxnKey) (sending : sende
   pub sound : IsSound state
   pub keyed : IsKeyed event
   pub passed : refused_by_lane state event ≡ None
-  pub before : log_before state (opened_log state event) ≡ Some (sent sending front)
+  pub before : log_before state (new_transaction state event) ≡ Some (sent sending front)
   pub key_is : key_of (stepped state event) ≡ Some key
 
 -- what its end says to it
@@ -119,7 +119,7 @@ pub offered_then : {A : Type 0} (takes : A → Bundle → A → Type 0) (old new
     → IsOffered takes old new (bundle_of (stepped state event))
 offered_then takes old new state event key sending front answer meets is user lane of_user of_lane handed =
     let next : State = stepped state event in
-    let same : IsSame state next = same_by state event (opened_log state event) in
+    let same : IsSame state next = same_by state event (new_transaction state event) in
     subst (IsOffered takes old new)
     (sym (bundle_then next key answer.inds meets.key_is (ap (λ a. a.inds) (answer_then state event key sending front answer meets is))))
     (offered_by takes old new next user lane key answer.inds (of_user ∙ sym same.user) (of_lane ∙ sym same.lane) handed)
@@ -135,7 +135,7 @@ refused_then : (state : State) (event : Event) (key : TxnKey) (sending : sender.
     → Meets state event key sending front → says sending front event ≡ Err why → refusal_at state event ≡ Some (plainly why)
 unfolding answer_at
 refused_then state event key sending front why meets is =
-    ap (λ o. option_or o (option_map plainly (refused_by_end (log_before state (opened_log state event)) event))) meets.passed
+    ap (λ o. option_or o (option_map plainly (refused_by_end (log_before state (new_transaction state event)) event))) meets.passed
     ∙ ap (λ o. option_map plainly (refused_by_end o event)) meets.before
     ∙ ap (option_map plainly) (refused_parts _ _ why is)
 
@@ -169,7 +169,7 @@ held_then state event key sending front answer meets is next same stood traced =
 
 pub done_then : (state : State) (event : Event) (key : TxnKey) (sending : sender.Sending) (front : List sender.Entry) (answer : Answer)
     → Meets state event key sending front → says sending front event ≡ Ok answer
-    → (done : Done) → done.key ≡ key → done.pdus ≡ answer.pdus → done.timers ≡ answer.timers → done.deposit ≡ None
+    → (done : Done) → done.key ≡ key → done.pdus ≡ answer.pdus → done.timers ≡ answer.timers → done.deposit ≡ answer.deposit
     → IsDone (stepped state event) done
 done_then state event key sending front answer meets is done of_key of_pdus of_timers of_deposit =
     let told = answer_then state event key sending front answer meets is in
@@ -218,13 +218,13 @@ pub record IsOfLast (state : State) (key : TxnKey) : Type 0 where
   pub runs : is_running state ≡ true
   pub key_is : key_of state ≡ Some key
 
-pub of_last : (state : State) (key : TxnKey) (event : What) → opened_log state (On key event) ≡ None → refused_by_lane state (On key event) ≡ None → IsOfLast state key
+pub of_last : (state : State) (key : TxnKey) (event : What) → new_transaction state (On key event) ≡ None → refused_by_lane state (On key event) ≡ None → IsOfLast state key
 of_last state key event none passed =
     let one = if_none (is_unknown state (On key event)) _ _ passed in
     let two = if_none (is_old state (On key event)) _ _ one.1 in
-    let found : is_some (opened_log state (On key event)) ≡ false = ap is_some none in
-    let known = both_false (is_foreign state (On key event)) (is_new state (On key event) && not (is_some (opened_log state (On key event)))) one.0 in
-    let reached : is_new state (On key event) ≡ false = new_false (is_new state (On key event)) (is_some (opened_log state (On key event))) found known.1 in
+    let found : is_some (new_transaction state (On key event)) ≡ false = ap is_some none in
+    let known = both_false (is_foreign state (On key event)) (is_new state (On key event) && not (is_some (new_transaction state (On key event)))) one.0 in
+    let reached : is_new state (On key event) ≡ false = new_false (is_new state (On key event)) (is_some (new_transaction state (On key event))) found known.1 in
     let stamped = both_true (is_stamp state.last key.seq) (is_running state)
     (is_true (is_stamp state.last key.seq && is_running state) (old_false (is_new state (On key event)) _ reached two.0)) in
     let source = same_source key.source state.source known.0 in
@@ -246,7 +246,7 @@ of_last state key event none passed =
     stamp_is None number e = absurd (false≢true e)
     stamp_is (Some kept) number e = ap Some (eqb-true kept number e)
 
-pub meets_last : (state : State) (key : TxnKey) (event : What) (running : Running) → opened_log state (On key event) ≡ None
+pub meets_last : (state : State) (key : TxnKey) (event : What) (running : Running) → new_transaction state (On key event) ≡ None
     → IsSound state → IsKeyed (On key event) → refused_by_lane state (On key event) ≡ None
     → (found : IsFound running (log_of state)) → Meets state (On key event) key found.sending found.front
 meets_last state key event running none sound keyed passed found = record {

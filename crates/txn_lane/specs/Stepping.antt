@@ -1,5 +1,5 @@
 -- What a step does with the outlet, and why an event is not taken.
-use Rattle.std.specs.Prelude.{◌≡◌, ℕ, List, [], ◌∷◌, None, Some, ◌⊎◌, Result, Ok, IsSome}
+use Rattle.std.specs.Prelude.{◌≡◌, ℕ, List, [], ◌∷◌, ◌++◌, Option, None, Some, ◌⊎◌, Result, Ok, IsSome}
 use Rattle.txn_events.specs.declared.answer.Answer.{Answer}
 use Rattle.cfdp_types.specs.declared.key.TxnKey.{TxnKey}
 use Rattle.indications.specs.declared.bundle.Bundle.{Bundle}
@@ -11,9 +11,9 @@ use Rattle.txn_lane.specs.declared.done.Done.{Done}
 use Rattle.txn_events.specs.declared.event.Event.{Event}
 use Rattle.txn_lane.specs.declared.refused.Refused.{Refused}
 use Rattle.txn_lane.specs.Handing.{bundle_for}
-use Rattle.txn_lane.specs.Keeping.{bundle_of}
+use Rattle.txn_lane.specs.Keeping.{Keeps, bundle_of}
 use Rattle.txn_lane.specs.Lane.{State}
-use Rattle.txn_lane.specs.Steps.{plainly, refusal_at, stepped, IsDone}
+use Rattle.txn_lane.specs.Steps.{IsKeyed, plainly, refused_by_lane, refusal_at, stepped, IsDone}
 
 -- the bundle that there is was offered once and taken, and without one nothing happened
 abbrev pub IsOffered : {A : Type 0} → (A → Bundle → A → Type 0) → A → A → List Bundle → Type 0
@@ -37,13 +37,48 @@ IsWhyNot returns state event old new refused =
     ((new ≡ old) × ((refusal_at state event ≡ Some refused) ⊎ RanOut state event refused))
     ⊎ (returns old new × WasFull state event refused)
 
--- ---- inside the code
+-- an outlet is the lane's, and some list of bundles that it stands after fits the lane
+pub record IsOutletOf {O : Type 0} (user lane : O → ℕ) (stands : O → List Bundle → Type 0) (state : State) (outlet : O) : Type 0 where
+  pub of_user : user outlet ≡ state.user
+  pub of_lane : lane outlet ≡ state.lane
+  pub kept : (bundles : List Bundle) × stands outlet bundles × Keeps state bundles
 
 -- an event is taken
 pub record IsTaken (state : State) (event : Event) (next : State) (done : Done) : Type 0 where
   pub free : refusal_at state event ≡ None
   pub next_is : next ≡ stepped state event
   pub done_is : IsDone next done
+
+-- the step's bundle was offered once and taken, and every list that fitted the lane fits it with the bundle
+pub record IsHanded {O : Type 0} (takes : O → Bundle → O → Type 0) (stands : O → List Bundle → Type 0) (state next : State) (old new : O) : Type 0 where
+  pub offered : IsOffered takes old new (bundle_of next)
+  pub keeps : (bundles : List Bundle) → stands old bundles → Keeps state bundles
+      → stands new (bundles ++ bundle_of next) × Keeps next (bundles ++ bundle_of next)
+
+-- an event was not taken: the lane is as it was, and every list that fitted it fits it still
+pub record IsLeft {O : Type 0} (returns : O → O → Type 0) (stands : O → List Bundle → Type 0) (state : State) (event : Event) (next : State) (old new : O) (refused : Refused) : Type 0 where
+  pub same : next ≡ state
+  pub why : IsWhyNot returns state event old new refused
+  pub still : (bundles : List Bundle) → stands old bundles → Keeps state bundles → stands new bundles × Keeps next bundles
+
+-- ---- inside the code
+
+-- an event is one of its key, and the lane itself does not refuse it
+pub record Passes (state : State) (event : Event) : Type 0 where
+  pub keyed : IsKeyed event
+  pub passed : refused_by_lane state event ≡ None
+
+-- an event was not taken, and the lane is as it was
+pub record IsNotTaken {O : Type 0} (returns : O → O → Type 0) (state : State) (event : Event) (next : State) (old new : O) (why : Refusal) : Type 0 where
+  pub same : next ≡ state
+  pub why_not : IsWhyNot returns state event old new (plainly why)
+
+-- the queue was full: the bundle that there was came back, and the transaction is as it was
+pub record IsGivenBack {O T : Type 0} (returns : O → O → Type 0) (bundle : Option Bundle) (before after : T) (old new : O) (why : Refusal) : Type 0 where
+  pub same : after ≡ before
+  pub full : why ≡ refusal.QueueFull
+  pub some : IsSome bundle
+  pub returned : returns old new
 
 -- why a sender's answer under a key is not carried out: there is none, memory ran out, or the queue was full
 abbrev pub IsNotCarried : {A : Type 0} → (A → A → Type 0) → A → A → ℕ → ℕ → TxnKey → Result Answer Refusal → Refusal → Type 0

@@ -58,8 +58,8 @@ is_key state key = key.source.0 == state.source.0 && is_stamp state.last key.seq
 -- ---- what opens
 
 -- the transaction that an event opens, if it is taken
-abbrev pub opened_log : State → Event → Option Transaction
-opened_log state event = if is_new state event then opened_by state.side (key_at state.source (number_in state event)) event else None
+abbrev pub new_transaction : State → Event → Option Transaction
+new_transaction state event = if is_new state event then opened_by state.side (key_at state.source (number_in state event)) event else None
 
 -- the log that an event comes to: an empty one where it opens
 abbrev pub log_before : State → Option Transaction → Option Log
@@ -70,7 +70,7 @@ log_before state (Some transaction) = Some (log_by transaction [])
 
 -- NoTransaction: of another source, or of a number above the last where nothing is opened
 abbrev pub is_unknown : State → Event → Bool
-is_unknown state event = is_foreign state event || (is_new state event && not (is_some (opened_log state event)))
+is_unknown state event = is_foreign state event || (is_new state event && not (is_some (new_transaction state event)))
 
 -- OldTransaction: a number that was reached, and none that runs
 abbrev pub is_old : State → Event → Bool
@@ -78,7 +78,7 @@ is_old state event = not (is_new state event) && not (is_stamp state.last (numbe
 
 -- LaneBusy: a transaction would open while another runs
 abbrev pub is_busy : State → Event → Bool
-is_busy state event = is_some (opened_log state event) && is_running state
+is_busy state event = is_some (new_transaction state event) && is_running state
 
 -- a number is more than the sequence length of a side holds
 abbrev pub exceeds : LaneSide → ℕ → Bool
@@ -117,7 +117,7 @@ refused_by_lane state event =
 -- LaneBusy and SeqExhausted; want of memory and a full queue aside
 abbrev pub refusal_at : State → Event → Option Refused
 refusal_at state event =
-    option_or (refused_by_lane state event) (option_map plainly (refused_by_end (log_before state (opened_log state event)) event))
+    option_or (refused_by_lane state event) (option_map plainly (refused_by_end (log_before state (new_transaction state event)) event))
 
 -- ---- the step
 
@@ -128,7 +128,7 @@ stepped_by state event (Some transaction) = record state { last = Some (number_i
 
 -- where a lane stands after an event that it takes
 abbrev pub stepped : State → Event → State
-stepped state event = stepped_by state event (opened_log state event)
+stepped state event = stepped_by state event (new_transaction state event)
 
 -- what the last event of a transaction was answered
 abbrev pub answer_in : Option Log → Answer

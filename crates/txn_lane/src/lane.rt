@@ -40,8 +40,8 @@ impl Model for Lane {
 impl Lane {
     ghost use Rattle.std.specs.Prelude.{◌≡◌, ◌<◌, ◌++◌, true, false, List, IfSome, IfNone, IfOk, IfErr, OnOk, OnErr};
     ghost use Rattle.indications.specs.declared.bundle.Bundle.{Bundle};
-    ghost use Rattle.txn_lane.specs.Keeping.{Keeps, bundle_of};
-    ghost use Rattle.txn_lane.specs.Stepping.{IsOffered, IsWhyNot, IsTaken};
+    ghost use Rattle.txn_lane.specs.Keeping.{bundle_of};
+    ghost use Rattle.txn_lane.specs.Stepping.{IsOutletOf, IsOffered, IsHanded, IsTaken, IsLeft, IsNotTaken, Passes};
     ghost use Rattle.txn_lane.specs.Steps.{IsKeyed, IsDone, plainly, refused_by_lane, refusal_at, stepped, next_number, exceeds};
     ghost use Rattle.txn_events.specs.declared.event.Event.TheVariants.{Put, On};
     ghost use Rattle.txn_lane.specs.declared.lane_side.LaneSide.TheVariants.{Sending};
@@ -140,19 +140,11 @@ impl Lane {
     /// An event that is not taken changes nothing.
     pub fn step<O: Outlet>(&mut self, event: &Event, outlet: &mut O) -> Result<Done, Refused>
         requires keyed { IsKeyed event.now }
-        requires of_user { O.user outlet.old ≡ self.old.user }
-        requires of_lane { O.lane outlet.old ≡ self.old.lane }
-        requires kept { (bundles : List Bundle) × O.stands outlet.old bundles × Keeps self.old bundles }
-        ensures free { IfOk result (λ done. refusal_at self.old event.now ≡ None) }
-        ensures steps { IfOk result (λ done. self.new ≡ stepped self.old event.now) }
-        ensures done { IfOk result (λ done. IsDone self.new done) }
-        ensures offered { OnOk result (IsOffered O.takes outlet.old outlet.new (bundle_of self.new)) }
-        ensures keeps { OnOk result ((bundles : List Bundle) → O.stands outlet.old bundles → Keeps self.old bundles
-            → O.stands outlet.new (bundles ++ bundle_of self.new) × Keeps self.new (bundles ++ bundle_of self.new)) }
-        ensures same { IfErr result (λ refused. self.new ≡ self.old) }
-        ensures why { IfErr result (λ refused. IsWhyNot O.returns self.old event.now outlet.old outlet.new refused) }
-        ensures still { OnErr result ((bundles : List Bundle) → O.stands outlet.old bundles → Keeps self.old bundles
-            → O.stands outlet.new bundles × Keeps self.new bundles) }
+        requires outlet { IsOutletOf O.user O.lane O.stands self.old outlet.old }
+        ensures taken { IfOk result (λ done. IsTaken self.old event.now self.new done) }
+        ensures handed { OnOk result (IsHanded O.takes O.stands self.old self.new outlet.old outlet.new) }
+        ensures left { IfErr result
+            (λ refused. IsLeft O.returns O.stands self.old event.now self.new outlet.old outlet.new refused) }
     {
         if let Some(refused) = self.refusal(event) {
             return Err(refused);
@@ -165,16 +157,13 @@ impl Lane {
 
     // Takes an event that the lane itself does not refuse.
     fn take<O: Outlet>(&mut self, event: &Event, outlet: &mut O) -> Result<Done, Refusal>
-        requires keyed { IsKeyed event.now }
-        requires passed { refused_by_lane self.old event.now ≡ None }
-        requires of_user { O.user outlet.old ≡ self.old.user }
-        requires of_lane { O.lane outlet.old ≡ self.old.lane }
-        requires kept { (bundles : List Bundle) × O.stands outlet.old bundles × Keeps self.old bundles }
+        requires passes { Passes self.old event.now }
+        requires outlet { IsOutletOf O.user O.lane O.stands self.old outlet.old }
         ensures sound { IsSound self.old }
         ensures taken { IfOk result (λ done. IsTaken self.old event.now self.new done) }
         ensures offered { OnOk result (IsOffered O.takes outlet.old outlet.new (bundle_of self.new)) }
-        ensures same { IfErr result (λ why. self.new ≡ self.old) }
-        ensures why { IfErr result (λ why. IsWhyNot O.returns self.old event.now outlet.old outlet.new (plainly why)) }
+        ensures left { IfErr result
+            (λ why. IsNotTaken O.returns self.old event.now self.new outlet.old outlet.new why) }
     {
         match event {
             Event::Put(request, params) => self.step_put(request, *params, outlet),
@@ -190,15 +179,12 @@ impl Lane {
         outlet: &mut O,
     ) -> Result<Done, Refusal>
         requires passed { refused_by_lane self.old (Put request.now params) ≡ None }
-        requires of_user { O.user outlet.old ≡ self.old.user }
-        requires of_lane { O.lane outlet.old ≡ self.old.lane }
-        requires kept { (bundles : List Bundle) × O.stands outlet.old bundles × Keeps self.old bundles }
+        requires outlet { IsOutletOf O.user O.lane O.stands self.old outlet.old }
         ensures sound { IsSound self.old }
         ensures taken { IfOk result (λ done. IsTaken self.old (Put request.now params) self.new done) }
         ensures offered { OnOk result (IsOffered O.takes outlet.old outlet.new (bundle_of self.new)) }
-        ensures same { IfErr result (λ why. self.new ≡ self.old) }
-        ensures why { IfErr result
-            (λ why. IsWhyNot O.returns self.old (Put request.now params) outlet.old outlet.new (plainly why)) }
+        ensures left { IfErr result
+            (λ why. IsNotTaken O.returns self.old (Put request.now params) self.new outlet.old outlet.new why) }
     {
         let Some(seq) = self.next_number() else {
             return Err(Refusal::SeqExhausted);
@@ -219,17 +205,13 @@ impl Lane {
         what: &What,
         outlet: &mut O,
     ) -> Result<Done, Refusal>
-        requires keyed { IsKeyed (On key what.now) }
-        requires passed { refused_by_lane self.old (On key what.now) ≡ None }
-        requires of_user { O.user outlet.old ≡ self.old.user }
-        requires of_lane { O.lane outlet.old ≡ self.old.lane }
-        requires kept { (bundles : List Bundle) × O.stands outlet.old bundles × Keeps self.old bundles }
+        requires passes { Passes self.old (On key what.now) }
+        requires outlet { IsOutletOf O.user O.lane O.stands self.old outlet.old }
         ensures sound { IsSound self.old }
         ensures taken { IfOk result (λ done. IsTaken self.old (On key what.now) self.new done) }
         ensures offered { OnOk result (IsOffered O.takes outlet.old outlet.new (bundle_of self.new)) }
-        ensures same { IfErr result (λ why. self.new ≡ self.old) }
-        ensures why { IfErr result
-            (λ why. IsWhyNot O.returns self.old (On key what.now) outlet.old outlet.new (plainly why)) }
+        ensures left { IfErr result
+            (λ why. IsNotTaken O.returns self.old (On key what.now) self.new outlet.old outlet.new why) }
     {
         let place = self.place();
         let Some(running) = &mut self.running else {

@@ -35,7 +35,7 @@ impl Running {
     ghost use Rattle.txn_events.specs.declared.event.Event.{Event as EventValue};
     ghost use Rattle.txn_events.specs.declared.event.Event.TheVariants.{Put, On};
     ghost use Rattle.txn_lane.specs.Logs.{to_sender};
-    ghost use Rattle.txn_lane.specs.RunningCode.{IsStepOf};
+    ghost use Rattle.txn_lane.specs.RunningCode.{IsStepOf, IsOpenedBy, IsUnmoved, MayCommit};
 
     /// The transaction that a Put opens, before its first event, and that event.
     pub(crate) fn open(
@@ -44,11 +44,7 @@ impl Running {
         request: &PutRequest,
         params: Params,
     ) -> Result<(Running, Step), Refusal>
-        ensures sending { IfOk result (λ opened. sending_of opened.0.core ≡ sending_by key params request.now) }
-        ensures stands { IfOk result (λ opened. StandsAfter opened.0.core []) }
-        ensures runs { IfOk result (λ opened. (shown opened.0.core).ended ≡ false) }
-        ensures empty { IfOk result (λ opened. (opened.0.journal.items ≡ []) × (opened.0.trace.items ≡ [])) }
-        ensures planned { IfOk result (λ opened. IsStepOf opened.0 (Put request.now params) opened.1) }
+        ensures opened { IfOk result (λ opened. IsOpenedBy key request.now params opened.0 opened.1) }
         ensures refused { IfErr result (λ why. IsWhy
             (answer_at (sending_by key params request.now) (initial (sending_by key params request.now)) put) why) }
     {
@@ -68,9 +64,7 @@ impl Running {
 
     /// Plans an event, and makes room for it.
     pub(crate) fn plan(&mut self, alloc: Global, key: TxnKey, what: &What) -> Result<Step, Refusal>
-        ensures core { self.new.core ≡ self.old.core }
-        ensures journal { self.new.journal.items ≡ self.old.journal.items }
-        ensures trace { self.new.trace.items ≡ self.old.trace.items }
+        ensures same { IsUnmoved self.old self.new }
         ensures planned { IfOk result (λ step. IsStepOf self.new (On key what.now) step) }
         ensures refused { (log : List Entry) → StandsAfter self.old.core log
             → IfErr result
@@ -86,10 +80,8 @@ impl Running {
 
     /// Carries out a step that was planned in the present state.
     pub(crate) fn commit(&mut self, step: Step) -> Answer
-        requires planned { (event : EventValue) × IsStepOf self.old event step }
-        requires runs { (shown self.old.core).ended ≡ false }
+        requires { MayCommit self.old step }
         ensures answer { result ≡ plan_answer step.plan }
-        ensures nothing { result.deposit ≡ None }
         ensures sending { sending_of self.new.core ≡ sending_of self.old.core }
         ensures stands { (log : List Entry) → StandsAfter self.old.core log
             → StandsAfter self.new.core

@@ -10,8 +10,8 @@ ghost use Rattle.txn_events.specs.declared.event.Event.{Event as EventValue};
 ghost use Rattle.txn_events.specs.declared.event.Event.TheVariants.{Put, On};
 ghost use Rattle.txn_lane.specs.Handing.{bundle_for, MayHandOver, IsHandedOver};
 ghost use Rattle.txn_lane.specs.Logs.{to_sender};
-ghost use Rattle.txn_lane.specs.RunningCode.{IsStepOf};
-ghost use Rattle.txn_lane.specs.Stepping.{IsNotCarried};
+ghost use Rattle.txn_lane.specs.RunningCode.{IsStepOf, IsOpenedBy, IsStarted, IsGoing, IsUnmoved, GoesOn, MayCommit};
+ghost use Rattle.txn_lane.specs.Stepping.{IsNotCarried, IsGivenBack};
 
 use crate::done::Done;
 use crate::handing::{bundle_for, hand_over};
@@ -53,11 +53,7 @@ fn open(
     request: &PutRequest,
     params: Params,
 ) -> Result<(Running, Step, Option<Bundle>), Refusal>
-    ensures sending { IfOk result (λ opened. sending_of opened.0.core ≡ sending_by key params request.now) }
-    ensures stands { IfOk result (λ opened. StandsAfter opened.0.core []) }
-    ensures runs { IfOk result (λ opened. (shown opened.0.core).ended ≡ false) }
-    ensures empty { IfOk result (λ opened. (opened.0.journal.items ≡ []) × (opened.0.trace.items ≡ [])) }
-    ensures planned { IfOk result (λ opened. IsStepOf opened.0 (Put request.now params) opened.1) }
+    ensures opened { IfOk result (λ opened. IsOpenedBy key request.now params opened.0 opened.1) }
     ensures bundle { IfOk result (λ opened. opened.2 ≡ bundle_for place.user place.lane key (plan_answer opened.1.plan).inds) }
     ensures refused { IfErr result (λ why. IsWhy
         (answer_at (sending_by key params request.now) (initial (sending_by key params request.now)) put) why) }
@@ -74,9 +70,7 @@ fn plan(
     key: TxnKey,
     what: &What,
 ) -> Result<(Step, Option<Bundle>), Refusal>
-    ensures core { running.new.core ≡ running.old.core }
-    ensures journal { running.new.journal.items ≡ running.old.journal.items }
-    ensures trace { running.new.trace.items ≡ running.old.trace.items }
+    ensures same { IsUnmoved running.old running.new }
     ensures planned { IfOk result (λ planned. IsStepOf running.new (On key what.now) planned.0) }
     ensures bundle { IfOk result
         (λ planned. planned.1 ≡ bundle_for place.user place.lane key (plan_answer planned.0.plan).inds) }
@@ -96,20 +90,13 @@ fn carry_out<O: Outlet>(
     bundle: Option<Bundle>,
     outlet: &mut O,
 ) -> Result<Answer, Refusal>
-    requires planned { (event : EventValue) × IsStepOf running.old event step }
-    requires runs { (shown running.old.core).ended ≡ false }
-    requires may { MayHandOver (O.user outlet.old) (O.lane outlet.old) (O.stands outlet.old) bundle }
+    requires may_commit { MayCommit running.old step }
+    requires may_offer { MayHandOver (O.user outlet.old) (O.lane outlet.old) (O.stands outlet.old) bundle }
     ensures answer { IfOk result (λ answer. answer ≡ plan_answer step.plan) }
-    ensures nothing { IfOk result (λ answer. answer.deposit ≡ None) }
-    ensures sending { OnOk result (sending_of running.new.core ≡ sending_of running.old.core) }
-    ensures stands { OnOk result ((log : List Entry) → StandsAfter running.old.core log
-        → StandsAfter running.new.core
-        (record { event = to_sender step.event; answer = plan_answer step.plan } ∷ log)) }
-    ensures journal { OnOk result (running.new.journal.items ≡ running.old.journal.items ++ step.event ∷ []) }
-    ensures trace { OnOk result (running.new.trace.items ≡ running.old.trace.items ++ (plan_answer step.plan).inds) }
+    ensures goes_on { IfOk result (λ answer. GoesOn running.old running.new step.event answer) }
     ensures offered { OnOk result (IsHandedOver O.takes outlet.old outlet.new bundle) }
-    ensures same { IfErr result (λ why. running.new ≡ running.old) }
-    ensures full { IfErr result (λ why. (why ≡ refusal.QueueFull) × IsSome bundle × O.returns outlet.old outlet.new) }
+    ensures full { IfErr result
+        (λ why. IsGivenBack O.returns bundle running.old running.new outlet.old outlet.new why) }
 {
     hand_over(outlet, bundle)?;
     Ok(running.commit(step))
@@ -127,13 +114,7 @@ pub(crate) fn start<O: Outlet>(
         (initial (sending_by key params request.now)) put ≡ Ok answer
         → MayHandOver (O.user outlet.old) (O.lane outlet.old) (O.stands outlet.old)
         (bundle_for place.user place.lane key answer.inds) }
-    ensures answer { IfOk result (λ started. answer_at (sending_by key params request.now)
-        (initial (sending_by key params request.now)) put ≡ Ok started.1) }
-    ensures nothing { IfOk result (λ started. started.1.deposit ≡ None) }
-    ensures sending { IfOk result (λ started. sending_of started.0.core ≡ sending_by key params request.now) }
-    ensures stands { IfOk result (λ started. StandsAfter started.0.core (record { event = put; answer = started.1 } ∷ [])) }
-    ensures journal { IfOk result (λ started. started.0.journal.items ≡ Put request.now params ∷ []) }
-    ensures trace { IfOk result (λ started. started.0.trace.items ≡ started.1.inds) }
+    ensures started { IfOk result (λ started. IsStarted key request.now params started.0 started.1) }
     ensures offered { IfOk result (λ started. IsHandedOver O.takes outlet.old outlet.new
         (bundle_for place.user place.lane key started.1.inds)) }
     ensures refused { IfErr result (λ why. IsNotCarried O.returns outlet.old outlet.new place.user place.lane key
@@ -152,25 +133,17 @@ pub(crate) fn advance<O: Outlet>(
     what: &What,
     outlet: &mut O,
 ) -> Result<Answer, Refusal>
-    requires stands { (log : List Entry) × StandsAfter running.old.core log }
-    requires runs { (shown running.old.core).ended ≡ false }
+    requires goes { IsGoing running.old }
     requires may { (answer : AnswerValue) → answer_at (sending_of running.old.core) (shown running.old.core)
         (happens what.now) ≡ Ok answer
         → MayHandOver (O.user outlet.old) (O.lane outlet.old) (O.stands outlet.old)
         (bundle_for place.user place.lane key answer.inds) }
     ensures answer { IfOk result
         (λ answer. answer_at (sending_of running.old.core) (shown running.old.core) (happens what.now) ≡ Ok answer) }
-    ensures nothing { IfOk result (λ answer. answer.deposit ≡ None) }
-    ensures sending { sending_of running.new.core ≡ sending_of running.old.core }
-    ensures stands { IfOk result (λ answer. (log : List Entry) → StandsAfter running.old.core log
-        → StandsAfter running.new.core (record { event = happens what.now; answer = answer } ∷ log)) }
-    ensures journal { OnOk result (running.new.journal.items ≡ running.old.journal.items ++ On key what.now ∷ []) }
-    ensures trace { IfOk result (λ answer. running.new.trace.items ≡ running.old.trace.items ++ answer.inds) }
+    ensures goes_on { IfOk result (λ answer. GoesOn running.old running.new (On key what.now) answer) }
     ensures offered { IfOk result
         (λ answer. IsHandedOver O.takes outlet.old outlet.new (bundle_for place.user place.lane key answer.inds)) }
-    ensures same_core { IfErr result (λ why. running.new.core ≡ running.old.core) }
-    ensures same_journal { IfErr result (λ why. running.new.journal.items ≡ running.old.journal.items) }
-    ensures same_trace { IfErr result (λ why. running.new.trace.items ≡ running.old.trace.items) }
+    ensures same { OnErr result (IsUnmoved running.old running.new) }
     ensures refused { IfErr result (λ why. IsNotCarried O.returns outlet.old outlet.new place.user place.lane key
         (answer_at (sending_of running.old.core) (shown running.old.core) (happens what.now)) why) }
 {

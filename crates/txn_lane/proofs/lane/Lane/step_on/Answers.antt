@@ -1,4 +1,4 @@
-use Rattle.std.proofs.Common.{◌++◌, Some, sym, ap, ◌∙◌, subst}
+use Rattle.std.proofs.Common.{rules, ◌++◌, Some, sym, ap, ◌∙◌, subst}
 use Rattle.std.proofs.lemmas.Result.{err_from_is_err_and}
 use Rattle.sender_table.specs.Sending.{happens}
 use Rattle.txn_lane.specs.Keeping.{bundle_of}
@@ -15,46 +15,46 @@ advance-requires-clause-may g c answer is =
     let i = c.self.inside in
     let event = On c.args.key c.args.what.now in
     let going = goes_on_by i.numbers i.greatest i.user i.lane i.source i.last i.before i.running c.in-Some.running c.args.self.now c.args.key c.args.what.now
-    (sym c.self.view_is) c.self.invariant c.in-Some.is c.requires.keyed c.requires.passed in
+    (sym c.self.view_is) c.self.invariant c.in-Some.is c.requires.passes.keyed c.requires.passes.passed in
     let found = going.found in
     let says = says_same c.in-Some.running found.sending found.front (happens c.args.what.now) found.same found.stood in
     may_then c.args.self.now event c.args.key found.sending found.front answer going.meets (sym says ∙ is)
-    c.requires.kept.0 (g.O.Outlet.stands c.args.outlet.now) c.requires.kept.2 c.requires.kept.1
+    c.requires.outlet.kept.0 (g.O.Outlet.stands c.args.outlet.now) c.requires.outlet.kept.2 c.requires.outlet.kept.1
     (g.O.Outlet.user c.args.outlet.now) (g.O.Outlet.lane c.args.outlet.now) c.place-place.result.user c.place-place.result.lane
-    c.requires.of_user c.requires.of_lane c.place-place.ensures.user c.place-place.ensures.lane
+    c.requires.outlet.of_user c.requires.outlet.of_lane c.place-place.ensures.user c.place-place.ensures.lane
 
 pub invariant_of-self-in_err-answer : goal.invariant_of-self-in_err-answer
 invariant_of-self-in_err-answer g c =
     let i = c.self.inside in
-    let same = c.in_err-answer.ensures in
+    let same = c.in_err-answer.ensures.same in
     held_same i.numbers i.greatest i.user i.lane i.source i.last i.before i.running c.in-Some.running c.advance.new.running
-    c.self.invariant c.in-Some.is same.same_core same.same_journal same.same_trace
+    c.self.invariant c.in-Some.is same.core same.journal same.trace
 
-pub returns-in_err-answer-clause-why : goal.returns-in_err-answer-clause-why
-returns-in_err-answer-clause-why g c =
+pub returns-in_err-answer-clause-left : goal.returns-in_err-answer-clause-left
+returns-in_err-answer-clause-left g c =
     let p = err_from_is_err_and c.from_residual.result c.from_residual.ensures.1 in
     let i = c.self.inside in
     let event = On c.args.key c.args.what.now in
     let going = goes_on_by i.numbers i.greatest i.user i.lane i.source i.last i.before i.running c.in-Some.running c.args.self.now c.args.key c.args.what.now
-    (sym c.self.view_is) c.self.invariant c.in-Some.is c.requires.keyed c.requires.passed in
+    (sym c.self.view_is) c.self.invariant c.in-Some.is c.requires.passes.keyed c.requires.passes.passed in
     let found = going.found in
     let says = says_same c.in-Some.running found.sending found.front (happens c.args.what.now) found.same found.stood in
-    rw (p.1, p.2) (why_not g.O.Outlet.returns c.args.outlet.now c.advance.new.outlet c.args.self.now event c.args.key found.sending found.front c.place-place.result.user c.place-place.result.lane c.in_err-answer.field-0.0 going.meets
-    (subst (λ r. IsNotCarried g.O.Outlet.returns c.args.outlet.now c.advance.new.outlet c.place-place.result.user c.place-place.result.lane c.args.key r c.in_err-answer.field-0.0) says c.in_err-answer.ensures.refused))
+    rw (p.1, p.2) (record { same = search rules; why_not = why_not g.O.Outlet.returns c.args.outlet.now c.advance.new.outlet c.args.self.now event c.args.key found.sending found.front c.place-place.result.user c.place-place.result.lane c.in_err-answer.field-0.0 going.meets
+    (subst (λ r. IsNotCarried g.O.Outlet.returns c.args.outlet.now c.advance.new.outlet c.place-place.result.user c.place-place.result.lane c.args.key r c.in_err-answer.field-0.0) says c.in_err-answer.ensures.refused) })
 
 pub invariant_of-self-2 : goal.invariant_of-self-2
 invariant_of-self-2 g c =
     let i = c.self.inside in
     let event = On c.args.key c.args.what.now in
     let going = goes_on_by i.numbers i.greatest i.user i.lane i.source i.last i.before i.running c.in-Some.running c.args.self.now c.args.key c.args.what.now
-    (sym c.self.view_is) c.self.invariant c.in-Some.is c.requires.keyed c.requires.passed in
+    (sym c.self.view_is) c.self.invariant c.in-Some.is c.requires.passes.keyed c.requires.passes.passed in
     let found = going.found in
     let says = says_same c.in-Some.running found.sending found.front (happens c.args.what.now) found.same found.stood in
     let answer = c.in_ok-answer.answer in
     let is = sym says ∙ c.in_ok-answer.ensures.answer in
     let next = next_on i.numbers i.greatest i.user i.lane i.source i.last i.before i.running c.in-Some.running c.advance.new.running c.args.self.now c.args.key c.args.what.now
-    (sym c.self.view_is) c.in-Some.is going.none c.in_ok-answer.ensures.journal in
-    let done = c.in_ok-answer.ensures in
+    (sym c.self.view_is) c.in-Some.is going.none c.in_ok-answer.ensures.goes_on.journal in
+    let done = c.in_ok-answer.ensures.goes_on in
     subst (λ s. IsHeld s (Some c.advance.new.running)) (sym next)
     (held_then c.args.self.now event c.args.key found.sending found.front answer going.meets is
     c.advance.new.running (done.sending ∙ found.same) (done.stands found.front found.stood) (done.trace ∙ ap (λ l. l ++ answer.inds) found.traced))
@@ -64,13 +64,13 @@ returns-clause-taken g c =
     let i = c.self.inside in
     let event = On c.args.key c.args.what.now in
     let going = goes_on_by i.numbers i.greatest i.user i.lane i.source i.last i.before i.running c.in-Some.running c.args.self.now c.args.key c.args.what.now
-    (sym c.self.view_is) c.self.invariant c.in-Some.is c.requires.keyed c.requires.passed in
+    (sym c.self.view_is) c.self.invariant c.in-Some.is c.requires.passes.keyed c.requires.passes.passed in
     let found = going.found in
     let says = says_same c.in-Some.running found.sending found.front (happens c.args.what.now) found.same found.stood in
     let answer = c.in_ok-answer.answer in
     let is = sym says ∙ c.in_ok-answer.ensures.answer in
     let next = next_on i.numbers i.greatest i.user i.lane i.source i.last i.before i.running c.in-Some.running c.advance.new.running c.args.self.now c.args.key c.args.what.now
-    (sym c.self.view_is) c.in-Some.is going.none c.in_ok-answer.ensures.journal in
+    (sym c.self.view_is) c.in-Some.is going.none c.in_ok-answer.ensures.goes_on.journal in
     let done = c.done.ensures in
     record {
       free = free_if c.args.self.now event c.args.key found.sending found.front answer going.meets is;
@@ -78,7 +78,7 @@ returns-clause-taken g c =
       done_is =
           subst (λ s. IsDone s c.done.result) (sym next)
           (done_then c.args.self.now event c.args.key found.sending found.front answer going.meets is
-          c.done.result done.key done.pdus done.timers (done.deposit ∙ c.in_ok-answer.ensures.nothing));
+          c.done.result done.key done.pdus done.timers done.deposit);
     }
 
 pub returns-clause-offered : goal.returns-clause-offered
@@ -86,13 +86,13 @@ returns-clause-offered g c =
     let i = c.self.inside in
     let event = On c.args.key c.args.what.now in
     let going = goes_on_by i.numbers i.greatest i.user i.lane i.source i.last i.before i.running c.in-Some.running c.args.self.now c.args.key c.args.what.now
-    (sym c.self.view_is) c.self.invariant c.in-Some.is c.requires.keyed c.requires.passed in
+    (sym c.self.view_is) c.self.invariant c.in-Some.is c.requires.passes.keyed c.requires.passes.passed in
     let found = going.found in
     let says = says_same c.in-Some.running found.sending found.front (happens c.args.what.now) found.same found.stood in
     let answer = c.in_ok-answer.answer in
     let is = sym says ∙ c.in_ok-answer.ensures.answer in
     let next = next_on i.numbers i.greatest i.user i.lane i.source i.last i.before i.running c.in-Some.running c.advance.new.running c.args.self.now c.args.key c.args.what.now
-    (sym c.self.view_is) c.in-Some.is going.none c.in_ok-answer.ensures.journal in
+    (sym c.self.view_is) c.in-Some.is going.none c.in_ok-answer.ensures.goes_on.journal in
     subst (λ s. IsOffered g.O.Outlet.takes c.args.outlet.now c.advance.new.outlet (bundle_of s)) (sym next)
     (offered_then g.O.Outlet.takes c.args.outlet.now c.advance.new.outlet c.args.self.now event c.args.key found.sending found.front answer going.meets is
     c.place-place.result.user c.place-place.result.lane c.place-place.ensures.user c.place-place.ensures.lane c.in_ok-answer.ensures.offered)

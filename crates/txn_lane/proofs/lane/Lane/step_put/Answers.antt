@@ -1,4 +1,4 @@
-use Rattle.std.proofs.Common.{Some, [], sym, ◌∙◌, subst}
+use Rattle.std.proofs.Common.{rules, Some, [], sym, ◌∙◌, subst}
 use Rattle.std.proofs.lemmas.Result.{err_from_is_err_and}
 use Rattle.sender_core.specs.Core.{sending_by}
 use Rattle.txn_lane.specs.Keeping.{bundle_of}
@@ -22,13 +22,13 @@ start-requires g c = record {
       (sym c.self.view_is) c.self.invariant.sound c.requires.passed c.in-Some.ensures.held.0 in
       let says = says_put sending c.args.request.now c.args.params in
       may_then c.args.self.now event key sending [] answer meets (sym says ∙ is)
-      c.requires.kept.0 (g.O.Outlet.stands c.args.outlet.now) c.requires.kept.2 c.requires.kept.1
+      c.requires.outlet.kept.0 (g.O.Outlet.stands c.args.outlet.now) c.requires.outlet.kept.2 c.requires.outlet.kept.1
       (g.O.Outlet.user c.args.outlet.now) (g.O.Outlet.lane c.args.outlet.now) c.place.result.user c.place.result.lane
-      c.requires.of_user c.requires.of_lane c.place.ensures.user c.place.ensures.lane;
+      c.requires.outlet.of_user c.requires.outlet.of_lane c.place.ensures.user c.place.ensures.lane;
 }
 
-pub returns-in_err-running-clause-why : goal.returns-in_err-running-clause-why
-returns-in_err-running-clause-why g c =
+pub returns-in_err-running-clause-left : goal.returns-in_err-running-clause-left
+returns-in_err-running-clause-left g c =
     let p = err_from_is_err_and c.from_residual.result c.from_residual.ensures.1 in
     let i = c.self.inside in
     let event = Put c.args.request.now c.args.params in
@@ -37,8 +37,8 @@ returns-in_err-running-clause-why g c =
     let meets = meets_put i.numbers i.greatest i.user i.lane i.source i.last i.before (journal_of i.running) c.in-Some.seq c.args.self.now c.args.request.now c.args.params
     (sym c.self.view_is) c.self.invariant.sound c.requires.passed c.in-Some.ensures.held.0 in
     let says = says_put sending c.args.request.now c.args.params in
-    rw (p.1, p.2) (why_not g.O.Outlet.returns c.args.outlet.now c.start.new.outlet c.args.self.now event key sending [] c.place.result.user c.place.result.lane c.in_err-running.field-0.0 meets
-    (subst (λ r. IsNotCarried g.O.Outlet.returns c.args.outlet.now c.start.new.outlet c.place.result.user c.place.result.lane key r c.in_err-running.field-0.0) says c.in_err-running.ensures.refused))
+    rw (p.1, p.2) (record { same = search rules; why_not = why_not g.O.Outlet.returns c.args.outlet.now c.start.new.outlet c.args.self.now event key sending [] c.place.result.user c.place.result.lane c.in_err-running.field-0.0 meets
+    (subst (λ r. IsNotCarried g.O.Outlet.returns c.args.outlet.now c.start.new.outlet c.place.result.user c.place.result.lane key r c.in_err-running.field-0.0) says c.in_err-running.ensures.refused) })
 
 pub invariant_of-self : goal.invariant_of-self
 invariant_of-self g c =
@@ -50,10 +50,10 @@ invariant_of-self g c =
     (sym c.self.view_is) c.self.invariant.sound c.requires.passed c.in-Some.ensures.held.0 in
     let says = says_put sending c.args.request.now c.args.params in
     let answer = c.in_ok-running.answer in
-    let is = sym says ∙ c.in_ok-running.ensures.answer in
+    let is = sym says ∙ c.in_ok-running.ensures.started.answered in
     let next = next_put i.numbers i.greatest i.user i.lane i.source i.last i.before (journal_of i.running) c.in_ok-running.running.journal.items c.in-Some.seq c.args.self.now c.args.request.now c.args.params
-    (sym c.self.view_is) c.in-Some.ensures.held.0 c.in_ok-running.ensures.journal in
-    let done = c.in_ok-running.ensures in
+    (sym c.self.view_is) c.in-Some.ensures.held.0 c.in_ok-running.ensures.started.journal in
+    let done = c.in_ok-running.ensures.started in
     subst (λ s. IsHeld s (Some c.in_ok-running.running)) (sym next)
     (held_then c.args.self.now event key sending [] answer meets is c.in_ok-running.running done.sending done.stands done.trace)
 
@@ -67,9 +67,9 @@ returns-clause-taken g c =
     (sym c.self.view_is) c.self.invariant.sound c.requires.passed c.in-Some.ensures.held.0 in
     let says = says_put sending c.args.request.now c.args.params in
     let answer = c.in_ok-running.answer in
-    let is = sym says ∙ c.in_ok-running.ensures.answer in
+    let is = sym says ∙ c.in_ok-running.ensures.started.answered in
     let next = next_put i.numbers i.greatest i.user i.lane i.source i.last i.before (journal_of i.running) c.in_ok-running.running.journal.items c.in-Some.seq c.args.self.now c.args.request.now c.args.params
-    (sym c.self.view_is) c.in-Some.ensures.held.0 c.in_ok-running.ensures.journal in
+    (sym c.self.view_is) c.in-Some.ensures.held.0 c.in_ok-running.ensures.started.journal in
     let done = c.done.ensures in
     record {
       free = free_if c.args.self.now event key sending [] answer meets is;
@@ -77,7 +77,7 @@ returns-clause-taken g c =
       done_is =
           subst (λ s. IsDone s c.done.result) (sym next)
           (done_then c.args.self.now event key sending [] answer meets is
-          c.done.result done.key done.pdus done.timers (done.deposit ∙ c.in_ok-running.ensures.nothing));
+          c.done.result done.key done.pdus done.timers done.deposit);
     }
 
 pub returns-clause-offered : goal.returns-clause-offered
@@ -90,9 +90,9 @@ returns-clause-offered g c =
     (sym c.self.view_is) c.self.invariant.sound c.requires.passed c.in-Some.ensures.held.0 in
     let says = says_put sending c.args.request.now c.args.params in
     let answer = c.in_ok-running.answer in
-    let is = sym says ∙ c.in_ok-running.ensures.answer in
+    let is = sym says ∙ c.in_ok-running.ensures.started.answered in
     let next = next_put i.numbers i.greatest i.user i.lane i.source i.last i.before (journal_of i.running) c.in_ok-running.running.journal.items c.in-Some.seq c.args.self.now c.args.request.now c.args.params
-    (sym c.self.view_is) c.in-Some.ensures.held.0 c.in_ok-running.ensures.journal in
+    (sym c.self.view_is) c.in-Some.ensures.held.0 c.in_ok-running.ensures.started.journal in
     subst (λ s. IsOffered g.O.Outlet.takes c.args.outlet.now c.start.new.outlet (bundle_of s)) (sym next)
     (offered_then g.O.Outlet.takes c.args.outlet.now c.start.new.outlet c.args.self.now event key sending [] answer meets is
     c.place.result.user c.place.result.lane c.place.ensures.user c.place.ensures.lane c.in_ok-running.ensures.offered)

@@ -1,4 +1,4 @@
-use Rattle.std.proofs.Common.{inr}
+use Rattle.std.proofs.Common.{inr, rules}
 use Rattle.std.proofs.lemmas.Result.{err_from_is_err_and}
 use Rattle.sender_core.specs.Core.{sending_by}
 use Rattle.txn_lane.proofs.OpenFacts.{put_answered}
@@ -28,5 +28,12 @@ returns-in_err-copy-clause-refused c =
     let opened = c.in_ok-core.ensures in
     rw p.1 (inr (p.2, put_answered c.in_ok-core.core c.in_ok-core.plan (sending_by c.args.key c.args.params c.args.request.now) opened.sending opened.stands opened.planned))
 
-pub returns-clause-stands : goal.returns-clause-stands
-returns-clause-stands c = c.in_ok-core.ensures.stands
+pub returns-clause-opened : goal.returns-clause-opened
+returns-clause-opened c = record {
+  sending = c.in_ok-core.ensures.sending;
+  stands = c.in_ok-core.ensures.stands;
+  runs = c.in_ok-core.ensures.runs;
+  journal = search rules;
+  trace = search rules;
+  planned = search rules;
+}

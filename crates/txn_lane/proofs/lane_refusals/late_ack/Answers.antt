@@ -1,6 +1,0 @@
-use Rattle.std.proofs.Common.{arith}
-use Rattle.pdu_values.proofs.FitLaws.{ack_fits}
-use Rattle.txn_lane.proofs.lane_refusals.late_ack.Goals as goal
-
-pub new-requires : goal.new-requires
-new-requires c = ack_fits c.args.header _ c.requires (record { condition = omega (arith, c.code-code.ensures.value, c.code-code.ensures.below) })
