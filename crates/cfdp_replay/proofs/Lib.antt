@@ -1,4 +1,3 @@
-pub mod LineFacts
 pub mod Numbers
 pub mod WordFacts
 pub mod QueueFacts

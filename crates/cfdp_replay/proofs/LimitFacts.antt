@@ -1,11 +1,11 @@
 -- The numbers of the profile, as they stand in the code.
 use Rattle.std.proofs.Common.{◌≡◌, refl}
-use Rattle.cfdp_replay.specs.declared.fault.TheConstants.{INTERRUPTIONS}
-use Rattle.cfdp_replay.specs.declared.input.TheConstants.{LINE_OCTETS}
+use Rattle.script_io.specs.declared.fault.TheConstants.{INTERRUPTIONS}
+use Rattle.script_io.specs.declared.input.TheConstants.{LINE_OCTETS}
 use Rattle.cfdp_replay.specs.declared.queue.TheConstants.{CAPACITY, RECEIVER, FIRST_RECEIVING_LANE, LANES_OF_A_SOURCE}
 use Rattle.cfdp_replay.specs.declared.replay.TheConstants.{LINES}
 use Rattle.cfdp_replay.specs.declared.world.TheConstants.{LOCAL, REMOTE}
-use Rattle.cfdp_replay.specs.Lines.{line_octets}
+use Rattle.script_io.specs.Lines.{line_octets}
 
 lines : LINES ≡ 1000000
 lines = refl

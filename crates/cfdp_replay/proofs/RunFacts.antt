@@ -5,13 +5,13 @@ use Rattle.std.specs.Io.KnownBytes.{Appends}
 use Rattle.std.proofs.KnownBytes.{Appends-trans}
 use Rattle.std.proofs.lemmas.List.{length-append, take_at}
 use Rattle.std.proofs.Math.Seq.{take-append-add}
-use Rattle.cfdp_replay.specs.declared.fault.ReplayFault.{ReplayFault}
-use Rattle.cfdp_replay.specs.declared.fault.ReplayFault.TheVariants as fault
+use Rattle.script_io.specs.declared.fault.ReplayFault.{ReplayFault}
+use Rattle.script_io.specs.declared.fault.ReplayFault.TheVariants as fault
 use Rattle.cfdp_replay.specs.declared.replay.TheConstants.{LINES}
 use Rattle.cfdp_replay.specs.declared.world.World.{World}
 use Rattle.cfdp_replay.specs.Commands.{command_of}
-use Rattle.cfdp_replay.specs.Lines.{lines_of, line_octets, GivesLine, GivesEnd, GivesTooLong}
-use Rattle.cfdp_replay.specs.Output.{AppendsFront}
+use Rattle.script_io.specs.Lines.{lines_of, line_octets, GivesLine, GivesEnd, GivesTooLong}
+use Rattle.script_io.specs.Output.{AppendsFront}
 use Rattle.cfdp_replay.specs.Session.{Session, fresh}
 use Rattle.cfdp_replay.specs.World.{Stands}
 use Rattle.cfdp_replay.specs.Run.{PlaysLine, Plays, Prints, IsBad, StopsBehind, StopsIn, StopsAt, Stops}

@@ -1,5 +1,3 @@
-pub mod Lines
-pub mod Output
 pub mod Commands
 pub mod Words
 pub mod Texts

@@ -2,13 +2,13 @@
 use Rattle.std.specs.Prelude.{◌≡◌, ℕ, ◌+◌, ◌<◌, ◌≤◌, List, [], ◌∷◌, ◌++◌, length, take, slice_get, Option, Some, None, Result, Ok, Err, ◌⊎◌}
 use Rattle.std.specs.Io.KnownBytes.{Appends}
 use Rattle.cfdp_replay.specs.declared.command.Command.{Command}
-use Rattle.cfdp_replay.specs.declared.fault.ReplayFault.{ReplayFault}
-use Rattle.cfdp_replay.specs.declared.fault.ReplayFault.TheVariants as fault
+use Rattle.script_io.specs.declared.fault.ReplayFault.{ReplayFault}
+use Rattle.script_io.specs.declared.fault.ReplayFault.TheVariants as fault
 use Rattle.cfdp_replay.specs.declared.reply.Reply.{Reply}
 use Rattle.cfdp_replay.specs.declared.replay.TheConstants.{LINES}
 use Rattle.cfdp_replay.specs.Commands.{command_of}
-use Rattle.cfdp_replay.specs.Lines.{line_octets}
-use Rattle.cfdp_replay.specs.Output.{AppendsFront}
+use Rattle.script_io.specs.Lines.{line_octets}
+use Rattle.script_io.specs.Output.{AppendsFront}
 use Rattle.cfdp_replay.specs.Session.{Session, fresh, Answers}
 use Rattle.cfdp_replay.specs.Texts.{text_of}
 

@@ -1,10 +1,10 @@
 -- Where a run stands between two lines.
 use Rattle.std.specs.Prelude.{◌≡◌, ℕ, ◌+◌, ◌≤◌, Bool, true, false, List, ◌++◌, length, Option, Some, None, Result, Ok, Err}
 use Rattle.std.specs.Io.KnownBytes.{Appends}
-use Rattle.cfdp_replay.specs.declared.fault.ReplayFault.{ReplayFault}
+use Rattle.script_io.specs.declared.fault.ReplayFault.{ReplayFault}
 use Rattle.cfdp_replay.specs.declared.replay.TheConstants.{LINES}
 use Rattle.cfdp_replay.specs.declared.world.World.{World}
-use Rattle.cfdp_replay.specs.Lines.{lines_of}
+use Rattle.script_io.specs.Lines.{lines_of}
 use Rattle.cfdp_replay.specs.declared.command.Command.{Command}
 use Rattle.cfdp_replay.specs.declared.reply.Reply.{Reply}
 use Rattle.cfdp_replay.specs.Commands.{command_of}

@@ -4,10 +4,7 @@
 
 mod command;
 mod ending;
-mod fault;
-mod input;
 pub mod laws;
-mod output;
 mod queue;
 mod replay;
 mod reply;
@@ -20,7 +17,7 @@ mod words;
 mod world;
 
 use ending::conclude;
-use fault::ReplayFault;
+use script_io::ReplayFault;
 use replay::replay;
 use std::io;
 use std::io::{BufReader, BufWriter, Write};

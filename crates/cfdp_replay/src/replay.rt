@@ -1,7 +1,7 @@
 //! Runs a whole script.
 ghost use Rattle.std.specs.Prelude.{◌≡◌, ℕ, ◌+◌, ◌<◌, List, Option, Some, None, IfSome, IfOk, IfErr, string_bytes};
 ghost use Rattle.cfdp_replay.specs.Commands.{command_of};
-ghost use Rattle.cfdp_replay.specs.Lines.{lines_of};
+ghost use Rattle.script_io.specs.Lines.{lines_of};
 ghost use Rattle.cfdp_replay.specs.Session.{Session};
 ghost use Rattle.cfdp_replay.specs.declared.world.World.{World};
 ghost use Rattle.cfdp_replay.specs.World.{Stands};
@@ -9,9 +9,7 @@ ghost use Rattle.cfdp_replay.specs.Run.{Replays};
 ghost use Rattle.cfdp_replay.specs.Running.{Ran, GoesOn, PlaysTo};
 
 use crate::command::command_of;
-use crate::fault::ReplayFault;
-use crate::input::{NextLine, next_line};
-use crate::output::write_whole;
+use script_io::{NextLine, ReplayFault, next_line, write_whole};
 use crate::text::push_reply;
 use crate::world::World;
 use std::alloc::Global;

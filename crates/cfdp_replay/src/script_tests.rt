@@ -1,7 +1,7 @@
 //! Whole scripts, with what they print. The expected texts are worked out by hand.
 
 use crate::ending::conclude;
-use crate::fault::ReplayFault;
+use script_io::ReplayFault;
 use crate::replay::replay;
 use std::process::Abort;
 use std::test::*;

@@ -1,7 +1,5 @@
 use crate::command::{Command, command_of};
-use crate::fault::ReplayFault;
-use crate::input::{NextLine, next_line};
-use crate::output::write_whole;
+use script_io::{NextLine, ReplayFault, next_line, write_whole};
 use crate::reply::{Reply, StepRefusal};
 use crate::text::push_reply;
 use cfdp_types::{Condition, Delivery, EntityId, FileStatus, Messages, Octets, TxnKey};

@@ -23,14 +23,13 @@ use Rattle.pdu_values.specs.declared.pdu.Body.TheVariants as body
 use Rattle.pdu_values.specs.declared.bodies.Prompt.TheVariants as prompt
 use Rattle.indications.specs.declared.indication.Indication.TheVariants as told
 use Rattle.receiver_table.specs.Reception.{initial, step, state_of}
-use Rattle.receiver_rows.specs.ReceptionRows.{header, metadata_value, eof_value, abc, finished_acknowledged}
-use Rattle.sender_rows.specs.SendingRows as sender_rows
+use Rattle.txn_events.specs.Examples.{header, metadata_value, eof_value, abc, finished_acknowledged, put_value}
 use Rattle.txn_events.specs.declared.event.Event.{Event}
 use Rattle.txn_events.specs.declared.event.Event.TheVariants.{Put, On}
-use Rattle.txn_lane.specs.declared.lane_side.LaneSide.TheVariants.{Receiving}
-use Rattle.txn_lane.specs.declared.refused.Refused.{Refused}
-use Rattle.txn_lane.specs.Lane.{State, idle, key_of, is_running, issued_by}
-use Rattle.txn_lane.specs.Steps.{refusal_at, stepped, answer_of, image_of}
+use Rattle.lane_table.specs.declared.lane_side.LaneSide.TheVariants.{Receiving}
+use Rattle.lane_table.specs.declared.refused.Refused.{Refused}
+use Rattle.lane_table.specs.Lane.{State, idle, key_of, is_running, issued_by}
+use Rattle.lane_table.specs.Steps.{refusal_at, stepped, answer_of, image_of}
 
 -- ---- the lane
 
@@ -112,7 +111,7 @@ prompt_opens_not = refl
 pub report_opens_not : refusal_at fresh (on 5 what.Report) ≡ plain refusal.NoTransaction
 report_opens_not = refl
 
-pub put_opens_not : refusal_at fresh (Put (sender_rows.two.request) reference) ≡ plain refusal.NoTransaction
+pub put_opens_not : refusal_at fresh (Put (put_value Two abc) reference) ≡ plain refusal.NoTransaction
 put_opens_not = refl
 
 -- Metadata of a file that is too large

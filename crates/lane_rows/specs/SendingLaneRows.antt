@@ -20,12 +20,12 @@ use Rattle.pdu_values.specs.declared.pdu.Body.TheVariants as body
 use Rattle.pdu_values.specs.declared.pdu.Direction.TheVariants.{TowardSender}
 use Rattle.indications.specs.declared.indication.Indication.TheVariants as told
 use Rattle.sender_table.specs.Sending.{initial, step, state_of}
-use Rattle.sender_rows.specs.SendingRows as rows
+use Rattle.txn_events.specs.Examples.{abc, put_value}
 use Rattle.txn_events.specs.declared.event.Event.{Event}
 use Rattle.txn_events.specs.declared.event.Event.TheVariants.{Put, On}
-use Rattle.txn_lane.specs.declared.lane_side.LaneSide.TheVariants.{Sending}
-use Rattle.txn_lane.specs.Lane.{State, idle, key_of, issued_by}
-use Rattle.txn_lane.specs.Steps.{refusal_at, next_number, answer_of, image_of}
+use Rattle.lane_table.specs.declared.lane_side.LaneSide.TheVariants.{Sending}
+use Rattle.lane_table.specs.Lane.{State, idle, key_of, issued_by}
+use Rattle.lane_table.specs.Steps.{refusal_at, next_number, answer_of, image_of}
 use Rattle.lane_rows.specs.ReceivingLaneRows.{after, are_taken, echoed, plain}
 
 -- ---- the lane
@@ -44,11 +44,11 @@ key number = record { source = record { 0 = 2 }; seq = number }
 
 -- a file is put
 abbrev pub puts : Class → List ℕ → Event
-puts class file = Put ((rows.sending class 4 file).request) reference
+puts class file = Put (put_value class file) reference
 
 -- "abc" is put
 abbrev pub put : Class → Event
-put class = puts class rows.abc
+put class = puts class abc
 
 -- what else happens to a transaction
 abbrev pub on : ℕ → What → Event

@@ -1,16 +1,10 @@
 -- Laws of the file that is handed out.
-use Rattle.std.proofs.Common.{◌≡◌, ℕ, zero, suc, ◌+◌, ◌<◌, Bool, not, List, [], ◌∷◌, ◌++◌, Option, Result, Ok, Err, refl, ap, subst, ◌∙◌, arith}
+use Rattle.std.proofs.Common.{◌≡◌, ℕ, zero, suc, ◌+◌, ◌<◌, Bool, not, List, [], ◌∷◌, ◌++◌, Option, refl, ap, ◌∙◌, arith}
 use Rattle.std.proofs.lemmas.Bool.{lt-ltb}
-use Rattle.std.specs.Prelude.{unwrap_or, IfOk, IfErr}
-use Rattle.cfdp_types.specs.declared.image.Image.{Image}
+use Rattle.std.specs.Prelude.{unwrap_or}
 use Rattle.gap_list.specs.Runs.{in_runs, missing_runs}
 use Rattle.gap_list.proofs.RunLemmas.{in_runs-runs_of}
-use Rattle.txn_events.specs.declared.refusal.Refusal.{Refusal}
-use Rattle.receiver_table.specs.Reception.{Entry, state_of}
 use Rattle.receiver_table.specs.Answers.{octets_from}
-use Rattle.receiver_table.specs.Images.{image_at}
-use Rattle.receiver_core.specs.Core.{shown, StandsAfter, IsWhy}
-use Rattle.receiver_core.specs.declared.receiver.ReceiverCore.{ReceiverCore}
 
 -- what is missing did not come
 pub missing_has : (set : ℕ → Bool) (size i : ℕ) → i < size → in_runs (missing_runs set size) i ≡ not (set i)

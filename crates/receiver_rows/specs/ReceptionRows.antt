@@ -42,21 +42,10 @@ use Rattle.gap_list.specs.Runs.{runs_of, runs_from}
 use Rattle.txn_events.specs.declared.answer.Answer.{Answer}
 use Rattle.receiver_table.specs.Reception.{Reception, Entry, State, initial, step, state_of, issued, octet_at, is_closing, is_suspended}
 use Rattle.receiver_table.specs.Answers.{empty_answer, answer_at}
+pub use Rattle.txn_events.specs.Examples.{header, metadata_value, eof_value, abc, finished_acknowledged}
 use Rattle.receiver_laws.specs.LegalReceptions.{log_of, IsLegal, IsGood}
 
 -- ---- the transaction
-
--- from entity 1 to entity 2, sequence number 5
-abbrev pub header : Class → Header
-header class = record {
-  direction = TowardReceiver;
-  class = class;
-  entity_octets = 1;
-  sequence_octets = 1;
-  source = record { 0 = 1 };
-  sequence = 5;
-  destination = record { 0 = 2 };
-}
 
 -- with the reference parameters
 abbrev pub reception : Class → Reception
@@ -117,11 +106,6 @@ pdu class b = what.Pdu (record { header = header class; body = b })
 abbrev pub wide : Body → What
 wide b = what.Pdu (record { header = wide_header; body = b })
 
--- of the file "a", to be kept as "b": a type of checksum and a size
-abbrev pub metadata_value : ℕ → ℕ → Metadata
-metadata_value kind size =
-    record { closure = false; checksum_type = kind; size = size; source_name = 97 ∷ []; destination_name = 98 ∷ []; messages = [] }
-
 -- such Metadata that came
 abbrev pub metadata_of : Class → ℕ → ℕ → What
 metadata_of class kind size = pdu class (body.Metadata (metadata_value kind size))
@@ -130,17 +114,9 @@ metadata_of class kind size = pdu class (body.Metadata (metadata_value kind size
 abbrev pub file_data : Class → ℕ → List ℕ → What
 file_data class offset octets = pdu class (body.FileData (record { offset = offset; octets = octets }))
 
--- a condition, a checksum and a size
-abbrev pub eof_value : ℕ → ℕ → ℕ → Eof
-eof_value condition checksum size = record { condition = condition; checksum = checksum; size = size; location = None }
-
 -- such an EOF that came
 abbrev pub eof_of : Class → ℕ → ℕ → ℕ → What
 eof_of class condition checksum size = pdu class (body.Eof (eof_value condition checksum size))
-
--- the file "abc"
-abbrev pub abc : List ℕ
-abc = 97 ∷ 98 ∷ 99 ∷ []
 
 -- its Metadata
 abbrev pub metadata : Class → What
@@ -157,10 +133,6 @@ eof class = eof_of class 0 0x6162_6300 3
 -- a Prompt
 abbrev pub prompted : Prompt → What
 prompted p = pdu Two (body.Prompt p)
-
--- the ACK of a Finished PDU with this condition
-abbrev pub finished_acknowledged : ℕ → What
-finished_acknowledged code = pdu Two (body.Ack (record { of = acknowledged.Finished; condition = code; status = Terminated }))
 
 -- so many octets of no meaning
 abbrev pub some_octets : ℕ → List ℕ
@@ -234,7 +206,7 @@ complete_one_told = refl
 
 pub complete_one_legal : IsLegal class_one (after class_one complete_one)
 unfolding initial step state_of answer_at runs_of runs_from
-complete_one_legal = (refl, tt, refl, (refl, tt, refl, (refl, tt, refl, (refl, (tt, refl, refl, refl), refl, tt))))
+complete_one_legal = (refl, tt, refl, (refl, tt, refl, (refl, tt, refl, (refl, (refl, refl, refl, refl), refl, tt))))
 
 -- an empty file: nothing of it is told, and it is kept
 abbrev pub empty_one : List What
@@ -247,7 +219,7 @@ empty_one_told = refl
 
 pub empty_one_legal : IsLegal class_one (after class_one empty_one)
 unfolding initial step state_of answer_at runs_of runs_from
-empty_one_legal = (refl, tt, refl, (refl, tt, refl, (refl, (tt, refl, refl, refl), refl, tt)))
+empty_one_legal = (refl, tt, refl, (refl, tt, refl, (refl, (refl, refl, refl, refl), refl, tt)))
 
 -- the file store does not keep the file
 abbrev pub rejected_one : List What
@@ -260,7 +232,7 @@ rejected_one_told = refl
 
 pub rejected_one_legal : IsLegal class_one (after class_one rejected_one)
 unfolding initial step state_of answer_at runs_of runs_from
-rejected_one_legal = (refl, tt, refl, (refl, tt, refl, (refl, tt, refl, (refl, (tt, refl, refl, refl), refl, tt))))
+rejected_one_legal = (refl, tt, refl, (refl, tt, refl, (refl, tt, refl, (refl, (refl, refl, refl, refl), refl, tt))))
 
 -- a receiver that ignores the fault of the check limit
 abbrev pub check_ignored : Reception
@@ -276,7 +248,7 @@ checked_in_vain_told = refl
 
 pub checked_in_vain_legal : IsLegal check_ignored (after check_ignored checked_in_vain)
 unfolding initial step state_of answer_at runs_of runs_from
-checked_in_vain_legal = (refl, tt, refl, (refl, tt, refl, (refl, tt, refl, (refl, tt, refl, (refl, (tt, refl, refl, refl), refl, tt)))))
+checked_in_vain_legal = (refl, tt, refl, (refl, tt, refl, (refl, tt, refl, (refl, tt, refl, (refl, (refl, refl, refl, refl), refl, tt)))))
 
 -- ---- class 2: whole transactions
 
@@ -291,7 +263,7 @@ complete_two_told = refl
 
 pub complete_two_legal : IsLegal class_two (after class_two complete_two)
 unfolding initial step state_of answer_at runs_of runs_from
-complete_two_legal = (refl, tt, refl, (refl, tt, refl, (refl, tt, refl, (refl, tt, refl, (refl, (tt, refl, refl, refl), refl, tt)))))
+complete_two_legal = (refl, tt, refl, (refl, tt, refl, (refl, tt, refl, (refl, tt, refl, (refl, (refl, refl, refl, refl), refl, tt)))))
 
 -- the Metadata comes last
 abbrev pub metadata_last_two : List What
@@ -304,7 +276,7 @@ metadata_last_two_told = refl
 
 pub metadata_last_two_legal : IsLegal class_two (after class_two metadata_last_two)
 unfolding initial step state_of answer_at runs_of runs_from
-metadata_last_two_legal = (refl, tt, refl, (refl, tt, refl, (refl, tt, refl, (refl, tt, refl, (refl, (tt, refl, refl, refl), refl, tt)))))
+metadata_last_two_legal = (refl, tt, refl, (refl, tt, refl, (refl, tt, refl, (refl, tt, refl, (refl, (refl, refl, refl, refl), refl, tt)))))
 
 -- no ACK of the Finished PDU comes
 abbrev pub finished_in_vain : List What
@@ -317,7 +289,7 @@ finished_in_vain_told = refl
 
 pub finished_in_vain_legal : IsLegal class_two (after class_two finished_in_vain)
 unfolding initial step state_of answer_at runs_of runs_from
-finished_in_vain_legal = (refl, tt, refl, (refl, tt, refl, (refl, tt, refl, (refl, tt, refl, (refl, tt, refl, (refl, (tt, refl, refl, refl), refl, tt))))))
+finished_in_vain_legal = (refl, tt, refl, (refl, tt, refl, (refl, tt, refl, (refl, tt, refl, (refl, tt, refl, (refl, (refl, refl, refl, refl), refl, tt))))))
 
 -- then it is over
 pub over_in_the_end : (state_of (after class_two finished_in_vain)).ended ≡ true
@@ -339,7 +311,7 @@ asked_in_vain_told = refl
 
 pub asked_in_vain_legal : IsLegal class_two (after class_two asked_in_vain)
 unfolding initial step state_of answer_at runs_of runs_from
-asked_in_vain_legal = (refl, tt, refl, (refl, tt, refl, (refl, tt, refl, (refl, tt, refl, (refl, tt, refl, (refl, (tt, refl, refl, refl), refl, tt))))))
+asked_in_vain_legal = (refl, tt, refl, (refl, tt, refl, (refl, tt, refl, (refl, tt, refl, (refl, tt, refl, (refl, (refl, refl, refl, refl), refl, tt))))))
 
 -- the file comes while the reception is suspended
 abbrev pub suspended_and_resumed : List What
@@ -353,7 +325,7 @@ suspended_and_resumed_told = refl
 
 pub suspended_and_resumed_legal : IsLegal class_two (after class_two suspended_and_resumed)
 unfolding initial step state_of answer_at runs_of runs_from
-suspended_and_resumed_legal = (refl, tt, refl, (refl, tt, refl, (refl, tt, refl, (refl, tt, refl, (refl, tt, refl, (refl, tt, refl, (refl, (tt, refl, refl, refl), refl, tt)))))))
+suspended_and_resumed_legal = (refl, tt, refl, (refl, tt, refl, (refl, tt, refl, (refl, tt, refl, (refl, tt, refl, (refl, tt, refl, (refl, (refl, refl, refl, refl), refl, tt)))))))
 
 -- an EOF with an error comes first and ends it
 abbrev pub cancelled_by_sender : List What
@@ -365,7 +337,7 @@ cancelled_by_sender_told = refl
 
 pub cancelled_by_sender_legal : IsLegal class_two (after class_two cancelled_by_sender)
 unfolding initial step state_of answer_at runs_of runs_from
-cancelled_by_sender_legal = (refl, (tt, refl, refl, refl), refl, tt)
+cancelled_by_sender_legal = (refl, (refl, refl, refl, refl), refl, tt)
 
 -- the user cancels: an EOF is still acknowledged, and the ACK ends it
 abbrev pub cancelled_by_user : List What
@@ -378,7 +350,7 @@ cancelled_by_user_told = refl
 
 pub cancelled_by_user_legal : IsLegal class_two (after class_two cancelled_by_user)
 unfolding initial step state_of answer_at runs_of runs_from
-cancelled_by_user_legal = (refl, tt, refl, (refl, tt, refl, (refl, tt, refl, (refl, (tt, refl, refl, refl), refl, tt))))
+cancelled_by_user_legal = (refl, tt, refl, (refl, tt, refl, (refl, tt, refl, (refl, (refl, refl, refl, refl), refl, tt))))
 
 -- while it closes, an EOF with an error is not kept
 pub cancelling_eof_not_kept : (state_of (after class_two (metadata Two ∷ what.Cancel ∷ eof_of Two 15 0 0 ∷ []))).eof ≡ None
@@ -404,7 +376,7 @@ not_opened_by_report legal = legal.1
 
 pub not_opened_by_prompt : IsLegal class_two (after class_two (prompted prompt.KeepAlive ∷ [])) → ⊥
 unfolding initial step state_of answer_at runs_of runs_from
-not_opened_by_prompt legal = legal.1.0
+not_opened_by_prompt legal = let e : false ≡ true = legal.1.0 in absurd cc
 
 -- Metadata of another transaction
 abbrev pub of_another : What

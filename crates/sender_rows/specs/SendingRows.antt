@@ -28,6 +28,8 @@ use Rattle.gap_list.specs.Runs.{runs_of, runs_from}
 use Rattle.txn_events.specs.declared.answer.Answer.{Answer}
 use Rattle.sender_table.specs.Sending.{Sending, Event, put, happens, Entry, initial, step, state_of, issued}
 use Rattle.sender_table.specs.Answers.{empty_answer, answer_at}
+pub use Rattle.txn_events.specs.Examples.{abc}
+use Rattle.txn_events.specs.Examples.{put_value}
 use Rattle.sender_laws.specs.LegalSendings.{log_of, IsLegal}
 
 -- ---- the transaction
@@ -37,19 +39,8 @@ abbrev pub sending : Class → ℕ → List ℕ → Sending
 sending class seq file = record {
   key = record { source = record { 0 = 2 }; seq = seq };
   params = reference;
-  request = record {
-    destination = record { 0 = 1 };
-    class = class;
-    source_name = 97 ∷ [];
-    destination_name = 98 ∷ [];
-    messages = [];
-    file = file;
-  };
+  request = put_value class file;
 }
-
--- the file "abc"
-abbrev pub abc : List ℕ
-abc = 97 ∷ 98 ∷ 99 ∷ []
 
 -- that file in class 1
 abbrev pub one : Sending

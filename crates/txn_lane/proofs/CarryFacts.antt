@@ -4,7 +4,7 @@ use Rattle.txn_events.specs.declared.answer.Answer.{Answer}
 use Rattle.txn_events.specs.declared.event.Event.{Event}
 use Rattle.sender_core.specs.Core.{sending_of, StandsAfter}
 use Rattle.txn_lane.specs.declared.running.Running.{Running}
-use Rattle.txn_lane.specs.Logs.{to_sender}
+use Rattle.lane_table.specs.Logs.{to_sender}
 use Rattle.txn_lane.specs.RunningCode.{GoesOn, IsUnmoved}
 
 pub is_ok_of : {A E : Type 0} (r : Result A E) (answer : A) → r ≡ Ok answer → IsOk r

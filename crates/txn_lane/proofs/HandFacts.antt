@@ -7,13 +7,13 @@ use Rattle.indications.specs.declared.bundle.Bundle.{Bundle}
 use Rattle.indications.specs.declared.indication.Indication.{Indication}
 use Rattle.indications.specs.LaneLists.{IsLaneList}
 use Rattle.txn_events.specs.declared.event.Event.{Event}
-use Rattle.txn_lane.specs.Lane.{State, key_at, key_of, IsSound}
-use Rattle.txn_lane.specs.Steps.{IsKeyed, new_transaction, refusal_at, stepped, answer_of}
-use Rattle.txn_lane.specs.Keeping.{Keeps}
+use Rattle.lane_table.specs.Lane.{State, key_at, key_of, IsSound}
+use Rattle.lane_table.specs.Steps.{IsKeyed, new_transaction, refusal_at, stepped, answer_of}
+use Rattle.lane_table.specs.Keeping.{Keeps}
 use Rattle.txn_lane.specs.Handing.{bundle_for, MayHandOver}
-use Rattle.txn_lane.proofs.SentFacts.{some_is}
-use Rattle.txn_lane.proofs.StepFacts.{keeps_bundle}
-use Rattle.txn_lane.proofs.RunFacts.{tells_some, IsSame, same_by}
+use Rattle.lane_table.proofs.SentFacts.{some_is}
+use Rattle.lane_table.proofs.StepFacts.{keeps_bundle}
+use Rattle.lane_table.proofs.RunFacts.{tells_some, IsSame, same_by}
 
 source_of_key : (source : EntityId) (last : Option ℕ) (key : TxnKey) → option_map (key_at source) last ≡ Some key → source ≡ key.source
 source_of_key source None key is = absurd cc

@@ -11,13 +11,13 @@ use Rattle.sender_core.specs.declared.plan.Plan.{Plan}
 use Rattle.sender_core.specs.declared.sender.SenderCore.{SenderCore}
 use Rattle.txn_events.specs.declared.event.Event.{Event}
 use Rattle.txn_lane.specs.declared.running.Running.{Running}
-use Rattle.txn_lane.specs.Logs.{Answer, sent, to_sender}
-use Rattle.txn_lane.specs.Lane.{State, log_of, IsSound}
-use Rattle.txn_lane.specs.Steps.{IsKeyed, new_transaction, log_before, plainly, refused_by_end, refused_by_lane, refusal_at, stepped, answer_in, answer_of}
+use Rattle.lane_table.specs.Logs.{Answer, sent, to_sender}
+use Rattle.lane_table.specs.Lane.{State, log_of, IsSound}
+use Rattle.lane_table.specs.Steps.{IsKeyed, new_transaction, log_before, plainly, refused_by_end, refused_by_lane, refusal_at, stepped, answer_in, answer_of}
 use Rattle.txn_lane.specs.LaneCode.{Stands, IsHeld}
-use Rattle.txn_lane.proofs.LogFacts.{log_with}
-use Rattle.txn_lane.proofs.SentFacts.{some_is}
-use Rattle.txn_lane.proofs.StepFacts.{ComesTo, comes_to, stays_sound}
+use Rattle.lane_table.proofs.LogFacts.{log_with}
+use Rattle.lane_table.proofs.SentFacts.{some_is}
+use Rattle.lane_table.proofs.StepFacts.{ComesTo, comes_to, stays_sound}
 
 -- ---- a plan's answer is the table's
 

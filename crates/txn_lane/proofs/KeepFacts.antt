@@ -5,12 +5,12 @@ use Rattle.cfdp_types.specs.declared.key.TxnKey.{TxnKey}
 use Rattle.indications.specs.declared.bundle.Bundle.{Bundle}
 use Rattle.indications.specs.declared.indication.Indication.{Indication}
 use Rattle.txn_events.specs.declared.event.Event.{Event}
-use Rattle.txn_lane.specs.declared.refused.Refused.{Refused}
-use Rattle.txn_lane.specs.Keeping.{Keeps, bundle_by, bundle_of}
-use Rattle.txn_lane.specs.Lane.{State, key_of, IsSound}
-use Rattle.txn_lane.specs.Steps.{IsKeyed, refusal_at, stepped, answer_of}
+use Rattle.lane_table.specs.declared.refused.Refused.{Refused}
+use Rattle.lane_table.specs.Keeping.{Keeps, bundle_by, bundle_of}
+use Rattle.lane_table.specs.Lane.{State, key_of, IsSound}
+use Rattle.lane_table.specs.Steps.{IsKeyed, refusal_at, stepped, answer_of}
 use Rattle.txn_lane.specs.Stepping.{IsOffered, IsWhyNot}
-use Rattle.txn_lane.proofs.RunFacts.{step_keeps}
+use Rattle.lane_table.proofs.RunFacts.{step_keeps}
 
 -- what was offered stands behind the list
 stands_by : {A : Type 0} (takes : A → Bundle → A → Type 0) (stands : A → List Bundle → Type 0) (old new : A) (bundles : List Bundle) (state : State)

@@ -8,12 +8,12 @@ use Rattle.sender_table.specs.Answers.{answer_at}
 use Rattle.sender_core.specs.Core.{shown, sending_of}
 use Rattle.txn_events.specs.declared.event.Event.{Event}
 use Rattle.txn_events.specs.declared.event.Event.TheVariants.{On}
-use Rattle.txn_lane.specs.declared.lane_side.Numbers.{Numbers}
+use Rattle.lane_table.specs.declared.lane_side.Numbers.{Numbers}
 use Rattle.txn_lane.specs.declared.running.Running.{Running}
-use Rattle.txn_lane.specs.Lane.{State, is_above, log_of}
+use Rattle.lane_table.specs.Lane.{State, is_above, log_of}
 use Rattle.txn_lane.specs.LaneCode.{sending_state, journal_of, IsHeld}
-use Rattle.txn_lane.specs.Logs.{Transaction}
-use Rattle.txn_lane.specs.Steps.{IsKeyed, new_transaction, refused_by_lane, stepped, stepped_by}
+use Rattle.lane_table.specs.Logs.{Transaction}
+use Rattle.lane_table.specs.Steps.{IsKeyed, new_transaction, refused_by_lane, stepped, stepped_by}
 use Rattle.txn_lane.proofs.TakenFacts.{Meets, IsFound, found_by, of_last, meets_last, stands_same}
 
 if_same : (b : Bool) → (if b then (let none : Option Transaction = None in none) else None) ≡ None

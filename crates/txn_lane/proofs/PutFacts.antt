@@ -8,10 +8,10 @@ use Rattle.sender_table.specs.Answers.{answer_at}
 use Rattle.sender_table.specs.Sending.{Sending, put, initial, state_of}
 use Rattle.txn_events.specs.declared.event.Event.{Event}
 use Rattle.txn_events.specs.declared.event.Event.TheVariants.{Put}
-use Rattle.txn_lane.specs.declared.lane_side.Numbers.{Numbers}
-use Rattle.txn_lane.specs.Lane.{State, key_at, IsSound}
+use Rattle.lane_table.specs.declared.lane_side.Numbers.{Numbers}
+use Rattle.lane_table.specs.Lane.{State, key_at, IsSound}
 use Rattle.txn_lane.specs.LaneCode.{sending_state}
-use Rattle.txn_lane.specs.Steps.{next_number, refused_by_lane, stepped}
+use Rattle.lane_table.specs.Steps.{next_number, refused_by_lane, stepped}
 use Rattle.txn_lane.proofs.TakenFacts.{Meets, says}
 
 pub meets_put : (numbers : Numbers) (greatest user lane : ℕ) (source : EntityId) (last before : Option ℕ) (journal : List Event) (number : ℕ)

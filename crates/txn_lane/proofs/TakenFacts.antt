@@ -13,23 +13,23 @@ use Rattle.txn_events.specs.declared.event.What.{What}
 use Rattle.sender_table.specs.Sending as sender
 use Rattle.sender_table.specs.Answers.{answer_at}
 use Rattle.sender_core.specs.Core.{shown, sending_of, StandsAfter}
-use Rattle.txn_lane.specs.declared.done.Done.{Done}
+use Rattle.lane_table.specs.declared.done.Done.{Done}
 use Rattle.txn_events.specs.declared.event.Event.{Event}
 use Rattle.txn_events.specs.declared.event.Event.TheVariants.{On}
 use Rattle.txn_lane.specs.declared.running.Running.{Running}
 use Rattle.txn_lane.specs.Handing.{bundle_for, MayHandOver, IsHandedOver}
-use Rattle.txn_lane.specs.Keeping.{Keeps, bundle_by, bundle_of}
-use Rattle.txn_lane.specs.Lane.{State, key_at, key_of, log_of, goes_on, is_running, IsSound}
+use Rattle.lane_table.specs.Keeping.{Keeps, bundle_by, bundle_of}
+use Rattle.lane_table.specs.Lane.{State, key_at, key_of, log_of, goes_on, is_running, IsSound}
 use Rattle.txn_lane.specs.LaneCode.{Stands, IsHeld}
-use Rattle.txn_lane.specs.Logs.{Log, sent, received, to_sender}
+use Rattle.lane_table.specs.Logs.{Log, sent, received, to_sender}
 use Rattle.txn_lane.specs.Stepping.{IsOffered, IsWhyNot, IsNotCarried}
-use Rattle.txn_lane.specs.Steps.{IsKeyed, new_transaction, log_before, is_foreign, is_new, is_old, is_unknown, plainly, refused_by_end, refused_by_lane, refusal_at, stepped, stepped_by, answer_in, answer_of, IsDone}
+use Rattle.lane_table.specs.Steps.{IsKeyed, new_transaction, log_before, is_foreign, is_new, is_old, is_unknown, plainly, refused_by_end, refused_by_lane, refusal_at, stepped, stepped_by, answer_in, answer_of, IsDone}
 use Rattle.txn_lane.proofs.HandFacts.{may_hand_over}
 use Rattle.txn_lane.proofs.HeldFacts.{taken_by_both}
-use Rattle.txn_lane.proofs.LogFacts.{log_with}
-use Rattle.txn_lane.proofs.RunFacts.{IsSame, same_by}
-use Rattle.txn_lane.proofs.SentFacts.{some_is}
-use Rattle.txn_lane.proofs.StepFacts.{ComesTo, comes_to, stays_sound, if_none, both_false, both_true, is_true, is_false, same_source}
+use Rattle.lane_table.proofs.LogFacts.{log_with}
+use Rattle.lane_table.proofs.RunFacts.{IsSame, same_by}
+use Rattle.lane_table.proofs.SentFacts.{some_is}
+use Rattle.lane_table.proofs.StepFacts.{ComesTo, comes_to, stays_sound, if_none, both_false, both_true, is_true, is_false, same_source}
 
 -- an event that the lane itself lets pass comes to a sender's log
 pub record Meets (state : State) (event : Event) (key : TxnKey) (sending : sender.Sending) (front : List sender.Entry) : Type 0 where

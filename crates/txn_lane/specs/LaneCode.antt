@@ -10,12 +10,12 @@ use Rattle.sender_table.specs.Sending.{issued}
 use Rattle.txn_lane.specs.declared.running.Running.{Running}
 use Rattle.txn_events.specs.declared.event.Event.{Event}
 use Rattle.txn_events.specs.declared.event.Event.TheVariants.{On}
-use Rattle.txn_lane.specs.declared.refused.Refused.{Refused}
-use Rattle.txn_lane.specs.declared.lane_side.LaneSide.TheVariants.{Sending}
-use Rattle.txn_lane.specs.declared.lane_side.Numbers.{Numbers}
-use Rattle.txn_lane.specs.Logs.{Log, sent}
-use Rattle.txn_lane.specs.Steps.{plainly, echo_to}
-use Rattle.txn_lane.specs.Lane.{State, is_above, log_of, IsSound}
+use Rattle.lane_table.specs.declared.refused.Refused.{Refused}
+use Rattle.lane_table.specs.declared.lane_side.LaneSide.TheVariants.{Sending}
+use Rattle.lane_table.specs.declared.lane_side.Numbers.{Numbers}
+use Rattle.lane_table.specs.Logs.{Log, sent}
+use Rattle.lane_table.specs.Steps.{plainly, echo_to}
+use Rattle.lane_table.specs.Lane.{State, is_above, log_of, IsSound}
 
 -- what a sending lane stands at, by its parts
 abbrev pub sending_state : Numbers → ℕ → ℕ → ℕ → EntityId → Option ℕ → Option ℕ → List Event → State

@@ -1,8 +1,3 @@
-pub mod Logs
-pub mod Lane
-pub mod Steps
-pub mod Keeping
-pub mod LaneLaws
 pub mod LaneCode
 pub mod Handing
 pub mod Stepping

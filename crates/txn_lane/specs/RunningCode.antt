@@ -11,7 +11,7 @@ use Rattle.sender_core.specs.Core.{shown, sending_of, sending_by, StandsAfter, I
 use Rattle.txn_events.specs.declared.event.Event.{Event}
 use Rattle.txn_lane.specs.declared.running.Running.{Running}
 use Rattle.txn_lane.specs.declared.running.Step.{Step}
-use Rattle.txn_lane.specs.Logs.{to_sender}
+use Rattle.lane_table.specs.Logs.{to_sender}
 
 -- a step was planned for an event, in the present state, and there is room for it
 pub record IsStepOf (running : Running) (event : Event) (step : Step) : Type 0 where

@@ -7,13 +7,13 @@ use Rattle.txn_events.specs.declared.refusal.Refusal.{Refusal}
 use Rattle.txn_events.specs.declared.refusal.Refusal.TheVariants as refusal
 use Rattle.sender_core.specs.Core.{IsWhy}
 use Rattle.sender_table.specs.Sending as sender
-use Rattle.txn_lane.specs.declared.done.Done.{Done}
+use Rattle.lane_table.specs.declared.done.Done.{Done}
 use Rattle.txn_events.specs.declared.event.Event.{Event}
-use Rattle.txn_lane.specs.declared.refused.Refused.{Refused}
+use Rattle.lane_table.specs.declared.refused.Refused.{Refused}
 use Rattle.txn_lane.specs.Handing.{bundle_for}
-use Rattle.txn_lane.specs.Keeping.{Keeps, bundle_of}
-use Rattle.txn_lane.specs.Lane.{State}
-use Rattle.txn_lane.specs.Steps.{IsKeyed, plainly, refused_by_lane, refusal_at, stepped, IsDone}
+use Rattle.lane_table.specs.Keeping.{Keeps, bundle_of}
+use Rattle.lane_table.specs.Lane.{State}
+use Rattle.lane_table.specs.Steps.{IsKeyed, plainly, refused_by_lane, refusal_at, stepped, IsDone}
 
 -- the bundle that there is was offered once and taken, and without one nothing happened
 abbrev pub IsOffered : {A : Type 0} → (A → Bundle → A → Type 0) → A → A → List Bundle → Type 0

@@ -1,8 +1,6 @@
-use crate::done::Done;
 use crate::lane_refusals::{plainly, refused_by_key, refused_put};
-use crate::lane_side::Numbers;
 use crate::outlet::Outlet;
-use crate::refused::Refused;
+use lane_table::{Done, Numbers, Refused};
 use crate::running::Running;
 use crate::stepping::{Place, advance, done, start};
 use cfdp_types::{EntityId, Params, PutRequest, TxnKey};
@@ -27,7 +25,7 @@ pub struct Lane {
 }
 
 impl Model for Lane {
-    ghost use Rattle.txn_lane.specs.Lane.{State};
+    ghost use Rattle.lane_table.specs.Lane.{State};
     ghost use Rattle.txn_lane.specs.LaneCode.{sending_state, journal_of, IsHeld};
 
     ghost Value = { State };
@@ -40,12 +38,12 @@ impl Model for Lane {
 impl Lane {
     ghost use Rattle.std.specs.Prelude.{◌≡◌, ◌<◌, ◌++◌, true, false, List, IfSome, IfNone, IfOk, IfErr, OnOk, OnErr};
     ghost use Rattle.indications.specs.declared.bundle.Bundle.{Bundle};
-    ghost use Rattle.txn_lane.specs.Keeping.{bundle_of};
+    ghost use Rattle.lane_table.specs.Keeping.{bundle_of};
     ghost use Rattle.txn_lane.specs.Stepping.{IsOutletOf, IsOffered, IsHanded, IsTaken, IsLeft, IsNotTaken, Passes};
-    ghost use Rattle.txn_lane.specs.Steps.{IsKeyed, IsDone, plainly, refused_by_lane, refusal_at, stepped, next_number, exceeds};
+    ghost use Rattle.lane_table.specs.Steps.{IsKeyed, IsDone, plainly, refused_by_lane, refusal_at, stepped, next_number, exceeds};
     ghost use Rattle.txn_events.specs.declared.event.Event.TheVariants.{Put, On};
-    ghost use Rattle.txn_lane.specs.declared.lane_side.LaneSide.TheVariants.{Sending};
-    ghost use Rattle.txn_lane.specs.Lane.{idle, key_of, is_running, issued_by, IsSound};
+    ghost use Rattle.lane_table.specs.declared.lane_side.LaneSide.TheVariants.{Sending};
+    ghost use Rattle.lane_table.specs.Lane.{idle, key_of, is_running, issued_by, IsSound};
 
     /// A lane that has sent nothing yet: of a user's lane, for files of the source, by these
     /// numbers up to the greatest that the sequence length holds.

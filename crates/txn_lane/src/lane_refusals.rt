@@ -6,10 +6,10 @@ ghost use Rattle.pdu_values.specs.declared.pdu.Body.TheVariants as body;
 ghost use Rattle.pdu_values.specs.declared.bodies.TransactionStatus.TheVariants.{Terminated};
 ghost use Rattle.cfdp_types.specs.declared.key.TxnKey.{TxnKey as KeyValue};
 ghost use Rattle.txn_events.specs.declared.event.Event.TheVariants.{On};
-ghost use Rattle.txn_lane.specs.Steps.{echo_to};
+ghost use Rattle.lane_table.specs.Steps.{echo_to};
 ghost use Rattle.txn_lane.specs.LaneCode.{refused_by_key, refused_put};
 
-use crate::refused::Refused;
+use lane_table::Refused;
 use cfdp_types::{Class, Condition, EntityId, TxnKey};
 use pdu_values::{Ack, Acknowledged, Body, Direction, Header, Pdu, TransactionStatus};
 use txn_events::{Refusal, What};

@@ -34,7 +34,7 @@ impl Running {
     ghost use Rattle.sender_core.specs.Core.{shown, sending_of, sending_by, StandsAfter, IsPlanOf, IsWhy, plan_answer};
     ghost use Rattle.txn_events.specs.declared.event.Event.{Event as EventValue};
     ghost use Rattle.txn_events.specs.declared.event.Event.TheVariants.{Put, On};
-    ghost use Rattle.txn_lane.specs.Logs.{to_sender};
+    ghost use Rattle.lane_table.specs.Logs.{to_sender};
     ghost use Rattle.txn_lane.specs.RunningCode.{IsStepOf, IsOpenedBy, IsUnmoved, MayCommit};
 
     /// The transaction that a Put opens, before its first event, and that event.

@@ -9,11 +9,11 @@ ghost use Rattle.sender_core.specs.Core.{shown, sending_of, sending_by, StandsAf
 ghost use Rattle.txn_events.specs.declared.event.Event.{Event as EventValue};
 ghost use Rattle.txn_events.specs.declared.event.Event.TheVariants.{Put, On};
 ghost use Rattle.txn_lane.specs.Handing.{bundle_for, MayHandOver, IsHandedOver};
-ghost use Rattle.txn_lane.specs.Logs.{to_sender};
+ghost use Rattle.lane_table.specs.Logs.{to_sender};
 ghost use Rattle.txn_lane.specs.RunningCode.{IsStepOf, IsOpenedBy, IsStarted, IsGoing, IsUnmoved, GoesOn, MayCommit};
 ghost use Rattle.txn_lane.specs.Stepping.{IsNotCarried, IsGivenBack};
 
-use crate::done::Done;
+use lane_table::Done;
 use crate::handing::{bundle_for, hand_over};
 use crate::outlet::Outlet;
 use crate::running::{Running, Step};

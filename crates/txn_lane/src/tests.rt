@@ -2,8 +2,8 @@ mod bounded;
 
 ghost use Rattle.std.specs.Prelude.{◌≡◌, [], ◌∷◌, OnOk, IfErr, IfOk, IfSome};
 ghost use Rattle.indications.specs.declared.indication.Indication.TheVariants as told;
-ghost use Rattle.txn_lane.specs.Lane.{idle};
-ghost use Rattle.txn_lane.specs.Steps.{IsKeyed};
+ghost use Rattle.lane_table.specs.Lane.{idle};
+ghost use Rattle.lane_table.specs.Steps.{IsKeyed};
 
 use crate::{Done, Event, Lane, Numbers, Outlet, Refused};
 use bounded::Bounded;

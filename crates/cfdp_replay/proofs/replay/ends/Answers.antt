@@ -1,7 +1,7 @@
 use Rattle.std.proofs.Common.{subst, arith}
 use Rattle.std.proofs.lemmas.Result.{err_from_is_err_and}
-use Rattle.cfdp_replay.specs.declared.input.NextLine.{NextLine}
-use Rattle.cfdp_replay.specs.Lines.{GivesNext, GivesLine, GivesTooLong, GivesEnd}
+use Rattle.script_io.specs.declared.input.NextLine.{NextLine}
+use Rattle.script_io.specs.Lines.{GivesNext, GivesLine, GivesTooLong, GivesEnd}
 use Rattle.cfdp_replay.proofs.RunFacts.{read_stops, end_is, line_too_many, long_stops}
 use Rattle.cfdp_replay.proofs.replay.ends.Goals as goal
 

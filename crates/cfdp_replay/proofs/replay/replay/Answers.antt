@@ -1,6 +1,6 @@
 use Rattle.std.proofs.Common.{◌≡◌, ℕ, subst, arith}
 use Rattle.cfdp_replay.specs.declared.replay.TheConstants.{LINES}
-use Rattle.cfdp_replay.specs.Lines.{lines_of}
+use Rattle.script_io.specs.Lines.{lines_of}
 use Rattle.cfdp_replay.specs.Running.{Ran}
 use Rattle.cfdp_replay.proofs.RunFacts.{if_some_then}
 use Rattle.cfdp_replay.proofs.replay.replay.Goals as goal

@@ -1,5 +1,5 @@
 use Rattle.std.specs.Prelude.{IfSome}
-use Rattle.cfdp_replay.specs.Lines.{lines_of}
+use Rattle.script_io.specs.Lines.{lines_of}
 use Rattle.cfdp_replay.specs.Running.{Ran}
 use Rattle.cfdp_replay.proofs.replay.replay.Given as goal
 

@@ -2,10 +2,10 @@ use Rattle.std.proofs.Common.{◌≡◌, sym, ap, ◌∙◌, subst, inr, true, f
 use Rattle.std.specs.Prelude.{string_bytes, List, ℕ}
 use Rattle.std.specs.Io.KnownBytes.{Appends}
 use Rattle.std.proofs.lemmas.Result.{err_from_is_err_and}
-use Rattle.cfdp_replay.specs.declared.input.NextLine.{NextLine}
+use Rattle.script_io.specs.declared.input.NextLine.{NextLine}
 use Rattle.cfdp_replay.specs.Commands.{command_of}
-use Rattle.cfdp_replay.specs.Lines.{GivesNext, GivesLine, GivesTooLong}
-use Rattle.cfdp_replay.specs.Output.{AppendsFront}
+use Rattle.script_io.specs.Lines.{GivesNext, GivesLine, GivesTooLong}
+use Rattle.script_io.specs.Output.{AppendsFront}
 use Rattle.cfdp_replay.specs.Running.{PlaysTo}
 use Rattle.cfdp_replay.proofs.RunFacts.{read_stops, long_stops, bad_stops, line_goes_on, write_stops}
 use Rattle.cfdp_replay.proofs.replay.turn.Goals as goal

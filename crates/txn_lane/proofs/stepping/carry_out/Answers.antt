@@ -1,7 +1,7 @@
 use Rattle.std.proofs.Common.{◌∷◌, ◌++◌, sym, ap, ◌∙◌, subst}
 use Rattle.txn_events.specs.declared.answer.Answer.{Answer}
 use Rattle.sender_core.specs.Core.{StandsAfter}
-use Rattle.txn_lane.specs.Logs.{to_sender}
+use Rattle.lane_table.specs.Logs.{to_sender}
 use Rattle.txn_lane.proofs.stepping.carry_out.Goals as goal
 
 pub returns-clause-goes_on : goal.returns-clause-goes_on

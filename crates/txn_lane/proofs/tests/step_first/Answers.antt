@@ -1,7 +1,7 @@
 use Rattle.std.proofs.Common.{[], sym, ap, ◌∙◌, subst}
-use Rattle.txn_lane.specs.Keeping.{Keeps}
-use Rattle.txn_lane.specs.Lane.{State}
-use Rattle.txn_lane.proofs.StepFacts.{idle_keeps}
+use Rattle.lane_table.specs.Keeping.{Keeps}
+use Rattle.lane_table.specs.Lane.{State}
+use Rattle.lane_table.proofs.StepFacts.{idle_keeps}
 use Rattle.txn_lane.proofs.tests.step_first.Goals as goal
 
 pub step-requires-clause-of_user : goal.step-requires-clause-of_user

@@ -1,10 +1,10 @@
 use Rattle.std.proofs.Common.{rules, ◌++◌, Some, sym, ap, ◌∙◌, subst}
 use Rattle.std.proofs.lemmas.Result.{err_from_is_err_and}
 use Rattle.sender_table.specs.Sending.{happens}
-use Rattle.txn_lane.specs.Keeping.{bundle_of}
+use Rattle.lane_table.specs.Keeping.{bundle_of}
 use Rattle.txn_lane.specs.LaneCode.{IsHeld}
 use Rattle.txn_lane.specs.Stepping.{IsOffered, IsNotCarried}
-use Rattle.txn_lane.specs.Steps.{IsDone}
+use Rattle.lane_table.specs.Steps.{IsDone}
 use Rattle.txn_events.specs.declared.event.Event.TheVariants.{On}
 use Rattle.txn_lane.proofs.TakenFacts.{free_if, may_then, offered_then, why_not, held_then, done_then}
 use Rattle.txn_lane.proofs.OnFacts.{goes_on_by, says_same, held_same, next_on}

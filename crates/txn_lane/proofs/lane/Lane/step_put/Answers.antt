@@ -1,11 +1,11 @@
 use Rattle.std.proofs.Common.{rules, Some, [], sym, ◌∙◌, subst}
 use Rattle.std.proofs.lemmas.Result.{err_from_is_err_and}
 use Rattle.sender_core.specs.Core.{sending_by}
-use Rattle.txn_lane.specs.Keeping.{bundle_of}
-use Rattle.txn_lane.specs.Lane.{key_at}
+use Rattle.lane_table.specs.Keeping.{bundle_of}
+use Rattle.lane_table.specs.Lane.{key_at}
 use Rattle.txn_lane.specs.LaneCode.{journal_of, IsHeld}
 use Rattle.txn_lane.specs.Stepping.{IsOffered, IsNotCarried}
-use Rattle.txn_lane.specs.Steps.{IsDone}
+use Rattle.lane_table.specs.Steps.{IsDone}
 use Rattle.txn_events.specs.declared.event.Event.TheVariants.{Put}
 use Rattle.txn_lane.proofs.TakenFacts.{free_if, may_then, offered_then, why_not, held_then, done_then}
 use Rattle.txn_lane.proofs.PutFacts.{meets_put, next_put, says_put}

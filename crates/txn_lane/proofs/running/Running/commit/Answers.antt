@@ -1,6 +1,6 @@
 use Rattle.std.proofs.Common.{sym, subst}
 use Rattle.sender_core.specs.Core.{IsPlanOf}
-use Rattle.txn_lane.specs.Logs.{to_sender}
+use Rattle.lane_table.specs.Logs.{to_sender}
 use Rattle.txn_lane.proofs.running.Running.commit.Goals as goal
 
 pub returns-clause-stands : goal.returns-clause-stands

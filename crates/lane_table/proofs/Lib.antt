@@ -1,0 +1,4 @@
+pub mod LogFacts
+pub mod SentFacts
+pub mod StepFacts
+pub mod RunFacts

@@ -1,0 +1,214 @@
+-- What holds of logs of both ends: one event more, and the words that they tell.
+use Rattle.std.proofs.Common.{◌≡◌, Bool, true, false, List, [], ◌∷◌, ◌++◌, map, Option, Some, None, if◌then◌else◌, refl, sym, ap, ◌∙◌, subst}
+use Rattle.std.proofs.lemmas.Bool.{false≢true}
+use Rattle.std.proofs.lemmas.List.{map-append}
+use Rattle.cfdp_types.specs.declared.key.TxnKey.{TxnKey}
+use Rattle.txn_events.specs.Refusal.{unless_refused}
+use Rattle.txn_events.specs.declared.event.What.{What}
+use Rattle.txn_events.specs.declared.event.What.TheVariants as what
+use Rattle.pdu_values.specs.declared.pdu.Body.{Body}
+use Rattle.pdu_values.specs.declared.pdu.Body.TheVariants as body
+use Rattle.indications.specs.declared.indication.Indication.{Indication}
+use Rattle.indications.specs.declared.side.Side.{Side}
+use Rattle.indications.specs.declared.side.Side.TheVariants.{Sender, Receiver}
+use Rattle.indications.specs.Words.{IsBegunOf, IsWordOf, is_transaction}
+use Rattle.indications.specs.LaneLists.{side_by, IsBegunGroup, IsWordGroup}
+use Rattle.indications.specs.declared.indication.Indication.TheVariants as told
+use Rattle.indications.proofs.WordLemmas.{opens_sender}
+use Rattle.sender_table.specs.Sending as sender
+use Rattle.sender_table.specs.Sending.{initial, state_of}
+use Rattle.sender_table.specs.Answers as sender_answers
+use Rattle.sender_table.specs.Answers.{answer_at}
+use Rattle.sender_laws.specs.LegalSendings as sender_logs
+use Rattle.sender_laws.proofs.SendingLegal as sender_laws
+use Rattle.receiver_table.specs.Reception as receiver
+use Rattle.receiver_table.specs.Answers as receiver_answers
+use Rattle.receiver_laws.specs.LegalReceptions as receiver_logs
+use Rattle.receiver_laws.proofs.ReceptionLegal as receiver_laws
+use Rattle.txn_events.specs.declared.event.Event.{Event}
+use Rattle.txn_events.specs.declared.event.Event.TheVariants.{Put, On}
+use Rattle.lane_table.specs.declared.lane_side.LaneSide.{LaneSide}
+use Rattle.lane_table.specs.declared.lane_side.LaneSide.TheVariants.{Sending, Receiving}
+use Rattle.lane_table.specs.Logs.{Transaction, sends, receives, Log, sent, received, body_opens, opened_by, to_sender, to_receiver, log_by, issued, has_ended, IsLegal, refused_behind, last_answer}
+use Rattle.txn_events.proofs.AnswerLemmas.{log_after-append, log_after-rest}
+use Rattle.lane_table.specs.LaneLaws.{TellsWords}
+
+-- ---- one event more
+
+-- a log with an event that its end answers by its table
+abbrev pub log_with : Log → Event → Log
+log_with (sent sending log) event =
+    sent sending (record { event = to_sender event; answer = sender_answers.accepted_at sending (sender.state_of sending log) (to_sender event) } ∷ log)
+log_with (received reception log) (On key event) =
+    received reception (record { event = event; answer = receiver_answers.accepted_at reception (receiver.state_of log) event } ∷ log)
+log_with (received reception log) (Put request params) = received reception log
+
+to_receiver-more : (events : List Event) (key : TxnKey) (event : What) → to_receiver (events ++ On key event ∷ []) ≡ to_receiver events ++ event ∷ []
+to_receiver-more [] key event = refl
+to_receiver-more (Put request params ∷ later) key event = to_receiver-more later key event
+to_receiver-more (On other first ∷ later) key event = ap (λ l. first ∷ l) (to_receiver-more later key event)
+
+to_receiver-put : (events : List Event) (request : _) (params : _) → to_receiver (events ++ Put request params ∷ []) ≡ to_receiver events
+to_receiver-put [] request params = refl
+to_receiver-put (Put other others ∷ later) request params = to_receiver-put later request params
+to_receiver-put (On other first ∷ later) request params = ap (λ l. first ∷ l) (to_receiver-put later request params)
+
+pub log_by-more : (transaction : Transaction) (events : List Event) (event : Event)
+    → log_by transaction (events ++ event ∷ []) ≡ log_with (log_by transaction events) event
+log_by-more (sends sending) events event =
+    ap (λ l. sent sending (sender_logs.log_of sending l)) (map-append to_sender events (event ∷ []))
+    ∙ ap (sent sending) (log_after-append (sender_logs.answer_behind sending) [] (map to_sender events) (to_sender event))
+log_by-more (receives reception) events (On key event) =
+    ap (λ l. received reception (receiver_logs.log_of reception l)) (to_receiver-more events key event)
+    ∙ ap (received reception) (log_after-append (receiver_logs.answer_behind reception) [] (to_receiver events) event)
+log_by-more (receives reception) events (Put request params) =
+    ap (λ l. received reception (receiver_logs.log_of reception l)) (to_receiver-put events request params)
+
+-- ---- its place
+
+-- an event may stand behind a log
+abbrev pub HasPlace : Log → Event → Type 0
+HasPlace (sent sending log) event = sender_logs.HasItsPlace log (to_sender event)
+HasPlace (received reception log) (On key event) = receiver_logs.HasItsPlace reception log event
+HasPlace (received reception log) (Put request params) = ⊥
+
+pub issued_with : (log : Log) (event : Event) → HasPlace log event
+    → issued (log_with log event) ≡ issued log ++ (last_answer (log_with log event)).inds
+issued_with (sent sending log) event place = refl
+issued_with (received reception log) (On key event) place = refl
+issued_with (received reception log) (Put request params) place = absurd place
+
+pub legal_with : (log : Log) (event : Event) → IsLegal log → has_ended log ≡ false → HasPlace log event → refused_behind log event ≡ None
+    → IsLegal (log_with log event)
+unfolding answer_at receiver_answers.answer_at
+legal_with (sent sending log) event legal goes place taken =
+    (goes, place, ap (λ why. unless_refused why (sender_answers.accepted_at sending (sender.state_of sending log) (to_sender event))) taken, legal)
+legal_with (received reception log) (On key event) legal goes place taken =
+    (goes, place, ap (λ why. unless_refused why (receiver_answers.accepted_at reception (receiver.state_of log) event)) taken, legal)
+legal_with (received reception log) (Put request params) legal goes place taken = absurd place
+
+-- ---- the first event, and those behind it
+
+pub nothing_legal : (transaction : Transaction) → IsLegal (log_by transaction [])
+nothing_legal (sends sending) = tt
+nothing_legal (receives reception) = tt
+
+pub nothing_ended : (transaction : Transaction) → has_ended (log_by transaction []) ≡ false
+unfolding initial state_of receiver.initial receiver.state_of
+nothing_ended (sends sending) = refl
+nothing_ended (receives reception) = refl
+
+pub nothing_issued : (transaction : Transaction) → issued (log_by transaction []) ≡ []
+nothing_issued (sends sending) = refl
+nothing_issued (receives reception) = refl
+
+-- of a transaction, if there is one
+abbrev pub IfOpened : Option Transaction → (Transaction → Type 0) → Type 0
+IfOpened None P = Unit {0}
+IfOpened (Some transaction) P = P transaction
+
+-- a PDU is of a key
+abbrev IsOfKey : What → TxnKey → Type 0
+IsOfKey (what.Pdu pdu) key = (pdu.header.source ≡ key.source) × (pdu.header.sequence ≡ key.seq)
+IsOfKey event key = Unit {0}
+
+-- the PDU is of the key that it opens
+abbrev pub IsOfPdu : Event → TxnKey → Type 0
+IsOfPdu (Put request params) key = Unit {0}
+IsOfPdu (On named event) key = IsOfKey event key
+
+if_opens : (b : Bool) (transaction : Transaction) (P : Transaction → Type 0) → (b ≡ true → P transaction)
+    → IfOpened (if b then Some transaction else None) P
+if_opens true transaction P holds = holds refl
+if_opens false transaction P holds = tt
+
+pub first_place : (side : LaneSide) (key : TxnKey) (event : Event) → IsOfPdu event key
+    → IfOpened (opened_by side key event) (λ transaction. HasPlace (log_by transaction []) event)
+first_place (Sending numbers greatest) key (Put request params) keyed = tt
+first_place (Receiving params) key (On named (what.Pdu pdu)) keyed =
+    if_opens (body_opens pdu.body) (receives (record { key = key; params = params; header = pdu.header }))
+    (λ transaction. HasPlace (log_by transaction []) (On named (what.Pdu pdu)))
+    (λ opens. (opens, refl, keyed.0, keyed.1))
+first_place (Sending numbers greatest) key (On named event) keyed = tt
+first_place (Receiving params) key (Put request others) keyed = tt
+first_place (Receiving params) key (On named what.Cancel) keyed = tt
+first_place (Receiving params) key (On named what.Suspend) keyed = tt
+first_place (Receiving params) key (On named what.Resume) keyed = tt
+first_place (Receiving params) key (On named what.Report) keyed = tt
+first_place (Receiving params) key (On named what.Abandon) keyed = tt
+first_place (Receiving params) key (On named what.Pump) keyed = tt
+first_place (Receiving params) key (On named (what.Timer kind stamp)) keyed = tt
+first_place (Receiving params) key (On named (what.Stored stamp kept)) keyed = tt
+
+place_in_sent : (sending : sender.Sending) (first : sender.Event) (later : List sender.Event) (event : What)
+    → sender_logs.HasItsPlace (sender_logs.log_of sending (first ∷ later)) (sender.happens event)
+place_in_sent sending first later event =
+    log_after-rest (λ log. sender_logs.HasItsPlace log (sender.happens event)) (sender_logs.answer_behind sending) (record { event = first; answer = sender_logs.answer_behind sending [] first } ∷ []) later tt (λ entry rest. tt)
+
+place_in_received : (reception : receiver.Reception) (first : What) (later : List What) (event : What)
+    → receiver_logs.HasItsPlace reception (receiver_logs.log_of reception (first ∷ later)) event
+place_in_received reception first later event =
+    log_after-rest (λ log. receiver_logs.HasItsPlace reception log event) (receiver_logs.answer_behind reception) (record { event = first; answer = receiver_logs.answer_behind reception [] first } ∷ []) later tt (λ entry rest. tt)
+
+pub later_place : (side : LaneSide) (key named : TxnKey) (first : Event) (later : List Event) (event : What)
+    → IfOpened (opened_by side key first) (λ transaction. HasPlace (log_by transaction (first ∷ later)) (On named event))
+later_place (Sending numbers greatest) key named (Put request params) later event = place_in_sent (record { key = key; params = params; request = request }) sender.put (map to_sender later) event
+later_place (Receiving params) key named (On other (what.Pdu pdu)) later event =
+    if_opens (body_opens pdu.body) (receives (record { key = key; params = params; header = pdu.header }))
+    (λ transaction. HasPlace (log_by transaction (On other (what.Pdu pdu) ∷ later)) (On named event))
+    (λ opens. place_in_received (record { key = key; params = params; header = pdu.header }) (what.Pdu pdu) (to_receiver later) event)
+later_place (Sending numbers greatest) key named (On other first) later event = tt
+later_place (Receiving params) key named (Put request others) later event = tt
+later_place (Receiving params) key named (On other what.Cancel) later event = tt
+later_place (Receiving params) key named (On other what.Suspend) later event = tt
+later_place (Receiving params) key named (On other what.Resume) later event = tt
+later_place (Receiving params) key named (On other what.Report) later event = tt
+later_place (Receiving params) key named (On other what.Abandon) later event = tt
+later_place (Receiving params) key named (On other what.Pump) later event = tt
+later_place (Receiving params) key named (On other (what.Timer kind stamp)) later event = tt
+later_place (Receiving params) key named (On other (what.Stored stamp kept)) later event = tt
+
+-- ---- words
+
+pub lane_words : TellsWords
+lane_words (sent sending log) legal = sender_laws.tells_words sending log legal
+lane_words (received reception log) legal = receiver_laws.tells_words reception log legal
+
+sender_side : (first : Indication) → is_transaction first ≡ true → side_by first ≡ Sender
+sender_side told.Transaction is = refl
+sender_side told.EofSent is = absurd (false≢true is)
+sender_side told.EofRecv is = absurd (false≢true is)
+sender_side (told.TransactionFinished a b c) is = absurd (false≢true is)
+sender_side (told.MetadataRecv a b c d e) is = absurd (false≢true is)
+sender_side (told.FileSegmentRecv a b) is = absurd (false≢true is)
+sender_side (told.Suspended a) is = absurd (false≢true is)
+sender_side (told.Resumed a) is = absurd (false≢true is)
+sender_side (told.Report a b) is = absurd (false≢true is)
+sender_side (told.Fault a b) is = absurd (false≢true is)
+sender_side (told.Abandoned a b) is = absurd (false≢true is)
+
+receiver_side : (first : Indication) (rest : List Indication) → IsBegunOf Receiver (first ∷ rest) → side_by first ≡ Receiver
+receiver_side told.Transaction rest begun = absurd begun.1
+receiver_side told.EofSent rest begun = refl
+receiver_side told.EofRecv rest begun = refl
+receiver_side (told.TransactionFinished a b c) rest begun = refl
+receiver_side (told.MetadataRecv a b c d e) rest begun = refl
+receiver_side (told.FileSegmentRecv a b) rest begun = refl
+receiver_side (told.Suspended a) rest begun = refl
+receiver_side (told.Resumed a) rest begun = refl
+receiver_side (told.Report a b) rest begun = refl
+receiver_side (told.Fault a b) rest begun = refl
+receiver_side (told.Abandoned a b) rest begun = refl
+
+side_shown : (side : Side) (first : Indication) (rest : List Indication) → IsBegunOf side (first ∷ rest) → side ≡ side_by first
+side_shown Sender first rest begun = sym (sender_side first (opens_sender first rest begun))
+side_shown Receiver first rest begun = sym (receiver_side first rest begun)
+
+-- the beginning of a word of a side shows its side
+pub begun_group : (side : Side) (word : List Indication) → IsBegunOf side word → IsBegunGroup word
+begun_group side [] begun = tt
+begun_group side (first ∷ rest) begun = subst (λ s. IsBegunOf s (first ∷ rest)) (side_shown side first rest begun) begun
+
+pub word_group : (side : Side) (word : List Indication) → IsWordOf side word → IsWordGroup word
+word_group side [] is = absurd (false≢true is.1)
+word_group side (first ∷ rest) is = subst (λ s. IsWordOf s (first ∷ rest)) (side_shown side first rest is.0) is

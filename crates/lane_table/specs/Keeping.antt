@@ -1,0 +1,51 @@
+-- What a lane keeps of the bundles that it sent.
+use Rattle.std.specs.Prelude.{◌≡◌, ℕ, ◌≤◌, true, All, List, [], ◌∷◌, ◌++◌, Option, Some, None}
+use Rattle.cfdp_types.specs.declared.key.EntityId.{EntityId}
+use Rattle.cfdp_types.specs.declared.key.TxnKey.{TxnKey}
+use Rattle.indications.specs.declared.bundle.Bundle.{Bundle}
+use Rattle.indications.specs.declared.indication.Indication.{Indication}
+use Rattle.indications.specs.LaneLists.{number_of, told_of, has_number, IsWordGroup, IsLaneList}
+use Rattle.txn_events.specs.declared.event.Event.{Event}
+use Rattle.lane_table.specs.Lane.{State, key_of, issued_by}
+use Rattle.lane_table.specs.Steps.{IsKeyed, refusal_at, stepped, answer_of}
+
+-- a number is at most another, which is there
+abbrev pub IsUpTo : Option ℕ → ℕ → Type 0
+IsUpTo None number = ⊥
+IsUpTo (Some last) number = number ≤ last
+
+-- bundles of one lane, where of the last transaction these indications were told
+pub record AreSent (user lane : ℕ) (source : EntityId) (last before : Option ℕ) (told : List Indication) (bundles : List Bundle) : Type 0 where
+  pub list : IsLaneList user lane source bundles
+  -- what was told of the last transaction
+  pub current : (number : ℕ) → last ≡ Some number → told_of number bundles ≡ told
+  -- no number is above the last
+  pub reached : All (λ bundle. IsUpTo last (number_of bundle)) bundles
+  -- every other number is at or below the one before, and what was told of it is a word
+  pub others : (number : ℕ) → has_number number bundles ≡ true → (last ≡ Some number → ⊥)
+      → IsUpTo before number × IsWordGroup (told_of number bundles)
+
+-- the bundles that a lane sent
+abbrev pub Keeps : State → List Bundle → Type 0
+Keeps state bundles = AreSent state.user state.lane state.source state.last state.before (issued_by state) bundles
+
+-- ---- a lane's run
+
+-- the bundle of a step, of what it tells under a key: none where it tells nothing
+abbrev pub bundle_by : State → Option TxnKey → List Indication → List Bundle
+bundle_by state (Some key) (first ∷ rest) = record { user = state.user; lane = state.lane; key = key; inds = first ∷ rest } ∷ []
+bundle_by state key inds = []
+
+-- the bundle of the last step
+abbrev pub bundle_of : State → List Bundle
+bundle_of state = bundle_by state (key_of state) (answer_of state).inds
+
+-- what a lane sends while it takes these events
+abbrev pub sent_after : State → List Event → List Bundle
+sent_after state [] = []
+sent_after state (event ∷ later) = bundle_of (stepped state event) ++ sent_after (stepped state event) later
+
+-- it takes each of them
+abbrev pub AreTaken : State → List Event → Type 0
+AreTaken state [] = Unit {0}
+AreTaken state (event ∷ later) = IsKeyed event × (refusal_at state event ≡ None) × AreTaken (stepped state event) later

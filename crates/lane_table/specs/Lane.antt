@@ -1,0 +1,103 @@
+-- What a lane stands at: the transaction that it runs or ran last, and the one before.
+use Rattle.std.specs.Prelude.{ℕ, ◌+◌, ◌*◌, ◌<◌, Bool, true, false, not, nat_lt, List, [], ◌∷◌, Option, Some, None}
+use Rattle.std.specs.Option.{option_map}
+use Rattle.cfdp_types.specs.declared.key.EntityId.{EntityId}
+use Rattle.cfdp_types.specs.declared.key.TxnKey.{TxnKey}
+use Rattle.indications.specs.declared.indication.Indication.{Indication}
+use Rattle.txn_events.specs.declared.event.Event.{Event}
+use Rattle.lane_table.specs.declared.lane_side.LaneSide.{LaneSide}
+use Rattle.lane_table.specs.declared.lane_side.LaneSide.TheVariants.{Sending, Receiving}
+use Rattle.lane_table.specs.declared.lane_side.Numbers.{Numbers}
+use Rattle.lane_table.specs.Logs.{Log, log_by, opened_by, issued, has_ended, IsLegal}
+
+pub record State : Type 0 where
+  -- what it runs: sending transactions, or those that come from one source
+  pub side : LaneSide
+  pub user : ℕ
+  pub lane : ℕ
+  -- the entity that sends the files of its transactions
+  pub source : EntityId
+  -- the number of the transaction that it opened last, and of the one before that
+  pub last : Option ℕ
+  pub before : Option ℕ
+  -- the events of the last transaction that were taken, oldest first
+  pub journal : List Event
+
+-- nothing was opened
+abbrev pub idle : LaneSide → ℕ → ℕ → EntityId → State
+idle side user lane source = record { side = side; user = user; lane = lane; source = source; last = None; before = None; journal = [] }
+
+-- ---- numbers
+
+-- the key of a number here
+abbrev pub key_at : EntityId → ℕ → TxnKey
+key_at source number = record { source = source; seq = number }
+
+-- the key of the last transaction
+abbrev pub key_of : State → Option TxnKey
+key_of state = option_map (key_at state.source) state.last
+
+-- a number is above the last, or there is none
+abbrev pub is_above : ℕ → Option ℕ → Bool
+is_above number None = true
+is_above number (Some last) = nat_lt last number
+
+-- the number of the n-th transaction of a sending lane
+abbrev pub number_at : Numbers → ℕ → ℕ → ℕ → ℕ
+number_at numbers user lane n = (n * numbers.lanes + lane) * numbers.users + user
+
+-- after a number, that of the next n
+abbrev pub number_after : Numbers → ℕ → ℕ → Option ℕ → ℕ
+number_after numbers user lane None = number_at numbers user lane numbers.first
+number_after numbers user lane (Some last) = last + numbers.lanes * numbers.users
+
+-- the numbers are of some lane and user, so that they rise
+abbrev pub IsNumbered : LaneSide → Type 0
+IsNumbered (Sending numbers greatest) = (0 < numbers.lanes) × (0 < numbers.users)
+IsNumbered (Receiving params) = Unit {0}
+
+-- ---- the last transaction
+
+-- the transaction that a journal's first event opened, with the log of the whole journal
+abbrev pub log_from : LaneSide → EntityId → Option ℕ → List Event → Option Log
+log_from side source (Some number) (first ∷ later) = option_map (λ transaction. log_by transaction (first ∷ later)) (opened_by side (key_at source number) first)
+log_from side source last journal = None
+
+-- the last transaction with its log, if there is one
+abbrev pub log_of : State → Option Log
+log_of state = log_from state.side state.source state.last state.journal
+
+-- it has not ended
+abbrev pub goes_on : Option Log → Bool
+goes_on None = false
+goes_on (Some log) = not (has_ended log)
+
+abbrev pub is_running : State → Bool
+is_running state = goes_on (log_of state)
+
+-- all that its user was told of it, in order
+abbrev pub issued_in : Option Log → List Indication
+issued_in None = []
+issued_in (Some log) = issued log
+
+abbrev pub issued_by : State → List Indication
+issued_by state = issued_in (log_of state)
+
+-- ---- what holds of every lane
+
+-- there is a transaction exactly where a number was opened, and its log is legal
+abbrev pub IsRun : Option ℕ → Option Log → Type 0
+IsRun None None = Unit {0}
+IsRun (Some number) (Some log) = IsLegal log
+IsRun last log = ⊥
+
+-- the last number is above the one before
+abbrev pub IsRisen : Option ℕ → Option ℕ → Type 0
+IsRisen None last = Unit {0}
+IsRisen (Some before) None = ⊥
+IsRisen (Some before) (Some last) = before < last
+
+pub record IsSound (state : State) : Type 0 where
+  pub numbered : IsNumbered state.side
+  pub run : IsRun state.last (log_of state)
+  pub risen : IsRisen state.before state.last

@@ -1,0 +1,37 @@
+-- What holds of the log of every transaction, at both ends.
+use Rattle.std.specs.Prelude.{◌≡◌, ℕ, true, List, ◌++◌, None, Contains}
+use Rattle.cfdp_types.specs.declared.key.EntityId.{EntityId}
+use Rattle.cfdp_types.specs.declared.names.Delivery.TheVariants.{Complete}
+use Rattle.cfdp_types.specs.declared.names.FileStatus.{FileStatus}
+use Rattle.indications.specs.declared.indication.Indication.TheVariants as told
+use Rattle.indications.specs.declared.bundle.Bundle.{Bundle}
+use Rattle.indications.specs.LaneLists.{IsLaneList}
+use Rattle.indications.specs.Words.{IsBegunOf, IsWordOf}
+use Rattle.receiver_table.specs.Reception.{Reception, Entry, state_of}
+use Rattle.receiver_laws.specs.LegalReceptions.{IsGood}
+use Rattle.txn_events.specs.declared.event.Event.{Event}
+use Rattle.lane_table.specs.declared.lane_side.LaneSide.{LaneSide}
+use Rattle.lane_table.specs.Lane.{State, idle, IsNumbered, IsSound}
+use Rattle.lane_table.specs.Steps.{IsKeyed, refusal_at, stepped}
+use Rattle.lane_table.specs.Keeping.{Keeps, bundle_of, sent_after, AreTaken}
+use Rattle.lane_table.specs.Logs.{Log, received, side_of, issued, has_ended, IsLegal}
+
+-- what a transaction tells its user is a beginning of a word of its side, and a word once it has ended
+abbrev pub TellsWords : Type 0
+TellsWords = (log : Log) → IsLegal log
+    → IsBegunOf (side_of log) (issued log) × (has_ended log ≡ true → IsWordOf (side_of log) (issued log))
+
+-- where a receiver tells its user of a complete delivery, the file is there as its Metadata and its EOF describe it
+abbrev pub CompletesGood : Type 0
+CompletesGood = (reception : Reception) (log : List Entry) (condition : ℕ) (status : FileStatus) → IsLegal (received reception log)
+    → Contains (issued (received reception log)) (told.TransactionFinished condition Complete status) → IsGood (state_of log)
+
+-- what a lane sends from its first event on is a lane list
+abbrev pub SendsLaneLists : Type 0
+SendsLaneLists = (side : LaneSide) (user lane : ℕ) (source : EntityId) (events : List Event) → IsNumbered side
+    → AreTaken (idle side user lane source) events → IsLaneList user lane source (sent_after (idle side user lane source) events)
+
+-- an event that a lane takes keeps what the lane knows of the bundles that it sent, with the step's bundle added
+abbrev pub StepsKeep : Type 0
+StepsKeep = (state : State) (event : Event) (bundles : List Bundle) → IsSound state → Keeps state bundles → IsKeyed event → refusal_at state event ≡ None
+    → IsSound (stepped state event) × Keeps (stepped state event) (bundles ++ bundle_of (stepped state event))

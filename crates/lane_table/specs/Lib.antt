@@ -1,0 +1,5 @@
+pub mod Logs
+pub mod Lane
+pub mod Steps
+pub mod Keeping
+pub mod LaneLaws

@@ -1,0 +1,104 @@
+-- A transaction at either of its ends, with its log, and what a lane asks of both in the same words.
+use Rattle.std.specs.Prelude.{ℕ, Bool, true, false, if◌then◌else◌, List, [], ◌∷◌, map, Option, Some, None, Result, Err}
+pub use Rattle.txn_events.specs.declared.answer.Answer.{Answer}
+pub use Rattle.txn_events.specs.Events.{body_opens}
+use Rattle.txn_events.specs.Logs.{empty_answer}
+use Rattle.cfdp_types.specs.declared.key.TxnKey.{TxnKey}
+use Rattle.cfdp_types.specs.declared.image.Image.{Image}
+use Rattle.txn_events.specs.declared.event.What.{What}
+use Rattle.txn_events.specs.declared.event.What.TheVariants as what
+use Rattle.txn_events.specs.declared.refusal.Refusal.{Refusal}
+use Rattle.txn_events.specs.declared.refusal.Refusal.TheVariants.{StaleStored}
+use Rattle.pdu_values.specs.declared.pdu.Body.{Body}
+use Rattle.pdu_values.specs.declared.pdu.Body.TheVariants as body
+use Rattle.indications.specs.declared.indication.Indication.{Indication}
+use Rattle.indications.specs.declared.side.Side.{Side}
+use Rattle.indications.specs.declared.side.Side.TheVariants.{Sender, Receiver}
+use Rattle.sender_table.specs.Sending as sender
+use Rattle.sender_table.specs.Refusals as sender_refusals
+use Rattle.sender_laws.specs.LegalSendings as sender_logs
+use Rattle.receiver_table.specs.Reception as receiver
+use Rattle.receiver_table.specs.Refusals as receiver_refusals
+use Rattle.receiver_table.specs.Answers as receiver_answers
+use Rattle.receiver_laws.specs.LegalReceptions as receiver_logs
+use Rattle.receiver_table.specs.Images.{image_at}
+use Rattle.txn_events.specs.declared.event.Event.{Event}
+use Rattle.txn_events.specs.declared.event.Event.TheVariants.{Put, On}
+use Rattle.lane_table.specs.declared.lane_side.LaneSide.{LaneSide}
+use Rattle.lane_table.specs.declared.lane_side.LaneSide.TheVariants.{Sending, Receiving}
+
+-- what is settled when a transaction opens, at the end that sends or at the one that receives
+pub data Transaction : Type 0 where
+  sends : sender.Sending → Transaction
+  receives : receiver.Reception → Transaction
+
+-- a transaction with its log, which has the newest entry first
+pub data Log : Type 0 where
+  sent : sender.Sending → List sender.Entry → Log
+  received : receiver.Reception → List receiver.Entry → Log
+
+-- ---- what opens a transaction
+
+-- the transaction that an event opens at a side, under a key
+abbrev pub opened_by : LaneSide → TxnKey → Event → Option Transaction
+opened_by (Sending numbers greatest) key (Put request params) = Some (sends (record { key = key; params = params; request = request }))
+opened_by (Receiving params) key (On named (what.Pdu pdu)) =
+    if body_opens pdu.body then Some (receives (record { key = key; params = params; header = pdu.header })) else None
+opened_by side key event = None
+
+-- ---- events as the ends see them
+
+-- as a sender sees one
+abbrev pub to_sender : Event → sender.Event
+to_sender (Put request params) = sender.put
+to_sender (On key event) = sender.happens event
+
+-- as a receiver sees them: there is no Put
+abbrev pub to_receiver : List Event → List What
+to_receiver [] = []
+to_receiver (Put request params ∷ later) = to_receiver later
+to_receiver (On key event ∷ later) = event ∷ to_receiver later
+
+-- the one log that a transaction has with these events, the oldest first
+abbrev pub log_by : Transaction → List Event → Log
+log_by (sends sending) events = sent sending (sender_logs.log_of sending (map to_sender events))
+log_by (receives reception) events = received reception (receiver_logs.log_of reception (to_receiver events))
+
+-- ---- what a log says
+
+-- the end that it is of
+abbrev pub side_of : Log → Side
+side_of (sent sending log) = Sender
+side_of (received reception log) = Receiver
+
+-- all that the user was told, in order
+abbrev pub issued : Log → List Indication
+issued (sent sending log) = sender.issued log
+issued (received reception log) = receiver.issued log
+
+-- the user was told an end
+abbrev pub has_ended : Log → Bool
+has_ended (sent sending log) = (sender.state_of sending log).ended
+has_ended (received reception log) = (receiver.state_of log).ended
+
+-- its end can have it
+abbrev pub IsLegal : Log → Type 0
+IsLegal (sent sending log) = sender_logs.IsLegal sending log
+IsLegal (received reception log) = receiver_logs.IsLegal reception log
+
+-- why the end refuses an event behind it, if it does
+abbrev pub refused_behind : Log → Event → Option Refusal
+refused_behind (sent sending log) event = sender_refusals.refusal_at sending (sender.state_of sending log) (to_sender event)
+refused_behind (received reception log) (On key event) = receiver_refusals.refusal_at reception (receiver.state_of log) event
+refused_behind (received reception log) (Put request params) = None
+
+-- what its last event was answered
+abbrev pub last_answer : Log → Answer
+last_answer (sent sending (entry ∷ front)) = entry.answer
+last_answer (received reception (entry ∷ front)) = entry.answer
+last_answer log = empty_answer
+
+-- the file of a deposit that waits, by its stamp
+abbrev pub image_in : Log → ℕ → Result Image Refusal
+image_in (sent sending log) stamp = Err StaleStored
+image_in (received reception log) stamp = image_at (receiver.state_of log) stamp

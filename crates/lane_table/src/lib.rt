@@ -1,0 +1,12 @@
+//! What a lane answers to each event, for sending and for receiving lanes, and what holds of every lane:
+//! where it stands, its numbers, what it refuses, and which bundles fit what it sent.
+#![tactic(auto)]
+
+mod done;
+mod lane_side;
+pub mod laws;
+mod refused;
+
+pub use done::Done;
+pub use lane_side::{LaneSide, Numbers};
+pub use refused::Refused;

@@ -1,5 +1,0 @@
-use Rattle.txn_lane.proofs.LogFacts.{lane_words}
-use Rattle.txn_lane.proofs.laws.words.Goals as goal
-
-pub returns : goal.returns
-returns c = lane_words
