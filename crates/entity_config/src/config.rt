@@ -5,11 +5,26 @@ ghost use Rattle.entity_config.specs.Texts.{is_same_text};
 use crate::change::{Limited, change_handler, change_limit};
 use crate::entity::EntitySettings;
 use crate::fault::{ConfigFault, Key};
+use crate::reference::reference_params;
 use crate::remote::{Peer, Remote};
 use crate::setting::Setting;
 use cfdp_types::limits::{CONFIGURED_NUMBER, EXPIRATIONS, QUEUE_BUNDLES};
-use cfdp_types::{Condition, EntityId, Handler, Role};
+use cfdp_types::{Condition, EntityId, Handler, HeaderLengths, Role};
+use std::alloc::{AllocError, Global};
 use std::marker::Model;
+
+const REFERENCE: EntitySettings = EntitySettings {
+    local: EntityId(2),
+    lengths: HeaderLengths {
+        entity_octets: 1,
+        sequence_octets: 1,
+    },
+    first: 1,
+    put_lanes: 2,
+    receive_lanes: 2,
+    capacity: 8,
+    segment_octets: 256,
+};
 
 /// A configuration. Contracts see what it holds; it keeps all limits.
 #[derive(Debug, Drop)]
@@ -33,13 +48,38 @@ impl Model for Config {
 }
 
 impl Config {
-    ghost use Rattle.std.specs.Prelude.{◌≡◌, IsTrue, length, position, slice_get, find, option_map, option_copied};
+    ghost use Rattle.entity_config.specs.Reference.{reference_config};
+    ghost use Rattle.std.specs.Prelude.{◌≡◌, IfOk, IsTrue, length, position, slice_get, find, option_map, option_copied};
     ghost use Rattle.entity_config.specs.Texts.{is_same_text};
     ghost use Rattle.std.specs.Prelude.{OnOk, OnErr, IfErr};
     ghost use Rattle.entity_config.specs.declared.setting.Setting.TheVariants as setting;
     ghost use Rattle.entity_config.specs.Settings.{limit_set, with_setting};
     ghost use Rattle.entity_config.specs.Shown.{peer_shown};
     ghost use Rattle.entity_config.specs.Values.{is_entity, has_id};
+
+    /// The configuration that worked examples and scripts run with: entity 2 with the users alice and bob,
+    /// and entity 1, whose files go to alice.
+    pub fn reference(alloc: Global) -> Result<Config, AllocError>
+        ensures { IfOk result (λ config. config ≡ reference_config) }
+    {
+        let alice = String::from_str(alloc, "alice")?;
+        let bob = String::from_str(alloc, "bob")?;
+        let peer = Peer {
+            remote: Remote {
+                id: EntityId(1),
+                user: Some(0),
+                params: reference_params(),
+            },
+            address: String::from_str(alloc, "127.0.0.1:7001")?,
+        };
+        let users = vec![in alloc; alice, bob]?;
+        let peers = vec![in alloc; peer]?;
+        Ok(Config {
+            entity: REFERENCE,
+            users,
+            peers,
+        })
+    }
 
     /// What it says of the entity itself.
     pub fn entity(&self) -> EntitySettings

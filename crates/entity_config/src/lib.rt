@@ -5,6 +5,7 @@ mod change;
 mod config;
 mod entity;
 mod fault;
+mod reference;
 mod remote;
 mod setting;
 
