@@ -1,10 +1,10 @@
 -- A configuration keeps its limits where the parameters of its remote entities change.
-use Rattle.std.proofs.Common.{◌≡◌, Bool, IsTrue, ◌&&◌, List, [], ◌∷◌, length, map, refl, ap, sym, subst, ◌∙◌}
+use Rattle.std.proofs.Common.{◌≡◌, Bool, IsTrue, ◌&&◌, List, [], ◌∷◌, length, map, refl, ap, sym, subst}
 use Rattle.std.specs.List.{list_all}
 use Rattle.cfdp_types.specs.Params.{ParamsValue}
 use Rattle.entity_config.specs.declared.entity.EntitySettings.{EntitySettings}
 use Rattle.entity_config.specs.Settings.{with_all_params, with_params}
-use Rattle.entity_config.specs.Values.{ConfigValue, PeerValue, Route, are_of, are_routes, are_users, is_config, is_entity, route_of}
+use Rattle.entity_config.specs.Values.{ConfigValue, PeerValue, are_of, are_routes, are_users, is_config, is_entity, route_of}
 
 same_routes : (change : ParamsValue → ParamsValue) (peers : List PeerValue) → map route_of (map (with_params change) peers) ≡ map route_of peers
 same_routes change [] = refl
@@ -21,5 +21,5 @@ config_kept change config keeps holds =
     let P : Bool → Type 0 = λ b. IsTrue b in
     subst P
     (λ i. is_entity config.entity && are_users config.users && are_routes config.entity (length config.users) (sym (same_routes change config.peers) i)
-        && sym (same_params config.entity change keeps config.peers) i)
+    && sym (same_params config.entity change keeps config.peers) i)
     holds

@@ -1,3 +1,5 @@
 pub mod Lists
 pub mod Kept
 pub mod Cancelling
+pub mod WalkRows
+pub mod Rows

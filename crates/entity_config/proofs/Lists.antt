@@ -1,5 +1,5 @@
 -- Lists that are seen through a function: what is found in them, and how they change one by one.
-use Rattle.std.proofs.Common.{◌≡◌, ℕ, suc, zero, ◌+◌, ◌<◌, Bool, true, false, cond, not, nat_lt, List, [], ◌∷◌, map, length, find, position, Option, Some, None, option_map, option_copied, Bor, get_or, set, take, drop, refl, ap, sym, subst, ◌∙◌, arith}
+use Rattle.std.proofs.Common.{◌≡◌, ℕ, suc, zero, ◌+◌, ◌<◌, Bool, true, false, cond, not, nat_lt, List, [], ◌∷◌, map, length, find, position, Option, Some, None, option_map, option_copied, Bor, get_or, set, take, drop, refl, ap, subst, ◌∙◌, arith}
 use Rattle.std.specs.List.{position_or_len}
 use Rattle.entity_config.specs.declared.remote.Peer.{Peer}
 use Rattle.entity_config.specs.Shown.{peer_shown}

@@ -4,3 +4,4 @@ pub mod Values
 pub mod Settings
 pub mod Reference
 pub mod Shown
+pub mod Walk

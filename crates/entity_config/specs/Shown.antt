@@ -1,5 +1,5 @@
 -- What the code of a configuration shows.
-use Rattle.std.specs.Prelude.{List, map, string_bytes, String, Vec}
+use Rattle.std.specs.Prelude.{map, string_bytes, String, Vec}
 use Rattle.std.specs.declared.alloc.Global.{Global}
 use Rattle.entity_config.specs.declared.entity.EntitySettings.{EntitySettings}
 use Rattle.entity_config.specs.declared.remote.Peer.{Peer}

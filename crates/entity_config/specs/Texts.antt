@@ -62,4 +62,3 @@ abbrev pub is_address : List ℕ → Bool
 is_address text =
     is_end (option_and_then (after_number 65535) (option_and_then (after_part 58) (option_and_then (after_part 46)
     (option_and_then (after_part 46) (after_part 46 text)))))
-

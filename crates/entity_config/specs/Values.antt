@@ -3,7 +3,6 @@ use Rattle.std.specs.Prelude.{ℕ, ◌^◌, Bool, true, false, not, ◌&&◌, �
 use Rattle.entity_config.specs.Texts.{is_address, is_same_text, is_user_name, is_within}
 use Rattle.std.specs.List.{list_all, list_any}
 use Rattle.cfdp_types.specs.declared.key.EntityId.{EntityId}
-use Rattle.cfdp_types.specs.declared.params.HeaderLengths.{HeaderLengths}
 use Rattle.cfdp_types.specs.declared.limits.TheConstants.{CONFIGURED_NUMBER, ID_OCTETS, QUEUE_BUNDLES, RECEIVING_LANES, REMOTES, SEGMENT_OCTETS_LEAST, SEGMENT_OCTETS_MOST, SENDING_LANES, SOURCES_OF_A_USER, USERS}
 use Rattle.cfdp_types.specs.Params.{ParamsValue}
 use Rattle.entity_config.specs.declared.entity.EntitySettings.{EntitySettings}

@@ -52,9 +52,18 @@ fn limits_with(limits: ExpirationLimits, limited: Limited, limit: u8) -> Expirat
     ensures { result ≡ limit_changed limited limit limits }
 {
     match limited {
-        Limited::Ack => ExpirationLimits { ack: limit, ..limits },
-        Limited::Nak => ExpirationLimits { nak: limit, ..limits },
-        Limited::Check => ExpirationLimits { check: limit, ..limits },
+        Limited::Ack => ExpirationLimits {
+            ack: limit,
+            ..limits
+        },
+        Limited::Nak => ExpirationLimits {
+            nak: limit,
+            ..limits
+        },
+        Limited::Check => ExpirationLimits {
+            check: limit,
+            ..limits
+        },
     }
 }
 
@@ -90,7 +99,10 @@ fn tables_with(
         return tables;
     };
     match role {
-        Role::Send => FaultTables { send: table, ..tables },
+        Role::Send => FaultTables {
+            send: table,
+            ..tables
+        },
         Role::RecvOne => FaultTables {
             receive_one: table,
             ..tables
@@ -102,16 +114,14 @@ fn tables_with(
     }
 }
 
-fn params_with_handler(
-    params: Params,
-    role: Role,
-    condition: Condition,
-    handler: Handler,
-) -> Params
+fn params_with_handler(params: Params, role: Role, condition: Condition, handler: Handler) -> Params
     requires { IsTrue (is_allowed role condition handler) }
     ensures { result ≡ with_role_handler role condition handler params }
 {
-    with_tables(params, tables_with(params.tables(), role, condition, handler))
+    with_tables(
+        params,
+        tables_with(params.tables(), role, condition, handler),
+    )
 }
 
 /// Changes a handler for every remote entity.

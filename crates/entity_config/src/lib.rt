@@ -14,3 +14,6 @@ pub use entity::EntitySettings;
 pub use fault::{ConfigFault, Key, Section};
 pub use remote::Remote;
 pub use setting::Setting;
+
+#[cfg(test)]
+mod tests;
