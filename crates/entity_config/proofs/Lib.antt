@@ -3,3 +3,4 @@ pub mod Kept
 pub mod Cancelling
 pub mod WalkRows
 pub mod Rows
+pub mod TextRows
