@@ -1,0 +1,7 @@
+use Rattle.entity_config.specs.Settings.{with_limit, with_params}
+use Rattle.entity_config.specs.Shown.{peer_shown}
+use Rattle.entity_config.proofs.Lists.{AreChanged}
+use Rattle.entity_config.proofs.change.change_limit.Given as goal
+
+abbrev pub invariant-loop-peer : goal.invariant-loop-peer
+invariant-loop-peer l = AreChanged peer_shown (with_params (with_limit l.limited l.limit)) l.peer-index l.peer-items l.fn.peers.items

@@ -1,0 +1,7 @@
+pub mod Faults
+pub mod Texts
+pub mod Values
+pub mod Settings
+pub mod Reference
+pub mod Shown
+pub mod Walk

@@ -1,0 +1,72 @@
+-- How a setting changes a configuration.
+use Rattle.std.specs.Prelude.{ℕ, if◌then◌else◌, map, Result, Ok, Err}
+use Rattle.cfdp_types.specs.declared.limits.TheConstants.{CONFIGURED_NUMBER, EXPIRATIONS, QUEUE_BUNDLES}
+use Rattle.cfdp_types.specs.declared.names.Handler.{Handler}
+use Rattle.cfdp_types.specs.declared.names.Role.{Role}
+use Rattle.cfdp_types.specs.declared.names.Role.TheVariants.{Send, RecvOne, RecvTwo}
+use Rattle.cfdp_types.specs.declared.params.FaultTables.{FaultTables}
+use Rattle.cfdp_types.specs.Handlers.{is_allowed, with_handler}
+use Rattle.cfdp_types.specs.Params.{ParamsValue}
+use Rattle.entity_config.specs.declared.fault.ConfigFault.{ConfigFault}
+use Rattle.entity_config.specs.declared.fault.ConfigFault.TheVariants as fault
+use Rattle.entity_config.specs.declared.fault.Key.{Key}
+use Rattle.entity_config.specs.declared.fault.Key.TheVariants as key
+use Rattle.cfdp_types.specs.declared.params.ExpirationLimits.{ExpirationLimits}
+use Rattle.entity_config.specs.declared.change.Limited.{Limited}
+use Rattle.entity_config.specs.declared.change.Limited.TheVariants.{Ack, Nak, Check}
+use Rattle.entity_config.specs.declared.setting.Setting.{Setting}
+use Rattle.entity_config.specs.declared.setting.Setting.TheVariants as setting
+use Rattle.entity_config.specs.Texts.{is_within}
+use Rattle.entity_config.specs.Values.{ConfigValue, PeerValue}
+
+-- the same remote entity with other parameters
+abbrev pub with_params : (ParamsValue → ParamsValue) → PeerValue → PeerValue
+with_params change peer = record { remote = record { id = peer.remote.id; user = peer.remote.user; params = change peer.remote.params }; address = peer.address }
+
+-- the configuration with each remote's parameters changed
+abbrev pub with_all_params : (ParamsValue → ParamsValue) → ConfigValue → ConfigValue
+with_all_params change config = record config { peers = map (with_params change) config.peers }
+
+-- limits of expirations with another one
+abbrev pub limit_changed : Limited → ℕ → ExpirationLimits → ExpirationLimits
+limit_changed Ack limit limits = record limits { ack = limit }
+limit_changed Nak limit limits = record limits { nak = limit }
+limit_changed Check limit limits = record limits { check = limit }
+
+-- parameters with another limit of expirations
+abbrev pub with_limit : Limited → ℕ → ParamsValue → ParamsValue
+with_limit limited limit params = record params { limits = limit_changed limited limit params.limits }
+
+-- the fault tables with another handler in the role's own
+abbrev pub tables_changed : Role → ℕ → Handler → FaultTables → FaultTables
+tables_changed Send condition handler tables = record tables { send = with_handler tables.send condition handler }
+tables_changed RecvOne condition handler tables = record tables { receive_one = with_handler tables.receive_one condition handler }
+tables_changed RecvTwo condition handler tables = record tables { receive_two = with_handler tables.receive_two condition handler }
+
+-- parameters with another handler
+abbrev pub with_role_handler : Role → ℕ → Handler → ParamsValue → ParamsValue
+with_role_handler role condition handler params = record params { tables = tables_changed role condition handler params.tables }
+
+-- what holds within the range, and else that the key is out of range
+abbrev pub if_within : Key → ℕ → ℕ → ℕ → ConfigValue → Result ConfigValue ConfigFault
+if_within k least most n config = if is_within least most n then Ok config else Err (fault.OutOfRange k)
+
+-- the same for a limit, in every remote
+abbrev pub limit_set : Limited → Key → ℕ → ConfigValue → Result ConfigValue ConfigFault
+limit_set limited k n config = if_within k 1 EXPIRATIONS n (with_all_params (with_limit limited n) config)
+
+-- the key of a role's table
+abbrev pub table_key : Role → Key
+table_key Send = key.Send
+table_key RecvOne = key.ReceiveOne
+table_key RecvTwo = key.ReceiveTwo
+
+-- the configuration with the setting, or why it is refused
+abbrev pub with_setting : Setting → ConfigValue → Result ConfigValue ConfigFault
+with_setting (setting.Capacity n) config = if_within key.Capacity 1 QUEUE_BUNDLES n (record config { entity = record config.entity { capacity = n } })
+with_setting (setting.First n) config = if_within key.First 0 CONFIGURED_NUMBER n (record config { entity = record config.entity { first = n } })
+with_setting (setting.AckLimit n) config = limit_set Ack key.AckLimit n config
+with_setting (setting.NakLimit n) config = limit_set Nak key.NakLimit n config
+with_setting (setting.CheckLimit n) config = limit_set Check key.CheckLimit n config
+with_setting (setting.Handler role condition handler) config =
+    if is_allowed role condition handler then Ok (with_all_params (with_role_handler role condition handler) config) else Err (fault.HandlerNotAllowed (table_key role))

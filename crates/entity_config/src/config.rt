@@ -1,0 +1,251 @@
+ghost use Rattle.std.specs.Prelude.{◌≡◌, ◌==◌, find, option_copied, position, string_bytes};
+ghost use Rattle.entity_config.specs.Settings.{table_key};
+ghost use Rattle.entity_config.specs.Texts.{is_same_text};
+
+use crate::change::{Limited, change_handler, change_limit};
+use crate::entity::EntitySettings;
+use crate::fault::{ConfigFault, Key};
+use crate::reference::reference_params;
+use crate::remote::{Peer, Remote};
+use crate::setting::Setting;
+use cfdp_types::limits::{CONFIGURED_NUMBER, EXPIRATIONS, QUEUE_BUNDLES};
+use cfdp_types::{Condition, EntityId, Handler, HeaderLengths, Role};
+use std::alloc::{AllocError, Global};
+use std::marker::Model;
+
+const REFERENCE: EntitySettings = EntitySettings {
+    local: EntityId(2),
+    lengths: HeaderLengths {
+        entity_octets: 1,
+        sequence_octets: 1,
+    },
+    first: 1,
+    put_lanes: 2,
+    receive_lanes: 2,
+    capacity: 8,
+    segment_octets: 256,
+};
+
+/// A configuration. Contracts see what it holds; it keeps all limits.
+#[derive(Debug, Drop)]
+pub struct Config {
+    entity: EntitySettings,
+    users: Vec<String>,
+    peers: Vec<Peer>,
+}
+
+impl Model for Config {
+    ghost use Rattle.std.specs.Prelude.{IsTrue, map, string_bytes};
+    ghost use Rattle.entity_config.specs.Values.{ConfigValue, is_config};
+
+    ghost Value = { ConfigValue };
+
+    ghost use Rattle.entity_config.specs.Shown.{shown};
+
+    ghost view = { λ c. shown c.entity c.users c.peers };
+
+    ghost invariant = { λ c. IsTrue (is_config (shown c.entity c.users c.peers)) };
+}
+
+impl Config {
+    ghost use Rattle.entity_config.specs.Reference.{reference_config};
+    ghost use Rattle.std.specs.Prelude.{◌≡◌, IfOk, IsTrue, length, position, slice_get, find, option_map, option_copied};
+    ghost use Rattle.entity_config.specs.Texts.{is_same_text};
+    ghost use Rattle.std.specs.Prelude.{OnOk, OnErr, IfErr};
+    ghost use Rattle.entity_config.specs.declared.setting.Setting.TheVariants as setting;
+    ghost use Rattle.entity_config.specs.Settings.{limit_set, with_setting};
+    ghost use Rattle.entity_config.specs.Shown.{peer_shown};
+    ghost use Rattle.entity_config.specs.Values.{is_entity, has_id};
+
+    /// The configuration that worked examples and scripts run with: entity 2 with the users alice and bob,
+    /// and entity 1, whose files go to alice.
+    pub fn reference(alloc: Global) -> Result<Config, AllocError>
+        ensures { IfOk result (λ config. config ≡ reference_config) }
+    {
+        let alice = String::from_str(alloc, "alice")?;
+        let bob = String::from_str(alloc, "bob")?;
+        let peer = Peer {
+            remote: Remote {
+                id: EntityId(1),
+                user: Some(0),
+                params: reference_params(),
+            },
+            address: String::from_str(alloc, "127.0.0.1:7001")?,
+        };
+        let users = vec![in alloc; alice, bob]?;
+        let peers = vec![in alloc; peer]?;
+        Ok(Config {
+            entity: REFERENCE,
+            users,
+            peers,
+        })
+    }
+
+    /// What it says of the entity itself.
+    pub fn entity(&self) -> EntitySettings
+        ensures entity { result ≡ self.now.entity }
+        ensures range { IsTrue (is_entity result) }
+    {
+        self.entity
+    }
+
+    /// The number of users.
+    pub fn users(&self) -> usize
+        ensures { result ≡ length self.now.users }
+    {
+        self.users.len()
+    }
+
+    /// The number of remote entities.
+    pub fn remotes(&self) -> usize
+        ensures { result ≡ length self.now.peers }
+    {
+        self.peers.len()
+    }
+
+    /// The number of the user with a name.
+    pub fn user_of(&self, name: &str) -> Option<usize>
+        ensures { result ≡ position (is_same_text name.now) self.now.users }
+    {
+        place_of(&self.users, name)
+    }
+
+    /// The name of a user.
+    pub fn name_of(&self, user: usize) -> Option<&str>
+        ensures { option_copied result ≡ slice_get self.now.users user }
+    {
+        let name = self.users.get(user)?;
+        Some(name.as_str())
+    }
+
+    fn find_peer(&self, id: EntityId) -> Option<&Peer>
+        ensures { option_map (λ peer. peer_shown peer.now) result ≡ find (has_id id) self.now.peers }
+    {
+        peer_of(&self.peers, id)
+    }
+
+    /// The address of the remote entity with an ID.
+    pub fn address_of(&self, id: EntityId) -> Option<&str>
+        ensures { option_copied result ≡ option_map (λ peer. peer.address) (find (has_id id) self.now.peers) }
+    {
+        match self.find_peer(id) {
+            Some(peer) => Some(peer.address.as_str()),
+            None => None,
+        }
+    }
+
+    /// The remote entity with an ID.
+    pub fn remote_of(&self, id: EntityId) -> Option<Remote>
+        ensures { result ≡ option_map (λ peer. peer.remote) (find (has_id id) self.now.peers) }
+    {
+        match self.find_peer(id) {
+            Some(peer) => Some(peer.remote),
+            None => None,
+        }
+    }
+
+    /// The remote entity at a place in the order of the configuration.
+    pub fn remote_at(&self, place: usize) -> Option<Remote>
+        ensures { result ≡ option_map (λ peer. peer.remote) (slice_get self.now.peers place) }
+    {
+        let peer = self.peers.get(place)?;
+        Some(peer.remote)
+    }
+
+    /// Changes one setting; a limit or a handler changes for every remote entity. A number out of the
+    /// setting's range, and a handler that its role does not allow for the condition, change nothing.
+    pub fn set(&mut self, setting: Setting) -> Result<(), ConfigFault>
+        ensures ok { OnOk result (with_setting setting self.old ≡ Ok self.new) }
+        ensures refused { IfErr result (λ fault. with_setting setting self.old ≡ Err fault) }
+        ensures err { OnErr result (self.new ≡ self.old) }
+    {
+        match setting {
+            Setting::Capacity(bundles) => self.set_capacity(bundles),
+            Setting::First(first) => self.set_first(first),
+            Setting::AckLimit(limit) => self.set_limit(Limited::Ack, Key::AckLimit, limit),
+            Setting::NakLimit(limit) => self.set_limit(Limited::Nak, Key::NakLimit, limit),
+            Setting::CheckLimit(limit) => self.set_limit(Limited::Check, Key::CheckLimit, limit),
+            Setting::Handler(role, condition, handler) => {
+                self.set_handler(role, condition, handler)
+            }
+        }
+    }
+
+    fn set_capacity(&mut self, bundles: u64) -> Result<(), ConfigFault>
+        ensures ok { OnOk result (with_setting (setting.Capacity bundles) self.old ≡ Ok self.new) }
+        ensures refused { IfErr result (λ fault. with_setting (setting.Capacity bundles) self.old ≡ Err fault) }
+        ensures err { OnErr result (self.new ≡ self.old) }
+    {
+        if bundles == 0 || bundles > QUEUE_BUNDLES as u64 {
+            return Err(ConfigFault::OutOfRange(Key::Capacity));
+        }
+        self.entity.capacity = bundles as usize;
+        Ok(())
+    }
+
+    fn set_first(&mut self, first: u64) -> Result<(), ConfigFault>
+        ensures ok { OnOk result (with_setting (setting.First first) self.old ≡ Ok self.new) }
+        ensures refused { IfErr result (λ fault. with_setting (setting.First first) self.old ≡ Err fault) }
+        ensures err { OnErr result (self.new ≡ self.old) }
+    {
+        if first > CONFIGURED_NUMBER {
+            return Err(ConfigFault::OutOfRange(Key::First));
+        }
+        self.entity.first = first;
+        Ok(())
+    }
+
+    fn set_limit(&mut self, limited: Limited, key: Key, limit: u64) -> Result<(), ConfigFault>
+        ensures ok { OnOk result (limit_set limited key limit self.old ≡ Ok self.new) }
+        ensures refused { IfErr result (λ fault. limit_set limited key limit self.old ≡ Err fault) }
+        ensures err { OnErr result (self.new ≡ self.old) }
+    {
+        if limit == 0 || limit > u64::from(EXPIRATIONS) {
+            return Err(ConfigFault::OutOfRange(key));
+        }
+        change_limit(&mut self.peers, limited, limit as u8);
+        Ok(())
+    }
+
+    fn set_handler(
+        &mut self,
+        role: Role,
+        condition: Condition,
+        handler: Handler,
+    ) -> Result<(), ConfigFault>
+        ensures ok { OnOk result (with_setting (setting.Handler role condition handler) self.old ≡ Ok self.new) }
+        ensures refused { IfErr result (λ fault. with_setting (setting.Handler role condition handler) self.old ≡ Err fault) }
+        ensures err { OnErr result (self.new ≡ self.old) }
+    {
+        if !role.allows(condition, handler) {
+            return Err(ConfigFault::HandlerNotAllowed(key_of_table(role)));
+        }
+        change_handler(&mut self.peers, role, condition, handler);
+        Ok(())
+    }
+}
+
+// The key of a role's table.
+fn key_of_table(role: Role) -> Key
+    ensures { result ≡ table_key role }
+{
+    match role {
+        Role::Send => Key::Send,
+        Role::RecvOne => Key::ReceiveOne,
+        Role::RecvTwo => Key::ReceiveTwo,
+    }
+}
+
+// The place of a name among some.
+fn place_of(names: &[String], name: &str) -> Option<usize>
+    ensures { result ≡ position (λ other. is_same_text name.now (string_bytes other)) names.now }
+{
+    names.iter().position(|other| name == other.as_str())
+}
+
+// The first of some remote entities with an ID.
+fn peer_of(peers: &[Peer], id: EntityId) -> Option<&Peer>
+    ensures { option_copied result ≡ find (λ peer. peer.remote.id.0 == id.0) peers.now }
+{
+    peers.iter().find(|peer| peer.remote.id == id)
+}

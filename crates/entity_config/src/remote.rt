@@ -1,0 +1,19 @@
+use cfdp_types::{EntityId, Params};
+
+/// What a configuration says of a remote entity, its address aside.
+#[derive(Clone, Copy, Debug, PartialEq, Eq)]
+pub struct Remote {
+    /// Its ID.
+    pub id: EntityId,
+    /// The number of the user that its files go to; none where it only receives.
+    pub user: Option<usize>,
+    /// What the transactions with it go by.
+    pub params: Params,
+}
+
+/// A remote entity and where it is.
+#[derive(Debug, Drop)]
+pub(crate) struct Peer {
+    pub remote: Remote,
+    pub address: String,
+}

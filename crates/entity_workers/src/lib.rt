@@ -1,0 +1,13 @@
+//! Stores for received files.
+#![tactic(auto)]
+
+mod filestore;
+mod folder_store;
+mod memory_store;
+
+pub use filestore::{Filestore, StoreFault};
+pub use folder_store::FolderStore;
+pub use memory_store::{MemoryStore, StoredFile};
+
+#[cfg(test)]
+mod tests;

@@ -1,0 +1,13 @@
+//! The timers that run, in the order in which they were armed.
+#![tactic(auto)]
+
+mod armed;
+mod list;
+mod slot;
+mod slots;
+
+pub use armed::Armed;
+pub use list::TimerList;
+
+#[cfg(test)]
+mod tests;

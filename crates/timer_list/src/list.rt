@@ -1,0 +1,127 @@
+ghost use Rattle.std.specs.Prelude.{◌≡◌, [], ◌++◌, ◌∷◌, OnOk, OnErr, IfErr, IsErr, IsTrue, false};
+ghost use Rattle.timer_list.specs.Timers.{after, armed_with, arms_new, disarmed_of, first_due, has_timer, without_due};
+
+use crate::armed::Armed;
+use crate::slots::Slots;
+use cfdp_types::{TimerKind, TimerOp, TxnKey};
+use std::alloc::{AllocError, Global};
+use std::marker::Model;
+
+/// The timers that run, at most one of each kind for a transaction. Contracts see the list of them: a
+/// timer that was armed anew keeps its place, and one that did not run goes last.
+#[derive(Drop)]
+pub struct TimerList {
+    slots: Slots,
+    /// No timer expires before this moment.
+    soonest: u64,
+}
+
+impl Model for TimerList {
+    ghost use Rattle.std.specs.Prelude.{List, IsTrue};
+    ghost use Rattle.timer_list.specs.declared.armed.Armed.{Armed};
+    ghost use Rattle.timer_list.specs.Slots.{none_before, timers_in};
+
+    ghost Value = { List Armed };
+
+    ghost view = { λ t. timers_in t.slots.entries.entries };
+
+    ghost invariant = { λ t. IsTrue (none_before t.soonest (timers_in t.slots.entries.entries)) };
+}
+
+impl TimerList {
+    /// No timer runs.
+    pub fn new(alloc: Global) -> TimerList
+        ensures { result ≡ [] }
+    {
+        TimerList {
+            slots: Slots::new(alloc),
+            soonest: u64::MAX,
+        }
+    }
+
+    /// Does to the list what a step says, at the moment `now` of the caller's milliseconds. An operation
+    /// of a step that came before the one which armed the timer changes nothing. On average over many calls
+    /// the cost does not grow with the list.
+    pub fn apply(&mut self, op: TimerOp, now: u64) -> Result<(), AllocError>
+        ensures ok { OnOk result (self.new ≡ after op now self.old) }
+        ensures err { OnErr result (self.new ≡ self.old) }
+        ensures memory { IsErr result → IsTrue (arms_new op self.old) }
+    {
+        match op {
+            TimerOp::Arm {
+                key,
+                kind,
+                stamp,
+                ms,
+            } => self.arm(Armed {
+                key,
+                kind,
+                stamp,
+                deadline: now.saturating_add(u64::from(ms)),
+            }),
+            TimerOp::Disarm { key, kind, stamp } => {
+                self.disarm(key, kind, stamp);
+                Ok(())
+            }
+        }
+    }
+
+    fn arm(&mut self, timer: Armed) -> Result<(), AllocError>
+        ensures ok { OnOk result (self.new ≡ armed_with timer self.old) }
+        ensures err { OnErr result (self.new ≡ self.old) }
+        ensures memory { OnErr result (has_timer timer.key timer.kind self.old ≡ false) }
+    {
+        self.soonest = self.soonest.min(timer.deadline);
+        match self.slots.run_of(timer.key, timer.kind) {
+            Some(old) if timer.stamp < old.stamp => Ok(()),
+            Some(_) => {
+                self.slots.run_anew(timer);
+                Ok(())
+            }
+            None => self.slots.add(timer),
+        }
+    }
+
+    fn disarm(&mut self, key: TxnKey, kind: TimerKind, stamp: u32)
+        ensures { self.new ≡ disarmed_of key kind stamp self.old }
+    {
+        if let Some(run) = self.slots.run_of(key, kind) {
+            if run.stamp <= stamp {
+                self.slots.take_out(key, kind);
+            }
+        }
+    }
+
+    /// Takes out the first timer of the list that has expired at the moment `now`. Where none can have
+    /// expired, by the least deadline that was seen, the cost does not grow with the list; else the list is
+    /// gone through up to that timer, and to its end where there is none.
+    pub fn due(&mut self, now: u64) -> Option<Armed>
+        ensures timer { result ≡ first_due now self.old }
+        ensures others { self.new ≡ without_due now self.old }
+    {
+        if now < self.soonest {
+            return None;
+        }
+        let Some(timer) = self.slots.first_due(now) else {
+            self.soonest = self.slots.soonest();
+            return None;
+        };
+        self.slots.take_out(timer.key, timer.kind);
+        Some(timer)
+    }
+
+    /// Adds a timer that was taken out as the last of the list, and gives it back where it runs again or
+    /// no memory was found. On average over many calls the cost does not grow with the list.
+    pub fn put_back(&mut self, timer: Armed) -> Result<(), Armed>
+        ensures ok { OnOk result (self.new ≡ self.old ++ timer ∷ []) }
+        ensures given_back { IfErr result (λ back. back ≡ timer) }
+        ensures err { OnErr result (self.new ≡ self.old) }
+        ensures there { IsTrue (has_timer timer.key timer.kind self.old) → IsErr result }
+    {
+        if self.slots.run_of(timer.key, timer.kind).is_some() {
+            return Err(timer);
+        }
+        self.soonest = self.soonest.min(timer.deadline);
+        self.slots.add(timer).map_err(|_| timer)
+    }
+}

@@ -1,0 +1,165 @@
+ghost use Rattle.std.specs.Prelude.{IsTrue};
+ghost use Rattle.indexmap.specs.IndexMap.{keys};
+ghost use Rattle.timer_list.specs.Slots.{are_in_place};
+
+use crate::armed::Armed;
+use crate::slot::{Run, Slot};
+use cfdp_types::{TimerKind, TxnKey};
+use indexmap::IndexMap;
+use std::alloc::{AllocError, Global};
+
+/// The places of the list, in order. A timer that is taken out leaves its place behind, which is
+/// given up when as many are left behind as are in use.
+#[derive(Drop)]
+pub(crate) struct Slots {
+    pub(crate) entries: IndexMap<Slot, Option<Run>>,
+    /// Places that were left behind, as a bound: whether it is exact decides on speed alone.
+    left_behind: usize,
+    ghost in_place: { IsTrue (are_in_place 0 (keys entries)) },
+}
+
+impl Slots {
+    ghost use Rattle.std.specs.Prelude.{◌≡◌, ◌++◌, [], ◌∷◌, None, Some, IsSome, IsTrue, OnOk, OnErr};
+    ghost use Rattle.std.specs.List.{IsDistinct};
+    ghost use Rattle.std.specs.Map.{set_value};
+    ghost use Rattle.indexmap.specs.IndexMap.{keys};
+    ghost use Rattle.timer_list.specs.declared.slot.Slot.TheVariants as slot;
+    ghost use Rattle.timer_list.specs.Slots.{is_running, is_slot, least_deadline, run_at, run_of, same_slot, timers_in, value_at};
+    ghost use Rattle.timer_list.specs.Timers.{first_due};
+
+    /// No place is in use.
+    pub(crate) fn new(alloc: Global) -> Slots
+        ensures { result.entries.entries ≡ [] }
+    {
+        Slots {
+            entries: IndexMap::new(alloc),
+            left_behind: 0,
+        }
+    }
+
+    /// What stands at the place of a timer, if it has one.
+    #[tactic(auto, using(crate::proofs::SlotLemmas::distinct_slots))]
+    fn value_of(&self, key: TxnKey, kind: TimerKind) -> Option<Option<Run>>
+        ensures value { result ≡ value_at key kind self.now.entries.entries }
+        ensures distinct { IsDistinct same_slot (keys self.now.entries) }
+    {
+        let index = self.entries.get_index_of(&Slot::Timer { key, kind })?;
+        let (_, value) = self.entries.get_index(index)?;
+        Some(*value)
+    }
+
+    /// How a timer runs, if it does.
+    pub(crate) fn run_of(&self, key: TxnKey, kind: TimerKind) -> Option<Run>
+        ensures run { result ≡ run_at key kind self.now.entries.entries }
+        ensures distinct { IsDistinct same_slot (keys self.now.entries) }
+    {
+        match self.value_of(key, kind) {
+            Some(run) => run,
+            None => None,
+        }
+    }
+
+    /// Writes what stands at the place of a timer.
+    #[tactic(auto, using(crate::proofs::SlotLemmas::distinct_slots))]
+    fn write(&mut self, key: TxnKey, kind: TimerKind, value: Option<Run>)
+        requires { IsSome (value_at key kind self.old.entries.entries) }
+        ensures entries { self.new.entries.entries ≡ set_value (is_slot key kind) self.old.entries.entries value }
+        ensures distinct { IsDistinct same_slot (keys self.old.entries) }
+    {
+        if let Some(place) = self.entries.get_mut(&Slot::Timer { key, kind }) {
+            *place = value;
+        }
+    }
+
+    /// Has a timer that runs run anew.
+    pub(crate) fn run_anew(&mut self, timer: Armed)
+        requires { IsSome (run_at timer.key timer.kind self.old.entries.entries) }
+        ensures { self.new.entries.entries
+            ≡ set_value (is_slot timer.key timer.kind) self.old.entries.entries (Some (run_of timer)) }
+    {
+        self.write(timer.key, timer.kind, Some(timer.run()));
+    }
+
+    /// Takes a timer out.
+    pub(crate) fn take_out(&mut self, key: TxnKey, kind: TimerKind)
+        requires { IsSome (value_at key kind self.old.entries.entries) }
+        ensures timers { timers_in self.new.entries.entries
+            ≡ timers_in (set_value (is_slot key kind) self.old.entries.entries None) }
+        ensures distinct { IsDistinct same_slot (keys self.old.entries) }
+    {
+        self.write(key, kind, None);
+        self.left_behind = self.left_behind.saturating_add(1);
+        if self.left_behind > self.entries.len() / 2 {
+            self.squeeze();
+        }
+    }
+
+    /// Adds a timer that does not run, as the last one.
+    pub(crate) fn add(&mut self, timer: Armed) -> Result<(), AllocError>
+        requires { run_at timer.key timer.kind self.old.entries.entries ≡ None }
+        ensures ok { OnOk result (timers_in self.new.entries.entries ≡ timers_in self.old.entries.entries ++ timer ∷ []) }
+        ensures err { OnErr result (timers_in self.new.entries.entries ≡ timers_in self.old.entries.entries) }
+    {
+        if self.value_of(timer.key, timer.kind).is_some() {
+            self.vacate(timer.key, timer.kind)?;
+        }
+        self.push(timer.key, timer.kind, timer.run())
+    }
+
+    /// Adds a place for a timer that has none.
+    fn push(&mut self, key: TxnKey, kind: TimerKind, run: Run) -> Result<(), AllocError>
+        requires { value_at key kind self.old.entries.entries ≡ None }
+        ensures ok { OnOk result (self.new.entries.entries ≡ self.old.entries.entries ++ (slot.Timer key kind, Some run) ∷ []) }
+        ensures err { OnErr result (self.new.entries.entries ≡ self.old.entries.entries) }
+    {
+        self.entries.insert(Slot::Timer { key, kind }, Some(run))?;
+        Ok(())
+    }
+
+    /// Gives up the place of a timer that was taken out. The others keep theirs.
+    fn vacate(&mut self, key: TxnKey, kind: TimerKind) -> Result<(), AllocError>
+        requires { value_at key kind self.old.entries.entries ≡ Some None }
+        ensures same { timers_in self.new.entries.entries ≡ timers_in self.old.entries.entries }
+        ensures gone { OnOk result (value_at key kind self.new.entries.entries ≡ None) }
+        ensures err { OnErr result (self.new.entries.entries ≡ self.old.entries.entries) }
+    {
+        let Some(index) = self.entries.get_index_of(&Slot::Timer { key, kind }) else {
+            return Ok(());
+        };
+        self.entries.insert(Slot::Vacant(index), None)?;
+        self.entries.swap_remove_index(index);
+        Ok(())
+    }
+
+    /// Leaves no place behind that is not in use.
+    fn squeeze(&mut self)
+        ensures { timers_in self.new.entries.entries ≡ timers_in self.old.entries.entries }
+    {
+        self.entries.retain(
+            |slot: &Slot, run: &mut Option<Run>| -> bool
+                ensures { (result ≡ is_running slot.now run.old) × (run.new ≡ run.old) }
+            { slot.timer(*run).is_some() },
+        );
+        self.left_behind = 0;
+    }
+
+    /// The first timer that has expired.
+    pub(crate) fn first_due(&self, now: u64) -> Option<Armed>
+        ensures { result ≡ first_due now (timers_in self.now.entries.entries) }
+    {
+        self.entries
+            .iter()
+            .filter_map(|(slot, run)| slot.timer(*run))
+            .find(|timer| timer.deadline <= now)
+    }
+
+    /// The first moment at which a timer expires, or the last one that can be told.
+    pub(crate) fn soonest(&self) -> u64
+        ensures { result ≡ least_deadline (timers_in self.now.entries.entries) }
+    {
+        self.entries
+            .iter()
+            .filter_map(|(slot, run)| slot.timer(*run))
+            .fold(u64::MAX, |soonest, timer| soonest.min(timer.deadline))
+    }
+}
