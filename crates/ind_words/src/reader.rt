@@ -1,6 +1,6 @@
 use crate::marks::Marks;
 use crate::segments::{Segments, take_segment};
-use indications::{Indication, Side};
+use indications::{Indication, IndicationKind, Side};
 use std::alloc::{AllocError, Global};
 
 /// The indication may not come next, or there is no room for its segment.
@@ -113,9 +113,9 @@ impl WordReader {
         ensures added { result ≡ true → HasAdded self.old self.new indication.now }
         ensures refused { result ≡ false → self.new ≡ self.old }
     {
-        match indication {
-            Indication::FileSegmentRecv { offset, length } => {
-                take_segment(&mut self.segments, *offset, *length)
+        match indication.kind() {
+            IndicationKind::Segment { offset, length } => {
+                take_segment(&mut self.segments, offset, length)
             }
             _ => {
                 let initial = self.is_initial();

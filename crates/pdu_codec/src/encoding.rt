@@ -7,11 +7,13 @@ ghost use Rattle.pdu_values.specs.Spelling as spelling;
 ghost use Rattle.pdu_codec.specs.Writing.{HasRoom, Writes, field_of, header_of, text_of, FieldFits};
 
 use crate::writing::{
-    put_location, put_lv, put_messages, put_number, put_octet, put_octets,
-    put_requests,
+    put_location, put_lv, put_messages, put_number, put_octet, put_octets, put_requests,
 };
 use cfdp_types::{Class, Delivery, EntityId, FileStatus, Messages};
-use pdu_values::{Ack, Acknowledged, Body, Direction, Eof, FileData, Finished, Header, KeepAlive, Metadata, Nak, Pdu, Prompt, TransactionStatus, octets_for};
+use pdu_values::{
+    Ack, Acknowledged, Body, Direction, Eof, FileData, Finished, Header, KeepAlive, Metadata, Nak,
+    Pdu, Prompt, TransactionStatus, octets_for,
+};
 use std::alloc::AllocError;
 
 // ---- how long the data field is
