@@ -67,7 +67,8 @@ impl Marks {
 
     /// Whether a sender that has told no end may tell the indication next.
     pub fn allow_sender(self, indication: &Indication) -> bool
-        ensures exact { (before : List Indication) → self ≡ marks_of before → (IsTrue result ↔ IsNextOfSender before indication.now) }
+        ensures exact { (before : List Indication) → self ≡ marks_of before
+            → (IsTrue result ↔ IsNextOfSender before indication.now) }
         ensures other { result ≡ true → is_segment indication.now ≡ false }
     {
         match indication.kind() {
@@ -76,9 +77,8 @@ impl Marks {
             IndicationKind::Suspension => self.opened && !self.suspended,
             IndicationKind::Resumption => self.opened && self.suspended,
             IndicationKind::End(_) | IndicationKind::Notice => self.opened,
-            IndicationKind::EofRecv
-            | IndicationKind::Metadata
-            | IndicationKind::Segment { .. } => false,
+            IndicationKind::EofRecv | IndicationKind::Metadata | IndicationKind::Segment { .. } =>
+                false,
         }
     }
 
@@ -96,15 +96,15 @@ impl Marks {
             IndicationKind::Resumption => self.suspended,
             IndicationKind::End(delivery) => self.allow_delivery(delivery, initial),
             IndicationKind::Notice => true,
-            IndicationKind::Opening
-            | IndicationKind::EofSent
-            | IndicationKind::Segment { .. } => false,
+            IndicationKind::Opening | IndicationKind::EofSent | IndicationKind::Segment { .. } =>
+                false,
         }
     }
 
     // Whether a receiver may tell that it finished.
     fn allow_delivery(self, delivery: Delivery, initial: bool) -> bool
-        ensures { (before : List Indication) → self ≡ marks_of before → (IsTrue initial ↔ IsFilled before) → (IsTrue result ↔ MayFinish before delivery) }
+        ensures { (before : List Indication) → self ≡ marks_of before → (IsTrue initial ↔ IsFilled before)
+            → (IsTrue result ↔ MayFinish before delivery) }
     {
         match delivery {
             Delivery::Complete => self.metadata && self.eof_recv && initial,

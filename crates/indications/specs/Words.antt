@@ -78,7 +78,8 @@ IsNextKind before kind.Opening = ⊥
 IsNextKind before kind.EofSent = ⊥
 IsNextKind before kind.EofRecv = list_any is_eof before ≡ false
 IsNextKind before kind.Metadata = list_any is_metadata before ≡ false
-IsNextKind before (kind.Segment offset length) = (0 < length) × (offset + length ≤ FILE_OCTETS) × IsNew before offset length
+IsNextKind before (kind.Segment offset length) =
+    (0 < length) × (offset + length ≤ FILE_OCTETS) × IsNew before offset length
 IsNextKind before kind.Suspension = is_paused before ≡ false
 IsNextKind before kind.Resumption = is_paused before ≡ true
 IsNextKind before (kind.End delivery) = MayFinish before delivery
@@ -121,7 +122,8 @@ told_onto before (next ∷ rest) = told_onto (next ∷ before) rest
 -- each of these may be told after those before it, which stand newest first, and nothing after an end
 abbrev pub MayFollowOf : Side → List Indication → List Indication → Type 0
 MayFollowOf side before [] = Unit {0}
-MayFollowOf side before (next ∷ rest) = (list_any is_end before ≡ false) × IsNextOf side before next × MayFollowOf side (next ∷ before) rest
+MayFollowOf side before (next ∷ rest) =
+    (list_any is_end before ≡ false) × IsNextOf side before next × MayFollowOf side (next ∷ before) rest
 
 -- a beginning of a side's word
 abbrev pub IsBegunOf : Side → List Indication → Type 0
