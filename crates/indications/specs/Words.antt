@@ -10,11 +10,15 @@ use Rattle.indications.specs.declared.kind.IndicationKind.{IndicationKind}
 use Rattle.indications.specs.declared.kind.IndicationKind.TheVariants as kind
 use Rattle.indications.specs.declared.side.Side.{Side}
 use Rattle.indications.specs.declared.side.Side.TheVariants.{Sender, Receiver}
-use Rattle.indications.specs.Kinds.{kind_of, is_ending, is_opening, is_eof_sending, is_metadata_reception, is_eof_reception, is_segment_reception, is_resumption, has_octet, suspended_behind}
+use Rattle.indications.specs.Kinds.{kind_of, is_ending, is_complete_end, is_opening, is_eof_sending, is_metadata_reception, is_eof_reception, is_segment_reception, is_resumption, has_octet, suspended_behind}
 
 -- the user is told that the transaction is over
 abbrev pub is_end : Indication → Bool
 is_end indication = is_ending (kind_of indication)
+
+-- the user is told that the file is complete
+abbrev pub is_complete : Indication → Bool
+is_complete indication = is_complete_end (kind_of indication)
 
 -- a sender has begun
 abbrev pub is_transaction : Indication → Bool
