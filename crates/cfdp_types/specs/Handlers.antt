@@ -14,7 +14,8 @@ is_limit c = c == positive_ack_limit || c == nak_limit || c == inactivity || c =
 
 -- the file can't be had whole: the transaction can only end
 abbrev pub is_failure : ℕ → Bool
-is_failure c = c == filestore_rejection || c == file_checksum_failure || c == file_size_error || c == unsupported_checksum_type
+is_failure c =
+    c == filestore_rejection || c == file_checksum_failure || c == file_size_error || c == unsupported_checksum_type
 
 -- a condition for which a handler may be named
 abbrev pub has_handler : ℕ → Bool

@@ -7,7 +7,8 @@ use Rattle.std.proofs.lemmas.List.Sums.{count_by-le-length}
 use Rattle.std.proofs.Math.Bool.{or-false}
 use Rattle.cfdp_types.specs.declared.limits.TheConstants.{FILE_OCTETS}
 use Rattle.indications.specs.declared.indication.Indication.{Indication}
-use Rattle.indications.specs.declared.indication.Indication.TheVariants as told
+use Rattle.indications.specs.declared.kind.IndicationKind.{IndicationKind}
+use Rattle.indications.specs.declared.kind.IndicationKind.TheVariants as kind
 use Rattle.ind_words.specs.declared.marks.Marks.{Marks}
 use Rattle.ind_words.specs.declared.reader.WordReader.{WordReader}
 use Rattle.indications.specs.declared.side.Side.{Side}
@@ -15,36 +16,39 @@ use Rattle.indications.specs.declared.side.Side.TheVariants.{Receiver}
 use Rattle.ind_words.specs.Marks.{marks_of}
 use Rattle.ind_words.specs.Offsets.{Kept, IsFree, IsInitial, covers, room_left}
 use Rattle.ind_words.specs.Reading.{HasRoom, MayGoOn, Knows, HasAdded, StandsAfter}
+use Rattle.indications.specs.Kinds.{kind_of, is_segment_reception, has_octet}
 use Rattle.indications.specs.Words.{IsNext, IsNextOf, IsBegunOf, IsWordOf, IsFilled, is_end, is_segment, tells_of, told_onto}
 use Rattle.indications.proofs.WordLemmas.{told_onto-append, list_any-told_onto, count_by-told_onto, MayFollowOf-append, MayFollowOf-front, MayFollowOf-rest}
 
 -- what isn't a segment
-pub is_segment_other : (next : Indication) → ((offset length : ℕ) → next ≡ told.FileSegmentRecv offset length → ⊥) → is_segment next ≡ false
-is_segment_other (told.FileSegmentRecv offset length) other = absurd (other offset length refl)
-is_segment_other told.Transaction other = refl
-is_segment_other told.EofSent other = refl
-is_segment_other told.EofRecv other = refl
-is_segment_other (told.TransactionFinished a b c) other = refl
-is_segment_other (told.MetadataRecv a b c d e) other = refl
-is_segment_other (told.Suspended a) other = refl
-is_segment_other (told.Resumed a) other = refl
-is_segment_other (told.Report a b) other = refl
-is_segment_other (told.Fault a b) other = refl
-is_segment_other (told.Abandoned a b) other = refl
+segment_other : (next : IndicationKind) → ((offset length : ℕ) → next ≡ kind.Segment offset length → ⊥) → is_segment_reception next ≡ false
+segment_other (kind.Segment offset length) other = absurd (other offset length refl)
+segment_other kind.Opening other = refl
+segment_other kind.EofSent other = refl
+segment_other kind.EofRecv other = refl
+segment_other kind.Metadata other = refl
+segment_other kind.Suspension other = refl
+segment_other kind.Resumption other = refl
+segment_other (kind.End delivery) other = refl
+segment_other kind.Notice other = refl
+
+pub is_segment_other : (next : Indication) → ((offset length : ℕ) → kind_of next ≡ kind.Segment offset length → ⊥) → is_segment next ≡ false
+is_segment_other next other = segment_other (kind_of next) other
 
 -- what is no segment tells of no octet
+octet_other : (i : ℕ) (next : IndicationKind) → is_segment_reception next ≡ false → has_octet i next ≡ false
+octet_other i (kind.Segment offset length) other = absurd (true≢false other)
+octet_other i kind.Opening other = refl
+octet_other i kind.EofSent other = refl
+octet_other i kind.EofRecv other = refl
+octet_other i kind.Metadata other = refl
+octet_other i kind.Suspension other = refl
+octet_other i kind.Resumption other = refl
+octet_other i (kind.End delivery) other = refl
+octet_other i kind.Notice other = refl
+
 pub tells_of_other : (i : ℕ) (next : Indication) → is_segment next ≡ false → tells_of i next ≡ false
-tells_of_other i (told.FileSegmentRecv offset length) other = absurd (true≢false other)
-tells_of_other i told.Transaction other = refl
-tells_of_other i told.EofSent other = refl
-tells_of_other i told.EofRecv other = refl
-tells_of_other i (told.TransactionFinished a b c) other = refl
-tells_of_other i (told.MetadataRecv a b c d e) other = refl
-tells_of_other i (told.Suspended a) other = refl
-tells_of_other i (told.Resumed a) other = refl
-tells_of_other i (told.Report a b) other = refl
-tells_of_other i (told.Fault a b) other = refl
-tells_of_other i (told.Abandoned a b) other = refl
+tells_of_other i next other = octet_other i (kind_of next) other
 
 -- and adds nothing to the segments
 pub adds_nothing : (reader : WordReader) (next : Indication) → is_segment next ≡ false → HasAdded reader reader next
@@ -76,12 +80,13 @@ initial_filled segments before covered = (
 )
 
 -- when a segment may be taken
-pub segment_exact : (segments : Option Kept) (room : ℕ) (before : List Indication) (offset length : ℕ) (result : Bool)
+pub segment_exact : (segments : Option Kept) (room : ℕ) (before : List Indication) (next : Indication) (offset length : ℕ) (result : Bool)
+    → kind_of next ≡ kind.Segment offset length
     → (IsTrue result ↔ ((0 < length) × (offset + length ≤ FILE_OCTETS) × IsFree (covers segments) offset (offset + length) × (0 < room_left segments)))
     → room_left segments + count_by is_segment before ≡ room
     → ((i : ℕ) → covers segments i ≡ list_any (tells_of i) before)
-    → IsTrue result ↔ (IsNext before (told.FileSegmentRecv offset length) × HasRoom room before (told.FileSegmentRecv offset length))
-segment_exact segments room before offset length result exact left covered = (
+    → IsTrue result ↔ (IsNext before next × HasRoom room before next)
+segment_exact segments room before next offset length result is exact left covered = rw is (
   λ is.
       let all = exact.0 is in
       ((all.0, all.1, λ i from below. sym (covered i) ∙ all.2 i from below), λ segment. omega (arith, left, all.3)),

@@ -4,7 +4,7 @@ ghost use Rattle.indications.specs.Words.{IsNext, IsNextOfSender, IsFilled, MayF
 ghost use Rattle.ind_words.specs.Marks.{marks_of};
 
 use cfdp_types::Delivery;
-use indications::Indication;
+use indications::{Indication, IndicationKind};
 
 /// What the kinds of the indications that were told say of what may be told next.
 #[derive(Clone, Copy, Debug, PartialEq, Eq)]
@@ -32,58 +32,53 @@ impl Marks {
     pub fn after(self, indication: &Indication) -> Marks
         ensures { (before : List Indication) → self ≡ marks_of before → result ≡ marks_of (indication.now ∷ before) }
     {
-        match indication {
-            Indication::Transaction => Marks {
+        match indication.kind() {
+            IndicationKind::Opening => Marks {
                 opened: true,
                 ..self
             },
-            Indication::EofSent => Marks {
+            IndicationKind::EofSent => Marks {
                 eof_sent: true,
                 ..self
             },
-            Indication::EofRecv => Marks {
+            IndicationKind::EofRecv => Marks {
                 eof_recv: true,
                 ..self
             },
-            Indication::MetadataRecv { .. } => Marks {
+            IndicationKind::Metadata => Marks {
                 metadata: true,
                 ..self
             },
-            Indication::Suspended { .. } => Marks {
+            IndicationKind::Suspension => Marks {
                 suspended: true,
                 ..self
             },
-            Indication::Resumed { .. } => Marks {
+            IndicationKind::Resumption => Marks {
                 suspended: false,
                 ..self
             },
-            Indication::TransactionFinished { .. } | Indication::Abandoned { .. } => Marks {
+            IndicationKind::End(_) => Marks {
                 ended: true,
                 ..self
             },
-            Indication::FileSegmentRecv { .. }
-            | Indication::Report { .. }
-            | Indication::Fault { .. } => self,
+            IndicationKind::Segment { .. } | IndicationKind::Notice => self,
         }
     }
 
     /// Whether a sender that has told no end may tell the indication next.
     pub fn allow_sender(self, indication: &Indication) -> bool
-        ensures exact { (before : List Indication) → self ≡ marks_of before → (IsTrue result ↔ IsNextOfSender before indication.now) }
+        ensures exact { (before : List Indication) → self ≡ marks_of before
+            → (IsTrue result ↔ IsNextOfSender before indication.now) }
         ensures other { result ≡ true → is_segment indication.now ≡ false }
     {
-        match indication {
-            Indication::Transaction => !self.opened,
-            Indication::EofSent => self.opened && !self.eof_sent,
-            Indication::Suspended { .. } => self.opened && !self.suspended,
-            Indication::Resumed { .. } => self.opened && self.suspended,
-            Indication::TransactionFinished { .. }
-            | Indication::Report { .. }
-            | Indication::Fault { .. }
-            | Indication::Abandoned { .. } => self.opened,
-            Indication::EofRecv
-            | Indication::MetadataRecv { .. }
-            | Indication::FileSegmentRecv { .. } => false,
+        match indication.kind() {
+            IndicationKind::Opening => !self.opened,
+            IndicationKind::EofSent => self.opened && !self.eof_sent,
+            IndicationKind::Suspension => self.opened && !self.suspended,
+            IndicationKind::Resumption => self.opened && self.suspended,
+            IndicationKind::End(_) | IndicationKind::Notice => self.opened,
+            IndicationKind::EofRecv | IndicationKind::Metadata | IndicationKind::Segment { .. } =>
+                false,
         }
     }
 
@@ -94,26 +89,22 @@ impl Marks {
             → is_segment indication.now ≡ false → (IsTrue result ↔ IsNext before indication.now) }
         ensures other { result ≡ true → is_segment indication.now ≡ false }
     {
-        match indication {
-            Indication::EofRecv => !self.eof_recv,
-            Indication::MetadataRecv { .. } => !self.metadata,
-            Indication::TransactionFinished { delivery, .. } => {
-                self.allow_delivery(*delivery, initial)
-            }
-            Indication::Suspended { .. } => !self.suspended,
-            Indication::Resumed { .. } => self.suspended,
-            Indication::Report { .. } | Indication::Fault { .. } | Indication::Abandoned { .. } => {
-                true
-            }
-            Indication::Transaction | Indication::EofSent | Indication::FileSegmentRecv { .. } => {
-                false
-            }
+        match indication.kind() {
+            IndicationKind::EofRecv => !self.eof_recv,
+            IndicationKind::Metadata => !self.metadata,
+            IndicationKind::Suspension => !self.suspended,
+            IndicationKind::Resumption => self.suspended,
+            IndicationKind::End(delivery) => self.allow_delivery(delivery, initial),
+            IndicationKind::Notice => true,
+            IndicationKind::Opening | IndicationKind::EofSent | IndicationKind::Segment { .. } =>
+                false,
         }
     }
 
     // Whether a receiver may tell that it finished.
     fn allow_delivery(self, delivery: Delivery, initial: bool) -> bool
-        ensures { (before : List Indication) → self ≡ marks_of before → (IsTrue initial ↔ IsFilled before) → (IsTrue result ↔ MayFinish before delivery) }
+        ensures { (before : List Indication) → self ≡ marks_of before → (IsTrue initial ↔ IsFilled before)
+            → (IsTrue result ↔ MayFinish before delivery) }
     {
         match delivery {
             Delivery::Complete => self.metadata && self.eof_recv && initial,

@@ -1,6 +1,6 @@
 use crate::marks::Marks;
 use crate::segments::{Segments, take_segment};
-use indications::{Indication, Side};
+use indications::{Indication, IndicationKind, Side};
 use std::alloc::{AllocError, Global};
 
 /// The indication may not come next, or there is no room for its segment.
@@ -48,7 +48,8 @@ impl WordReader {
     pub fn next(&mut self, indication: &Indication) -> Result<(), NotAWord>
         ensures exact { (side : Side) (room : ℕ) (word : List Indication) → StandsAfter self.old side room word
             → (IsOk result ↔ MayGoOn side room word indication.now) }
-        ensures taken { OnOk result ((side : Side) (room : ℕ) (word : List Indication) → StandsAfter self.old side room word
+        ensures taken { OnOk result ((side : Side) (room : ℕ) (word : List Indication)
+            → StandsAfter self.old side room word
             → StandsAfter self.new side room (word ++ indication.now ∷ [])) }
         ensures refused { OnErr result (self.new ≡ self.old) }
     {
@@ -81,8 +82,10 @@ impl WordReader {
     // Takes an indication, where it may come next.
     fn accept(&mut self, indication: &Indication) -> bool
         ensures exact { (side : Side) (room : ℕ) (before : List Indication) → Knows self.old side room before
-            → (IsTrue result ↔ ((list_any is_end before ≡ false) × IsNextOf side before indication.now × HasRoom room before indication.now)) }
-        ensures taken { result ≡ true → (side : Side) (room : ℕ) (before : List Indication) → Knows self.old side room before
+            → (IsTrue result
+            ↔ ((list_any is_end before ≡ false) × IsNextOf side before indication.now × HasRoom room before indication.now)) }
+        ensures taken { result ≡ true → (side : Side) (room : ℕ) (before : List Indication)
+            → Knows self.old side room before
             → Knows self.new side room (indication.now ∷ before) }
         ensures refused { result ≡ false → self.new ≡ self.old }
     {
@@ -113,9 +116,9 @@ impl WordReader {
         ensures added { result ≡ true → HasAdded self.old self.new indication.now }
         ensures refused { result ≡ false → self.new ≡ self.old }
     {
-        match indication {
-            Indication::FileSegmentRecv { offset, length } => {
-                take_segment(&mut self.segments, *offset, *length)
+        match indication.kind() {
+            IndicationKind::Segment { offset, length } => {
+                take_segment(&mut self.segments, offset, length)
             }
             _ => {
                 let initial = self.is_initial();

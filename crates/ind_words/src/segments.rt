@@ -28,7 +28,10 @@ impl Model for Segments {
     ghost use Rattle.std.specs.Prelude.{◌+◌, ◌≤◌, vec_len, vec_capacity};
     ghost use Rattle.gap_list.specs.Runs.{IsRisingFrom};
 
-    ghost invariant = { λ s. record { rising : IsRisingFrom 0 s.runs.items; room : vec_len s.runs + s.left ≤ vec_capacity s.runs } };
+    ghost invariant = { λ s. record {
+      rising : IsRisingFrom 0 s.runs.items;
+      room : vec_len s.runs + s.left ≤ vec_capacity s.runs;
+    } };
 }
 
 impl Segments {
@@ -46,9 +49,11 @@ impl Segments {
     /// Takes a segment that shares no offset with those before it, while there is room.
     pub fn take(&mut self, segment: Run) -> bool
         requires { segment.start < segment.end }
-        ensures exact { IsTrue result ↔ ((0 < self.old.left) × IsFree (in_runs self.old.runs) segment.start segment.end) }
+        ensures exact { IsTrue result
+            ↔ ((0 < self.old.left) × IsFree (in_runs self.old.runs) segment.start segment.end) }
         ensures room { result ≡ true → self.new.left + 1 ≡ self.old.left }
-        ensures taken { result ≡ true → SameSet (in_runs self.new.runs) (with_range (in_runs self.old.runs) segment.start segment.end) }
+        ensures taken { result ≡ true
+            → SameSet (in_runs self.new.runs) (with_range (in_runs self.old.runs) segment.start segment.end) }
         ensures left { result ≡ false → self.new ≡ self.old }
     {
         let place = place_of(self.runs.as_slice(), segment.start);
@@ -75,9 +80,11 @@ impl Segments {
 /// Takes a segment that is within a file and shares no offset with those before it, while there is
 /// room.
 pub fn take_segment(segments: &mut Option<Segments>, offset: u32, length: u32) -> bool
-    ensures exact { IsTrue result ↔ ((0 < length) × (offset + length ≤ FILE_OCTETS) × IsFree (covers segments.old) offset (offset + length) × (0 < room_left segments.old)) }
+    ensures exact { IsTrue result ↔ ((0 < length) × (offset + length ≤ FILE_OCTETS)
+        × IsFree (covers segments.old) offset (offset + length) × (0 < room_left segments.old)) }
     ensures left { result ≡ true → room_left segments.new + 1 ≡ room_left segments.old }
-    ensures covered { result ≡ true → SameSet (covers segments.new) (with_range (covers segments.old) offset (offset + length)) }
+    ensures covered { result ≡ true
+        → SameSet (covers segments.new) (with_range (covers segments.old) offset (offset + length)) }
     ensures refused { result ≡ false → segments.new ≡ segments.old }
 {
     let Some(segments) = segments else {
@@ -91,7 +98,8 @@ pub fn take_segment(segments: &mut Option<Segments>, offset: u32, length: u32) -
 
 // The offsets of a segment, where it is not empty and within a file.
 fn run_of(offset: u32, length: u32) -> Option<Run>
-    ensures some { IfSome result (λ run. (run.start ≡ offset) × (run.end ≡ offset + length) × (0 < length) × (offset + length ≤ FILE_OCTETS)) }
+    ensures some { IfSome result (λ run. (run.start ≡ offset) × (run.end ≡ offset + length)
+        × (0 < length) × (offset + length ≤ FILE_OCTETS)) }
     ensures none { 0 < length → offset + length ≤ FILE_OCTETS → IsSome result }
 {
     let end = offset.checked_add(length)?;
@@ -159,7 +167,8 @@ fn insert_run(runs: &mut Vec<Run>, place: usize, run: Run)
 
 fn move_end(runs: &mut Vec<Run>, place: usize, end: u32)
     requires { place < vec_len runs.old }
-    ensures items { (d : Run) → runs.new.items ≡ take place runs.old.items ++ record { start = (slice_index_or runs.old.items place d).start; end = end } ∷ drop (place + 1) runs.old.items }
+    ensures items { (d : Run) → runs.new.items ≡ take place runs.old.items
+        ++ record { start = (slice_index_or runs.old.items place d).start; end = end } ∷ drop (place + 1) runs.old.items }
     ensures len { vec_len runs.new ≡ vec_len runs.old }
     ensures room { vec_capacity runs.new ≡ vec_capacity runs.old }
 {
@@ -168,7 +177,8 @@ fn move_end(runs: &mut Vec<Run>, place: usize, end: u32)
 
 fn move_start(runs: &mut Vec<Run>, place: usize, start: u32)
     requires { place < vec_len runs.old }
-    ensures items { (d : Run) → runs.new.items ≡ take place runs.old.items ++ record { start = start; end = (slice_index_or runs.old.items place d).end } ∷ drop (place + 1) runs.old.items }
+    ensures items { (d : Run) → runs.new.items ≡ take place runs.old.items
+        ++ record { start = start; end = (slice_index_or runs.old.items place d).end } ∷ drop (place + 1) runs.old.items }
     ensures len { vec_len runs.new ≡ vec_len runs.old }
     ensures room { vec_capacity runs.new ≡ vec_capacity runs.old }
 {

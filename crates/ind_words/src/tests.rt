@@ -1,5 +1,4 @@
-use crate::{Indication, NotAWord, Phase, Side, WordReader};
-use cfdp_types::limits::FILE_OCTETS;
+use crate::{Indication, NotAWord, Side, WordReader};
 use cfdp_types::{Condition, Delivery, EntityId, FileStatus, Messages, Octets};
 use std::alloc::{AllocError, Global};
 use std::test::*;
@@ -22,13 +21,6 @@ fn suspended() -> Indication {
     }
 }
 
-fn abandoned(progress: u32) -> Indication {
-    Indication::Abandoned {
-        condition: Condition::INACTIVITY,
-        progress,
-    }
-}
-
 fn metadata(alloc: Global) -> Result<Indication, AllocError> {
     Ok(Indication::MetadataRecv {
         source: EntityId(1),
@@ -37,42 +29,6 @@ fn metadata(alloc: Global) -> Result<Indication, AllocError> {
         destination_name: Octets::from_slice(alloc, b"b")?,
         messages: Messages::new(alloc),
     })
-}
-
-#[test]
-fn receiver_with_room_for_three_segments(rt: HostRuntime) -> Result<(), Fail> {
-    let mut reader = WordReader::with_room(rt.alloc(), Side::Receiver, 3)?;
-    assert_eq!(rt; reader.next(&segment(0, 4)), Ok(()));
-    assert_eq!(rt; reader.next(&segment(8, 4)), Ok(()));
-    assert_eq!(rt; reader.next(&segment(2, 4)), Err(NotAWord));
-    assert_eq!(rt; reader.next(&segment(4, 4)), Ok(()));
-    assert_eq!(rt; reader.next(&segment(12, 1)), Err(NotAWord));
-    assert!(rt; !reader.at_end());
-    assert_eq!(rt; reader.next(&abandoned(12)), Ok(()));
-    assert!(rt; reader.at_end());
-    for later in [
-        Indication::Transaction,
-        Indication::EofSent,
-        Indication::EofRecv,
-        metadata(rt.alloc())?,
-        finished(Delivery::Incomplete),
-        finished(Delivery::Complete),
-        Indication::Fault {
-            condition: Condition::NAK_LIMIT,
-            progress: 12,
-        },
-        segment(12, 1),
-        suspended(),
-        Indication::Resumed { progress: 12 },
-        Indication::Report {
-            phase: Phase::Active,
-            progress: 12,
-        },
-        abandoned(12),
-    ] {
-        assert_eq!(rt; reader.next(&later), Err(NotAWord));
-    }
-    Ok(())
 }
 
 #[test]
@@ -106,24 +62,10 @@ fn receiver_of_a_whole_file(rt: HostRuntime) -> Result<(), Fail> {
 }
 
 #[test]
-fn segments_end_within_a_file(rt: HostRuntime) -> Result<(), Fail> {
-    let mut reader = WordReader::with_room(rt.alloc(), Side::Receiver, 4)?;
-    assert_eq!(rt; reader.next(&segment(FILE_OCTETS, 1)), Err(NotAWord));
-    assert_eq!(rt; reader.next(&segment(FILE_OCTETS - 1, 2)), Err(NotAWord));
-    assert_eq!(rt; reader.next(&segment(1, u32::MAX)), Err(NotAWord));
-    assert_eq!(rt; reader.next(&segment(FILE_OCTETS - 1, 1)), Ok(()));
-    assert_eq!(rt; reader.next(&segment(0, FILE_OCTETS - 1)), Ok(()));
-    assert_eq!(rt; reader.next(&finished(Delivery::Complete)), Err(NotAWord));
-    assert_eq!(rt; reader.next(&finished(Delivery::Incomplete)), Ok(()));
-    Ok(())
-}
-
-#[test]
 fn sender_from_transaction_to_end(rt: HostRuntime) {
     let mut reader = WordReader::new(Side::Sender);
     assert_eq!(rt; reader.next(&Indication::EofSent), Err(NotAWord));
     assert_eq!(rt; reader.next(&suspended()), Err(NotAWord));
-    assert_eq!(rt; reader.next(&abandoned(0)), Err(NotAWord));
     assert_eq!(rt; reader.next(&Indication::Transaction), Ok(()));
     assert_eq!(rt; reader.next(&Indication::Transaction), Err(NotAWord));
     assert_eq!(rt;
@@ -139,14 +81,4 @@ fn sender_from_transaction_to_end(rt: HostRuntime) {
     assert_eq!(rt; reader.next(&finished(Delivery::Complete)), Ok(()));
     assert!(rt; reader.at_end());
     assert_eq!(rt; reader.next(&suspended()), Err(NotAWord));
-}
-
-#[test]
-fn receiver_without_room(rt: HostRuntime) {
-    let mut reader = WordReader::new(Side::Receiver);
-    assert_eq!(rt; reader.next(&segment(0, 1)), Err(NotAWord));
-    assert_eq!(rt; reader.next(&Indication::EofRecv), Ok(()));
-    assert_eq!(rt; reader.next(&finished(Delivery::Complete)), Err(NotAWord));
-    assert_eq!(rt; reader.next(&finished(Delivery::Incomplete)), Ok(()));
-    assert!(rt; reader.at_end());
 }

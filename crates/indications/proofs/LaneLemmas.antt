@@ -13,6 +13,30 @@ use Rattle.indications.specs.declared.bundle.Bundle.{Bundle}
 use Rattle.indications.specs.declared.indication.Indication.{Indication}
 use Rattle.indications.specs.LaneLists.{number_of, of_lane, of_number, told_in, told_of, has_number, tells, side_by, IsBegunGroup, IsWordGroup, IsLaneList}
 use Rattle.indications.proofs.WordLemmas.{MayFollowOf-front, word_is_over}
+use Rattle.indications.specs.declared.kind.IndicationKind.{IndicationKind}
+use Rattle.indications.specs.declared.kind.IndicationKind.TheVariants as kind
+use Rattle.indications.specs.declared.side.Side.TheVariants.{Sender, Receiver}
+use Rattle.indications.specs.Kinds.{kind_of, is_opening}
+use Rattle.indications.specs.Words.{IsBegunOf, IsNextKind, is_transaction}
+
+-- ---- the side of a transaction
+
+pub sender_side : (first : Indication) → is_transaction first ≡ true → side_by first ≡ Sender
+sender_side first is = rw is refl
+
+not_opening : (first : IndicationKind) → IsNextKind [] first → is_opening first ≡ false
+not_opening kind.Opening may = absurd may
+not_opening kind.EofSent may = refl
+not_opening kind.EofRecv may = refl
+not_opening kind.Metadata may = refl
+not_opening (kind.Segment offset length) may = refl
+not_opening kind.Suspension may = refl
+not_opening kind.Resumption may = refl
+not_opening (kind.End delivery) may = refl
+not_opening kind.Notice may = refl
+
+pub receiver_side : (first : Indication) (rest : List Indication) → IsBegunOf Receiver (first ∷ rest) → side_by first ≡ Receiver
+receiver_side first rest begun = rw (not_opening (kind_of first) begun.1) refl
 
 -- a filter by lane and one by number, over lists one after the other
 pub of_lane-append : (lane : ℕ) (xs ys : List Bundle) → of_lane lane (xs ++ ys) ≡ of_lane lane xs ++ of_lane lane ys

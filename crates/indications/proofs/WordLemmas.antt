@@ -12,8 +12,8 @@ use Rattle.indications.specs.declared.side.Side.{Side}
 use Rattle.indications.specs.declared.side.Side.TheVariants.{Sender, Receiver}
 use Rattle.indications.specs.declared.kind.IndicationKind.{IndicationKind}
 use Rattle.indications.specs.declared.kind.IndicationKind.TheVariants as kind
-use Rattle.indications.specs.Kinds.{kind_of, is_opening}
-use Rattle.indications.specs.Words.{IsNextKindOfSender, MayFollowOf, MayFollow, IsNextOf, IsBegunOf, IsWordOf, is_end, is_transaction, is_paused, paused_after}
+use Rattle.indications.specs.Kinds.{kind_of, is_opening, is_ending, is_complete_end}
+use Rattle.indications.specs.Words.{IsNextKindOfSender, MayFollowOf, MayFollow, IsNextOf, IsBegunOf, IsWordOf, is_end, is_complete, is_transaction, is_paused, paused_after}
 pub use Rattle.indications.specs.Words.{told_onto}
 
 pub told_onto-append : (before xs ys : List Indication) → told_onto before (xs ++ ys) ≡ told_onto (told_onto before xs) ys
@@ -92,6 +92,21 @@ opening_first kind.Notice may = absurd (false≢true may)
 
 pub opens_sender : (next : Indication) (rest : List Indication) → IsBegunOf Sender (next ∷ rest) → IsTrue (is_transaction next)
 opens_sender next rest begun = opening_first (kind_of next) begun.1
+
+-- what tells a complete file tells the end
+complete_end : (told : IndicationKind) → is_complete_end told ≡ true → is_ending told ≡ true
+complete_end (kind.End delivery) is = refl
+complete_end kind.Opening is = absurd (false≢true is)
+complete_end kind.EofSent is = absurd (false≢true is)
+complete_end kind.EofRecv is = absurd (false≢true is)
+complete_end kind.Metadata is = absurd (false≢true is)
+complete_end (kind.Segment offset length) is = absurd (false≢true is)
+complete_end kind.Suspension is = absurd (false≢true is)
+complete_end kind.Resumption is = absurd (false≢true is)
+complete_end kind.Notice is = absurd (false≢true is)
+
+pub complete_ends : (told : Indication) → is_complete told ≡ true → is_end told ≡ true
+complete_ends told is = complete_end (kind_of told) is
 
 -- what a side must have told before an end
 abbrev pub MayEnd : Side → List Indication → Type 0

@@ -1,6 +1,6 @@
 -- Indications by what they say of their transaction: the one place that lists them all.
 use Rattle.std.specs.Prelude.{ℕ, ◌+◌, Bool, true, false, ◌&&◌, nat_lt, nat_le}
-use Rattle.cfdp_types.specs.declared.names.Delivery.TheVariants.{Incomplete}
+use Rattle.cfdp_types.specs.declared.names.Delivery.TheVariants.{Complete, Incomplete}
 use Rattle.indications.specs.declared.indication.Indication.{Indication}
 use Rattle.indications.specs.declared.indication.Indication.TheVariants as told
 use Rattle.indications.specs.declared.kind.IndicationKind.{IndicationKind}
@@ -49,6 +49,11 @@ is_resumption _ = false
 abbrev pub is_ending : IndicationKind → Bool
 is_ending (kind.End delivery) = true
 is_ending _ = false
+
+-- an end that claims a complete file
+abbrev pub is_complete_end : IndicationKind → Bool
+is_complete_end (kind.End Complete) = true
+is_complete_end _ = false
 
 -- the octet at this offset is in the segment
 abbrev pub has_octet : ℕ → IndicationKind → Bool

@@ -10,11 +10,15 @@ use Rattle.indications.specs.declared.kind.IndicationKind.{IndicationKind}
 use Rattle.indications.specs.declared.kind.IndicationKind.TheVariants as kind
 use Rattle.indications.specs.declared.side.Side.{Side}
 use Rattle.indications.specs.declared.side.Side.TheVariants.{Sender, Receiver}
-use Rattle.indications.specs.Kinds.{kind_of, is_ending, is_opening, is_eof_sending, is_metadata_reception, is_eof_reception, is_segment_reception, is_resumption, has_octet, suspended_behind}
+use Rattle.indications.specs.Kinds.{kind_of, is_ending, is_complete_end, is_opening, is_eof_sending, is_metadata_reception, is_eof_reception, is_segment_reception, is_resumption, has_octet, suspended_behind}
 
 -- the user is told that the transaction is over
 abbrev pub is_end : Indication → Bool
 is_end indication = is_ending (kind_of indication)
+
+-- the user is told that the file is complete
+abbrev pub is_complete : Indication → Bool
+is_complete indication = is_complete_end (kind_of indication)
 
 -- a sender has begun
 abbrev pub is_transaction : Indication → Bool
@@ -78,7 +82,8 @@ IsNextKind before kind.Opening = ⊥
 IsNextKind before kind.EofSent = ⊥
 IsNextKind before kind.EofRecv = list_any is_eof before ≡ false
 IsNextKind before kind.Metadata = list_any is_metadata before ≡ false
-IsNextKind before (kind.Segment offset length) = (0 < length) × (offset + length ≤ FILE_OCTETS) × IsNew before offset length
+IsNextKind before (kind.Segment offset length) =
+    (0 < length) × (offset + length ≤ FILE_OCTETS) × IsNew before offset length
 IsNextKind before kind.Suspension = is_paused before ≡ false
 IsNextKind before kind.Resumption = is_paused before ≡ true
 IsNextKind before (kind.End delivery) = MayFinish before delivery
@@ -121,7 +126,8 @@ told_onto before (next ∷ rest) = told_onto (next ∷ before) rest
 -- each of these may be told after those before it, which stand newest first, and nothing after an end
 abbrev pub MayFollowOf : Side → List Indication → List Indication → Type 0
 MayFollowOf side before [] = Unit {0}
-MayFollowOf side before (next ∷ rest) = (list_any is_end before ≡ false) × IsNextOf side before next × MayFollowOf side (next ∷ before) rest
+MayFollowOf side before (next ∷ rest) =
+    (list_any is_end before ≡ false) × IsNextOf side before next × MayFollowOf side (next ∷ before) rest
 
 -- a beginning of a side's word
 abbrev pub IsBegunOf : Side → List Indication → Type 0

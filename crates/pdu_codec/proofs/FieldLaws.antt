@@ -9,8 +9,8 @@ use Rattle.pdu_values.specs.Numbers.{number_of}
 use Rattle.pdu_reading.specs.Items.{items_to_end}
 use Rattle.pdu_reading.specs.Reading.{tlv_at, location_tlv_at, request_at}
 use Rattle.pdu_values.specs.Spelling.{size_octets}
-use Rattle.pdu_reading.proofs.ItemLaws.{Shortens, items_to_end-step, items_to_end-none}
-use Rattle.pdu_reading.proofs.FieldLaws.{tlv_behind, location_tlv_behind, request_behind}
+use Rattle.pdu_laws.proofs.ItemLaws.{Shortens, items_to_end-step, items_to_end-none}
+use Rattle.pdu_laws.proofs.FieldLaws.{tlv_behind, location_tlv_behind, request_behind}
 use Rattle.cfdp_types.specs.Steps.{older_or}
 use Rattle.pdu_codec.specs.Parts.{items_among, messages_at, requests_at}
 use Rattle.pdu_codec.proofs.ItemLaws.{items_among_go_on, items_among_stop, none_left}

@@ -2,8 +2,8 @@
 use Rattle.std.proofs.Common.{◌≡◌, ℕ, zero, suc, ◌≤◌, Bool, true, false, List, [], ◌∷◌, length, Option, Some, None, is_some, refl, sym, ap, ◌∙◌, ◌==◌, arith}
 use Rattle.std.proofs.lemmas.Bool.{eqb-true}
 use Rattle.pdu_reading.specs.Items.{items_within, items_to_end}
-use Rattle.pdu_reading.proofs.ItemLaws.{Item, Shortens, items_within-nil, items_within-step, items_to_end-nil, items_to_end-step}
-use Rattle.pdu_reading.proofs.FieldLaws.{bind_some, some_is}
+use Rattle.pdu_laws.proofs.ItemLaws.{Item, Shortens, items_within-nil, items_within-step, items_to_end-nil, items_to_end-step}
+use Rattle.pdu_laws.proofs.FieldLaws.{bind_some, some_is}
 use Rattle.pdu_codec.specs.Parts.{first_and_others, items_among}
 
 -- nothing is read where there is nothing

@@ -32,14 +32,16 @@ abbrev pub requests_at : List ℕ → List SegmentRequest
 requests_at octets = items_among (request_at size_octets) (length octets) octets
 
 abbrev pub body_of_parts : Parts → Body
-body_of_parts (parts.Eof e) = bodies.Eof (record { condition = e.flags / 16; checksum = e.checksum; size = e.size; location = e.location })
+body_of_parts (parts.Eof e) =
+    bodies.Eof (record { condition = e.flags / 16; checksum = e.checksum; size = e.size; location = e.location })
 body_of_parts (parts.Finished f) = bodies.Finished (record {
   condition = f.flags / 16;
   delivery = delivery_of (f.flags / 4 % 2);
   status = file_status_of (f.flags % 4);
   location = f.location;
 })
-body_of_parts (parts.Ack a) = bodies.Ack (record { of = a.of; condition = a.flags / 16; status = transaction_status_of (a.flags % 4) })
+body_of_parts (parts.Ack a) =
+    bodies.Ack (record { of = a.of; condition = a.flags / 16; status = transaction_status_of (a.flags % 4) })
 body_of_parts (parts.Metadata m) = bodies.Metadata (record {
   closure = m.flags / 64 % 2 == 1;
   checksum_type = m.flags % 16;

@@ -30,10 +30,13 @@ behind_code code fields = digits 1 code ++ fields
 -- the data field of a body, where the header's IDs have so many octets: no spare bit, and no optional field
 -- beyond those that hold what the body has
 abbrev pub field_of : ℕ → Body → List ℕ
-field_of entity_octets (bodies.Eof e) = behind_code 4 (spelling.eof spelling.size_octets 0 (location_tlvs entity_octets e.location) e)
-field_of entity_octets (bodies.Finished f) = behind_code 5 (spelling.finished 0 (location_tlvs entity_octets f.location) f)
+field_of entity_octets (bodies.Eof e) =
+    behind_code 4 (spelling.eof spelling.size_octets 0 (location_tlvs entity_octets e.location) e)
+field_of entity_octets (bodies.Finished f) =
+    behind_code 5 (spelling.finished 0 (location_tlvs entity_octets f.location) f)
 field_of entity_octets (bodies.Ack a) = behind_code 6 (spelling.ack (spelling.acknowledged_subtype a.of) 0 a)
-field_of entity_octets (bodies.Metadata m) = behind_code 7 (spelling.metadata spelling.size_octets 0 0 (map message_tlv m.messages) m)
+field_of entity_octets (bodies.Metadata m) =
+    behind_code 7 (spelling.metadata spelling.size_octets 0 0 (map message_tlv m.messages) m)
 field_of entity_octets (bodies.Nak n) = behind_code 8 (spelling.nak spelling.size_octets n)
 field_of entity_octets (bodies.Prompt p) = behind_code 9 (spelling.prompt 0 p)
 field_of entity_octets (bodies.KeepAlive k) = behind_code 12 (spelling.keep_alive spelling.size_octets k)

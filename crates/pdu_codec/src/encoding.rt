@@ -7,11 +7,13 @@ ghost use Rattle.pdu_values.specs.Spelling as spelling;
 ghost use Rattle.pdu_codec.specs.Writing.{HasRoom, Writes, field_of, header_of, text_of, FieldFits};
 
 use crate::writing::{
-    put_location, put_lv, put_messages, put_number, put_octet, put_octets,
-    put_requests,
+    put_location, put_lv, put_messages, put_number, put_octet, put_octets, put_requests,
 };
 use cfdp_types::{Class, Delivery, EntityId, FileStatus, Messages};
-use pdu_values::{Ack, Acknowledged, Body, Direction, Eof, FileData, Finished, Header, KeepAlive, Metadata, Nak, Pdu, Prompt, TransactionStatus, octets_for};
+use pdu_values::{
+    Ack, Acknowledged, Body, Direction, Eof, FileData, Finished, Header, KeepAlive, Metadata, Nak,
+    Pdu, Prompt, TransactionStatus, octets_for,
+};
 use std::alloc::AllocError;
 
 // ---- how long the data field is
@@ -120,8 +122,10 @@ fn put_ids(out: &mut Vec<u8>, header: &Header)
 fn put_eof(out: &mut Vec<u8>, entity_octets: u8, eof: &Eof)
     requires length { spelling.IsIdLength entity_octets }
     requires fits { spelling.EofFits spelling.size_octets eof.now }
-    requires room { HasRoom out.old (spelling.eof spelling.size_octets 0 (location_tlvs entity_octets eof.now.location) eof.now) }
-    ensures { Writes out.old out.new (spelling.eof spelling.size_octets 0 (location_tlvs entity_octets eof.now.location) eof.now) }
+    requires room { HasRoom out.old
+        (spelling.eof spelling.size_octets 0 (location_tlvs entity_octets eof.now.location) eof.now) }
+    ensures { Writes out.old out.new
+        (spelling.eof spelling.size_octets 0 (location_tlvs entity_octets eof.now.location) eof.now) }
 {
     put_octet(out, 16 * eof.condition.code());
     put_number(out, 4, u64::from(eof.checksum));
@@ -154,8 +158,10 @@ fn file_status_bits(status: FileStatus) -> u8
 fn put_finished(out: &mut Vec<u8>, entity_octets: u8, finished: &Finished)
     requires length { spelling.IsIdLength entity_octets }
     requires fits { spelling.FinishedFits finished.now }
-    requires room { HasRoom out.old (spelling.finished 0 (location_tlvs entity_octets finished.now.location) finished.now) }
-    ensures { Writes out.old out.new (spelling.finished 0 (location_tlvs entity_octets finished.now.location) finished.now) }
+    requires room { HasRoom out.old
+        (spelling.finished 0 (location_tlvs entity_octets finished.now.location) finished.now) }
+    ensures { Writes out.old out.new
+        (spelling.finished 0 (location_tlvs entity_octets finished.now.location) finished.now) }
 {
     let flags = 16 * finished.condition.code()
         + 4 * delivery_bit(finished.delivery)
@@ -212,8 +218,10 @@ fn put_ack(out: &mut Vec<u8>, ack: &Ack)
 
 fn put_metadata(out: &mut Vec<u8>, metadata: &Metadata)
     requires fits { spelling.MetadataFits spelling.size_octets metadata.now }
-    requires room { HasRoom out.old (spelling.metadata spelling.size_octets 0 0 (map message_tlv metadata.now.messages) metadata.now) }
-    ensures { Writes out.old out.new (spelling.metadata spelling.size_octets 0 0 (map message_tlv metadata.now.messages) metadata.now) }
+    requires room { HasRoom out.old
+        (spelling.metadata spelling.size_octets 0 0 (map message_tlv metadata.now.messages) metadata.now) }
+    ensures { Writes out.old out.new
+        (spelling.metadata spelling.size_octets 0 0 (map message_tlv metadata.now.messages) metadata.now) }
 {
     put_octet(
         out,

@@ -9,7 +9,10 @@ ghost use Rattle.pdu_codec.specs.Parts.{body_of_parts};
 use crate::fields::{lv_at, octet_at, octets_at, word_at};
 use crate::options::{are_options, are_requests, location_at, messages_at, requests_at};
 use cfdp_types::{ChecksumType, Condition, Delivery, EntityId, FileStatus, Octets};
-use pdu_values::{Ack, Acknowledged, Body, Eof, FileData, Finished, KeepAlive, Metadata, Nak, Prompt, TransactionStatus};
+use pdu_values::{
+    Ack, Acknowledged, Body, Eof, FileData, Finished, KeepAlive, Metadata, Nak, Prompt,
+    TransactionStatus,
+};
 use std::alloc::{AllocError, Global};
 
 /// A body's fields, their lists borrowed from the datagram.

@@ -27,7 +27,8 @@ number_fault first size lengths behind =
 -- what is wrong with a datagram before its data field is looked at
 abbrev pub header_fault : List ℕ → Option DecodeFault
 header_fault (first ∷ high ∷ low ∷ lengths ∷ rest) =
-    if nat_lt (length rest) (ids_octets lengths) then Some TooShort else number_fault first (256 * high + low) lengths (length rest)
+    if nat_lt (length rest) (ids_octets lengths) then Some TooShort
+    else number_fault first (256 * high + low) lengths (length rest)
 header_fault octets = Some TooShort
 
 -- whether an ACK acknowledges what is neither EOF nor Finished, by the octets behind its code
@@ -42,7 +43,8 @@ has_unknown_code (code ∷ fields) = is_none (directive_with_code code) || ((cod
 
 -- whether a datagram with a sound header is a directive with a code without a meaning
 abbrev pub is_unknown_directive : List ℕ → Bool
-is_unknown_directive (first ∷ high ∷ low ∷ lengths ∷ rest) = not (is_file_data first) && has_unknown_code (drop (ids_octets lengths) rest)
+is_unknown_directive (first ∷ high ∷ low ∷ lengths ∷ rest) =
+    not (is_file_data first) && has_unknown_code (drop (ids_octets lengths) rest)
 is_unknown_directive octets = false
 
 -- the octets spell Metadata that leaves a name out

@@ -76,7 +76,17 @@ fixed_header_at octets = do
   source ← number_at (entity_octets lengths.0) lengths.1
   sequence ← number_at (sequence_octets lengths.0) source.1
   destination ← number_at (entity_octets lengths.0) sequence.1
-  Some (record { first = first.0; size = size.0; lengths = lengths.0; source = source.0; sequence = sequence.0; destination = destination.0 }, destination.1)
+  Some (
+    record {
+      first = first.0;
+      size = size.0;
+      lengths = lengths.0;
+      source = source.0;
+      sequence = sequence.0;
+      destination = destination.0;
+    },
+    destination.1,
+  )
 
 -- what is wrong with the fixed header, or with the length of the data field behind it
 unfoldable pub fixed_header_fault : FixedHeader → List ℕ → Option DecodeFault
@@ -94,15 +104,18 @@ delivery_of bit = if bit == 0 then Complete else Incomplete
 
 -- a file's status by its two bits
 abbrev pub file_status_of : ℕ → FileStatus
-file_status_of bits = if bits == 0 then Discarded else (if bits == 1 then Rejected else (if bits == 2 then Retained else Unreported))
+file_status_of bits =
+    if bits == 0 then Discarded else (if bits == 1 then Rejected else (if bits == 2 then Retained else Unreported))
 
 -- a transaction's status by its two bits
 abbrev pub transaction_status_of : ℕ → TransactionStatus
-transaction_status_of bits = if bits == 0 then Undefined else (if bits == 1 then Active else (if bits == 2 then Terminated else Unrecognized))
+transaction_status_of bits =
+    if bits == 0 then Undefined else (if bits == 1 then Active else (if bits == 2 then Terminated else Unrecognized))
 
 -- the kind of PDU that an ACK acknowledges, by its directive code
 abbrev pub acknowledged_with_code : ℕ → Option Acknowledged
-acknowledged_with_code code = if code == 4 then Some acknowledged.Eof else (if code == 5 then Some acknowledged.Finished else None)
+acknowledged_with_code code =
+    if code == 4 then Some acknowledged.Eof else (if code == 5 then Some acknowledged.Finished else None)
 
 -- what a Prompt asks for
 abbrev pub prompt_of : ℕ → Prompt
@@ -236,7 +249,8 @@ directive_of (Some x) = fields_of (directive_with_code x.0) x.1
 -- the body that a data field holds
 unfoldable pub body_of : FixedHeader → List ℕ → Result Body DecodeFault
 body_of o field =
-    if is_file_data o.first then whole_body (file_data_at size_octets (has_segment_metadata o.lengths) field) else directive_of (number_at 1 field)
+    if is_file_data o.first then whole_body (file_data_at size_octets (has_segment_metadata o.lengths) field)
+    else directive_of (number_at 1 field)
 
 -- ---- the whole
 

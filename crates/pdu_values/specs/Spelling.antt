@@ -105,15 +105,19 @@ tlv t = digits 1 t.kind ++ lv t.value
 
 -- EOF (5.2.2)
 abbrev pub eof : ℕ → ℕ → List Tlv → eof_type.Eof → List ℕ
-eof width spare tlvs e = digits 1 (16 * e.condition + spare) ++ (digits 4 e.checksum ++ (digits width e.size ++ flat_map tlv tlvs))
+eof width spare tlvs e =
+    digits 1 (16 * e.condition + spare) ++ (digits 4 e.checksum ++ (digits width e.size ++ flat_map tlv tlvs))
 
 -- Finished (5.2.3)
 abbrev pub finished : ℕ → List Tlv → finished_type.Finished → List ℕ
-finished spare tlvs f = digits 1 (16 * f.condition + 8 * spare + 4 * delivery_bit f.delivery + file_status_bits f.status) ++ flat_map tlv tlvs
+finished spare tlvs f =
+    digits 1 (16 * f.condition + 8 * spare + 4 * delivery_bit f.delivery + file_status_bits f.status)
+    ++ flat_map tlv tlvs
 
 -- ACK (5.2.4)
 abbrev pub ack : ℕ → ℕ → ack_type.Ack → List ℕ
-ack subtype spare a = digits 1 (16 * acknowledged_code a.of + subtype) ++ digits 1 (16 * a.condition + 4 * spare + transaction_status_bits a.status)
+ack subtype spare a =
+    digits 1 (16 * acknowledged_code a.of + subtype) ++ digits 1 (16 * a.condition + 4 * spare + transaction_status_bits a.status)
 
 -- Metadata (5.2.5)
 abbrev pub metadata : ℕ → ℕ → ℕ → List Tlv → metadata_type.Metadata → List ℕ
@@ -144,14 +148,19 @@ file_data width f = digits width f.offset ++ f.octets
 
 -- the data field: a directive's code and its fields, or file data
 abbrev pub data_field : ℕ → Choice → Body → List ℕ
-data_field width choice (bodies.Eof e) = digits 1 (directive_code directives.Eof) ++ eof width choice.spare choice.tlvs e
-data_field width choice (bodies.Finished f) = digits 1 (directive_code directives.Finished) ++ finished choice.spare choice.tlvs f
+data_field width choice (bodies.Eof e) =
+    digits 1 (directive_code directives.Eof) ++ eof width choice.spare choice.tlvs e
+data_field width choice (bodies.Finished f) =
+    digits 1 (directive_code directives.Finished) ++ finished choice.spare choice.tlvs f
 data_field width choice (bodies.Ack a) = digits 1 (directive_code directives.Ack) ++ ack choice.subtype choice.spare a
-data_field width choice (bodies.Metadata m) = digits 1 (directive_code directives.Metadata) ++ metadata width choice.reserved choice.spare choice.tlvs m
+data_field width choice (bodies.Metadata m) =
+    digits 1 (directive_code directives.Metadata)
+    ++ metadata width choice.reserved choice.spare choice.tlvs m
 data_field width choice (bodies.Nak n) = digits 1 (directive_code directives.Nak) ++ nak width n
 data_field width choice (bodies.Prompt p) = digits 1 (directive_code directives.Prompt) ++ prompt choice.spare p
 data_field width choice (bodies.KeepAlive k) = digits 1 (directive_code directives.KeepAlive) ++ keep_alive width k
-data_field width choice (bodies.FileData f) = segment choice.flag choice.state choice.segment_metadata ++ file_data width f
+data_field width choice (bodies.FileData f) =
+    segment choice.flag choice.state choice.segment_metadata ++ file_data width f
 
 -- ---- the fixed header (5.1)
 
@@ -182,7 +191,8 @@ first_octet pdu = 32 + 16 * type_bit pdu.body + 8 * direction_bit pdu.header.dir
 
 -- segmentation control, segment metadata flag, and the two lengths, less one each
 abbrev pub lengths_octet : Choice → Header → ℕ
-lengths_octet choice header = 128 * choice.control + 16 * (header.entity_octets - 1) + 8 * bit choice.flag + (header.sequence_octets - 1)
+lengths_octet choice header =
+    128 * choice.control + 16 * (header.entity_octets - 1) + 8 * bit choice.flag + (header.sequence_octets - 1)
 
 -- the two entity IDs, and the transaction sequence number between them
 abbrev pub ids : Header → List ℕ
@@ -194,7 +204,8 @@ ids header =
 unfoldable pub spelling : Choice → PduValue → List ℕ
 spelling choice pdu =
     let field = data_field size_octets choice pdu.body in
-    (digits 1 (first_octet pdu) ++ (digits 2 (length field) ++ (digits 1 (lengths_octet choice pdu.header) ++ ids pdu.header)))
+    (digits 1 (first_octet pdu)
+    ++ (digits 2 (length field) ++ (digits 1 (lengths_octet choice pdu.header) ++ ids pdu.header)))
     ++ field
 
 -- ---- what is written

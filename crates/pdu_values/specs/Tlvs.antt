@@ -51,4 +51,5 @@ octets_for octets n = width_from (8 - octets) octets n
 -- the TLV of a fault location, where there is one
 abbrev pub location_tlvs : ℕ → Option EntityId → List Tlv
 location_tlvs entity_octets None = []
-location_tlvs entity_octets (Some id) = record { kind = entity_id_kind; value = digits (octets_for entity_octets id.0) id.0 } ∷ []
+location_tlvs entity_octets (Some id) =
+    record { kind = entity_id_kind; value = digits (octets_for entity_octets id.0) id.0 } ∷ []

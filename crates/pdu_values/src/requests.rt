@@ -97,7 +97,8 @@ fn sized(request: SegmentRequest) -> SegmentRequest
 impl PartialEq for SegmentRequests {
     ghost eq = { pointwise (λ x y. nat_eq x.start y.start && nat_eq x.end y.end) };
 
-    ghost laws = { Cmp.partial_equiv_from_equiv (lists_equiv (and_equiv (on_equiv (λ r. r.start) Cmp.nat_eq_equiv) (on_equiv (λ r. r.end) Cmp.nat_eq_equiv))) };
+    ghost laws = { Cmp.partial_equiv_from_equiv (lists_equiv (
+        and_equiv (on_equiv (λ r. r.start) Cmp.nat_eq_equiv) (on_equiv (λ r. r.end) Cmp.nat_eq_equiv))) };
 
     fn eq(&self, other: &SegmentRequests) -> bool {
         self.as_slice() == other.as_slice()
@@ -105,5 +106,6 @@ impl PartialEq for SegmentRequests {
 }
 
 impl Eq for SegmentRequests {
-    ghost laws = { lists_equiv (and_equiv (on_equiv (λ r. r.start) Cmp.nat_eq_equiv) (on_equiv (λ r. r.end) Cmp.nat_eq_equiv)) };
+    ghost laws = { lists_equiv (
+        and_equiv (on_equiv (λ r. r.start) Cmp.nat_eq_equiv) (on_equiv (λ r. r.end) Cmp.nat_eq_equiv)) };
 }

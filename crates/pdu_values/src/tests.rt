@@ -1,27 +1,17 @@
 use crate::{
-    Body, Direction, Directive, Header, Nak, Pdu, Prompt, SegmentRequest, SegmentRequests,
+    Ack, Acknowledged, Body, Direction, Directive, Eof, FileData, Finished, Header, KeepAlive,
+    Metadata, Nak, Pdu, SegmentRequest, SegmentRequests, TransactionStatus, octets_for,
 };
-use cfdp_types::{Class, EntityId};
+use cfdp_types::{
+    ChecksumType, Class, Condition, Delivery, EntityId, FileStatus, Messages, Octets,
+};
 use std::test::*;
 
 #[test]
 fn codes(rt: HostRuntime) {
-    let directives = [
-        (Directive::Eof, 4),
-        (Directive::Finished, 5),
-        (Directive::Ack, 6),
-        (Directive::Metadata, 7),
-        (Directive::Nak, 8),
-        (Directive::Prompt, 9),
-        (Directive::KeepAlive, 12),
-    ];
-    for (directive, code) in directives {
-        assert_eq!(rt; directive.code(), code);
-        assert_eq!(rt; Directive::with_code(code), Some(directive));
-    }
-    for code in [0, 3, 10, 11, 13, 255u8] {
-        assert_eq!(rt; Directive::with_code(code), None);
-    }
+    assert_eq!(rt; Directive::KeepAlive.code(), 12);
+    assert_eq!(rt; Directive::with_code(12), Some(Directive::KeepAlive));
+    assert_eq!(rt; Directive::with_code(10), None);
 }
 
 #[test]
@@ -40,53 +30,77 @@ fn requests(rt: HostRuntime) -> Result<(), Fail> {
     Ok(())
 }
 
+// class 2, from entity 1 to entity 2, transaction 5
+const HEADER: Header = Header {
+    direction: Direction::TowardReceiver,
+    class: Class::Two,
+    entity_octets: 1,
+    sequence_octets: 1,
+    source: EntityId(1),
+    sequence: 5,
+    destination: EntityId(2),
+};
+
 #[test]
-fn pdus(rt: HostRuntime) -> Result<(), Fail> {
-    // class 2, from entity 1 to entity 2, transaction 5
-    let header = Header {
-        direction: Direction::TowardReceiver,
-        class: Class::Two,
-        entity_octets: 1,
-        sequence_octets: 1,
-        source: EntityId(1),
-        sequence: 5,
-        destination: EntityId(2),
+fn what_a_receiver_sends(rt: HostRuntime) {
+    let finished = Finished {
+        condition: Condition::NO_ERROR,
+        delivery: Delivery::Complete,
+        status: FileStatus::Retained,
+        location: None,
     };
-    let prompt = Pdu::new(header, Body::Prompt(Prompt::Nak));
-    assert!(rt; !prompt.is_toward_sender());
-    assert_eq!(rt; *prompt.header(), header);
-    assert_eq!(rt; *prompt.body(), Body::Prompt(Prompt::Nak));
-    let (copied_header, copied_body) = prompt.clone()?.into_parts();
-    assert_eq!(rt; copied_header, header);
-    assert_eq!(rt; copied_body, Body::Prompt(Prompt::Nak));
+    assert!(rt; Pdu::finished(HEADER, finished).is_toward_sender());
+    let ack = Ack {
+        of: Acknowledged::Eof,
+        condition: Condition::NO_ERROR,
+        status: TransactionStatus::Active,
+    };
+    assert_eq!(rt; *Pdu::ack(HEADER, ack).header(), HEADER);
+    let keep_alive = KeepAlive { progress: 3 };
+    assert!(rt; Pdu::keep_alive(HEADER, keep_alive).is_toward_sender());
+    let nak = Nak {
+        start: 0,
+        end: 9,
+        requests: SegmentRequests::new(rt.alloc()),
+    };
+    assert!(rt; Pdu::nak(HEADER, nak).is_toward_sender());
+}
+
+#[test]
+fn what_a_sender_sends(rt: HostRuntime) -> Result<(), Fail> {
+    let alloc = rt.alloc();
+    let eof = Eof {
+        condition: Condition::NO_ERROR,
+        checksum: 0x6162_6300,
+        size: 3,
+        location: None,
+    };
+    assert_eq!(rt; *Pdu::eof(HEADER, eof).body(), Body::Eof(eof));
+    let file_data = FileData {
+        offset: 0,
+        octets: Octets::from_slice(alloc, b"abc")?,
+    };
+    let pdu = Pdu::file_data(HEADER, file_data);
+    assert!(rt; !pdu.is_toward_sender());
+    let (copied_header, copied_body) = pdu.clone()?.into_parts();
+    assert_eq!(rt; copied_header, HEADER);
+    assert_eq!(rt; &copied_body, pdu.body());
+    let metadata = Metadata {
+        closure: false,
+        checksum_type: ChecksumType::MODULAR,
+        size: 3,
+        source_name: Octets::from_slice(alloc, b"a")?,
+        destination_name: Octets::from_slice(alloc, b"b")?,
+        messages: Messages::new(alloc),
+    };
+    assert!(rt; !Pdu::metadata(HEADER, metadata).is_toward_sender());
     Ok(())
 }
 
 #[test]
-fn naks(rt: HostRuntime) -> Result<(), Fail> {
-    let alloc = rt.alloc();
-    // entity IDs of 2 octets, sequence numbers of 4
-    let header = Header {
-        direction: Direction::TowardSender,
-        class: Class::Two,
-        entity_octets: 2,
-        sequence_octets: 4,
-        source: EntityId(258),
-        sequence: 5,
-        destination: EntityId(2),
-    };
-    let requests = SegmentRequests::new(alloc);
-    let nak = Pdu::new(
-        header,
-        Body::Nak(Nak {
-            start: 0,
-            end: 9,
-            requests,
-        }),
-    );
-    assert!(rt; nak.is_toward_sender());
-    let (copied_header, copied_body) = nak.clone()?.into_parts();
-    assert_eq!(rt; copied_header, header);
-    assert_eq!(rt; &copied_body, nak.body());
-    Ok(())
+fn lengths(rt: HostRuntime) {
+    assert_eq!(rt; octets_for(1, 255), 1);
+    assert_eq!(rt; octets_for(1, 256), 2);
+    assert_eq!(rt; octets_for(4, 256), 4);
+    assert_eq!(rt; octets_for(1, u64::MAX), 8);
 }

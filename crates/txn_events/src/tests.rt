@@ -1,11 +1,12 @@
 use crate::{
-    CountResets, Pdus, Stamps, TimerChange, TimerChanges, TimerContext, TimerOps, Tries, What,
-    has_fault, has_resumed, is_expiration, is_of_other_class, is_pdu, is_stale_timer, needs_room,
-    operations, paused_after,
+    CountResets, Event, Pdus, Refusal, Stamps, TimerChange, TimerChanges, TimerContext, TimerOps,
+    Tries, What, body_opens, has_fault, has_resumed, is_body_too_large, is_expiration,
+    is_of_other_class, is_pdu, is_stale_timer, is_too_large, needs_room, operations, paused_after,
 };
+use cfdp_types::limits::FILE_OCTETS;
 use cfdp_types::{Class, Condition, EntityId, TimerKind, TimerLengths, TimerOp, TxnKey};
 use indications::Indication;
-use pdu_values::{Direction, Header, KeepAlive, Pdu};
+use pdu_values::{Body, Direction, Eof, Header, KeepAlive, Pdu};
 use std::test::*;
 
 // a Keep Alive of class 2
@@ -39,6 +40,40 @@ fn asked_of_events(rt: HostRuntime) {
     assert!(rt; !is_of_other_class(Class::Two, &event));
     assert!(rt; needs_room(&event) && needs_room(&What::Report));
     assert!(rt; !needs_room(&What::Abandon) && !needs_room(&What::Stored(3, true)));
+}
+
+#[test]
+fn asked_of_bodies(rt: HostRuntime) {
+    let eof = Eof {
+        condition: Condition::NO_ERROR,
+        checksum: 0,
+        size: FILE_OCTETS + 1,
+        location: None,
+    };
+    let cancelled = Eof {
+        condition: Condition::CANCEL_REQUEST,
+        ..eof
+    };
+    assert!(rt; body_opens(&Body::Eof(eof)) && is_body_too_large(&Body::Eof(eof)));
+    assert!(rt; body_opens(&Body::Eof(cancelled)) && !is_body_too_large(&Body::Eof(cancelled)));
+    let event = What::Pdu(keep_alive());
+    assert!(rt; !is_too_large(&event) && !body_opens(keep_alive().body()));
+}
+
+#[test]
+fn refusals_and_copies(rt: HostRuntime) -> Result<(), Fail> {
+    assert_eq!(rt; Refusal::QueueFull.number(), 13);
+    assert_eq!(rt; Refusal::StaleStored.name(), "StaleStored");
+    let key = TxnKey {
+        source: EntityId(1),
+        seq: 5,
+    };
+    let event = Event::On(key, What::Stored(3, true));
+    let Event::On(copied_key, What::Stored(stamp, kept)) = event.copy()? else {
+        return Err("another event")?;
+    };
+    assert_eq!(rt; (copied_key, stamp, kept), (key, 3, true));
+    Ok(())
 }
 
 #[test]

@@ -75,8 +75,8 @@ impl Stamps {
 
     /// The stamps after what a step with a stamp does with each timer.
     pub fn after(self, changes: TimerChanges, stamp: u32) -> Stamps
-        ensures { (kind : TimerKind) → stamp_of result kind ≡ stamp_by stamp (effects changes kind)
-            (stamp_of self kind) }
+        ensures { (kind : TimerKind)
+            → stamp_of result kind ≡ stamp_by stamp (effects changes kind) (stamp_of self kind) }
     {
         Stamps {
             ack: stamp_after(self.ack, changes.ack, stamp),
@@ -113,8 +113,8 @@ impl Tries {
     /// adds one.
     pub fn after(self, event: &What, inds: &[Indication], resets: CountResets) -> Tries
         requires { AreUpTo JOURNAL_ENTRIES self }
-        ensures { (kind : TimerKind) → tries_of result kind ≡ tries_by event.now inds.now resets kind
-            (tries_of self kind) }
+        ensures { (kind : TimerKind)
+            → tries_of result kind ≡ tries_by event.now inds.now resets kind (tries_of self kind) }
     {
         let resumed = has_resumed(inds);
         let faulted = has_fault(inds);
@@ -210,8 +210,8 @@ fn put_operation(
     change: TimerChange,
     before: Option<u32>,
 ) -> Result<(), AllocError>
-    ensures { OnOk result (ops.new ≡ ops.old ++ operation context.now.key (timer_length context.now.lengths)
-        context.now.stamp kind (effect_of_change change) before) }
+    ensures { OnOk result (ops.new ≡ ops.old
+        ++ operation context.now.key (timer_length context.now.lengths) context.now.stamp kind (effect_of_change change) before) }
 {
     match change {
         TimerChange::Arms => ops.push(TimerOp::Arm {
@@ -239,8 +239,8 @@ pub fn operations(
     changes: TimerChanges,
     before: &Stamps,
 ) -> Result<TimerOps, AllocError>
-    ensures { IfOk result (λ ops. ops ≡ operations context.now.key (timer_length context.now.lengths)
-        context.now.stamp (effects changes) (stamp_of before.now)) }
+    ensures { IfOk result (λ ops. ops
+        ≡ operations context.now.key (timer_length context.now.lengths) context.now.stamp (effects changes) (stamp_of before.now)) }
 {
     let mut ops = TimerOps::new(alloc);
     put_operation(&mut ops, context, TimerKind::Ack, changes.ack, before.ack)?;

@@ -5,10 +5,10 @@ use Rattle.pdu_reading.specs.declared.fault.DecodeFault.TheVariants.{NoMemory}
 use Rattle.pdu_values.specs.Pdu.{PduValue}
 use Rattle.pdu_reading.specs.Reading.{reading, IsUnlessMemory}
 use Rattle.pdu_reading.specs.FirstFault.{IsFirstFault}
-use Rattle.pdu_reading.proofs.FaultLaws.{read_fault_is_first}
+use Rattle.pdu_laws.proofs.FaultLaws.{read_fault_is_first}
 use Rattle.pdu_values.proofs.Numbers.{IsOctets, IsOctets-at_each}
-use Rattle.pdu_reading.proofs.MemoryLaws.{memory_last}
-use Rattle.pdu_reading.proofs.ReadingLaws.{is_found, is_only}
+use Rattle.pdu_laws.proofs.MemoryLaws.{memory_last}
+use Rattle.pdu_laws.proofs.ReadingLaws.{is_found, is_only}
 use Rattle.pdu_codec.proofs.decoding.decode.Goals as goal
 
 abbrev err : DecodeFault → Result PduValue DecodeFault

@@ -1,6 +1,6 @@
 use Rattle.std.proofs.Common.{arith}
 use Rattle.pdu_values.proofs.Numbers.{IsOctets, IsOctets-at_each}
-use Rattle.pdu_reading.proofs.ReadingLaws.{read_is_spelled}
+use Rattle.pdu_laws.proofs.ReadingLaws.{read_is_spelled}
 use Rattle.pdu_codec.proofs.decoding.read.Goals as goal
 
 pub new-requires : goal.new-requires

@@ -1,7 +1,7 @@
 use Rattle.std.proofs.Common.{sym, ap, ◌∙◌, is_some}
 use Rattle.pdu_reading.specs.Reading.{tlv_at}
-use Rattle.pdu_reading.proofs.FieldLaws.{tlv_behind}
-use Rattle.pdu_reading.proofs.ItemLaws.{items_to_end-none}
+use Rattle.pdu_laws.proofs.FieldLaws.{tlv_behind}
+use Rattle.pdu_laws.proofs.ItemLaws.{items_to_end-none}
 use Rattle.pdu_codec.proofs.ItemLaws.{still_some, is_more, none_left}
 use Rattle.pdu_codec.proofs.options.are_options.Goals as goal
 

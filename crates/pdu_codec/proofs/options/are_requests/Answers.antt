@@ -2,7 +2,7 @@ use Rattle.std.proofs.Common.{sym, ap, ◌∙◌, is_some}
 use Rattle.pdu_reading.specs.Reading.{request_at}
 use Rattle.pdu_values.specs.Spelling.{size_octets}
 use Rattle.pdu_codec.proofs.FieldLaws.{request_shortens}
-use Rattle.pdu_reading.proofs.ItemLaws.{items_to_end-none}
+use Rattle.pdu_laws.proofs.ItemLaws.{items_to_end-none}
 use Rattle.pdu_codec.proofs.ItemLaws.{still_some, is_more, none_left}
 use Rattle.pdu_codec.proofs.options.are_requests.Goals as goal
 

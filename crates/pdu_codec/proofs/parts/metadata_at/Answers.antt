@@ -1,6 +1,6 @@
 use Rattle.std.proofs.Common.{refl, sym}
 use Rattle.pdu_reading.specs.Reading.{metadata_at, tlv_at}
-use Rattle.pdu_reading.proofs.FieldLaws.{tlv_behind}
+use Rattle.pdu_laws.proofs.FieldLaws.{tlv_behind}
 use Rattle.pdu_codec.proofs.ItemLaws.{all_read}
 use Rattle.pdu_codec.proofs.parts.metadata_at.Goals as goal
 

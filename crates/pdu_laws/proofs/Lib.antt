@@ -1,0 +1,11 @@
+pub mod BitLaws
+pub mod FieldLaws
+pub mod ItemLaws
+pub mod TlvLaws
+pub mod HeaderLaws
+pub mod BodyLaws
+pub mod BodyAgainLaws
+pub mod NameLaws
+pub mod ReadingLaws
+pub mod MemoryLaws
+pub mod FaultLaws
