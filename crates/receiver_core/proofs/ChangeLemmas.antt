@@ -16,17 +16,17 @@ use Rattle.txn_events.specs.declared.refusal.Refusal.{Refusal}
 use Rattle.pdu_values.specs.declared.bodies.Metadata.{Metadata}
 use Rattle.receiver_table.specs.Reception.{State, Entry, step, state_of, is_received, added_runs, octet_at, metadata_of, file_data_of, brings_more}
 use Rattle.receiver_table.specs.Answers.{answer_at}
-use Rattle.receiver_core.specs.ControlBlock.{state_from}
+use Rattle.reception_parts.specs.ControlBlock.{state_from}
 use Rattle.receiver_core.specs.declared.plan.Plan.{Plan}
-use Rattle.receiver_core.specs.declared.control.ControlBlock.{ControlBlock}
-use Rattle.receiver_core.specs.ReceivedFile.{received_of, end_of, IsSegmentOf}
+use Rattle.reception_parts.specs.declared.control.ControlBlock.{ControlBlock}
+use Rattle.reception_parts.specs.ReceivedFile.{received_of, end_of, IsSegmentOf}
 use Rattle.receiver_core.specs.Core.{shown, reception_of, received_after, FitsFile, HasRoom, IsCovered, IsChange, IsSame, IsPlanOf, IsWhy, StandsAfter, runs_in, segment_of, metadata_after, plan_answer}
-use Rattle.receiver_core.specs.declared.received_file.ReceivedFile.{ReceivedFile}
-use Rattle.receiver_core.specs.declared.received_file.NewSegment.{NewSegment}
+use Rattle.reception_parts.specs.declared.received_file.ReceivedFile.{ReceivedFile}
+use Rattle.reception_parts.specs.declared.received_file.NewSegment.{NewSegment}
 use Rattle.receiver_core.specs.declared.plan.FileChange.{FileChange}
 use Rattle.receiver_core.specs.declared.plan.FileChange.TheVariants as change
 use Rattle.receiver_core.specs.declared.receiver.ReceiverCore.{ReceiverCore}
-use Rattle.receiver_core.proofs.ReceivedFileLemmas.{there}
+use Rattle.reception_parts.proofs.ReceivedFileLemmas.{there}
 
 older_none : {A : Type 0} (o : Option A) → o ≡ older_or o None
 older_none None = refl

@@ -18,18 +18,18 @@ use Rattle.pdu_values.specs.declared.bodies.FileData.{FileData}
 use Rattle.receiver_table.specs.Reception.{Reception, State, Entry, step, state_of, metadata_of, file_data_of, added_runs, brings_more}
 use Rattle.receiver_table.specs.Answers.{answer_at}
 use Rattle.receiver_laws.specs.LegalReceptions.{BodyOpens}
-use Rattle.receiver_core.specs.ControlBlock.{state_from, IsSound}
-use Rattle.receiver_core.specs.Offsets.{IsInside, octets_in}
-use Rattle.receiver_core.specs.ReceivedFile.{received_of, with_segment, end_of, IsSegmentOf}
+use Rattle.reception_parts.specs.ControlBlock.{state_from, IsSound}
+use Rattle.reception_parts.specs.Offsets.{IsInside, octets_in}
+use Rattle.reception_parts.specs.ReceivedFile.{received_of, with_segment, end_of, IsSegmentOf}
 use Rattle.txn_events.specs.declared.answer.Answer.{Answer}
 pub use Rattle.txn_events.specs.Logs.{IsWhy}
 use Rattle.txn_events.specs.Logs.{StandsAt, IsAnswered}
-use Rattle.receiver_core.specs.declared.received_file.ReceivedFile.{ReceivedFile}
+use Rattle.reception_parts.specs.declared.received_file.ReceivedFile.{ReceivedFile}
 use Rattle.receiver_core.specs.declared.plan.FileChange.{FileChange}
 use Rattle.receiver_core.specs.declared.plan.FileChange.TheVariants as change
 use Rattle.receiver_core.specs.declared.plan.Plan.{Plan}
 use Rattle.receiver_core.specs.declared.receiver.ReceiverCore.{ReceiverCore}
-use Rattle.receiver_core.specs.declared.control.ControlBlock.{ControlBlock}
+use Rattle.reception_parts.specs.declared.control.ControlBlock.{ControlBlock}
 
 -- what is settled when a PDU with this header opens a reception
 abbrev pub reception_by : TxnKey → ParamsValue → Header → Reception

@@ -1,5 +1,5 @@
-use crate::control::ControlBlock;
-use crate::received_file::NewSegment;
+use reception_parts::control::ControlBlock;
+use reception_parts::received_file::NewSegment;
 use pdu_values::Metadata;
 use txn_events::Answer;
 

@@ -1,9 +1,9 @@
 //! How an event is planned.
-use crate::control::ControlBlock;
+use reception_parts::control::ControlBlock;
 use crate::plan::{FileChange, Plan};
 use crate::receiver::ReceiverCore;
-use crate::response::Response;
-use crate::steps::{changes, next, with_event};
+use reception_parts::response::Response;
+use reception_parts::steps::{changes, next, with_event};
 use cfdp_types::Deposit;
 use pdu_values::{Body, FileData, Metadata};
 use std::alloc::AllocError;

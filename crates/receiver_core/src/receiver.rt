@@ -1,9 +1,9 @@
 ghost use Rattle.pdu_values.specs.Spelling.{HeaderFits};
-ghost use Rattle.receiver_core.specs.ControlBlock.{IsSound};
+ghost use Rattle.reception_parts.specs.ControlBlock.{IsSound};
 
-use crate::control::ControlBlock;
+use reception_parts::control::ControlBlock;
 use crate::plan::{FileChange, Plan};
-use crate::received_file::ReceivedFile;
+use reception_parts::received_file::ReceivedFile;
 use cfdp_types::{Params, TxnKey};
 use pdu_values::{Header, Metadata};
 use std::alloc::Global;
@@ -28,7 +28,7 @@ impl ReceiverCore {
     ghost use Rattle.std.specs.Prelude.{◌≡◌, ◌∷◌, ℕ, false, List};
     ghost use Rattle.txn_events.specs.declared.event.What.{What};
     ghost use Rattle.receiver_table.specs.Reception.{Entry};
-    ghost use Rattle.receiver_core.specs.ReceivedFile.{received_of};
+    ghost use Rattle.reception_parts.specs.ReceivedFile.{received_of};
     ghost use Rattle.receiver_core.specs.Core.{shown, reception_of, IsPlanOf, StandsAfter, FitsFile, HasRoom, metadata_after, received_after, plan_answer};
 
     /// Whether the user was told that the transaction is over: no event follows.

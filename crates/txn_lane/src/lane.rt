@@ -2,7 +2,7 @@ use crate::lane_refusals::{plainly, refused_by_key, refused_put};
 use crate::outlet::Outlet;
 use lane_table::{Done, Numbers, Refused};
 use crate::running::Running;
-use crate::stepping::{Place, advance, done, start};
+use crate::stepping::{LaneAddress, advance, done, start};
 use cfdp_types::{EntityId, Params, PutRequest, TxnKey};
 use indications::Indication;
 use std::alloc::Global;
@@ -189,7 +189,7 @@ impl Lane {
         };
         let source = self.source;
         let key = TxnKey { source, seq };
-        let (running, answer) = start(self.place(), key, request, params, outlet)?;
+        let (running, answer) = start(self.address(), key, request, params, outlet)?;
         self.before = self.last;
         self.last = Some(seq);
         self.running = Some(running);
@@ -211,20 +211,20 @@ impl Lane {
         ensures left { IfErr result
             (λ why. IsNotTaken O.returns self.old (On key what.now) self.new outlet.old outlet.new why) }
     {
-        let place = self.place();
+        let address = self.address();
         let Some(running) = &mut self.running else {
             return Err(Refusal::NoTransaction);
         };
-        let answer = advance(running, place, key, what, outlet)?;
+        let answer = advance(running, address, key, what, outlet)?;
         Ok(done(key, answer))
     }
 
     // Where its bundles go, and where memory comes from.
-    fn place(&self) -> Place
+    fn address(&self) -> LaneAddress
         ensures user { result.user ≡ self.now.user }
         ensures lane { result.lane ≡ self.now.lane }
     {
-        Place {
+        LaneAddress {
             alloc: self.alloc,
             user: self.user,
             lane: self.lane,

@@ -40,7 +40,7 @@ pub(crate) fn done(key: TxnKey, answer: Answer) -> Done
 
 /// The lane of a user, with the memory that its steps take.
 #[derive(Clone, Copy, Debug)]
-pub(crate) struct Place {
+pub(crate) struct LaneAddress {
     pub(crate) alloc: Global,
     pub(crate) user: usize,
     pub(crate) lane: usize,
@@ -48,38 +48,38 @@ pub(crate) struct Place {
 
 // Opens a transaction, with its first step and the bundle of what that tells.
 fn open(
-    place: Place,
+    address: LaneAddress,
     key: TxnKey,
     request: &PutRequest,
     params: Params,
 ) -> Result<(Running, Step, Option<Bundle>), Refusal>
     ensures opened { IfOk result (λ opened. IsOpenedBy key request.now params opened.0 opened.1) }
-    ensures bundle { IfOk result (λ opened. opened.2 ≡ bundle_for place.user place.lane key (plan_answer opened.1.plan).inds) }
+    ensures bundle { IfOk result (λ opened. opened.2 ≡ bundle_for address.user address.lane key (plan_answer opened.1.plan).inds) }
     ensures refused { IfErr result (λ why. IsWhy
         (answer_at (sending_by key params request.now) (initial (sending_by key params request.now)) put) why) }
 {
-    let (running, step) = Running::open(place.alloc, key, request, params)?;
-    let bundle = bundle_for(place.user, place.lane, key, &step.plan.answer().inds)?;
+    let (running, step) = Running::open(address.alloc, key, request, params)?;
+    let bundle = bundle_for(address.user, address.lane, key, &step.plan.answer().inds)?;
     Ok((running, step, bundle))
 }
 
 // Plans an event, with the bundle of what it tells.
 fn plan(
     running: &mut Running,
-    place: Place,
+    address: LaneAddress,
     key: TxnKey,
     what: &What,
 ) -> Result<(Step, Option<Bundle>), Refusal>
     ensures same { IsUnmoved running.old running.new }
     ensures planned { IfOk result (λ planned. IsStepOf running.new (On key what.now) planned.0) }
     ensures bundle { IfOk result
-        (λ planned. planned.1 ≡ bundle_for place.user place.lane key (plan_answer planned.0.plan).inds) }
+        (λ planned. planned.1 ≡ bundle_for address.user address.lane key (plan_answer planned.0.plan).inds) }
     ensures refused { (log : List Entry) → StandsAfter running.old.core log
         → IfErr result
         (λ why. IsWhy (answer_at (sending_of running.old.core) (shown running.old.core) (happens what.now)) why) }
 {
-    let step = running.plan(place.alloc, key, what)?;
-    let bundle = bundle_for(place.user, place.lane, key, &step.plan.answer().inds)?;
+    let step = running.plan(address.alloc, key, what)?;
+    let bundle = bundle_for(address.user, address.lane, key, &step.plan.answer().inds)?;
     Ok((step, bundle))
 }
 
@@ -104,7 +104,7 @@ fn carry_out<O: Outlet>(
 
 /// Opens a transaction by a Put.
 pub(crate) fn start<O: Outlet>(
-    place: Place,
+    address: LaneAddress,
     key: TxnKey,
     request: &PutRequest,
     params: Params,
@@ -113,14 +113,14 @@ pub(crate) fn start<O: Outlet>(
     requires may { (answer : AnswerValue) → answer_at (sending_by key params request.now)
         (initial (sending_by key params request.now)) put ≡ Ok answer
         → MayHandOver (O.user outlet.old) (O.lane outlet.old) (O.stands outlet.old)
-        (bundle_for place.user place.lane key answer.inds) }
+        (bundle_for address.user address.lane key answer.inds) }
     ensures started { IfOk result (λ started. IsStarted key request.now params started.0 started.1) }
     ensures offered { IfOk result (λ started. IsHandedOver O.takes outlet.old outlet.new
-        (bundle_for place.user place.lane key started.1.inds)) }
-    ensures refused { IfErr result (λ why. IsNotCarried O.returns outlet.old outlet.new place.user place.lane key
+        (bundle_for address.user address.lane key started.1.inds)) }
+    ensures refused { IfErr result (λ why. IsNotCarried O.returns outlet.old outlet.new address.user address.lane key
         (answer_at (sending_by key params request.now) (initial (sending_by key params request.now)) put) why) }
 {
-    let (mut running, step, bundle) = open(place, key, request, params)?;
+    let (mut running, step, bundle) = open(address, key, request, params)?;
     let answer = carry_out(&mut running, step, bundle, outlet)?;
     Ok((running, answer))
 }
@@ -128,7 +128,7 @@ pub(crate) fn start<O: Outlet>(
 /// Has a transaction go on by an event.
 pub(crate) fn advance<O: Outlet>(
     running: &mut Running,
-    place: Place,
+    address: LaneAddress,
     key: TxnKey,
     what: &What,
     outlet: &mut O,
@@ -137,16 +137,16 @@ pub(crate) fn advance<O: Outlet>(
     requires may { (answer : AnswerValue) → answer_at (sending_of running.old.core) (shown running.old.core)
         (happens what.now) ≡ Ok answer
         → MayHandOver (O.user outlet.old) (O.lane outlet.old) (O.stands outlet.old)
-        (bundle_for place.user place.lane key answer.inds) }
+        (bundle_for address.user address.lane key answer.inds) }
     ensures answer { IfOk result
         (λ answer. answer_at (sending_of running.old.core) (shown running.old.core) (happens what.now) ≡ Ok answer) }
     ensures goes_on { IfOk result (λ answer. GoesOn running.old running.new (On key what.now) answer) }
     ensures offered { IfOk result
-        (λ answer. IsHandedOver O.takes outlet.old outlet.new (bundle_for place.user place.lane key answer.inds)) }
+        (λ answer. IsHandedOver O.takes outlet.old outlet.new (bundle_for address.user address.lane key answer.inds)) }
     ensures same { OnErr result (IsUnmoved running.old running.new) }
-    ensures refused { IfErr result (λ why. IsNotCarried O.returns outlet.old outlet.new place.user place.lane key
+    ensures refused { IfErr result (λ why. IsNotCarried O.returns outlet.old outlet.new address.user address.lane key
         (answer_at (sending_of running.old.core) (shown running.old.core) (happens what.now)) why) }
 {
-    let (step, bundle) = plan(running, place, key, what)?;
+    let (step, bundle) = plan(running, address, key, what)?;
     carry_out(running, step, bundle, outlet)
 }

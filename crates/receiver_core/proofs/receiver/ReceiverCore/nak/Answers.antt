@@ -3,8 +3,8 @@ use Rattle.pdu_values.specs.declared.pdu.Body.{Body}
 use Rattle.pdu_values.specs.declared.pdu.Body.TheVariants as body
 use Rattle.receiver_table.specs.Answers.{pdu_to_sender, missing_below}
 use Rattle.receiver_core.specs.Core.{reception_of, now_state, metadata_after, covered_after}
-use Rattle.receiver_core.proofs.FindingLemmas.{missing_same}
-use Rattle.receiver_core.proofs.NakLemmas.{nak_is}
+use Rattle.reception_parts.proofs.FindingLemmas.{missing_same}
+use Rattle.reception_parts.proofs.NakLemmas.{nak_is}
 use Rattle.receiver_core.proofs.receiver.ReceiverCore.nak.Goals as goal
 
 pub returns : goal.returns

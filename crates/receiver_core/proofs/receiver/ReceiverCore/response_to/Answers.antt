@@ -1,4 +1,4 @@
-use Rattle.receiver_core.specs.Offsets.{octets_in}
+use Rattle.reception_parts.specs.Offsets.{octets_in}
 use Rattle.receiver_core.specs.Core.{metadata_after, covered_after}
 use Rattle.receiver_core.proofs.receiver.ReceiverCore.response_to.Goals as goal
 

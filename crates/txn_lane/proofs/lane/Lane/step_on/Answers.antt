@@ -20,8 +20,8 @@ advance-requires-clause-may g c answer is =
     let says = says_same c.in-Some.running found.sending found.front (happens c.args.what.now) found.same found.stood in
     may_then c.args.self.now event c.args.key found.sending found.front answer going.meets (sym says ∙ is)
     c.requires.outlet.kept.0 (g.O.Outlet.stands c.args.outlet.now) c.requires.outlet.kept.2 c.requires.outlet.kept.1
-    (g.O.Outlet.user c.args.outlet.now) (g.O.Outlet.lane c.args.outlet.now) c.place-place.result.user c.place-place.result.lane
-    c.requires.outlet.of_user c.requires.outlet.of_lane c.place-place.ensures.user c.place-place.ensures.lane
+    (g.O.Outlet.user c.args.outlet.now) (g.O.Outlet.lane c.args.outlet.now) c.address-address.result.user c.address-address.result.lane
+    c.requires.outlet.of_user c.requires.outlet.of_lane c.address-address.ensures.user c.address-address.ensures.lane
 
 pub invariant_of-self-in_err-answer : goal.invariant_of-self-in_err-answer
 invariant_of-self-in_err-answer g c =
@@ -39,8 +39,8 @@ returns-in_err-answer-clause-left g c =
     (sym c.self.view_is) c.self.invariant c.in-Some.is c.requires.passes.keyed c.requires.passes.passed in
     let found = going.found in
     let says = says_same c.in-Some.running found.sending found.front (happens c.args.what.now) found.same found.stood in
-    rw (p.1, p.2) (record { same = search rules; why_not = why_not g.O.Outlet.returns c.args.outlet.now c.advance.new.outlet c.args.self.now event c.args.key found.sending found.front c.place-place.result.user c.place-place.result.lane c.in_err-answer.field-0.0 going.meets
-    (subst (λ r. IsNotCarried g.O.Outlet.returns c.args.outlet.now c.advance.new.outlet c.place-place.result.user c.place-place.result.lane c.args.key r c.in_err-answer.field-0.0) says c.in_err-answer.ensures.refused) })
+    rw (p.1, p.2) (record { same = search rules; why_not = why_not g.O.Outlet.returns c.args.outlet.now c.advance.new.outlet c.args.self.now event c.args.key found.sending found.front c.address-address.result.user c.address-address.result.lane c.in_err-answer.field-0.0 going.meets
+    (subst (λ r. IsNotCarried g.O.Outlet.returns c.args.outlet.now c.advance.new.outlet c.address-address.result.user c.address-address.result.lane c.args.key r c.in_err-answer.field-0.0) says c.in_err-answer.ensures.refused) })
 
 pub invariant_of-self-2 : goal.invariant_of-self-2
 invariant_of-self-2 g c =
@@ -95,4 +95,4 @@ returns-clause-offered g c =
     (sym c.self.view_is) c.in-Some.is going.none c.in_ok-answer.ensures.goes_on.journal in
     subst (λ s. IsOffered g.O.Outlet.takes c.args.outlet.now c.advance.new.outlet (bundle_of s)) (sym next)
     (offered_then g.O.Outlet.takes c.args.outlet.now c.advance.new.outlet c.args.self.now event c.args.key found.sending found.front answer going.meets is
-    c.place-place.result.user c.place-place.result.lane c.place-place.ensures.user c.place-place.ensures.lane c.in_ok-answer.ensures.offered)
+    c.address-address.result.user c.address-address.result.lane c.address-address.ensures.user c.address-address.ensures.lane c.in_ok-answer.ensures.offered)

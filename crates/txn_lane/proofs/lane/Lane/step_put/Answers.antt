@@ -23,8 +23,8 @@ start-requires g c = record {
       let says = says_put sending c.args.request.now c.args.params in
       may_then c.args.self.now event key sending [] answer meets (sym says ∙ is)
       c.requires.outlet.kept.0 (g.O.Outlet.stands c.args.outlet.now) c.requires.outlet.kept.2 c.requires.outlet.kept.1
-      (g.O.Outlet.user c.args.outlet.now) (g.O.Outlet.lane c.args.outlet.now) c.place.result.user c.place.result.lane
-      c.requires.outlet.of_user c.requires.outlet.of_lane c.place.ensures.user c.place.ensures.lane;
+      (g.O.Outlet.user c.args.outlet.now) (g.O.Outlet.lane c.args.outlet.now) c.address.result.user c.address.result.lane
+      c.requires.outlet.of_user c.requires.outlet.of_lane c.address.ensures.user c.address.ensures.lane;
 }
 
 pub returns-in_err-running-clause-left : goal.returns-in_err-running-clause-left
@@ -37,8 +37,8 @@ returns-in_err-running-clause-left g c =
     let meets = meets_put i.numbers i.greatest i.user i.lane i.source i.last i.before (journal_of i.running) c.in-Some.seq c.args.self.now c.args.request.now c.args.params
     (sym c.self.view_is) c.self.invariant.sound c.requires.passed c.in-Some.ensures.held.0 in
     let says = says_put sending c.args.request.now c.args.params in
-    rw (p.1, p.2) (record { same = search rules; why_not = why_not g.O.Outlet.returns c.args.outlet.now c.start.new.outlet c.args.self.now event key sending [] c.place.result.user c.place.result.lane c.in_err-running.field-0.0 meets
-    (subst (λ r. IsNotCarried g.O.Outlet.returns c.args.outlet.now c.start.new.outlet c.place.result.user c.place.result.lane key r c.in_err-running.field-0.0) says c.in_err-running.ensures.refused) })
+    rw (p.1, p.2) (record { same = search rules; why_not = why_not g.O.Outlet.returns c.args.outlet.now c.start.new.outlet c.args.self.now event key sending [] c.address.result.user c.address.result.lane c.in_err-running.field-0.0 meets
+    (subst (λ r. IsNotCarried g.O.Outlet.returns c.args.outlet.now c.start.new.outlet c.address.result.user c.address.result.lane key r c.in_err-running.field-0.0) says c.in_err-running.ensures.refused) })
 
 pub invariant_of-self : goal.invariant_of-self
 invariant_of-self g c =
@@ -95,4 +95,4 @@ returns-clause-offered g c =
     (sym c.self.view_is) c.in-Some.ensures.held.0 c.in_ok-running.ensures.started.journal in
     subst (λ s. IsOffered g.O.Outlet.takes c.args.outlet.now c.start.new.outlet (bundle_of s)) (sym next)
     (offered_then g.O.Outlet.takes c.args.outlet.now c.start.new.outlet c.args.self.now event key sending [] answer meets is
-    c.place.result.user c.place.result.lane c.place.ensures.user c.place.ensures.lane c.in_ok-running.ensures.offered)
+    c.address.result.user c.address.result.lane c.address.ensures.user c.address.ensures.lane c.in_ok-running.ensures.offered)

@@ -1,0 +1,7 @@
+pub mod Offsets
+pub mod ReceivedFile
+pub mod Finding
+pub mod Naks
+pub mod ControlBlock
+pub mod Response
+pub mod Steps

@@ -1,0 +1,27 @@
+-- How the code keeps the octets of a file.
+use Rattle.std.specs.Prelude.{◌≡◌, ℕ, ◌+◌, Bool, length, Option}
+use Rattle.cfdp_types.specs.Steps.{older_or}
+use Rattle.gap_list.specs.Covered.{covered}
+use Rattle.gap_list.specs.Runs.{SameSet, with_range, new_runs}
+use Rattle.pdu_values.specs.declared.bodies.FileData.{FileData}
+use Rattle.receiver_table.specs.Reception.{octet_at}
+use Rattle.reception_parts.specs.Offsets.{octets_in}
+use Rattle.reception_parts.specs.declared.received_file.ReceivedFile.{ReceivedFile}
+use Rattle.reception_parts.specs.declared.received_file.NewSegment.{NewSegment}
+
+-- the octets that came
+abbrev pub received_of : ReceivedFile → ℕ → Option ℕ
+received_of file = octets_in file.octets.items (covered file.gaps)
+
+-- the octets that came, and of a segment of the file those that did not
+abbrev pub with_segment : (ℕ → Option ℕ) → Option FileData → ℕ → Option ℕ
+with_segment received segment i = older_or (received i) (octet_at segment i)
+
+-- the end of a segment
+abbrev pub end_of : NewSegment → ℕ
+end_of segment = segment.file_data.offset + length segment.file_data.octets
+
+-- what a segment adds to a set of offsets, and what is covered with it
+pub record IsSegmentOf (set : ℕ → Bool) (segment : NewSegment) : Type 0 where
+  pub covers : SameSet (covered segment.gaps) (with_range set segment.file_data.offset (end_of segment))
+  pub runs : segment.runs.items ≡ new_runs set segment.file_data.offset (end_of segment)
