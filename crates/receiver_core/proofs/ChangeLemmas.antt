@@ -1,32 +1,37 @@
 -- What changes bring.
-use Rattle.std.proofs.Common.{◌≡◌, ◌⊎◌, ℕ, ◌+◌, ◌<◌, ◌≤◌, Bool, true, false, not, ◌&&◌, ◌||◌, List, length, Option, Some, None, eqb, refl, sym, ap, ◌∙◌, arith, inl, inr, rules, subst, Result, Ok, Err}
+use Rattle.std.proofs.Common.{◌≡◌, ℕ, ◌+◌, ◌-◌, ◌<◌, ◌≤◌, max, Bool, true, false, not, ◌&&◌, ◌||◌, length, Option, Some, None, eqb, refl, sym, ap, ◌∙◌, arith, inl, inr, rules, Ok}
 use Rattle.std.proofs.Math.Path.{fun_ext}
-use Rattle.std.proofs.lemmas.Bool.{ltb-true}
-use Rattle.std.specs.Prelude.{vec_len, IfOk, IfErr}
+use Rattle.std.proofs.lemmas.Bool.{cases_Bool, cases_lt, le-leb, lt-leb, lt-ltb, le-ltb, eqb-true}
+use Rattle.std.proofs.lemmas.Option.{slice_get-get_or, slice_get_past}
+use Rattle.std.specs.Prelude.{vec_len, is_some}
 use Rattle.std.specs.List.{All}
 use Rattle.cfdp_types.specs.Steps.{older_or}
 use Rattle.gap_list.specs.Covered.{covered}
 use Rattle.gap_list.specs.Runs.{is_within, new_runs}
 use Rattle.gap_list.proofs.SetLemmas.{new_runs-same, filled-runs_of}
+use Rattle.modular_sum.specs.Pieces.{IsSumOf}
+use Rattle.modular_sum.proofs.PieceLemmas.{IsSumOf-same}
 use Rattle.pdu_values.specs.declared.pdu.Body.{Body}
 use Rattle.pdu_values.specs.declared.pdu.Body.TheVariants as body
 use Rattle.pdu_values.specs.declared.bodies.FileData.{FileData}
 use Rattle.txn_events.specs.declared.event.What.{What}
-use Rattle.txn_events.specs.declared.refusal.Refusal.{Refusal}
+use Rattle.txn_events.specs.Events.{body_of_event}
 use Rattle.pdu_values.specs.declared.bodies.Metadata.{Metadata}
-use Rattle.receiver_table.specs.Reception.{State, Entry, step, state_of, is_received, added_runs, octet_at, metadata_of, file_data_of, brings_more}
+use Rattle.receiver_table.specs.Reception.{State, step, is_received, added_runs, octet_at, extent_of, metadata_of, file_data_of, brings_more}
 use Rattle.receiver_table.specs.Answers.{answer_at}
-use Rattle.reception_parts.specs.ControlBlock.{state_from}
+use Rattle.receiver_core.specs.ControlBlock.{state_from}
 use Rattle.receiver_core.specs.declared.plan.Plan.{Plan}
-use Rattle.reception_parts.specs.declared.control.ControlBlock.{ControlBlock}
-use Rattle.reception_parts.specs.ReceivedFile.{received_of, end_of, IsSegmentOf}
-use Rattle.receiver_core.specs.Core.{shown, reception_of, received_after, FitsFile, HasRoom, IsCovered, IsChange, IsSame, IsPlanOf, IsWhy, StandsAfter, runs_in, segment_of, metadata_after, plan_answer}
-use Rattle.reception_parts.specs.declared.received_file.ReceivedFile.{ReceivedFile}
-use Rattle.reception_parts.specs.declared.received_file.NewSegment.{NewSegment}
+use Rattle.receiver_core.specs.declared.control.ControlBlock.{ControlBlock}
+use Rattle.receiver_core.specs.ReceivedFile.{received_of, with_segment, end_of, IsSegmentOf}
+use Rattle.receiver_core.specs.Offsets.{IsInside}
+use Rattle.receiver_core.specs.PlanParts.{IsWithEvent}
+use Rattle.receiver_core.specs.Core.{shown, reception_of, received_after, covered_after, word_after, FitsFile, HasRoom, IsReady, IsChange, IsSame, IsPlanOf, runs_in, segment_of, metadata_after, plan_answer}
+use Rattle.receiver_core.specs.declared.received_file.ReceivedFile.{ReceivedFile}
+use Rattle.receiver_core.specs.declared.received_file.NewSegment.{NewSegment}
 use Rattle.receiver_core.specs.declared.plan.FileChange.{FileChange}
 use Rattle.receiver_core.specs.declared.plan.FileChange.TheVariants as change
 use Rattle.receiver_core.specs.declared.receiver.ReceiverCore.{ReceiverCore}
-use Rattle.reception_parts.proofs.ReceivedFileLemmas.{there}
+use Rattle.receiver_core.proofs.ReceivedFileLemmas.{there}
 
 older_none : {A : Type 0} (o : Option A) → o ≡ older_or o None
 older_none None = refl
@@ -36,14 +41,14 @@ older_none (Some x) = refl
 pub covers : (core : ReceiverCore) (i : ℕ) → covered core.file.gaps i ≡ is_received (shown core) i
 covers core i = sym (there core.file.octets.items (covered core.file.gaps) i core.file.inside)
 
-runs_are : (core : ReceiverCore) (file_data : FileData) (segment : NewSegment) → segment.file_data ≡ file_data → IsSegmentOf (covered core.file.gaps) segment
+runs_are : (core : ReceiverCore) (file_data : FileData) (segment : NewSegment) → segment.file_data ≡ file_data → IsSegmentOf core.file segment
     → segment.runs.items ≡ added_runs (shown core) (Some file_data)
 runs_are core file_data segment is fits =
     fits.runs ∙ ap (λ (d : FileData). new_runs (covered core.file.gaps) d.offset (d.offset + length d.octets)) is
     ∙ new_runs-same (covered core.file.gaps) (is_received (shown core)) file_data.offset (file_data.offset + length file_data.octets) (covers core)
 
 -- a segment of the file
-pub piece_change : (core : ReceiverCore) (file_data : FileData) (segment : NewSegment) → segment.file_data ≡ file_data → IsSegmentOf (covered core.file.gaps) segment
+pub piece_change : (core : ReceiverCore) (file_data : FileData) (segment : NewSegment) → segment.file_data ≡ file_data → IsSegmentOf core.file segment
     → IsChange core (Some (body.FileData file_data)) (change.NewSegment segment)
 piece_change core file_data segment is fits = record {
   metadata = older_none core.metadata;
@@ -61,22 +66,93 @@ runs_filled core b c is = rw is.runs (filled_runs (shown core) _)
     filled_runs state None = search rules
     filled_runs state (Some d) = filled-runs_of (λ i. is_within d.offset (d.offset + length d.octets) i && not (is_received state i)) (d.offset + length d.octets)
 
-or_either : (a b : Bool) → (a || b) ≡ true → (a ≡ true) ⊎ (b ≡ true)
-or_either true b e = inl refl
-or_either false b e = inr e
+-- ---- what came, with a change
 
-and_last : (a b : Bool) → (a && b) ≡ true → b ≡ true
-and_last true b e = e
-and_last false b e = absurd cc
+some_or : (a b : Option ℕ) → is_some (older_or a b) ≡ (is_some a || is_some b)
+some_or None b = refl
+some_or (Some x) b = refl
 
--- what a change covers has its room
-pub covered_inside : (file : ReceivedFile) (c : FileChange) → FitsFile file c → HasRoom file c → IsCovered file c
-covered_inside file change.Nothing fits room i came = file.inside i came
-covered_inside file (change.Metadata m) fits room i came = file.inside i came
-covered_inside file (change.NewSegment segment) fits room i came =
-    elim (or_either (covered file.gaps i) (is_within segment.file_data.offset (end_of segment) i) (sym (fits.covers i) ∙ came)) [
-      | inl before ↦ file.inside i before
-      | inr new ↦ omega (arith, ltb-true i (end_of segment) (and_last _ _ new), room, file.octets.ok.0)
+-- an octet of a segment stands at each of its offsets
+octet_there : (d : FileData) (i : ℕ) → is_some (octet_at (Some d) i) ≡ is_within d.offset (d.offset + length d.octets) i
+octet_there d i =
+    elim (cases_lt i d.offset) [
+      | inl before ↦ rw (lt-leb d.offset i before) refl
+      | inr from ↦
+          elim (cases_lt i (d.offset + length d.octets)) [
+            | inl below ↦
+                rw (le-leb d.offset i from, lt-ltb i (d.offset + length d.octets) below, slice_get-get_or d.octets (i - d.offset) 0 (omega (arith, from, below))) refl
+            | inr past ↦
+                rw (le-leb d.offset i from, le-ltb i (d.offset + length d.octets) past, slice_get_past d.octets (i - d.offset) (omega (arith, from, past))) refl
+          ]
+    ]
+
+-- the offsets of octets that came are those that are covered, after a change
+pub came_after : (file : ReceivedFile) (c : FileChange) (i : ℕ) → is_some (received_after file c i) ≡ covered_after file c i
+came_after file change.Nothing i = ap is_some (sym (older_none (received_of file i))) ∙ there file.octets.items (covered file.gaps) i file.inside
+came_after file (change.Metadata m) i = ap is_some (sym (older_none (received_of file i))) ∙ there file.octets.items (covered file.gaps) i file.inside
+came_after file (change.NewSegment segment) i =
+    some_or (received_of file i) (octet_at (Some segment.file_data) i)
+    ∙ ap (λ b. b || is_some (octet_at (Some segment.file_data) i)) (there file.octets.items (covered file.gaps) i file.inside)
+    ∙ ap (λ b. covered file.gaps i || b) (octet_there segment.file_data i)
+
+-- the checksum after a change is that of what came
+summed_after : (file : ReceivedFile) (c : FileChange) → FitsFile file c → IsSumOf (received_after file c) (word_after file c)
+summed_after file change.Nothing fits = IsSumOf-same (received_of file) (received_after file change.Nothing) file.sum (λ i. older_none (received_of file i)) file.summed
+summed_after file (change.Metadata m) fits = IsSumOf-same (received_of file) (received_after file (change.Metadata m)) file.sum (λ i. older_none (received_of file i)) file.summed
+summed_after file (change.NewSegment segment) fits = fits.sum
+
+-- an event brings nothing past its end
+octet_past : (d : Option FileData) (i : ℕ) → extent_of d ≤ i → octet_at d i ≡ None
+octet_past None i past = refl
+octet_past (Some d) i past =
+    elim (cases_lt i d.offset) [
+      | inl before ↦ rw (lt-leb d.offset i before) refl
+      | inr from ↦
+          elim (cases_Bool (eqb (length d.octets) 0)) [
+            | inl empty ↦ rw (le-leb d.offset i from) (slice_get_past d.octets (i - d.offset) (omega (arith, eqb-true (length d.octets) 0 empty)))
+            | inr some ↦ rw (le-leb d.offset i from) (slice_get_past d.octets (i - d.offset) (omega (arith, from, rw some at past)))
+          ]
+    ]
+
+outside : (limit : ℕ) (set : ℕ → Bool) (i : ℕ) → IsInside limit set → limit ≤ i → set i ≡ false
+outside limit set i inside past =
+    elim (cases_Bool (set i)) [
+      | inl came ↦ absurd (omega (arith, inside i came, past))
+      | inr none ↦ none
+    ]
+
+-- nothing came past the progress, with what an event brings
+past_progress : (core : ReceiverCore) (d : Option FileData) (i : ℕ) → max core.control.progress (extent_of d) ≤ i
+    → older_or (received_of core.file i) (octet_at d i) ≡ None
+past_progress core d i past =
+    let none : covered core.file.gaps i ≡ false = outside core.control.progress (covered core.file.gaps) i core.reached (omega (arith, past)) in
+    rw none (octet_past d i (omega (arith, past)))
+
+-- what a look goes by
+pub ready : (core : ReceiverCore) (event : What) (more : Bool) (now : ControlBlock) (c : FileChange) → IsWithEvent core.control event more now
+    → IsChange core (body_of_event event) c → IsReady core.file now c
+ready core event more now c is brings = record {
+  summed = summed_after core.file c brings.fits;
+  reached = λ i past.
+      ap (λ d. older_or (received_of core.file i) (octet_at d i)) brings.file_data
+      ∙ past_progress core (file_data_of (body_of_event event)) i (rw is.progress at past);
+}
+
+some_not_none : (o : Option ℕ) → is_some o ≡ true → o ≡ None → ⊥
+some_not_none o some none = let no : false ≡ true = sym (ap is_some none) ∙ some in absurd cc
+
+-- what came lies below the progress, once a plan is carried out
+pub reached_after : (old : ReceiverCore) (plan : Plan) (event : What) (file : ReceivedFile) → IsPlanOf old plan event
+    → ((i : ℕ) → received_of file i ≡ received_after old.file plan.change i) → IsInside plan.next.progress (covered file.gaps)
+unfolding step
+reached_after old plan event file planned received i came =
+    let d : Option FileData = file_data_of (body_of_event event) in
+    let there_is : is_some (received_of file i) ≡ true = there file.octets.items (covered file.gaps) i file.inside ∙ came in
+    let progress : plan.next.progress ≡ max old.control.progress (extent_of d) = ap (λ (s : State). s.progress) planned.answered.follows in
+    let octets : received_after old.file plan.change i ≡ older_or (received_of old.file i) (octet_at d i) = ap (λ (s : State). s.received i) planned.answered.follows in
+    elim (cases_lt i plan.next.progress) [
+      | inl below ↦ below
+      | inr past ↦ absurd (some_not_none (received_of file i) there_is (received i ∙ octets ∙ past_progress old d i (rw progress at past)))
     ]
 
 -- ---- a core with more room
@@ -92,18 +168,25 @@ same_shown old new same =
     ∙ ap (λ m. state_with old m (received_of new.file) old.control) same.metadata
     ∙ ap (λ r. state_with old old.metadata r old.control) (fun_ext same.received)
 
-fits_still : (old new : ReceivedFile) (c : FileChange) → ((i : ℕ) → covered new.gaps i ≡ covered old.gaps i) → FitsFile old c → FitsFile new c
-fits_still old new change.Nothing same fits = tt
-fits_still old new (change.Metadata m) same fits = tt
-fits_still old new (change.NewSegment segment) same fits = record {
-  covers = λ i. fits.covers i ∙ ap (λ b. b || is_within segment.file_data.offset (end_of segment) i) (sym (same i));
+-- a segment is the same in a file with more room
+pub segment_still : (old new : ReceivedFile) (segment : NewSegment) → ((i : ℕ) → covered new.gaps i ≡ covered old.gaps i)
+    → ((i : ℕ) → received_of new i ≡ received_of old i) → IsSegmentOf old segment → IsSegmentOf new segment
+segment_still old new segment same received fits = record {
   runs = fits.runs ∙ new_runs-same (covered old.gaps) (covered new.gaps) segment.file_data.offset (end_of segment) (λ i. sym (same i));
+  sum = IsSumOf-same (with_segment (received_of old) (Some segment.file_data)) (with_segment (received_of new) (Some segment.file_data)) segment.sum
+      (λ i. ap (λ o. older_or o (octet_at (Some segment.file_data) i)) (sym (received i))) fits.sum;
 }
 
-room_still : (old new : ReceivedFile) (c : FileChange) → vec_len old.octets ≤ vec_len new.octets → HasRoom old c → HasRoom new c
-room_still old new change.Nothing longer room = tt
-room_still old new (change.Metadata m) longer room = tt
-room_still old new (change.NewSegment segment) longer room = omega (arith, longer, room)
+pub fits_still : (old new : ReceivedFile) (c : FileChange) → ((i : ℕ) → covered new.gaps i ≡ covered old.gaps i)
+    → ((i : ℕ) → received_of new i ≡ received_of old i) → FitsFile old c → FitsFile new c
+fits_still old new change.Nothing same received fits = tt
+fits_still old new (change.Metadata m) same received fits = tt
+fits_still old new (change.NewSegment segment) same received fits = segment_still old new segment same received fits
+
+room_still : (old new : ReceivedFile) (c : FileChange) → vec_len old.octets ≤ vec_len new.octets → old.gaps.room ≤ new.gaps.room → HasRoom old c → HasRoom new c
+room_still old new change.Nothing longer more room = tt
+room_still old new (change.Metadata m) longer more room = tt
+room_still old new (change.NewSegment segment) longer more room = (omega (arith, longer, room.0), omega (arith, more, room.1))
 
 -- a change of a core is one of the core with more room
 pub change_still : (old new : ReceiverCore) (b : Option Body) (c : FileChange) → IsSame old new → IsChange old b c → IsChange new b c
@@ -112,7 +195,7 @@ change_still old new b c same is =
     record {
       metadata = ap (λ m. metadata_after m c) same.metadata ∙ is.metadata ∙ ap (λ m. older_or m (metadata_of b)) (sym same.metadata);
       file_data = is.file_data;
-      fits = fits_still old.file new.file c same.gaps is.fits;
+      fits = fits_still old.file new.file c same.gaps same.received is.fits;
       runs = is.runs ∙ ap (λ s. added_runs s (file_data_of b)) (sym shows);
       more = is.more ∙ ap (λ s. brings_more s b) (sym shows);
     }
@@ -130,8 +213,8 @@ plan_still old new plan event same is =
             ∙ is.answered.follows
             ∙ ap (λ s. step s (record { event = event; answer = plan_answer plan })) (sym shows);
       };
-      fits = fits_still old.file new.file plan.change same.gaps is.fits;
-      room = room_still old.file new.file plan.change same.longer is.room;
+      fits = fits_still old.file new.file plan.change same.gaps same.received is.fits;
+      room = room_still old.file new.file plan.change same.longer same.room is.room;
       sound = λ runs. is.sound (ap (λ (s : ControlBlock). s.ended) (sym same.control) ∙ runs);
     }
 

@@ -7,13 +7,12 @@ use Rattle.std.specs.Prelude.{IsOk, IfOk, map, is_some}
 use Rattle.std.specs.declared.alloc.AllocError.{AllocError}
 use Rattle.std.specs.List.{list_any}
 use Rattle.cfdp_types.specs.Params.{timer_length}
-use Rattle.cfdp_types.specs.Steps.{Effect, arms, keeps, stops, armed_after, operations, newer_or, older_or, is_kind, is_stamp}
+use Rattle.cfdp_types.specs.Steps.{operations, newer_or, older_or, is_kind, is_stamp}
 use Rattle.cfdp_types.specs.declared.key.Deposit.{Deposit}
 use Rattle.cfdp_types.specs.declared.names.TimerKind.{TimerKind}
 use Rattle.cfdp_types.specs.declared.names.TimerKind.TheVariants.{Ack, Nak, Check, Inactivity}
 use Rattle.cfdp_types.specs.declared.timer_op.TimerOp.{TimerOp}
 use Rattle.txn_events.specs.Timers.{AreFew, stamp_of, tries_by, is_reset}
-use Rattle.txn_events.specs.declared.answer.Answer.{Answer}
 use Rattle.txn_events.proofs.AnswerLemmas.{answer_of_parts, same_answer}
 use Rattle.txn_events.proofs.TimerLemmas.{armed_follows, counted}
 use Rattle.indications.specs.Words.{is_end}
@@ -34,18 +33,17 @@ use Rattle.receiver_table.specs.Reception.{Reception, State, step, is_storing, o
 use Rattle.receiver_table.specs.Refusals.{refusal_at, is_stale_store, waits_for_store, is_misplaced, is_too_large, is_full}
 use Rattle.receiver_table.specs.Answers as table
 use Rattle.receiver_table.specs.Answers.{response_to, with_event, without_timers, with_timers, accepted_at, answer_at, effect_of, bodies_of, pdu_to_sender, nak_of, ack_of, if_there, if_so, requests_of}
-use Rattle.reception_parts.specs.ControlBlock.{state_from, bare, IsSound}
-use Rattle.reception_parts.specs.ReceivedFile.{received_of}
-use Rattle.reception_parts.specs.Response.{IsResponse, response_value}
-use Rattle.receiver_core.specs.Core.{shown, reception_of, now_state, metadata_after, received_after, HasRoom, IsLaid, IsChange, IsPlanOf, plan_answer, adds}
-use Rattle.reception_parts.specs.Steps.{IsWithEvent}
-use Rattle.receiver_core.specs.PlanParts.{HoldsResponse, effect_by, deposit_of}
+use Rattle.receiver_core.specs.ControlBlock.{state_from, bare, IsSound}
+use Rattle.receiver_core.specs.ReceivedFile.{received_of}
+use Rattle.receiver_core.specs.Response.{IsResponse, response_value}
+use Rattle.receiver_core.specs.Core.{shown, reception_of, now_state, metadata_after, received_after, HasRoom, IsChange, IsPlanOf, plan_answer, adds}
+use Rattle.receiver_core.specs.PlanParts.{IsWithEvent, HoldsResponse, effect_by, deposit_of}
 use Rattle.receiver_core.specs.declared.plan.FileChange.{FileChange}
 use Rattle.receiver_core.specs.declared.plan.Plan.{Plan}
 use Rattle.receiver_core.specs.declared.receiver.ReceiverCore.{ReceiverCore}
-use Rattle.reception_parts.specs.declared.response.Response as response_type
-use Rattle.reception_parts.specs.declared.control.ControlBlock.{ControlBlock}
-use Rattle.reception_parts.proofs.ResponseLemmas.{response_is}
+use Rattle.receiver_core.specs.declared.response.Response as response_type
+use Rattle.receiver_core.specs.declared.control.ControlBlock.{ControlBlock}
+use Rattle.receiver_core.proofs.ResponseLemmas.{response_is}
 
 -- ---- states
 
@@ -97,11 +95,11 @@ tries_same state event inds pdus timers deposit more kind e =
 
 -- the state with the event
 pub is_with_event : (core : ReceiverCore) (event : What) (c : FileChange) (now : ControlBlock) → IsWithEvent core.control event (adds c) now → IsChange core (body_of_event event) c
-    → IsLaid core.file c → now_state core now c ≡ with_event (shown core) event
+    → now_state core now c ≡ with_event (shown core) event
 unfolding step
-is_with_event core event c now is change laid =
+is_with_event core event c now is change =
     same_state (now_state core now c) _ is.entries
-    (λ i. laid i ∙ ap (λ d. older_or (received_of core.file i) (octet_at d i)) change.file_data)
+    (λ i. ap (λ d. older_or (received_of core.file i) (octet_at d i)) change.file_data)
     is.progress change.metadata is.eof is.waiting is.finished is.paused
     (λ kind. ap (λ a. stamp_of a kind) is.armed)
     (λ kind. is.tries kind ∙ tries_same (shown core) event [] [] [] None (adds c) kind change.more)
@@ -278,12 +276,12 @@ sound_after core event now response c plan taken seen_is is planned runs =
     }
 
 pub is_plan : (core : ReceiverCore) (event : What) (now : ControlBlock) (response : response_type.Response) (c : FileChange) (plan : Plan) → refusal_at (reception_of core) (shown core) event ≡ None
-    → IsWithEvent core.control event (adds c) now → IsChange core (body_of_event event) c → HasRoom core.file c → IsLaid core.file c
+    → IsWithEvent core.control event (adds c) now → IsChange core (body_of_event event) c → HasRoom core.file c
     → IsResponse response (response_to (reception_of core) (shown core) (now_state core now c) event) → HoldsResponse core event now response c plan → IsPlanOf core plan event
 unfolding answer_at
-is_plan core event now response c plan taken seen_is change room laid is planned = record {
+is_plan core event now response c plan taken seen_is change room is planned = record {
   answered = record {
-    accepted = rw taken (ap Ok (accepted_is core event now response c plan (is_with_event core event c now seen_is change laid) is planned));
+    accepted = rw taken (ap Ok (accepted_is core event now response c plan (is_with_event core event c now seen_is change) is planned));
     follows = follows core event now response c plan seen_is change planned;
   };
   fits = rw planned.change_is change.fits;
@@ -300,7 +298,7 @@ unfolding answer_at
 answered_is reception state event taken = rw taken refl
 
 pub is_plan_if : (core : ReceiverCore) (event : What) (now : ControlBlock) (response : response_type.Response) (c : FileChange) (result : Result Plan AllocError) → refusal_at (reception_of core) (shown core) event ≡ None
-    → IsWithEvent core.control event (adds c) now → IsChange core (body_of_event event) c → HasRoom core.file c → IsLaid core.file c
+    → IsWithEvent core.control event (adds c) now → IsChange core (body_of_event event) c → HasRoom core.file c
     → IsResponse response (response_to (reception_of core) (shown core) (now_state core now c) event) → IfOk result (λ plan. HoldsResponse core event now response c plan) → IfOk result (λ plan. IsPlanOf core plan event)
-is_plan_if core event now response c (Ok plan) taken seen_is change room laid is planned = is_plan core event now response c plan taken seen_is change room laid is planned
-is_plan_if core event now response c (Err e) taken seen_is change room laid is planned = tt
+is_plan_if core event now response c (Ok plan) taken seen_is change room is planned = is_plan core event now response c plan taken seen_is change room is planned
+is_plan_if core event now response c (Err e) taken seen_is change room is planned = tt

@@ -1,15 +1,14 @@
 -- How the code keeps a reception, and what it plans.
-use Rattle.std.specs.Prelude.{◌≡◌, ℕ, ◌≤◌, Bool, true, false, not, ◌==◌, List, [], length, Option, Some, None, ◌⊎◌, Result, Ok, Err, IsOk, vec_len}
+use Rattle.std.specs.Prelude.{◌≡◌, ℕ, ◌<◌, ◌≤◌, Bool, true, false, not, ◌==◌, List, [], length, Option, Some, None, vec_len}
 use Rattle.cfdp_types.specs.Params.{ParamsValue}
 use Rattle.cfdp_types.specs.Steps.{older_or}
-use Rattle.cfdp_types.specs.declared.image.Image.{Image}
 use Rattle.cfdp_types.specs.declared.key.TxnKey.{TxnKey}
 use Rattle.gap_list.specs.Covered.{covered}
+use Rattle.gap_list.specs.Runs.{with_range}
 use Rattle.gap_list.specs.declared.run.Run.{Run}
 use Rattle.txn_events.specs.declared.event.What.{What}
 use Rattle.txn_events.specs.declared.event.What.TheVariants as what
-use Rattle.txn_events.specs.declared.refusal.Refusal.{Refusal}
-use Rattle.txn_events.specs.declared.refusal.Refusal.TheVariants as refusal
+use Rattle.modular_sum.specs.Pieces.{IsSumOf}
 use Rattle.pdu_values.specs.declared.pdu.Body.{Body}
 use Rattle.pdu_values.specs.Pdu.{PduValue}
 use Rattle.pdu_values.specs.declared.pdu.Header.{Header}
@@ -18,18 +17,17 @@ use Rattle.pdu_values.specs.declared.bodies.FileData.{FileData}
 use Rattle.receiver_table.specs.Reception.{Reception, State, Entry, step, state_of, metadata_of, file_data_of, added_runs, brings_more}
 use Rattle.receiver_table.specs.Answers.{answer_at}
 use Rattle.receiver_laws.specs.LegalReceptions.{BodyOpens}
-use Rattle.reception_parts.specs.ControlBlock.{state_from, IsSound}
-use Rattle.reception_parts.specs.Offsets.{IsInside, octets_in}
-use Rattle.reception_parts.specs.ReceivedFile.{received_of, with_segment, end_of, IsSegmentOf}
+use Rattle.receiver_core.specs.ControlBlock.{state_from, IsSound}
+use Rattle.receiver_core.specs.ReceivedFile.{received_of, with_segment, end_of, IsSegmentOf}
 use Rattle.txn_events.specs.declared.answer.Answer.{Answer}
 pub use Rattle.txn_events.specs.Logs.{IsWhy}
 use Rattle.txn_events.specs.Logs.{StandsAt, IsAnswered}
-use Rattle.reception_parts.specs.declared.received_file.ReceivedFile.{ReceivedFile}
+use Rattle.receiver_core.specs.declared.received_file.ReceivedFile.{ReceivedFile}
 use Rattle.receiver_core.specs.declared.plan.FileChange.{FileChange}
 use Rattle.receiver_core.specs.declared.plan.FileChange.TheVariants as change
 use Rattle.receiver_core.specs.declared.plan.Plan.{Plan}
 use Rattle.receiver_core.specs.declared.receiver.ReceiverCore.{ReceiverCore}
-use Rattle.reception_parts.specs.declared.control.ControlBlock.{ControlBlock}
+use Rattle.receiver_core.specs.declared.control.ControlBlock.{ControlBlock}
 
 -- what is settled when a PDU with this header opens a reception
 abbrev pub reception_by : TxnKey → ParamsValue → Header → Reception
@@ -74,26 +72,27 @@ received_after file c = with_segment (received_of file) (segment_of c)
 
 -- the offsets that came, after a change
 abbrev pub covered_after : ReceivedFile → FileChange → ℕ → Bool
-covered_after file (change.NewSegment segment) = covered segment.gaps
+covered_after file (change.NewSegment segment) = with_range (covered file.gaps) segment.file_data.offset (end_of segment)
 covered_after file _ = covered file.gaps
+
+-- the checksum of the octets that came, after a change
+abbrev pub word_after : ReceivedFile → FileChange → ℕ
+word_after file (change.NewSegment segment) = segment.sum
+word_after file _ = file.sum
 
 -- a segment is one of what is kept
 abbrev pub FitsFile : ReceivedFile → FileChange → Type 0
-FitsFile file (change.NewSegment segment) = IsSegmentOf (covered file.gaps) segment
+FitsFile file (change.NewSegment segment) = IsSegmentOf file segment
 FitsFile file _ = Unit {0}
 
 -- there is room for what a change adds
 abbrev pub HasRoom : ReceivedFile → FileChange → Type 0
-HasRoom file (change.NewSegment segment) = end_of segment ≤ vec_len file.octets
+HasRoom file (change.NewSegment segment) = (end_of segment ≤ vec_len file.octets) × (0 < file.gaps.room)
 HasRoom file _ = Unit {0}
-
--- what a change adds lies at its place already
-abbrev pub IsLaid : ReceivedFile → FileChange → Type 0
-IsLaid file c = (i : ℕ) → octets_in file.octets.items (covered_after file c) i ≡ received_after file c i
 
 -- what a core stands at with an event and the change that it brings, before it is answered
 abbrev pub now_state : ReceiverCore → ControlBlock → FileChange → State
-now_state core now c = state_from now (metadata_after core.metadata c) (octets_in core.file.octets.items (covered_after core.file c))
+now_state core now c = state_from now (metadata_after core.metadata c) (received_after core.file c)
 
 -- the new runs of a change
 abbrev pub runs_in : FileChange → List Run
@@ -106,9 +105,10 @@ adds (change.Metadata m) = true
 adds (change.NewSegment segment) = not (length segment.runs.items == 0)
 adds change.Nothing = false
 
--- the offsets that came are those of octets that are kept
-abbrev pub IsCovered : ReceivedFile → FileChange → Type 0
-IsCovered file c = IsInside (length file.octets.items) (covered_after file c)
+-- the checksum after a change is that of the octets that came, and these lie below the progress
+pub record IsReady (file : ReceivedFile) (now : ControlBlock) (c : FileChange) : Type 0 where
+  pub summed : IsSumOf (received_after file c) (word_after file c)
+  pub reached : (i : ℕ) → now.progress ≤ i → received_after file c i ≡ None
 
 -- neither a PDU nor a timer
 abbrev pub is_request : What → Bool
@@ -132,6 +132,7 @@ pub record IsSame (old : ReceiverCore) (new : ReceiverCore) : Type 0 where
   pub received : (i : ℕ) → received_of new.file i ≡ received_of old.file i
   pub gaps : (i : ℕ) → covered new.file.gaps i ≡ covered old.file.gaps i
   pub longer : vec_len old.file.octets ≤ vec_len new.file.octets
+  pub room : old.file.gaps.room ≤ new.file.gaps.room
 
 -- ---- plans
 

@@ -2,13 +2,13 @@
 ghost use Rattle.std.specs.Prelude.{◌≡◌, ◌<◌, IfOk, All, map};
 ghost use Rattle.receiver_table.specs.Answers.{segment_told};
 
-use reception_parts::control::ControlBlock;
-use reception_parts::examine::look;
+use crate::control::ControlBlock;
+use crate::examine::look;
 use crate::plan::FileChange;
 use crate::receiver::ReceiverCore;
-use reception_parts::response::Response;
+use crate::response::Response;
 use cfdp_types::{ChecksumType, Class, Condition, Delivery, FileStatus, TimerKind};
-use gap_list::{Gaps, Run};
+use gap_list::Run;
 use indications::{Indication, Indications};
 use pdu_values::{Body, Eof, Metadata, Prompt};
 use std::alloc::{AllocError, Global};
@@ -17,7 +17,6 @@ use txn_events::What;
 impl ReceiverCore {
     ghost use Rattle.std.specs.Prelude.{◌≡◌, ℕ, ◌∷◌, [], ◌<◌, IfOk, All, true, false, map, is_some, if◌then◌else◌, Option, Some};
     ghost use Rattle.std.specs.Option.{option_map};
-    ghost use Rattle.gap_list.specs.Covered.{covered};
     ghost use Rattle.cfdp_types.specs.Condition as condition;
     ghost use Rattle.txn_events.specs.declared.event.What.TheVariants as what;
     ghost use Rattle.indications.specs.declared.indication.Indication.TheVariants as told;
@@ -25,22 +24,12 @@ impl ReceiverCore {
     ghost use Rattle.receiver_table.specs.Reception.{added_runs, file_data_of};
     ghost use Rattle.receiver_table.specs.Answers as table;
     ghost use Rattle.receiver_table.specs.Answers.{tells, nothing, segment_told, ◌and_then◌};
-    ghost use Rattle.reception_parts.specs.Response.{IsResponse};
-    ghost use Rattle.reception_parts.specs.ControlBlock.{state_from};
+    ghost use Rattle.receiver_core.specs.Response.{IsResponse};
+    ghost use Rattle.receiver_core.specs.ControlBlock.{state_from};
     ghost use Rattle.pdu_values.specs.declared.bodies.Metadata.{Metadata};
-    ghost use Rattle.receiver_core.specs.Core.{shown, reception_of, metadata_after, covered_after, runs_in, now_state, is_request, IsCovered};
+    ghost use Rattle.receiver_core.specs.Core.{shown, reception_of, metadata_after, runs_in, now_state, is_request, IsReady};
     ghost use Rattle.cfdp_types.specs.declared.names.Delivery.TheVariants.{Incomplete};
     ghost use Rattle.cfdp_types.specs.declared.names.FileStatus.TheVariants.{Discarded};
-
-    /// Which offsets came, after a change.
-    pub(crate) fn gaps_after<'a>(&'a self, change: &'a FileChange) -> &'a Gaps
-        ensures { covered result.now ≡ covered_after self.now.file change.now }
-    {
-        match change {
-            FileChange::NewSegment(segment) => &segment.gaps,
-            FileChange::Nothing | FileChange::Metadata(_) => &self.file.gaps,
-        }
-    }
 
     // The file's type of checksum after a change, where the Metadata came.
     fn checksum_type_after(&self, change: &FileChange) -> Option<ChecksumType>
@@ -62,7 +51,7 @@ impl ReceiverCore {
         now: &ControlBlock,
         change: &FileChange,
     ) -> Result<Response, AllocError>
-        requires { IsCovered self.now.file change.now }
+        requires { IsReady self.now.file now.now change.now }
         ensures response { IfOk result (λ response. IsResponse response
             (tells inds and_then table.examines (reception_of self.now) (now_state self.now now.now change.now))) }
         ensures plain { IfOk result (λ response. response.resumes ≡ false) }
@@ -70,12 +59,7 @@ impl ReceiverCore {
         if now.is_suspended() {
             return Ok(Response::of(inds));
         }
-        let finding = look(
-            self.checksum_type_after(change),
-            now,
-            self.gaps_after(change),
-            self.file.octets.as_slice(),
-        );
+        let finding = look(self.checksum_type_after(change), now, &self.file, change);
         self.answers_finding(inds, now, finding)
     }
 
@@ -104,7 +88,7 @@ impl ReceiverCore {
         now: &ControlBlock,
         change: &FileChange,
     ) -> Result<Response, AllocError>
-        requires { IsCovered self.now.file change.now }
+        requires { IsReady self.now.file now.now change.now }
         ensures { IfOk result (λ response. IsResponse response (table.on_metadata (reception_of self.now)
             (shown self.now) (now_state self.now now.now change.now) metadata.now)) }
     {
@@ -125,7 +109,7 @@ impl ReceiverCore {
 
     // The user is told of each run of new octets.
     fn on_file_data(&self, now: &ControlBlock, change: &FileChange) -> Result<Response, AllocError>
-        requires covered { IsCovered self.now.file change.now }
+        requires ready { IsReady self.now.file now.now change.now }
         requires filled { All (λ run. run.start < run.end) (runs_in change.now) }
         ensures { IfOk result (λ response. IsResponse response (tells (map segment_told (runs_in change.now)) and_then
             table.examines (reception_of self.now) (now_state self.now now.now change.now))) }
@@ -157,7 +141,7 @@ impl ReceiverCore {
 
     // An EOF without an error, outside the closing phase.
     fn on_good_eof(&self, now: &ControlBlock, change: &FileChange) -> Result<Response, AllocError>
-        requires { IsCovered self.now.file change.now }
+        requires { IsReady self.now.file now.now change.now }
         ensures { IfOk result (λ response. IsResponse response (tells
             (if is_some self.now.control.eof then [] else told.EofRecv ∷ []) and_then table.acknowledges
             (reception_of self.now) condition.no_error and_then table.examines (reception_of self.now)
@@ -192,7 +176,7 @@ impl ReceiverCore {
         now: &ControlBlock,
         change: &FileChange,
     ) -> Result<Response, AllocError>
-        requires { IsCovered self.now.file change.now }
+        requires { IsReady self.now.file now.now change.now }
         ensures { IfOk result (λ response. IsResponse response
             (table.on_eof (reception_of self.now) (shown self.now) (now_state self.now now.now change.now) eof)) }
     {
@@ -243,7 +227,7 @@ impl ReceiverCore {
         now: &ControlBlock,
         change: &FileChange,
     ) -> Result<Response, AllocError>
-        requires covered { IsCovered self.now.file change.now }
+        requires ready { IsReady self.now.file now.now change.now }
         requires filled { All (λ run. run.start < run.end) (runs_in change.now) }
         requires runs { runs_in change.now ≡ added_runs (shown self.now) (file_data_of (Some body.now)) }
         ensures { IfOk result (λ response. IsResponse response (table.on_body (reception_of self.now) (shown self.now)
@@ -344,7 +328,7 @@ impl ReceiverCore {
 
     // The reception goes on, and looks at what came meanwhile.
     fn on_resume(&self, now: &ControlBlock, change: &FileChange) -> Result<Response, AllocError>
-        requires { IsCovered self.now.file change.now }
+        requires { IsReady self.now.file now.now change.now }
         ensures { IfOk result (λ response. IsResponse response
             (table.on_resume (reception_of self.now) (now_state self.now now.now change.now))) }
     {
@@ -368,7 +352,7 @@ impl ReceiverCore {
         now: &ControlBlock,
         change: &FileChange,
     ) -> Result<Response, AllocError>
-        requires { IsCovered self.now.file change.now }
+        requires { IsReady self.now.file now.now change.now }
         ensures { is_request event.now ≡ true → IfOk result (λ response. IsResponse response (table.response_to
             (reception_of self.now) (shown self.now) (now_state self.now now.now change.now) event.now)) }
     {
@@ -406,7 +390,7 @@ impl ReceiverCore {
         now: &ControlBlock,
         change: &FileChange,
     ) -> Result<Response, AllocError>
-        requires covered { IsCovered self.now.file change.now }
+        requires ready { IsReady self.now.file now.now change.now }
         requires filled { All (λ run. run.start < run.end) (runs_in change.now) }
         requires runs { runs_in change.now ≡ added_runs (shown self.now) (file_data_of (body_of_event event.now)) }
         ensures { IfOk result (λ response. IsResponse response (table.response_to (reception_of self.now)

@@ -2,12 +2,13 @@
 ghost use Rattle.std.specs.Prelude.{◌≡◌, if◌then◌else◌};
 ghost use Rattle.pdu_values.specs.declared.bodies.TransactionStatus.TheVariants as status;
 
-use reception_parts::control::ControlBlock;
-use reception_parts::nak::nak;
+use crate::control::ControlBlock;
+use crate::nak::nak;
 use crate::plan::FileChange;
 use crate::receiver::ReceiverCore;
-use reception_parts::response::Response;
+use crate::response::Response;
 use cfdp_types::Condition;
+use cfdp_types::limits::NAK_REQUESTS;
 use pdu_values::{
     Ack, Acknowledged, Body, Direction, Finished, Header, KeepAlive, Pdu, TransactionStatus,
 };
@@ -20,8 +21,8 @@ impl ReceiverCore {
     ghost use Rattle.pdu_values.specs.declared.pdu.Body.{Body};
     ghost use Rattle.pdu_values.specs.declared.pdu.Body.TheVariants as body;
     ghost use Rattle.receiver_table.specs.Answers.{pdu_to_sender, ack_of, nak_of, if_there, if_so, bodies_of};
-    ghost use Rattle.reception_parts.specs.Response.{response_value};
-    ghost use Rattle.receiver_core.specs.Core.{reception_of, metadata_after, now_state, IsCovered};
+    ghost use Rattle.receiver_core.specs.Response.{response_value};
+    ghost use Rattle.receiver_core.specs.Core.{reception_of, metadata_after, now_state};
 
     // The header of every PDU toward the sender.
     fn reply_header(&self) -> Header
@@ -69,12 +70,12 @@ impl ReceiverCore {
 
     // What is missing of the file.
     fn nak(&self, now: &ControlBlock, change: &FileChange) -> Result<Pdu, AllocError>
-        requires { IsCovered self.now.file change.now }
         ensures { IfOk result
             (λ pdu. pdu ≡ pdu_to_sender (reception_of self.now) (nak_of (now_state self.now now.now change.now))) }
     {
         let scope = now.scope();
-        let runs = self.gaps_after(change).missing(scope)?;
+        // one run more than it may hold tells that some are left out
+        let runs = self.file.missing_after(change, scope, NAK_REQUESTS + 1)?;
         let nak = nak(
             self.alloc,
             self.has_metadata_after(change),
@@ -101,7 +102,6 @@ impl ReceiverCore {
         now: &ControlBlock,
         change: &FileChange,
     ) -> Result<(), AllocError>
-        requires { IsCovered self.now.file change.now }
         ensures { OnOk result (pdus.new ≡ pdus.old ++ map (pdu_to_sender (reception_of self.now))
             (if_so response.now.nak (nak_of (now_state self.now now.now change.now)))) }
     {
@@ -147,7 +147,6 @@ impl ReceiverCore {
         change: &FileChange,
         ended: bool,
     ) -> Result<Pdus, AllocError>
-        requires { IsCovered self.now.file change.now }
         ensures { IfOk result (λ pdus. pdus ≡ map (pdu_to_sender (reception_of self.now))
             (bodies_of (now_state self.now now.now change.now) ended (response_value response.now))) }
     {

@@ -1,5 +1,5 @@
-use reception_parts::control::ControlBlock;
-use reception_parts::received_file::NewSegment;
+use crate::control::ControlBlock;
+use crate::received_file::{NewSegment, ReceivedFile};
 use pdu_values::Metadata;
 use txn_events::Answer;
 
@@ -13,8 +13,9 @@ pub(crate) enum FileChange {
 }
 
 impl FileChange {
-    ghost use Rattle.std.specs.Prelude.{◌≡◌};
-    ghost use Rattle.receiver_core.specs.Core.{adds};
+    ghost use Rattle.std.specs.Prelude.{◌≡◌, ℕ};
+    ghost use Rattle.receiver_core.specs.ReceivedFile.{received_of};
+    ghost use Rattle.receiver_core.specs.Core.{adds, FitsFile, HasRoom, metadata_after, received_after};
 
     /// Whether it adds to the file, or is the first Metadata.
     pub(crate) fn adds(&self) -> bool
@@ -24,6 +25,20 @@ impl FileChange {
             FileChange::Nothing => false,
             FileChange::Metadata(_) => true,
             FileChange::NewSegment(segment) => !segment.runs.is_empty(),
+        }
+    }
+
+    /// Carries it out, in room that is there.
+    pub(crate) fn apply(self, file: &mut ReceivedFile, metadata: &mut Option<Metadata>)
+        requires fits { FitsFile file.old self }
+        requires room { HasRoom file.old self }
+        ensures metadata { metadata.new ≡ metadata_after metadata.old self }
+        ensures received { (i : ℕ) → received_of file.new i ≡ received_after file.old self i }
+    {
+        match self {
+            FileChange::Nothing => {}
+            FileChange::Metadata(first) => *metadata = Some(first),
+            FileChange::NewSegment(segment) => file.take(segment),
         }
     }
 }

@@ -1,9 +1,9 @@
 //! How an event is planned.
-use reception_parts::control::ControlBlock;
+use crate::control::ControlBlock;
 use crate::plan::{FileChange, Plan};
 use crate::receiver::ReceiverCore;
-use reception_parts::response::Response;
-use reception_parts::steps::{changes, next, with_event};
+use crate::response::Response;
+use crate::steps::{changes, next, with_event};
 use cfdp_types::Deposit;
 use pdu_values::{Body, FileData, Metadata};
 use std::alloc::AllocError;
@@ -21,7 +21,7 @@ impl ReceiverCore {
     ghost use Rattle.receiver_table.specs.Refusals.{is_too_large, is_body_too_large, refusal_at};
     ghost use Rattle.receiver_table.specs.Answers.{answer_at};
     ghost use Rattle.receiver_core.specs.PlanParts.{HoldsResponse, deposit_of};
-    ghost use Rattle.receiver_core.specs.Core.{shown, reception_of, plan_answer, StandsAfter, FitsFile, HasRoom, IsLaid, IsCovered, IsChange, IsSame, IsPlanOf, IsWhy};
+    ghost use Rattle.receiver_core.specs.Core.{shown, reception_of, plan_answer, StandsAfter, FitsFile, HasRoom, IsChange, IsSame, IsPlanOf, IsWhy};
 
     // The change that Metadata brings: the first is kept.
     fn change_by_metadata(&self, metadata: &Metadata) -> Result<FileChange, AllocError>
@@ -65,17 +65,16 @@ impl ReceiverCore {
         }
     }
 
-    // Makes room for a change, and lays its octets at their offsets where none came.
+    // Makes room for a change.
     fn prepare(&mut self, change: &FileChange) -> Result<(), AllocError>
         requires { FitsFile self.old.file change.now }
         ensures same { IsSame self.old self.new }
         ensures fits { FitsFile self.new.file change.now }
         ensures room { OnOk result (HasRoom self.new.file change.now) }
-        ensures laid { OnOk result (IsLaid self.new.file change.now) }
     {
         match change {
             FileChange::Nothing | FileChange::Metadata(_) => Ok(()),
-            FileChange::NewSegment(segment) => self.file.prepare(segment),
+            FileChange::NewSegment(segment) => self.file.make_room(segment.end),
         }
     }
 
@@ -102,7 +101,6 @@ impl ReceiverCore {
         response: Response,
         change: FileChange,
     ) -> Result<Plan, AllocError>
-        requires { IsCovered self.now.file change }
         ensures { IfOk result (λ plan. HoldsResponse self.now event.now now response change plan) }
     {
         let deposit = self.deposit_of(&response);
@@ -124,13 +122,11 @@ impl ReceiverCore {
         })
     }
 
-    // The plan of an event that is accepted, and of the change that it brings, which lies at its
-    // place.
+    // The plan of an event that is accepted, and of the change that it brings, in room that is there.
     fn plan_change(&self, event: &What, change: FileChange) -> Result<Plan, AllocError>
         requires taken { refusal_at (reception_of self.now) (shown self.now) event.now ≡ None }
         requires change { IsChange self.now (body_of_event event.now) change }
         requires room { HasRoom self.now.file change }
-        requires laid { IsLaid self.now.file change }
         ensures { IfOk result (λ plan. IsPlanOf self.now plan event.now) }
     {
         let now = with_event(&self.control, event, change.adds());

@@ -1,9 +1,12 @@
+ghost use Rattle.std.specs.Prelude.{◌≡◌, ℕ};
+ghost use Rattle.gap_list.specs.Covered.{covered};
 ghost use Rattle.pdu_values.specs.Spelling.{HeaderFits};
-ghost use Rattle.reception_parts.specs.ControlBlock.{IsSound};
+ghost use Rattle.receiver_core.specs.ControlBlock.{IsSound};
+ghost use Rattle.receiver_core.specs.Offsets.{IsInside};
 
-use reception_parts::control::ControlBlock;
-use crate::plan::{FileChange, Plan};
-use reception_parts::received_file::ReceivedFile;
+use crate::control::ControlBlock;
+use crate::plan::Plan;
+use crate::received_file::ReceivedFile;
 use cfdp_types::{Params, TxnKey};
 use pdu_values::{Header, Metadata};
 use std::alloc::Global;
@@ -22,36 +25,20 @@ pub struct ReceiverCore {
     pub(crate) control: ControlBlock,
     ghost fits: { HeaderFits header },
     ghost sound: { IsSound control },
+    ghost reached: { IsInside control.progress (covered file.gaps) },
 }
 
 impl ReceiverCore {
     ghost use Rattle.std.specs.Prelude.{◌≡◌, ◌∷◌, ℕ, false, List};
     ghost use Rattle.txn_events.specs.declared.event.What.{What};
     ghost use Rattle.receiver_table.specs.Reception.{Entry};
-    ghost use Rattle.reception_parts.specs.ReceivedFile.{received_of};
-    ghost use Rattle.receiver_core.specs.Core.{shown, reception_of, IsPlanOf, StandsAfter, FitsFile, HasRoom, metadata_after, received_after, plan_answer};
+    ghost use Rattle.receiver_core.specs.Core.{shown, reception_of, IsPlanOf, StandsAfter, plan_answer};
 
     /// Whether the user was told that the transaction is over: no event follows.
     pub fn has_ended(&self) -> bool
         ensures { result ≡ (shown self.now).ended }
     {
         self.control.ended
-    }
-
-    // Carries out a change in room that is there.
-    fn apply(&mut self, change: FileChange)
-        requires fits { FitsFile self.old.file change }
-        requires room { HasRoom self.old.file change }
-        ensures reception { reception_of self.new ≡ reception_of self.old }
-        ensures control { self.new.control ≡ self.old.control }
-        ensures metadata { self.new.metadata ≡ metadata_after self.old.metadata change }
-        ensures received { (i : ℕ) → received_of self.new.file i ≡ received_after self.old.file change i }
-    {
-        match change {
-            FileChange::Nothing => {}
-            FileChange::Metadata(metadata) => self.metadata = Some(metadata),
-            FileChange::NewSegment(segment) => self.file.take(segment),
-        }
     }
 
     /// Carries out a plan that was made in the present state, and hands out its answer.
@@ -68,7 +55,7 @@ impl ReceiverCore {
             change,
             answer,
         } = plan;
-        self.apply(change);
+        change.apply(&mut self.file, &mut self.metadata);
         self.control = next;
         answer
     }

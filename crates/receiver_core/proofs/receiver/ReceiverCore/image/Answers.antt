@@ -1,4 +1,3 @@
-use Rattle.std.specs.Prelude.{Ok}
 use Rattle.receiver_table.specs.Reception.{state_of}
 use Rattle.receiver_table.specs.Images.{image_at}
 use Rattle.txn_events.proofs.AnswerLemmas.{accepted_over, refused_over}

@@ -1,8 +1,7 @@
-use Rattle.reception_parts.specs.Offsets.{octets_in}
-use Rattle.receiver_core.specs.Core.{metadata_after, covered_after}
+use Rattle.receiver_core.specs.Core.{metadata_after, received_after}
 use Rattle.receiver_core.proofs.receiver.ReceiverCore.on_body.Goals as goal
 
 pub returns-in-Prompt : goal.returns-in-Prompt
 returns-in-Prompt c =
     let core = c.args.self.now in
-    rw c.in-Prompt.is (c.on_prompt.ensures (metadata_after core.metadata c.args.change.now) (octets_in core.file.octets.items (covered_after core.file c.args.change.now)))
+    rw c.in-Prompt.is (c.on_prompt.ensures (metadata_after core.metadata c.args.change.now) (received_after core.file c.args.change.now))

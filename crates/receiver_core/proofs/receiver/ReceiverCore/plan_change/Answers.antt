@@ -1,16 +1,20 @@
 use Rattle.txn_events.specs.Events.{body_of_event}
 use Rattle.receiver_core.specs.Core.{adds}
-use Rattle.reception_parts.specs.Steps.{IsWithEvent}
-use Rattle.receiver_core.proofs.ChangeLemmas.{runs_filled}
+use Rattle.receiver_core.specs.PlanParts.{IsWithEvent}
+use Rattle.receiver_core.proofs.ChangeLemmas.{runs_filled, ready}
 use Rattle.receiver_core.proofs.PlanLemmas.{is_plan_if}
 use Rattle.receiver_core.proofs.receiver.ReceiverCore.plan_change.Goals as goal
 
 pub response_to-requires-clause-filled : goal.response_to-requires-clause-filled
 response_to-requires-clause-filled c = runs_filled c.args.self.now (body_of_event c.args.event.now) c.args.change c.requires.change
 
+pub response_to-requires-clause-ready : goal.response_to-requires-clause-ready
+response_to-requires-clause-ready c =
+    ready c.args.self.now c.args.event.now (adds c.args.change) c.with_event-now.result c.args.change (rw c.adds.ensures at c.with_event-now.ensures) c.requires.change
+
 pub returns : goal.returns
 returns c =
     let core = c.args.self.now in
     let with_event : IsWithEvent core.control c.args.event.now (adds c.args.change) c.with_event-now.result = rw c.adds.ensures at c.with_event-now.ensures in
-    is_plan_if core c.args.event.now c.with_event-now.result c.in_ok-response.response c.args.change c.plan_response.result c.requires.taken with_event c.requires.change c.requires.room c.requires.laid
+    is_plan_if core c.args.event.now c.with_event-now.result c.in_ok-response.response c.args.change c.plan_response.result c.requires.taken with_event c.requires.change c.requires.room
     c.in_ok-response.ensures c.plan_response.ensures
