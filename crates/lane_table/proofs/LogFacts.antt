@@ -13,7 +13,7 @@ use Rattle.indications.specs.declared.side.Side.{Side}
 use Rattle.indications.specs.declared.side.Side.TheVariants.{Sender, Receiver}
 use Rattle.indications.specs.Words.{IsBegunOf, IsWordOf, is_transaction}
 use Rattle.indications.specs.LaneLists.{side_by, IsBegunGroup, IsWordGroup}
-use Rattle.indications.specs.declared.indication.Indication.TheVariants as told
+use Rattle.indications.proofs.LaneLemmas.{sender_side, receiver_side}
 use Rattle.indications.proofs.WordLemmas.{opens_sender}
 use Rattle.sender_table.specs.Sending as sender
 use Rattle.sender_table.specs.Sending.{initial, state_of}
@@ -173,32 +173,6 @@ later_place (Receiving params) key named (On other (what.Stored stamp kept)) lat
 pub lane_words : TellsWords
 lane_words (sent sending log) legal = sender_laws.tells_words sending log legal
 lane_words (received reception log) legal = receiver_laws.tells_words reception log legal
-
-sender_side : (first : Indication) → is_transaction first ≡ true → side_by first ≡ Sender
-sender_side told.Transaction is = refl
-sender_side told.EofSent is = absurd (false≢true is)
-sender_side told.EofRecv is = absurd (false≢true is)
-sender_side (told.TransactionFinished a b c) is = absurd (false≢true is)
-sender_side (told.MetadataRecv a b c d e) is = absurd (false≢true is)
-sender_side (told.FileSegmentRecv a b) is = absurd (false≢true is)
-sender_side (told.Suspended a) is = absurd (false≢true is)
-sender_side (told.Resumed a) is = absurd (false≢true is)
-sender_side (told.Report a b) is = absurd (false≢true is)
-sender_side (told.Fault a b) is = absurd (false≢true is)
-sender_side (told.Abandoned a b) is = absurd (false≢true is)
-
-receiver_side : (first : Indication) (rest : List Indication) → IsBegunOf Receiver (first ∷ rest) → side_by first ≡ Receiver
-receiver_side told.Transaction rest begun = absurd begun.1
-receiver_side told.EofSent rest begun = refl
-receiver_side told.EofRecv rest begun = refl
-receiver_side (told.TransactionFinished a b c) rest begun = refl
-receiver_side (told.MetadataRecv a b c d e) rest begun = refl
-receiver_side (told.FileSegmentRecv a b) rest begun = refl
-receiver_side (told.Suspended a) rest begun = refl
-receiver_side (told.Resumed a) rest begun = refl
-receiver_side (told.Report a b) rest begun = refl
-receiver_side (told.Fault a b) rest begun = refl
-receiver_side (told.Abandoned a b) rest begun = refl
 
 side_shown : (side : Side) (first : Indication) (rest : List Indication) → IsBegunOf side (first ∷ rest) → side ≡ side_by first
 side_shown Sender first rest begun = sym (sender_side first (opens_sender first rest begun))

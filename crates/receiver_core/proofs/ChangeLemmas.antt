@@ -19,19 +19,20 @@ use Rattle.txn_events.specs.Events.{body_of_event}
 use Rattle.pdu_values.specs.declared.bodies.Metadata.{Metadata}
 use Rattle.receiver_table.specs.Reception.{State, step, is_received, added_runs, octet_at, extent_of, metadata_of, file_data_of, brings_more}
 use Rattle.receiver_table.specs.Answers.{answer_at}
-use Rattle.receiver_core.specs.ControlBlock.{state_from}
+use Rattle.reception_parts.specs.ControlBlock.{state_from}
 use Rattle.receiver_core.specs.declared.plan.Plan.{Plan}
-use Rattle.receiver_core.specs.declared.control.ControlBlock.{ControlBlock}
-use Rattle.receiver_core.specs.ReceivedFile.{received_of, with_segment, end_of, IsSegmentOf}
-use Rattle.receiver_core.specs.Offsets.{IsInside}
-use Rattle.receiver_core.specs.PlanParts.{IsWithEvent}
-use Rattle.receiver_core.specs.Core.{shown, reception_of, received_after, covered_after, word_after, FitsFile, HasRoom, IsReady, IsChange, IsSame, IsPlanOf, runs_in, segment_of, metadata_after, plan_answer}
-use Rattle.receiver_core.specs.declared.received_file.ReceivedFile.{ReceivedFile}
-use Rattle.receiver_core.specs.declared.received_file.NewSegment.{NewSegment}
-use Rattle.receiver_core.specs.declared.plan.FileChange.{FileChange}
-use Rattle.receiver_core.specs.declared.plan.FileChange.TheVariants as change
+use Rattle.reception_parts.specs.declared.control.ControlBlock.{ControlBlock}
+use Rattle.reception_parts.specs.ReceivedFile.{received_of, with_segment, end_of, IsSegmentOf}
+use Rattle.reception_parts.specs.Offsets.{IsInside}
+use Rattle.reception_parts.specs.Steps.{IsWithEvent}
+use Rattle.reception_parts.specs.FileChange.{received_after, covered_after, word_after, FitsFile, HasRoom, IsReady, runs_in, segment_of, metadata_after}
+use Rattle.receiver_core.specs.Core.{shown, reception_of, IsChange, IsSame, IsPlanOf, plan_answer}
+use Rattle.reception_parts.specs.declared.received_file.ReceivedFile.{ReceivedFile}
+use Rattle.reception_parts.specs.declared.received_file.NewSegment.{NewSegment}
+use Rattle.reception_parts.specs.declared.file_change.FileChange.{FileChange}
+use Rattle.reception_parts.specs.declared.file_change.FileChange.TheVariants as change
 use Rattle.receiver_core.specs.declared.receiver.ReceiverCore.{ReceiverCore}
-use Rattle.receiver_core.proofs.ReceivedFileLemmas.{there}
+use Rattle.reception_parts.proofs.ReceivedFileLemmas.{there}
 
 older_none : {A : Type 0} (o : Option A) → o ≡ older_or o None
 older_none None = refl

@@ -19,9 +19,9 @@ use Rattle.receiver_table.specs.Reception.{initial}
 use Rattle.receiver_table.specs.Refusals.{refusal_at, is_body_too_large}
 use Rattle.receiver_table.specs.Answers.{answer_at}
 use Rattle.receiver_laws.specs.LegalReceptions.{BodyOpens}
-use Rattle.receiver_core.specs.ControlBlock.{state_from, first}
+use Rattle.reception_parts.specs.ControlBlock.{state_from, first}
 use Rattle.receiver_core.specs.Core.{reception_by}
-use Rattle.receiver_core.specs.declared.control.ControlBlock.{ControlBlock}
+use Rattle.reception_parts.specs.declared.control.ControlBlock.{ControlBlock}
 use Rattle.receiver_core.proofs.PlanLemmas.{same_state, answered_is, refused_is}
 
 none_runs : (kind : TimerKind) → (state_from first None (λ i. None)).armed kind ≡ None

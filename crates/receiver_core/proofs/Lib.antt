@@ -1,10 +1,3 @@
-pub mod ReceivedFileLemmas
-pub mod LayLemmas
-pub mod SumLemmas
-pub mod FindingLemmas
-pub mod ResponseLemmas
 pub mod PlanLemmas
-pub mod NakLemmas
 pub mod ChangeLemmas
 pub mod FirstLemmas
-pub mod ImageLemmas

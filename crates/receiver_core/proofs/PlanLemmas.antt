@@ -33,17 +33,19 @@ use Rattle.receiver_table.specs.Reception.{Reception, State, step, is_storing, o
 use Rattle.receiver_table.specs.Refusals.{refusal_at, is_stale_store, waits_for_store, is_misplaced, is_too_large, is_full}
 use Rattle.receiver_table.specs.Answers as table
 use Rattle.receiver_table.specs.Answers.{response_to, with_event, without_timers, with_timers, accepted_at, answer_at, effect_of, bodies_of, pdu_to_sender, nak_of, ack_of, if_there, if_so, requests_of}
-use Rattle.receiver_core.specs.ControlBlock.{state_from, bare, IsSound}
-use Rattle.receiver_core.specs.ReceivedFile.{received_of}
-use Rattle.receiver_core.specs.Response.{IsResponse, response_value}
-use Rattle.receiver_core.specs.Core.{shown, reception_of, now_state, metadata_after, received_after, HasRoom, IsChange, IsPlanOf, plan_answer, adds}
-use Rattle.receiver_core.specs.PlanParts.{IsWithEvent, HoldsResponse, effect_by, deposit_of}
-use Rattle.receiver_core.specs.declared.plan.FileChange.{FileChange}
+use Rattle.reception_parts.specs.ControlBlock.{state_from, bare, IsSound}
+use Rattle.reception_parts.specs.ReceivedFile.{received_of}
+use Rattle.reception_parts.specs.Response.{IsResponse, response_value}
+use Rattle.reception_parts.specs.FileChange.{metadata_after, received_after, HasRoom, adds}
+use Rattle.receiver_core.specs.Core.{shown, reception_of, now_state, IsChange, IsPlanOf, plan_answer}
+use Rattle.reception_parts.specs.Steps.{IsWithEvent}
+use Rattle.receiver_core.specs.PlanParts.{HoldsResponse, effect_by, deposit_of}
+use Rattle.reception_parts.specs.declared.file_change.FileChange.{FileChange}
 use Rattle.receiver_core.specs.declared.plan.Plan.{Plan}
 use Rattle.receiver_core.specs.declared.receiver.ReceiverCore.{ReceiverCore}
-use Rattle.receiver_core.specs.declared.response.Response as response_type
-use Rattle.receiver_core.specs.declared.control.ControlBlock.{ControlBlock}
-use Rattle.receiver_core.proofs.ResponseLemmas.{response_is}
+use Rattle.reception_parts.specs.declared.response.Response as response_type
+use Rattle.reception_parts.specs.declared.control.ControlBlock.{ControlBlock}
+use Rattle.reception_parts.proofs.ResponseLemmas.{response_is}
 
 -- ---- states
 

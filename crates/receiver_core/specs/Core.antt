@@ -17,17 +17,17 @@ use Rattle.pdu_values.specs.declared.bodies.FileData.{FileData}
 use Rattle.receiver_table.specs.Reception.{Reception, State, Entry, step, state_of, metadata_of, file_data_of, added_runs, brings_more}
 use Rattle.receiver_table.specs.Answers.{answer_at}
 use Rattle.receiver_laws.specs.LegalReceptions.{BodyOpens}
-use Rattle.receiver_core.specs.ControlBlock.{state_from, IsSound}
-use Rattle.receiver_core.specs.ReceivedFile.{received_of, with_segment, end_of, IsSegmentOf}
+use Rattle.reception_parts.specs.ControlBlock.{state_from, IsSound}
+use Rattle.reception_parts.specs.ReceivedFile.{received_of, with_segment, end_of, IsSegmentOf}
 use Rattle.txn_events.specs.declared.answer.Answer.{Answer}
 pub use Rattle.txn_events.specs.Logs.{IsWhy}
 use Rattle.txn_events.specs.Logs.{StandsAt, IsAnswered}
-use Rattle.receiver_core.specs.declared.received_file.ReceivedFile.{ReceivedFile}
-use Rattle.receiver_core.specs.declared.plan.FileChange.{FileChange}
-use Rattle.receiver_core.specs.declared.plan.FileChange.TheVariants as change
+use Rattle.reception_parts.specs.declared.received_file.ReceivedFile.{ReceivedFile}
+use Rattle.reception_parts.specs.FileChange.{metadata_after, segment_of, received_after, FitsFile, HasRoom, runs_in, adds}
+use Rattle.reception_parts.specs.declared.file_change.FileChange.{FileChange}
 use Rattle.receiver_core.specs.declared.plan.Plan.{Plan}
 use Rattle.receiver_core.specs.declared.receiver.ReceiverCore.{ReceiverCore}
-use Rattle.receiver_core.specs.declared.control.ControlBlock.{ControlBlock}
+use Rattle.reception_parts.specs.declared.control.ControlBlock.{ControlBlock}
 
 -- what is settled when a PDU with this header opens a reception
 abbrev pub reception_by : TxnKey → ParamsValue → Header → Reception
@@ -54,61 +54,9 @@ StandsAfter core log = StandsAt state_of (shown core) log
 abbrev pub plan_answer : Plan → Answer
 plan_answer plan = plan.answer
 
--- ---- what an event changes in what is kept
-
--- the Metadata after a change
-abbrev pub metadata_after : Option Metadata → FileChange → Option Metadata
-metadata_after metadata (change.Metadata m) = Some m
-metadata_after metadata _ = metadata
-
--- the segment of the file that a change adds
-abbrev pub segment_of : FileChange → Option FileData
-segment_of (change.NewSegment segment) = Some segment.file_data
-segment_of _ = None
-
--- the octets that came, after a change
-abbrev pub received_after : ReceivedFile → FileChange → ℕ → Option ℕ
-received_after file c = with_segment (received_of file) (segment_of c)
-
--- the offsets that came, after a change
-abbrev pub covered_after : ReceivedFile → FileChange → ℕ → Bool
-covered_after file (change.NewSegment segment) = with_range (covered file.gaps) segment.file_data.offset (end_of segment)
-covered_after file _ = covered file.gaps
-
--- the checksum of the octets that came, after a change
-abbrev pub word_after : ReceivedFile → FileChange → ℕ
-word_after file (change.NewSegment segment) = segment.sum
-word_after file _ = file.sum
-
--- a segment is one of what is kept
-abbrev pub FitsFile : ReceivedFile → FileChange → Type 0
-FitsFile file (change.NewSegment segment) = IsSegmentOf file segment
-FitsFile file _ = Unit {0}
-
--- there is room for what a change adds
-abbrev pub HasRoom : ReceivedFile → FileChange → Type 0
-HasRoom file (change.NewSegment segment) = (end_of segment ≤ vec_len file.octets) × (0 < file.gaps.room)
-HasRoom file _ = Unit {0}
-
 -- what a core stands at with an event and the change that it brings, before it is answered
 abbrev pub now_state : ReceiverCore → ControlBlock → FileChange → State
 now_state core now c = state_from now (metadata_after core.metadata c) (received_after core.file c)
-
--- the new runs of a change
-abbrev pub runs_in : FileChange → List Run
-runs_in (change.NewSegment segment) = segment.runs.items
-runs_in _ = []
-
--- a change adds to the file, or is the first Metadata
-abbrev pub adds : FileChange → Bool
-adds (change.Metadata m) = true
-adds (change.NewSegment segment) = not (length segment.runs.items == 0)
-adds change.Nothing = false
-
--- the checksum after a change is that of the octets that came, and these lie below the progress
-pub record IsReady (file : ReceivedFile) (now : ControlBlock) (c : FileChange) : Type 0 where
-  pub summed : IsSumOf (received_after file c) (word_after file c)
-  pub reached : (i : ℕ) → now.progress ≤ i → received_after file c i ≡ None
 
 -- neither a PDU nor a timer
 abbrev pub is_request : What → Bool

@@ -1,9 +1,3 @@
-pub mod Offsets
-pub mod ControlBlock
-pub mod ReceivedFile
-pub mod Finding
-pub mod Response
-pub mod Naks
 pub mod Core
 pub mod PlanParts
 pub use Rattle.cfdp_types.specs.Condition

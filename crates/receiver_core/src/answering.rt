@@ -2,11 +2,11 @@
 ghost use Rattle.std.specs.Prelude.{◌≡◌, ◌<◌, IfOk, All, map};
 ghost use Rattle.receiver_table.specs.Answers.{segment_told};
 
-use crate::control::ControlBlock;
-use crate::examine::look;
-use crate::plan::FileChange;
+use reception_parts::control::ControlBlock;
+use reception_parts::examine::look;
+use reception_parts::file_change::FileChange;
 use crate::receiver::ReceiverCore;
-use crate::response::Response;
+use reception_parts::response::Response;
 use cfdp_types::{ChecksumType, Class, Condition, Delivery, FileStatus, TimerKind};
 use gap_list::Run;
 use indications::{Indication, Indications};
@@ -24,10 +24,11 @@ impl ReceiverCore {
     ghost use Rattle.receiver_table.specs.Reception.{added_runs, file_data_of};
     ghost use Rattle.receiver_table.specs.Answers as table;
     ghost use Rattle.receiver_table.specs.Answers.{tells, nothing, segment_told, ◌and_then◌};
-    ghost use Rattle.receiver_core.specs.Response.{IsResponse};
-    ghost use Rattle.receiver_core.specs.ControlBlock.{state_from};
+    ghost use Rattle.reception_parts.specs.Response.{IsResponse};
+    ghost use Rattle.reception_parts.specs.ControlBlock.{state_from};
     ghost use Rattle.pdu_values.specs.declared.bodies.Metadata.{Metadata};
-    ghost use Rattle.receiver_core.specs.Core.{shown, reception_of, metadata_after, runs_in, now_state, is_request, IsReady};
+    ghost use Rattle.reception_parts.specs.FileChange.{metadata_after, runs_in, IsReady};
+    ghost use Rattle.receiver_core.specs.Core.{shown, reception_of, now_state, is_request};
     ghost use Rattle.cfdp_types.specs.declared.names.Delivery.TheVariants.{Incomplete};
     ghost use Rattle.cfdp_types.specs.declared.names.FileStatus.TheVariants.{Discarded};
 

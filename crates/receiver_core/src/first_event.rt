@@ -1,7 +1,7 @@
 //! How a reception is opened.
-use crate::control::ControlBlock;
+use reception_parts::control::ControlBlock;
 use crate::plan::Plan;
-use crate::received_file::ReceivedFile;
+use reception_parts::received_file::ReceivedFile;
 use crate::receiver::ReceiverCore;
 use cfdp_types::{Params, TxnKey};
 use pdu_values::{Header, Pdu};

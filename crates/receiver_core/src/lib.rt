@@ -3,22 +3,15 @@
 #![tactic(auto)]
 
 mod answering;
-mod control;
-mod examine;
-mod file_after;
 mod first_event;
 mod image;
 pub mod laws;
-mod nak;
 mod pdus;
 mod plan;
 mod planning;
-mod received_file;
 mod receiver;
 mod refusals;
-mod response;
 mod responses;
-mod steps;
 
 pub use plan::Plan;
 pub use receiver::ReceiverCore;

@@ -2,11 +2,11 @@
 ghost use Rattle.std.specs.Prelude.{◌≡◌, if◌then◌else◌};
 ghost use Rattle.pdu_values.specs.declared.bodies.TransactionStatus.TheVariants as status;
 
-use crate::control::ControlBlock;
-use crate::nak::nak;
-use crate::plan::FileChange;
+use reception_parts::control::ControlBlock;
+use reception_parts::nak::nak;
+use reception_parts::file_change::FileChange;
 use crate::receiver::ReceiverCore;
-use crate::response::Response;
+use reception_parts::response::Response;
 use cfdp_types::Condition;
 use cfdp_types::limits::NAK_REQUESTS;
 use pdu_values::{
@@ -21,8 +21,9 @@ impl ReceiverCore {
     ghost use Rattle.pdu_values.specs.declared.pdu.Body.{Body};
     ghost use Rattle.pdu_values.specs.declared.pdu.Body.TheVariants as body;
     ghost use Rattle.receiver_table.specs.Answers.{pdu_to_sender, ack_of, nak_of, if_there, if_so, bodies_of};
-    ghost use Rattle.receiver_core.specs.Response.{response_value};
-    ghost use Rattle.receiver_core.specs.Core.{reception_of, metadata_after, now_state};
+    ghost use Rattle.reception_parts.specs.Response.{response_value};
+    ghost use Rattle.reception_parts.specs.FileChange.{metadata_after};
+    ghost use Rattle.receiver_core.specs.Core.{reception_of, now_state};
 
     // The header of every PDU toward the sender.
     fn reply_header(&self) -> Header

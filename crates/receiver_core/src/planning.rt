@@ -1,9 +1,10 @@
 //! How an event is planned.
-use crate::control::ControlBlock;
-use crate::plan::{FileChange, Plan};
+use reception_parts::control::ControlBlock;
+use reception_parts::file_change::FileChange;
+use crate::plan::Plan;
 use crate::receiver::ReceiverCore;
-use crate::response::Response;
-use crate::steps::{changes, next, with_event};
+use reception_parts::response::Response;
+use reception_parts::steps::{changes, next, with_event};
 use cfdp_types::Deposit;
 use pdu_values::{Body, FileData, Metadata};
 use std::alloc::AllocError;
@@ -21,7 +22,8 @@ impl ReceiverCore {
     ghost use Rattle.receiver_table.specs.Refusals.{is_too_large, is_body_too_large, refusal_at};
     ghost use Rattle.receiver_table.specs.Answers.{answer_at};
     ghost use Rattle.receiver_core.specs.PlanParts.{HoldsResponse, deposit_of};
-    ghost use Rattle.receiver_core.specs.Core.{shown, reception_of, plan_answer, StandsAfter, FitsFile, HasRoom, IsChange, IsSame, IsPlanOf, IsWhy};
+    ghost use Rattle.reception_parts.specs.FileChange.{FitsFile, HasRoom};
+    ghost use Rattle.receiver_core.specs.Core.{shown, reception_of, plan_answer, StandsAfter, IsChange, IsSame, IsPlanOf, IsWhy};
 
     // The change that Metadata brings: the first is kept.
     fn change_by_metadata(&self, metadata: &Metadata) -> Result<FileChange, AllocError>

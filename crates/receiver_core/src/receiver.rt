@@ -1,12 +1,12 @@
 ghost use Rattle.std.specs.Prelude.{◌≡◌, ℕ};
 ghost use Rattle.gap_list.specs.Covered.{covered};
 ghost use Rattle.pdu_values.specs.Spelling.{HeaderFits};
-ghost use Rattle.receiver_core.specs.ControlBlock.{IsSound};
-ghost use Rattle.receiver_core.specs.Offsets.{IsInside};
+ghost use Rattle.reception_parts.specs.ControlBlock.{IsSound};
+ghost use Rattle.reception_parts.specs.Offsets.{IsInside};
 
-use crate::control::ControlBlock;
+use reception_parts::control::ControlBlock;
 use crate::plan::Plan;
-use crate::received_file::ReceivedFile;
+use reception_parts::received_file::ReceivedFile;
 use cfdp_types::{Params, TxnKey};
 use pdu_values::{Header, Metadata};
 use std::alloc::Global;

@@ -21,9 +21,10 @@ use Rattle.txn_events.specs.declared.event.What.{What}
 use Rattle.txn_events.specs.Events.{body_of_event}
 use Rattle.indications.specs.declared.indication.Indication.{Indication}
 use Rattle.indications.specs.declared.indication.Indication.TheVariants as told
+pub use Rattle.indications.specs.Words.{is_complete}
 use Rattle.indications.specs.Words.{is_end, is_metadata, is_eof, is_paused, tells_of, MayFollow, MayFinish}
 use Rattle.indications.specs.Words.{paused_after}
-use Rattle.indications.proofs.WordLemmas.{told_onto, told_onto-append, MayFollow-append, list_any-told_onto}
+use Rattle.indications.proofs.WordLemmas.{complete_ends, told_onto, told_onto-append, MayFollow-append, list_any-told_onto}
 use Rattle.receiver_table.specs.Reception.{Reception, State, step, metadata_of, eof_of, file_data_of, octet_at, extent_of, waiting_after}
 use Rattle.receiver_table.specs.Answers.{Response}
 use Rattle.receiver_laws.specs.LegalReceptions.{IsGood}
@@ -107,24 +108,6 @@ reached_then None progress None i before there = absurd cc
 reached_then None progress (Some d) i before there = reached_by d progress i there
 
 -- ---- tests of what was told
-
--- the user is told of a complete delivery
-abbrev pub is_complete : Indication → Bool
-is_complete (told.TransactionFinished c Complete s) = true
-is_complete _ = false
-
-complete_ends : (x : Indication) → is_complete x ≡ true → is_end x ≡ true
-complete_ends told.Transaction e = absurd cc
-complete_ends told.EofSent e = absurd cc
-complete_ends told.EofRecv e = absurd cc
-complete_ends (told.TransactionFinished c d s) e = refl
-complete_ends (told.MetadataRecv a b c d f) e = absurd cc
-complete_ends (told.FileSegmentRecv a b) e = absurd cc
-complete_ends (told.Suspended a) e = absurd cc
-complete_ends (told.Resumed a) e = absurd cc
-complete_ends (told.Report a b) e = absurd cc
-complete_ends (told.Fault a b) e = absurd cc
-complete_ends (told.Abandoned a b) e = refl
 
 pub one_of : (a b : Bool) → (a || b) ≡ true → (a ≡ true) ⊎ (b ≡ true)
 one_of true b e = inl refl

@@ -1,5 +1,5 @@
 -- The sending end of a transaction in both classes: what a log of its events and answers gives.
-use Rattle.std.specs.Prelude.{ℕ, ◌+◌, max, Bool, true, false, not, ◌||◌, ◌&&◌, nat_lt, ◌==◌, if◌then◌else◌, List, [], ◌∷◌, ◌++◌, length, Option, Some, None}
+use Rattle.std.specs.Prelude.{ℕ, ◌+◌, max, Bool, true, false, not, ◌||◌, ◌&&◌, nat_lt, ◌==◌, if◌then◌else◌, List, [], ◌∷◌, length, Option, Some, None}
 use Rattle.std.specs.List.{list_any}
 use Rattle.cfdp_types.specs.Condition as condition
 use Rattle.cfdp_types.specs.Steps.{armed_after, is_kind, newer_or}
@@ -8,7 +8,6 @@ use Rattle.cfdp_types.specs.Put.{PutValue}
 use Rattle.cfdp_types.specs.declared.key.TxnKey.{TxnKey}
 use Rattle.cfdp_types.specs.declared.names.TimerKind.{TimerKind}
 use Rattle.cfdp_types.specs.declared.names.TimerKind.TheVariants.{Ack}
-use Rattle.cfdp_types.specs.declared.timer_op.TimerOp.{TimerOp}
 use Rattle.gap_list.specs.Runs.{is_within}
 use Rattle.txn_events.specs.declared.event.What.{What}
 use Rattle.txn_events.specs.declared.event.What.TheVariants as what
@@ -18,7 +17,6 @@ use Rattle.pdu_values.specs.declared.pdu.Body.{Body}
 use Rattle.pdu_values.specs.declared.pdu.Body.TheVariants as body
 use Rattle.pdu_values.specs.declared.bodies.Eof.{Eof}
 use Rattle.pdu_values.specs.declared.requests.SegmentRequest.{SegmentRequest}
-use Rattle.indications.specs.declared.indication.Indication.{Indication}
 use Rattle.indications.specs.Words.{is_end}
 pub use Rattle.txn_events.specs.Logs.{issued}
 use Rattle.txn_events.specs.Logs as logs

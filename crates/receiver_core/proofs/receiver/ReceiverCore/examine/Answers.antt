@@ -1,10 +1,11 @@
 use Rattle.std.proofs.Common.{◌≡◌, ap, sym, ◌∙◌}
 use Rattle.receiver_table.specs.Answers.{examines}
-use Rattle.receiver_core.specs.Core.{reception_of, metadata_after, received_after, covered_after, word_after, now_state}
-use Rattle.receiver_core.specs.Finding.{found_response}
-use Rattle.receiver_core.specs.declared.examine.Finding.{Finding}
+use Rattle.reception_parts.specs.FileChange.{metadata_after, received_after, covered_after, word_after}
+use Rattle.receiver_core.specs.Core.{reception_of, now_state}
+use Rattle.reception_parts.specs.Finding.{found_response}
+use Rattle.reception_parts.specs.declared.examine.Finding.{Finding}
 use Rattle.receiver_core.proofs.ChangeLemmas.{came_after}
-use Rattle.receiver_core.proofs.FindingLemmas.{examined}
+use Rattle.reception_parts.proofs.FindingLemmas.{examined}
 use Rattle.receiver_core.proofs.receiver.ReceiverCore.examine.Goals as goal
 
 pub returns-clause-response : goal.returns-clause-response

@@ -1,9 +1,9 @@
 use Rattle.std.proofs.Common.{[]}
 use Rattle.cfdp_types.specs.Condition as condition
 use Rattle.receiver_table.specs.Answers.{fault_response}
-use Rattle.receiver_core.specs.ControlBlock.{state_from}
+use Rattle.reception_parts.specs.ControlBlock.{state_from}
 use Rattle.receiver_core.specs.Core.{reception_of}
-use Rattle.receiver_core.proofs.ResponseLemmas.{alone}
+use Rattle.reception_parts.proofs.ResponseLemmas.{alone}
 use Rattle.receiver_core.proofs.receiver.ReceiverCore.on_stored.Goals as goal
 
 pub returns-else-kept : goal.returns-else-kept

@@ -1,6 +1,6 @@
 use Rattle.txn_events.specs.Events.{body_of_event}
-use Rattle.receiver_core.specs.Core.{adds}
-use Rattle.receiver_core.specs.PlanParts.{IsWithEvent}
+use Rattle.reception_parts.specs.FileChange.{adds}
+use Rattle.reception_parts.specs.Steps.{IsWithEvent}
 use Rattle.receiver_core.proofs.ChangeLemmas.{runs_filled, ready}
 use Rattle.receiver_core.proofs.PlanLemmas.{is_plan_if}
 use Rattle.receiver_core.proofs.receiver.ReceiverCore.plan_change.Goals as goal

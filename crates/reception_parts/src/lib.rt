@@ -1,0 +1,12 @@
+//! What the receiving end's code is made of, over plain values: the received file and the look at it, what a
+//! NAK asks for, the control block, the responses, and what follows an event.
+#![tactic(auto)]
+
+pub mod control;
+pub mod examine;
+pub mod file_after;
+pub mod file_change;
+pub mod nak;
+pub mod received_file;
+pub mod response;
+pub mod steps;
