@@ -17,8 +17,8 @@ mod words;
 mod world;
 
 use ending::conclude;
-use script_io::ReplayFault;
 use replay::replay;
+use script_io::ReplayFault;
 use std::io;
 use std::io::{BufReader, BufWriter, Write};
 use std::process::ExitCode;

@@ -9,9 +9,9 @@ ghost use Rattle.cfdp_replay.specs.Run.{Replays};
 ghost use Rattle.cfdp_replay.specs.Running.{Ran, GoesOn, PlaysTo};
 
 use crate::command::command_of;
-use script_io::{NextLine, ReplayFault, next_line, write_whole};
 use crate::text::push_reply;
 use crate::world::World;
+use script_io::{NextLine, ReplayFault, next_line, write_whole};
 use std::alloc::Global;
 use std::io::{Read, Write};
 

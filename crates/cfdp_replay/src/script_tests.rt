@@ -1,8 +1,8 @@
 //! Whole scripts, with what they print. The expected texts are worked out by hand.
 
 use crate::ending::conclude;
-use script_io::ReplayFault;
 use crate::replay::replay;
+use script_io::ReplayFault;
 use std::process::Abort;
 use std::test::*;
 

@@ -1,10 +1,10 @@
 use crate::command::{Command, command_of};
-use script_io::{NextLine, ReplayFault, next_line, write_whole};
 use crate::reply::{Reply, StepRefusal};
 use crate::text::push_reply;
 use cfdp_types::{Condition, Delivery, EntityId, FileStatus, Messages, Octets, TxnKey};
 use indications::{Bundle, Indication, Indications, Phase};
 use pdu_codec::DecodeFault;
+use script_io::{NextLine, ReplayFault, next_line, write_whole};
 use std::alloc::{AllocError, Global};
 use std::io;
 use std::io::{Error, ErrorKind, Read, Write};

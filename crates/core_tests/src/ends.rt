@@ -5,13 +5,12 @@ use crate::events::{event_of, pdu_of};
 use crate::setting::{Acts, params};
 use crate::texts::{answer_text, image_text, refused};
 use cfdp_types::{Class, EntityId, PutRequest, TxnKey};
-use txn_events::Answer;
-use txn_events::{Refusal, What};
 use receiver_core::ReceiverCore;
 use sender_core::SenderCore;
 use std::alloc::{AllocError, Global};
 use std::process::Abort;
 use std::test::*;
+use txn_events::{Answer, Refusal, What};
 
 /// The transaction that is received.
 pub(crate) const RECEIVED: TxnKey = TxnKey {

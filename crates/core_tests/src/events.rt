@@ -2,9 +2,9 @@
 use cfdp_types::TimerKind;
 use pdu_codec::decode;
 use pdu_values::Pdu;
-use txn_events::What;
 use std::alloc::Global;
 use std::test::*;
+use txn_events::What;
 
 const NO_EVENT: &str = "the row is no event";
 

@@ -2,10 +2,10 @@
 use crate::ends::{RECEIVED, receives};
 use crate::events::pdu_of;
 use crate::setting::params;
-use txn_events::Refusal;
 use receiver_core::ReceiverCore;
 use std::alloc::AllocError;
 use std::test::*;
+use txn_events::Refusal;
 
 #[test]
 fn a_file_in_class_one(rt: HostRuntime) -> Result<(), Fail> {
@@ -191,7 +191,9 @@ fn what_is_refused(rt: HostRuntime) -> Result<(), Fail> {
 #[test]
 fn more_gaps_than_a_nak_asks_for(rt: HostRuntime) -> Result<(), Fail> {
     let mut script = String::new(rt.alloc());
-    script.push_str("pdu 20000a0001050207000000000301610162: Metadata-Recv 1 3 61 62; arm inactivity 0 4000\n")?;
+    script.push_str(
+        "pdu 20000a0001050207000000000301610162: Metadata-Recv 1 3 61 62; arm inactivity 0 4000\n",
+    )?;
     for gap in 0..65_u32 {
         write_segment(&mut script, gap + 1, 2 * gap + 1)?;
     }
@@ -264,7 +266,11 @@ fn what_opens(rt: HostRuntime) -> Result<(), Fail> {
         ("20000300010502065102", false),
     ] {
         let pdu = pdu_of(rt.alloc(), hex)?;
-        assert_eq!(rt; ReceiverCore::may_open(RECEIVED, &pdu), expected, "at {hex}");
+        assert_eq!(rt;
+            ReceiverCore::may_open(RECEIVED, &pdu),
+            expected,
+            "at {hex}"
+        );
     }
     Ok(())
 }

@@ -2,9 +2,9 @@
 use crate::ends::{SENT, sends};
 use crate::setting::params;
 use cfdp_types::{Class, EntityId, PutRequest};
-use txn_events::Refusal;
 use sender_core::SenderCore;
 use std::test::*;
+use txn_events::Refusal;
 
 #[test]
 fn a_file_in_class_one(rt: HostRuntime) -> Result<(), Fail> {
@@ -147,7 +147,15 @@ fn too_large_a_file(rt: HostRuntime) -> Result<(), Fail> {
         "pump: 24000a0002040107000040000001610162",
     )?;
     file.push(0)?;
-    let request = PutRequest::new(rt.alloc(), EntityId(1), Class::One, b"a", b"b", &[], file.as_slice())?;
+    let request = PutRequest::new(
+        rt.alloc(),
+        EntityId(1),
+        Class::One,
+        b"a",
+        b"b",
+        &[],
+        file.as_slice(),
+    )?;
     let opened = SenderCore::open(rt.alloc(), SENT, &request, params(&[], &[])?);
     assert!(rt; matches!(opened, Err(Refusal::TooLarge)));
     Ok(())

@@ -1,12 +1,11 @@
 //! What an event is answered, as a text: the PDUs in hex, the indications, what is done with the timers
 //! and the stamp of the deposit, with semicolons between; or why it is refused.
 use cfdp_types::{Condition, Deposit, Image, Octets, TimerKind, TimerOp, TxnKey};
-use txn_events::Answer;
 use indications::Indication;
 use pdu_codec::encode;
 use pdu_values::Pdu;
-use txn_events::Refusal;
 use std::alloc::{AllocError, Global};
+use txn_events::{Answer, Refusal};
 
 /// The text of a refusal.
 pub(crate) fn refused(alloc: Global, refusal: Refusal) -> Result<String, AllocError> {
@@ -25,7 +24,11 @@ pub(crate) fn image_text(alloc: Global, image: &Image) -> Result<String, AllocEr
 }
 
 /// The text of an answer of the transaction with a key.
-pub(crate) fn answer_text(alloc: Global, key: TxnKey, answer: &Answer) -> Result<String, AllocError> {
+pub(crate) fn answer_text(
+    alloc: Global,
+    key: TxnKey,
+    answer: &Answer,
+) -> Result<String, AllocError> {
     let mut text = String::new(alloc);
     for pdu in answer.pdus.as_slice() {
         separate(&mut text)?;

@@ -44,13 +44,7 @@ impl Numbers {
     }
 
     /// The same, unless it is above the greatest.
-    pub fn up_to(
-        &self,
-        greatest: u64,
-        user: usize,
-        lane: usize,
-        last: Option<u64>,
-    ) -> Option<u64>
+    pub fn up_to(&self, greatest: u64, user: usize, lane: usize, last: Option<u64>) -> Option<u64>
         requires { 0 < self.now.users }
         ensures some { IfSome result (λ number. (number ≡ number_after self.now user lane last) × (number ≤ greatest)) }
         ensures none { IfNone result (greatest < number_after self.now user lane last) }

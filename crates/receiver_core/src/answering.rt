@@ -2,15 +2,15 @@
 ghost use Rattle.std.specs.Prelude.{◌≡◌, ◌<◌, IfOk, All, map};
 ghost use Rattle.receiver_table.specs.Answers.{segment_told};
 
-use reception_parts::control::ControlBlock;
-use reception_parts::examine::look;
-use reception_parts::file_change::FileChange;
 use crate::receiver::ReceiverCore;
-use reception_parts::response::Response;
 use cfdp_types::{ChecksumType, Class, Condition, Delivery, FileStatus, TimerKind};
 use gap_list::Run;
 use indications::{Indication, Indications};
 use pdu_values::{Body, Eof, Metadata, Prompt};
+use reception_parts::control::ControlBlock;
+use reception_parts::examine::look;
+use reception_parts::file_change::FileChange;
+use reception_parts::response::Response;
 use std::alloc::{AllocError, Global};
 use txn_events::What;
 

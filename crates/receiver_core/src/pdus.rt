@@ -2,16 +2,16 @@
 ghost use Rattle.std.specs.Prelude.{◌≡◌, if◌then◌else◌};
 ghost use Rattle.pdu_values.specs.declared.bodies.TransactionStatus.TheVariants as status;
 
-use reception_parts::control::ControlBlock;
-use reception_parts::nak::nak;
-use reception_parts::file_change::FileChange;
 use crate::receiver::ReceiverCore;
-use reception_parts::response::Response;
 use cfdp_types::Condition;
 use cfdp_types::limits::NAK_REQUESTS;
 use pdu_values::{
     Ack, Acknowledged, Body, Direction, Finished, Header, KeepAlive, Pdu, TransactionStatus,
 };
+use reception_parts::control::ControlBlock;
+use reception_parts::file_change::FileChange;
+use reception_parts::nak::nak;
+use reception_parts::response::Response;
 use std::alloc::AllocError;
 use txn_events::Pdus;
 

@@ -1,12 +1,12 @@
 //! How an event is planned.
-use reception_parts::control::ControlBlock;
-use reception_parts::file_change::FileChange;
 use crate::plan::Plan;
 use crate::receiver::ReceiverCore;
-use reception_parts::response::Response;
-use reception_parts::steps::{changes, next, with_event};
 use cfdp_types::Deposit;
 use pdu_values::{Body, FileData, Metadata};
+use reception_parts::control::ControlBlock;
+use reception_parts::file_change::FileChange;
+use reception_parts::response::Response;
+use reception_parts::steps::{changes, next, with_event};
 use std::alloc::AllocError;
 use txn_events::{Answer, Refusal, TimerChanges, TimerContext, TimerOps, What, operations};
 

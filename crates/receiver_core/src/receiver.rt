@@ -4,11 +4,11 @@ ghost use Rattle.pdu_values.specs.Spelling.{HeaderFits};
 ghost use Rattle.reception_parts.specs.ControlBlock.{IsSound};
 ghost use Rattle.reception_parts.specs.Offsets.{IsInside};
 
-use reception_parts::control::ControlBlock;
 use crate::plan::Plan;
-use reception_parts::received_file::ReceivedFile;
 use cfdp_types::{Params, TxnKey};
 use pdu_values::{Header, Metadata};
+use reception_parts::control::ControlBlock;
+use reception_parts::received_file::ReceivedFile;
 use std::alloc::Global;
 use txn_events::Answer;
 

@@ -2,13 +2,13 @@
 ghost use Rattle.std.specs.Prelude.{◌≡◌};
 ghost use Rattle.receiver_table.specs.Answers as table;
 
-use reception_parts::control::ControlBlock;
-use reception_parts::examine::Finding;
 use crate::receiver::ReceiverCore;
-use reception_parts::response::Response;
 use cfdp_types::{Class, Condition, Delivery, EntityId, FileStatus, Handler, Role, TimerKind};
 use indications::{Indication, Indications};
 use pdu_values::Finished;
+use reception_parts::control::ControlBlock;
+use reception_parts::examine::Finding;
+use reception_parts::response::Response;
 use std::alloc::AllocError;
 
 impl ReceiverCore {

@@ -67,12 +67,7 @@ fn last_end(requests: &[SegmentRequest]) -> u32
 /// The NAK that asks for the Metadata, where it is not there, and for the runs, as many as it may
 /// hold. Its scope ends where the rest of the file does, or with the last request where some are left
 /// out.
-pub fn nak(
-    alloc: Global,
-    has_metadata: bool,
-    scope: u32,
-    runs: &[Run],
-) -> Result<Nak, AllocError>
+pub fn nak(alloc: Global, has_metadata: bool, scope: u32, runs: &[Run]) -> Result<Nak, AllocError>
     ensures value { IfOk result (λ nak. nak ≡ nak_with has_metadata scope runs.now) }
     ensures few { IfOk result (λ nak. length nak.requests ≤ NAK_REQUESTS) }
 {

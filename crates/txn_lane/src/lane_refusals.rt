@@ -9,8 +9,8 @@ ghost use Rattle.txn_events.specs.declared.event.Event.TheVariants.{On};
 ghost use Rattle.lane_table.specs.Steps.{echo_to};
 ghost use Rattle.txn_lane.specs.LaneCode.{refused_by_key, refused_put};
 
-use lane_table::Refused;
 use cfdp_types::{Class, Condition, EntityId, TxnKey};
+use lane_table::Refused;
 use pdu_values::{Ack, Acknowledged, Body, Direction, Header, Pdu, TransactionStatus};
 use txn_events::{Refusal, What};
 

@@ -13,15 +13,14 @@ ghost use Rattle.lane_table.specs.Logs.{to_sender};
 ghost use Rattle.txn_lane.specs.RunningCode.{IsStepOf, IsOpenedBy, IsStarted, IsGoing, IsUnmoved, GoesOn, MayCommit};
 ghost use Rattle.txn_lane.specs.Stepping.{IsNotCarried, IsGivenBack};
 
-use lane_table::Done;
 use crate::handing::{bundle_for, hand_over};
 use crate::outlet::Outlet;
 use crate::running::{Running, Step};
 use cfdp_types::{Params, PutRequest, TxnKey};
 use indications::Bundle;
-use txn_events::Answer;
+use lane_table::Done;
 use std::alloc::Global;
-use txn_events::{Refusal, What};
+use txn_events::{Answer, Refusal, What};
 
 /// What a step gives, but for what its user is told.
 pub(crate) fn done(key: TxnKey, answer: Answer) -> Done

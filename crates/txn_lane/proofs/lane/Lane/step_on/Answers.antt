@@ -39,8 +39,11 @@ returns-in_err-answer-clause-left g c =
     (sym c.self.view_is) c.self.invariant c.in-Some.is c.requires.passes.keyed c.requires.passes.passed in
     let found = going.found in
     let says = says_same c.in-Some.running found.sending found.front (happens c.args.what.now) found.same found.stood in
-    rw (p.1, p.2) (record { same = search rules; why_not = why_not g.O.Outlet.returns c.args.outlet.now c.advance.new.outlet c.args.self.now event c.args.key found.sending found.front c.address-address.result.user c.address-address.result.lane c.in_err-answer.field-0.0 going.meets
-    (subst (λ r. IsNotCarried g.O.Outlet.returns c.args.outlet.now c.advance.new.outlet c.address-address.result.user c.address-address.result.lane c.args.key r c.in_err-answer.field-0.0) says c.in_err-answer.ensures.refused) })
+    rw (p.1, p.2) (record {
+      same = search rules;
+      why_not = why_not g.O.Outlet.returns c.args.outlet.now c.advance.new.outlet c.args.self.now event c.args.key found.sending found.front c.address-address.result.user c.address-address.result.lane c.in_err-answer.field-0.0 going.meets
+          (subst (λ r. IsNotCarried g.O.Outlet.returns c.args.outlet.now c.advance.new.outlet c.address-address.result.user c.address-address.result.lane c.args.key r c.in_err-answer.field-0.0) says c.in_err-answer.ensures.refused);
+    })
 
 pub invariant_of-self-2 : goal.invariant_of-self-2
 invariant_of-self-2 g c =

@@ -37,8 +37,11 @@ returns-in_err-running-clause-left g c =
     let meets = meets_put i.numbers i.greatest i.user i.lane i.source i.last i.before (journal_of i.running) c.in-Some.seq c.args.self.now c.args.request.now c.args.params
     (sym c.self.view_is) c.self.invariant.sound c.requires.passed c.in-Some.ensures.held.0 in
     let says = says_put sending c.args.request.now c.args.params in
-    rw (p.1, p.2) (record { same = search rules; why_not = why_not g.O.Outlet.returns c.args.outlet.now c.start.new.outlet c.args.self.now event key sending [] c.address.result.user c.address.result.lane c.in_err-running.field-0.0 meets
-    (subst (λ r. IsNotCarried g.O.Outlet.returns c.args.outlet.now c.start.new.outlet c.address.result.user c.address.result.lane key r c.in_err-running.field-0.0) says c.in_err-running.ensures.refused) })
+    rw (p.1, p.2) (record {
+      same = search rules;
+      why_not = why_not g.O.Outlet.returns c.args.outlet.now c.start.new.outlet c.args.self.now event key sending [] c.address.result.user c.address.result.lane c.in_err-running.field-0.0 meets
+          (subst (λ r. IsNotCarried g.O.Outlet.returns c.args.outlet.now c.start.new.outlet c.address.result.user c.address.result.lane key r c.in_err-running.field-0.0) says c.in_err-running.ensures.refused);
+    })
 
 pub invariant_of-self : goal.invariant_of-self
 invariant_of-self g c =
