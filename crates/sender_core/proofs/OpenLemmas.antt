@@ -3,10 +3,7 @@ use Rattle.cfdp_types.specs.declared.limits.TheConstants.{FILE_OCTETS}
 use Rattle.std.proofs.Common.{◌≡◌, ℕ, ◌<◌, ◌≤◌, Bool, true, false, ◌&&◌, ◌||◌, nat_lt, List, [], ◌∷◌, length, None, Ok, eqb, refl, sym, ap, ◌∙◌, arith, inl, inr}
 use Rattle.std.proofs.lemmas.Bool.{cases_Bool, ltb-true, le-ltb, lt-ltb}
 use Rattle.std.specs.Prelude.{IsOk, Err}
-use Rattle.cfdp_types.specs.declared.timer_op.TimerOp.{TimerOp}
 use Rattle.gap_list.specs.declared.run.Run.{Run}
-use Rattle.indications.specs.declared.indication.Indication.{Indication}
-use Rattle.pdu_values.specs.Pdu.{PduValue}
 use Rattle.txn_events.specs.declared.refusal.Refusal.TheVariants as refusal
 use Rattle.sender_core.specs.Core.{IsPlanOf, remainder_of, plan_answer, sending_of, shown}
 use Rattle.sender_core.specs.declared.plan.Remainder.TheVariants as remainder

@@ -18,23 +18,19 @@ use Rattle.cfdp_types.specs.declared.names.Handler.{Handler}
 use Rattle.cfdp_types.specs.declared.names.Handler.TheVariants as handler
 use Rattle.cfdp_types.specs.declared.names.TimerKind.{TimerKind}
 use Rattle.cfdp_types.specs.declared.names.TimerKind.TheVariants.{Ack, Nak, Check, Inactivity}
-use Rattle.cfdp_types.specs.declared.timer_op.TimerOp.{TimerOp}
 use Rattle.indications.specs.Words.{is_end}
 use Rattle.indications.specs.Words.{paused_after}
-use Rattle.indications.specs.declared.indication.Indication.{Indication}
 use Rattle.txn_events.specs.declared.event.What.{What}
 use Rattle.txn_events.specs.declared.event.What.TheVariants as what
 use Rattle.txn_events.specs.declared.refusal.Refusal.{Refusal}
 use Rattle.txn_events.specs.declared.refusal.Refusal.TheVariants as refusal
 use Rattle.txn_events.specs.Events.{is_of_other_class, is_stale_timer, needs_room}
-use Rattle.pdu_values.specs.Pdu.{PduValue}
 use Rattle.pdu_values.specs.declared.bodies.Eof.{Eof}
 use Rattle.sender_table.specs.Sending.{Sending, State, Event, happens, Entry, step, state_of, covers, asks_for, requests_of, eof_among, extent_of}
 use Rattle.sender_table.specs.Refusals.{refusal_of, is_stale_store, is_misplaced, is_full}
 use Rattle.sender_table.specs.Answers.{Response, cancel_response, fault_response, response_to, with_event, without_timers, with_timers, accepted_at, answer_at, effect_of}
 use Rattle.sender_core.specs.ControlBlock.{state_from, nowhere, IsSound, IsInside}
 use Rattle.txn_events.specs.Timers.{AreFew, stamp_of}
-use Rattle.txn_events.specs.declared.answer.Answer.{Answer}
 use Rattle.txn_events.proofs.AnswerLemmas.{answer_of_parts, same_answer}
 use Rattle.txn_events.proofs.TimerLemmas.{armed_follows, counted}
 use Rattle.sender_core.specs.Core.{shown, sending_of, pdus_of_response, IsResponse, IsNext, HoldsResponse, IsPlanOf, IsWhy, StandsAfter, effect_by, arming, remainder_of, remains_after, plan_answer}
