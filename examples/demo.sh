@@ -27,7 +27,7 @@ for number in $(seq 1 "$lines"); do
     name=$(printf %03d "$number")
     sed -n "${number}p" "$script"
     # What is printed for the lines up to this one, without what was printed for those before.
-    awk -v name="$name" '/^== / { on = $2 == name } on && !/^(== |case=)/' "$work/log" > "$work/answers"
+    awk -v name="$name" '/^== / { on = $2 == name } on && !/^(== |cases?=)/' "$work/log" > "$work/answers"
     tail -n +"$((shown + 1))" "$work/answers" | sed 's/^/        /'
     shown=$(wc -l < "$work/answers")
 done
