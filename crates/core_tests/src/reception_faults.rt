@@ -94,6 +94,17 @@ fn another_checksum_type(rt: HostRuntime) -> Result<(), Fail> {
     )
 }
 
+#[test]
+fn another_checksum_type_in_class_one(rt: HostRuntime) -> Result<(), Fail> {
+    receives(
+        &rt,
+        "
+        pdu 24000a0001050207010000000301610162: Metadata-Recv 1 3 61 62; Finished 11 Incomplete Discarded
+        pdu 3400070001050200000000616263: ended
+        ",
+    )
+}
+
 // The NAK is sent again, and at the limit there is a fault.
 #[test]
 fn what_never_comes(rt: HostRuntime) -> Result<(), Fail> {

@@ -28,6 +28,20 @@ fn a_file_in_class_one(rt: HostRuntime) -> Result<(), Fail> {
     )
 }
 
+#[test]
+fn an_empty_file(rt: HostRuntime) -> Result<(), Fail> {
+    receives(
+        &rt,
+        "
+        pdu 24000a0001050207000000000001610162: Metadata-Recv 1 0 61 62; arm inactivity 0 4000
+        pdu 24000a0001050204000000000000000000: EOF-Recv; disarm inactivity 1; deposit 1
+        image 1: image 61 62 -
+        stored 1 yes: Finished 0 Complete Retained
+        cancel: ended
+        ",
+    )
+}
+
 // What came first at an offset stays; a segment that covers a gap is told where it is new.
 #[test]
 fn overlapping_segments(rt: HostRuntime) -> Result<(), Fail> {
@@ -156,12 +170,36 @@ fn prompts(rt: HostRuntime) -> Result<(), Fail> {
 }
 
 #[test]
+fn a_prompt_before_the_names(rt: HostRuntime) -> Result<(), Fail> {
+    receives(
+        &rt,
+        "
+        pdu 3000070001050200000000616263: File-Segment-Recv 0 3; arm inactivity 0 4000
+        pdu 200002000105020900: 280011000105020800000000000000030000000000000000
+        cancel: 2800050001050205f4060102; arm ack 2 1000; disarm inactivity 2
+        ",
+    )
+}
+
+#[test]
 fn cancelled_by_the_sender(rt: HostRuntime) -> Result<(), Fail> {
     receives(
         &rt,
         "
         pdu 20000d0001050204f00000000000000000060101: 280003000105020640f2; Finished 15 Incomplete Discarded
         pdu 20000a0001050207000000000301610162: ended
+        ",
+    )
+}
+
+#[test]
+fn cancelled_by_the_sender_in_class_one(rt: HostRuntime) -> Result<(), Fail> {
+    receives(
+        &rt,
+        "
+        pdu 24000a0001050207000000000301610162: Metadata-Recv 1 3 61 62; arm inactivity 0 4000
+        pdu 24000d0001050204f00000000000000000060101: Finished 15 Incomplete Discarded; disarm inactivity 1
+        pdu 24000a0001050207000000000301610162: ended
         ",
     )
 }

@@ -21,6 +21,13 @@ fn suspended() -> Indication {
     }
 }
 
+fn abandoned(progress: u32) -> Indication {
+    Indication::Abandoned {
+        condition: Condition::INACTIVITY,
+        progress,
+    }
+}
+
 fn metadata(alloc: Global) -> Result<Indication, AllocError> {
     Ok(Indication::MetadataRecv {
         source: EntityId(1),
@@ -29,6 +36,28 @@ fn metadata(alloc: Global) -> Result<Indication, AllocError> {
         destination_name: Octets::from_slice(alloc, b"b")?,
         messages: Messages::new(alloc),
     })
+}
+
+#[test]
+fn receiver_with_room_for_three_segments(rt: HostRuntime) -> Result<(), Fail> {
+    let mut reader = WordReader::with_room(rt.alloc(), Side::Receiver, 3)?;
+    assert_eq!(rt; reader.next(&segment(0, 4)), Ok(()));
+    assert_eq!(rt; reader.next(&segment(8, 4)), Ok(()));
+    assert_eq!(rt; reader.next(&segment(2, 4)), Err(NotAWord));
+    assert_eq!(rt; reader.next(&segment(4, 4)), Ok(()));
+    assert_eq!(rt; reader.next(&segment(12, 1)), Err(NotAWord));
+    assert!(rt; !reader.at_end());
+    assert_eq!(rt; reader.next(&abandoned(12)), Ok(()));
+    assert!(rt; reader.at_end());
+    for later in [
+        segment(12, 1),
+        suspended(),
+        finished(Delivery::Incomplete),
+        abandoned(12),
+    ] {
+        assert_eq!(rt; reader.next(&later), Err(NotAWord));
+    }
+    Ok(())
 }
 
 #[test]
