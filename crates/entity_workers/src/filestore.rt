@@ -39,7 +39,7 @@ pub trait Filestore {
     // what a deposit of a name and octets does to the store
     ghost deposits: { Self → List ℕ → List ℕ → Result (Unit {0}) StoreFault → Self → Type 0 };
 
-    /// Keeps a file under a name, in place of one that had the name before.
+    /// Keeps a file under a name. What becomes of one that had the name before, the store says.
     fn deposit(&mut self, name: &[u8], octets: &[u8]) -> Result<(), StoreFault>
         requires { tried self.old < u64.MAX }
         ensures tried { tried self.new ≡ tried self.old + 1 }

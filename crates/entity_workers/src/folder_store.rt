@@ -13,7 +13,8 @@ use std::{fs, io};
 const PART_NAMES: u32 = 1_000;
 
 /// A store that keeps each file in one folder, under its name. A file is written beside its place and
-/// renamed once it is whole, so that no half file is ever seen under its name.
+/// renamed once it is whole, so that no half file is ever seen under its name. Until then its name begins
+/// with `.part-`: such names are the store's own, and bad names for what comes.
 #[derive(Drop)]
 pub struct FolderStore<R: Files + AllocGlobal + Drop> {
     rt: R,
@@ -84,11 +85,15 @@ fn file_name(name: &[u8]) -> Option<&str>
     str::from_utf8(name).ok()
 }
 
-// A name that stays in its folder.
+// A name that stays in its folder, and that no part has.
 fn is_plain(name: &[u8]) -> bool
     ensures { result ≡ is_plain_name name.now }
 {
-    !name.is_empty() && name != b".".as_slice() && name != b"..".as_slice() && !has_separator(name)
+    !name.is_empty()
+        && name != b".".as_slice()
+        && name != b"..".as_slice()
+        && !name.starts_with(b".part-")
+        && !has_separator(name)
 }
 
 // A slash, or the octet that ends a name.

@@ -1,4 +1,4 @@
-//! How octets read as protocol data units, and which fault comes first: the definitions and their laws.
+//! How octets read as protocol data units, and which fault comes first: the definitions.
 #![tactic(auto)]
 
 mod fault;

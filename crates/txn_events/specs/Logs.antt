@@ -6,7 +6,7 @@ use Rattle.txn_events.specs.declared.refusal.Refusal.TheVariants as refusal
 use Rattle.txn_events.specs.declared.answer.Answer.{Answer}
 
 -- an accepted event with its answer; a log has the newest entry first, so that the entries before an
--- entry are the list behind it, and its place is their number
+-- entry are the list behind it
 pub record Entry (E : Type 0) : Type 0 where
   pub event : E
   pub answer : Answer
