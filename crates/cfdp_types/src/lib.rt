@@ -25,6 +25,3 @@ pub use octets::Octets;
 pub use params::{ExpirationLimits, FaultTables, HeaderLengths, Params, TimerLengths};
 pub use put_request::{PutFault, PutRequest};
 pub use timer_op::TimerOp;
-
-#[cfg(test)]
-mod tests;

@@ -8,6 +8,3 @@ mod memory_store;
 pub use filestore::{Filestore, StoreFault};
 pub use folder_store::FolderStore;
 pub use memory_store::{MemoryStore, StoredFile};
-
-#[cfg(test)]
-mod tests;

@@ -10,6 +10,3 @@ pub use bundle::Bundle;
 pub use indication::{Indication, Indications, Phase};
 pub use kind::IndicationKind;
 pub use side::Side;
-
-#[cfg(test)]
-mod tests;

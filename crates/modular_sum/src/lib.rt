@@ -29,6 +29,3 @@ fn term_of(offset: usize, octet: u8) -> u32
 {
     u32::from(octet) << (8 * (3 - offset % 4))
 }
-
-#[cfg(test)]
-mod tests;

@@ -18,6 +18,3 @@ pub use pdu_values::{
     Pdu, Prompt, SegmentRequest, SegmentRequests, TransactionStatus,
 };
 pub use txn_events::{Event, Refusal, What};
-
-#[cfg(test)]
-mod tests;

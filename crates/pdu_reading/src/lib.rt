@@ -6,6 +6,3 @@ mod fixed_header;
 
 pub use fault::DecodeFault;
 pub use fixed_header::FixedHeader;
-
-#[cfg(test)]
-mod tests;

@@ -17,6 +17,3 @@ pub use directive::Directive;
 pub use pdu::{Body, Direction, Header, Pdu};
 pub use requests::{SegmentRequest, SegmentRequests};
 pub use widths::octets_for;
-
-#[cfg(test)]
-mod tests;

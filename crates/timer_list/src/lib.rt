@@ -8,6 +8,3 @@ mod slots;
 
 pub use armed::Armed;
 pub use list::TimerList;
-
-#[cfg(test)]
-mod tests;

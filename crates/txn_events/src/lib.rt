@@ -21,6 +21,3 @@ pub use lists::{Pdus, TimerOps};
 pub use refusal::Refusal;
 pub use telling::{has_fault, has_resumed, paused_after};
 pub use timers::{CountResets, Stamps, TimerChange, TimerChanges, TimerContext, Tries, operations};
-
-#[cfg(test)]
-mod tests;

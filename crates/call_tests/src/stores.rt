@@ -1,4 +1,4 @@
-use crate::{Filestore, FolderStore, MemoryStore, StoreFault};
+use entity_workers::{Filestore, FolderStore, MemoryStore, StoreFault};
 use std::fs;
 use std::rt::Files;
 use std::test::*;

@@ -1,4 +1,4 @@
-use super::*;
+use pdu_codec::{Body, DecodeFault, Header, Pdu, decode, encode, laws};
 use std::alloc::{AllocError, Global};
 use std::test::*;
 

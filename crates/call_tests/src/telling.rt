@@ -1,5 +1,5 @@
-use crate::{Indication, IndicationKind, Indications};
 use cfdp_types::{Condition, Delivery, EntityId, FileStatus, Messages, Octets};
+use indications::{Indication, IndicationKind, Indications};
 use std::test::*;
 
 #[test]

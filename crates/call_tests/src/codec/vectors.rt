@@ -1,6 +1,6 @@
 //! Octets, and what they are: worked by hand from the formats.
 
-use crate::DecodeFault::{
+use pdu_codec::DecodeFault::{
     self, BadVersion, CrcPresent, FieldCut, LargeFile, LengthMismatch, NoFileName, TooShort,
     UnknownDirective,
 };

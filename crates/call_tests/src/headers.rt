@@ -1,4 +1,4 @@
-use crate::{DecodeFault, FixedHeader};
+use pdu_reading::{DecodeFault, FixedHeader};
 use std::test::*;
 
 #[test]

@@ -1,4 +1,4 @@
-use crate::{
+use cfdp_types::{
     ChecksumType, Class, Condition, EntityId, ExpirationLimits, FaultTable, FaultTables, Handler,
     HandlerNotAllowed, HeaderLengths, Image, Messages, Octets, Params, PutFault, PutRequest, Role,
     TimerKind, TimerLengths,

@@ -1,6 +1,6 @@
-use crate::{Armed, TimerList};
 use cfdp_types::{EntityId, TimerKind, TimerOp, TxnKey};
 use std::test::*;
+use timer_list::{Armed, TimerList};
 
 const KEY: TxnKey = TxnKey {
     source: EntityId(1),

@@ -1,13 +1,13 @@
-use crate::{
-    CountResets, Event, Pdus, Refusal, Stamps, TimerChange, TimerChanges, TimerContext, TimerOps,
-    Tries, What, body_opens, has_fault, has_resumed, is_body_too_large, is_expiration,
-    is_of_other_class, is_pdu, is_stale_timer, is_too_large, needs_room, operations, paused_after,
-};
 use cfdp_types::limits::FILE_OCTETS;
 use cfdp_types::{Class, Condition, EntityId, TimerKind, TimerLengths, TimerOp, TxnKey};
 use indications::Indication;
 use pdu_values::{Body, Direction, Eof, Header, KeepAlive, Pdu};
 use std::test::*;
+use txn_events::{
+    CountResets, Event, Pdus, Refusal, Stamps, TimerChange, TimerChanges, TimerContext, TimerOps,
+    Tries, What, body_opens, has_fault, has_resumed, is_body_too_large, is_expiration,
+    is_of_other_class, is_pdu, is_stale_timer, is_too_large, needs_room, operations, paused_after,
+};
 
 // a Keep Alive of class 2
 fn keep_alive() -> Pdu {

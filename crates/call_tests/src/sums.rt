@@ -1,4 +1,4 @@
-use super::*;
+use modular_sum::{Running, sum_of};
 
 #[test]
 fn sums_of_files(rt: HostRuntime) {

@@ -1,9 +1,9 @@
-use crate::{
-    Ack, Acknowledged, Body, Direction, Directive, Eof, FileData, Finished, Header, KeepAlive,
-    Metadata, Nak, Pdu, SegmentRequest, SegmentRequests, TransactionStatus, octets_for,
-};
 use cfdp_types::{
     ChecksumType, Class, Condition, Delivery, EntityId, FileStatus, Messages, Octets,
+};
+use pdu_values::{
+    Ack, Acknowledged, Body, Direction, Directive, Eof, FileData, Finished, Header, KeepAlive,
+    Metadata, Nak, Pdu, SegmentRequest, SegmentRequests, TransactionStatus, octets_for,
 };
 use std::test::*;
 

@@ -1,0 +1,22 @@
+//! The public calls of the crates that hold types, numbers, sets, PDUs and what an entity keeps: each as its
+//! callers see it.
+#![tactic(auto)]
+
+#[cfg(test)]
+mod codec;
+#[cfg(test)]
+mod events;
+#[cfg(test)]
+mod headers;
+#[cfg(test)]
+mod pdus;
+#[cfg(test)]
+mod stores;
+#[cfg(test)]
+mod sums;
+#[cfg(test)]
+mod telling;
+#[cfg(test)]
+mod timers;
+#[cfg(test)]
+mod types;
