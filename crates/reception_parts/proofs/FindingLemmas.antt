@@ -1,7 +1,8 @@
 -- The look at the file over what is kept is that of the table.
 use Rattle.std.proofs.Common.{◌≡◌, ℕ, ◌+◌, ◌<◌, ◌≤◌, Bool, true, false, not, ◌&&◌, ◌==◌, nat_lt, if◌then◌else◌, List, [], ◌∷◌, length, get_or, Option, Some, None, eqb, refl, sym, ap, ◌∙◌, arith, inl, inr, IsTrue, ◌↔◌, zero, suc}
 use Rattle.std.proofs.lemmas.Bool.{cases_Bool, eqb-true, ltb-false}
-use Rattle.std.specs.Prelude.{is_some, unwrap_or}
+use Rattle.std.proofs.lemmas.Option.{slice_get-get_or}
+use Rattle.std.specs.Prelude.{is_some}
 use Rattle.std.specs.Option.{option_map}
 use Rattle.gap_list.specs.Runs.{missing_runs}
 use Rattle.gap_list.proofs.SetLemmas.{missing_runs-full, missing_runs-same, full_from_missing_runs}
@@ -11,6 +12,7 @@ use Rattle.modular_sum.proofs.PieceLemmas.{IsSumOf-full}
 use Rattle.pdu_values.specs.declared.bodies.Metadata.{Metadata}
 use Rattle.pdu_values.specs.declared.bodies.Eof.{Eof}
 use Rattle.receiver_table.specs.Reception.{Reception, State, is_suspended}
+use Rattle.receiver_table.proofs.FileOctets.{octets_from-at, octets_from-length}
 use Rattle.receiver_table.specs.Answers.{stores, fault_response, waits_for_rest, looks_at_eof, examines, is_unsupported, is_whole, agrees, missing_below, octets_from}
 use Rattle.reception_parts.specs.ControlBlock.{state_from}
 use Rattle.reception_parts.specs.Finding.{is_unsupported_type, is_full, compared, finding_at_eof, finding_of, found_response}
@@ -52,30 +54,15 @@ and_second : (a b : Bool) → (a && b) ≡ true → b ≡ true
 and_second true b e = e
 and_second false b e = absurd cc
 
-some_is : (o : Option ℕ) → is_some o ≡ true → o ≡ Some (unwrap_or o 0)
-some_is None e = absurd cc
-some_is (Some x) e = refl
-
-octets_length : (received : ℕ → Option ℕ) (k n : ℕ) → length (octets_from received k n) ≡ n
-octets_length received k zero = refl
-octets_length received k (suc n) = ap suc (octets_length received (k + 1) n)
-
-octet_is : (received : ℕ → Option ℕ) (k n i : ℕ) → i < n → get_or (octets_from received k n) i 0 ≡ unwrap_or (received (k + i)) 0
-octet_is received k zero i below = absurd (omega (arith, below))
-octet_is received k (suc n) zero below = let e : k + 0 ≡ k = omega arith in rw e refl
-octet_is received k (suc n) (suc i) below =
-    let e : k + 1 + i ≡ k + suc i = omega arith in
-    octet_is received (k + 1) n i (omega (arith, below)) ∙ ap (λ j. unwrap_or (received j) 0) e
-
 -- where nothing is missing below a size, and nothing came from there on, the checksum is that of the whole file
 word_is : (received : ℕ → Option ℕ) (size word : ℕ) → ((i : ℕ) → i < size → is_some (received i) ≡ true) → ((i : ℕ) → size ≤ i → received i ≡ None)
     → IsSumOf received word → word ≡ sum (octets_from received 0 size)
 word_is received size word there past is =
-    let count : length (octets_from received 0 size) ≡ size = octets_length received 0 size in
+    let count : length (octets_from received 0 size) ≡ size = octets_from-length received 0 size in
     IsSumOf-full received (octets_from received 0 size) word
     (λ i below.
     let inside : i < size = omega (arith, count, below) in
-    some_is (received i) (there i inside) ∙ ap Some (sym (octet_is received 0 size i inside ∙ ap (λ j. unwrap_or (received j) 0) (omega arith))))
+    sym (octets_from-at received 0 size i i (omega arith) inside (there i inside)) ∙ slice_get-get_or (octets_from received 0 size) i 0 below)
     (λ i from. past i (omega (arith, count, from)))
     is
 
