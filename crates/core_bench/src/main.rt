@@ -1,0 +1,52 @@
+//! Runs one scenario of a core or of the timers at a size that the caller names, and prints what came of
+//! it. `make bench` measures these runs.
+#![tactic(auto)]
+
+mod datagrams;
+mod receptions;
+mod sendings;
+mod setting;
+mod timers;
+
+use anyhow::{Context, Result, bail};
+use std::alloc::Global;
+use std::env;
+
+fn main(rt: HostRuntime) -> Result<()> {
+    let mut words = env::args(&rt)?.skip(1);
+    let scenario = words.next().context("usage: core_bench SCENARIO SIZE")?;
+    let size = words.next().context("usage: core_bench SCENARIO SIZE")?;
+    let counted = run(rt.alloc(), scenario.as_str(), size.parse::<u32>()?)?;
+    rt.println(counted)?;
+    Ok(())
+}
+
+// Runs a scenario, and counts what it gave.
+fn run(alloc: Global, scenario: &str, size: u32) -> Result<u64> {
+    match scenario {
+        "eof-last" => receptions::eof_last(alloc, size),
+        "eof-first-rising" => receptions::eof_first(alloc, size, first_first),
+        "eof-first-falling" => receptions::eof_first(alloc, size, last_first),
+        "eof-first-mixed" => receptions::eof_first(alloc, size, mixed),
+        "single-octets-falling" => receptions::single_octets_falling(alloc, size),
+        "prompts" => receptions::prompts(alloc, size),
+        "naks" => sendings::naks(alloc, size),
+        "timers" => timers::turns(alloc, size),
+        _ => bail!("there is no scenario {scenario}"),
+    }
+}
+
+// The place of the segment that comes after so many others.
+fn first_first(number: u32, _count: u32) -> u32 {
+    number
+}
+
+fn last_first(number: u32, count: u32) -> u32 {
+    count.saturating_sub(number).saturating_sub(1)
+}
+
+// Each place once, where the count is even and no multiple of 5 or 7.
+fn mixed(number: u32, count: u32) -> u32 {
+    let scattered = u64::from(number) * 42_875;
+    scattered.checked_rem(u64::from(count)).unwrap_or(0) as u32
+}

@@ -1,0 +1,43 @@
+//! Timers that are armed again and again.
+use anyhow::Result;
+use cfdp_types::{EntityId, TimerKind, TimerOp, TxnKey};
+use std::alloc::Global;
+use timer_list::TimerList;
+
+/// Turns in which each tenth timer is armed again.
+const TURNS: u32 = 100;
+
+/// So many armed timers; in each turn each tenth is armed again, and the list is asked what is due.
+pub(crate) fn turns(alloc: Global, count: u32) -> Result<u64> {
+    let mut timers = TimerList::new(alloc);
+    for seq in 0..count {
+        timers.apply(arming(seq, 0), 0)?;
+    }
+    let mut due = 0u64;
+    for turn in 1..=TURNS {
+        for seq in (turn % 10..count).step_by(10) {
+            timers.apply(arming(seq, turn), u64::from(turn))?;
+        }
+        if timers.due(u64::from(turn)).is_some() {
+            due = due.saturating_add(1);
+        }
+    }
+    while timers.due(u64::MAX).is_some() {
+        due = due.saturating_add(1);
+    }
+    Ok(due)
+}
+
+// The arming of a transaction's timer by a step.
+fn arming(seq: u32, stamp: u32) -> TimerOp {
+    let key = TxnKey {
+        source: EntityId(1),
+        seq: u64::from(seq),
+    };
+    TimerOp::Arm {
+        key,
+        kind: TimerKind::Ack,
+        stamp,
+        ms: 1000,
+    }
+}
