@@ -1,8 +1,6 @@
 -- Sessions are sound.
-use Rattle.std.proofs.Common.{◌≡◌, ℕ, Bool, true, false, cond, eqb, List, [], ◌∷◌, ◌++◌, Option, Some, None, Result, Ok, Err, refl, sym, ap, subst, ◌∙◌, ◌⊎◌, inl, inr, append-nil}
+use Rattle.std.proofs.Common.{◌≡◌, ℕ, Bool, true, false, cond, eqb, List, [], ◌∷◌, ◌++◌, Option, Some, None, Result, Ok, Err, refl, sym, ap, subst, ◌∙◌, inl, inr, append-nil}
 use Rattle.std.specs.Prelude.{slice_get, Contains}
-use Rattle.std.specs.List.{flat_map}
-use Rattle.std.proofs.lemmas.Bool.{cases_Bool}
 use Rattle.std.proofs.lemmas.List.Concat.{flat_map-append}
 use Rattle.cfdp_types.specs.declared.key.TxnKey.{TxnKey}
 use Rattle.pdu_values.specs.Pdu.{PduValue}
@@ -19,17 +17,16 @@ use Rattle.indications.specs.declared.indication.Indication.TheVariants as told
 use Rattle.narrow_reception.specs.declared.answer.Answer.{Answer}
 use Rattle.narrow_reception.specs.Log.{Entry, State, initial, state_of, issued}
 use Rattle.narrow_reception.specs.Table.{answer_at}
-use Rattle.narrow_reception.specs.Laws.{IsLegal}
 use Rattle.narrow_reception.proofs.Legal.{tells_words, completes_good}
 use Rattle.cfdp_replay.specs.declared.command.Command.{Command}
 use Rattle.cfdp_replay.specs.declared.command.Command.TheVariants.{Deliver, Stored, Take, Nothing}
 use Rattle.cfdp_replay.specs.declared.reply.StepRefusal.{StepRefusal}
 use Rattle.cfdp_replay.specs.declared.reply.Reply.{Reply}
 use Rattle.cfdp_replay.specs.Queue.{bundles_of, is_refused_by}
-use Rattle.cfdp_replay.specs.Session.{Session, fresh, given_by, given_for, given, held, answer_for, running_answer, is_same_key, opens, stepped, step_of, routed, delivered, route_refusal, key_of, taken_by, stored_step, is_known, answer_to, Answers}
-use Rattle.cfdp_replay.specs.Run.{PlaysLine, Plays}
+use Rattle.cfdp_replay.specs.Session.{Session, fresh, given_by, given_for, given, held, answer_for, running_answer, is_same_key, opens, stepped, step_of, routed, delivered, route_refusal, key_of, taken_by, is_known, answer_to, Answers}
+use Rattle.cfdp_replay.specs.Run.{Plays}
 use Rattle.indications.specs.LaneLists.{told_in}
-use Rattle.cfdp_replay.specs.Laws.{IsSound, TellsTruth, PlaysSoundly, PlaysTruly}
+use Rattle.cfdp_replay.specs.Laws.{IsSound, PlaysSoundly, PlaysTruly}
 use Rattle.cfdp_replay.proofs.SessionFacts.{is_same_key-true}
 
 -- a sound session has no log before a transaction is opened

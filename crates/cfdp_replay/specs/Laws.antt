@@ -1,5 +1,5 @@
 -- What holds of every session of a script.
-use Rattle.std.specs.Prelude.{◌≡◌, ℕ, List, [], Contains}
+use Rattle.std.specs.Prelude.{◌≡◌, ℕ, List, Contains}
 use Rattle.cfdp_types.specs.declared.names.Delivery.TheVariants.{Complete}
 use Rattle.cfdp_types.specs.declared.names.FileStatus.{FileStatus}
 use Rattle.indications.specs.LaneLists.{told_in}

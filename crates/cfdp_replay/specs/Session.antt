@@ -2,8 +2,6 @@
 use Rattle.std.specs.Prelude.{◌≡◌, ℕ, ◌+◌, Bool, true, false, ◌&&◌, ◌||◌, ◌==◌, not, if◌then◌else◌, List, [], ◌∷◌, ◌++◌, drop, slice_get, Option, Some, None, Result, Ok, Err, IsOk, ◌⊎◌}
 use Rattle.cfdp_types.specs.declared.key.TxnKey.{TxnKey}
 use Rattle.pdu_values.specs.Pdu.{PduValue, is_toward_sender}
-use Rattle.pdu_values.specs.declared.pdu.Body.{Body}
-use Rattle.pdu_values.specs.declared.pdu.Body.TheVariants as body
 use Rattle.pdu_reading.specs.Reading.{reading}
 use Rattle.txn_events.specs.Events.{body_opens}
 use Rattle.txn_events.specs.declared.event.What.{What}

@@ -1,5 +1,5 @@
 -- Worked configurations as whole texts.
-use Rattle.std.proofs.Common.{◌≡◌, ℕ, List, [], ◌∷◌, ◌++◌, Result, Ok, Err, codes, refl}
+use Rattle.std.proofs.Common.{◌≡◌, ℕ, List, [], ◌∷◌, ◌++◌, Ok, Err, codes, refl}
 use Rattle.toml.proofs.OnLiterals.{toml_on_literals}
 use Rattle.entity_config.specs.declared.fault.ConfigFault.TheVariants as fault
 use Rattle.entity_config.specs.declared.fault.Key.TheVariants as key

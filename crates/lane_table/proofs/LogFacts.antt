@@ -6,12 +6,10 @@ use Rattle.cfdp_types.specs.declared.key.TxnKey.{TxnKey}
 use Rattle.txn_events.specs.Refusal.{unless_refused}
 use Rattle.txn_events.specs.declared.event.What.{What}
 use Rattle.txn_events.specs.declared.event.What.TheVariants as what
-use Rattle.pdu_values.specs.declared.pdu.Body.{Body}
-use Rattle.pdu_values.specs.declared.pdu.Body.TheVariants as body
 use Rattle.indications.specs.declared.indication.Indication.{Indication}
 use Rattle.indications.specs.declared.side.Side.{Side}
 use Rattle.indications.specs.declared.side.Side.TheVariants.{Sender, Receiver}
-use Rattle.indications.specs.Words.{IsBegunOf, IsWordOf, is_transaction}
+use Rattle.indications.specs.Words.{IsBegunOf, IsWordOf}
 use Rattle.indications.specs.LaneLists.{side_by, IsBegunGroup, IsWordGroup}
 use Rattle.indications.proofs.LaneLemmas.{sender_side, receiver_side}
 use Rattle.indications.proofs.WordLemmas.{opens_sender}

@@ -1,5 +1,5 @@
 -- A transaction at either of its ends, with its log, and what a lane asks of both in the same words.
-use Rattle.std.specs.Prelude.{ℕ, Bool, true, false, if◌then◌else◌, List, [], ◌∷◌, map, Option, Some, None, Result, Err}
+use Rattle.std.specs.Prelude.{ℕ, Bool, if◌then◌else◌, List, [], ◌∷◌, map, Option, Some, None, Result, Err}
 pub use Rattle.txn_events.specs.declared.answer.Answer.{Answer}
 pub use Rattle.txn_events.specs.Events.{body_opens}
 use Rattle.txn_events.specs.Logs.{empty_answer}
@@ -9,8 +9,6 @@ use Rattle.txn_events.specs.declared.event.What.{What}
 use Rattle.txn_events.specs.declared.event.What.TheVariants as what
 use Rattle.txn_events.specs.declared.refusal.Refusal.{Refusal}
 use Rattle.txn_events.specs.declared.refusal.Refusal.TheVariants.{StaleStored}
-use Rattle.pdu_values.specs.declared.pdu.Body.{Body}
-use Rattle.pdu_values.specs.declared.pdu.Body.TheVariants as body
 use Rattle.indications.specs.declared.indication.Indication.{Indication}
 use Rattle.indications.specs.declared.side.Side.{Side}
 use Rattle.indications.specs.declared.side.Side.TheVariants.{Sender, Receiver}
@@ -19,7 +17,6 @@ use Rattle.sender_table.specs.Refusals as sender_refusals
 use Rattle.sender_laws.specs.LegalSendings as sender_logs
 use Rattle.receiver_table.specs.Reception as receiver
 use Rattle.receiver_table.specs.Refusals as receiver_refusals
-use Rattle.receiver_table.specs.Answers as receiver_answers
 use Rattle.receiver_laws.specs.LegalReceptions as receiver_logs
 use Rattle.receiver_table.specs.Images.{image_at}
 use Rattle.txn_events.specs.declared.event.Event.{Event}

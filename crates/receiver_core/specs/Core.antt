@@ -1,28 +1,22 @@
 -- How the code keeps a reception, and what it plans.
-use Rattle.std.specs.Prelude.{◌≡◌, ℕ, ◌<◌, ◌≤◌, Bool, true, false, not, ◌==◌, List, [], length, Option, Some, None, vec_len}
+use Rattle.std.specs.Prelude.{◌≡◌, ℕ, ◌≤◌, Bool, true, false, List, [], Option, vec_len}
 use Rattle.cfdp_types.specs.Params.{ParamsValue}
 use Rattle.cfdp_types.specs.Steps.{older_or}
 use Rattle.cfdp_types.specs.declared.key.TxnKey.{TxnKey}
 use Rattle.gap_list.specs.Covered.{covered}
-use Rattle.gap_list.specs.Runs.{with_range}
-use Rattle.gap_list.specs.declared.run.Run.{Run}
 use Rattle.txn_events.specs.declared.event.What.{What}
 use Rattle.txn_events.specs.declared.event.What.TheVariants as what
-use Rattle.modular_sum.specs.Pieces.{IsSumOf}
 use Rattle.pdu_values.specs.declared.pdu.Body.{Body}
 use Rattle.pdu_values.specs.Pdu.{PduValue}
 use Rattle.pdu_values.specs.declared.pdu.Header.{Header}
-use Rattle.pdu_values.specs.declared.bodies.Metadata.{Metadata}
-use Rattle.pdu_values.specs.declared.bodies.FileData.{FileData}
 use Rattle.receiver_table.specs.Reception.{Reception, State, Entry, step, state_of, metadata_of, file_data_of, added_runs, brings_more}
 use Rattle.receiver_table.specs.Answers.{answer_at}
 use Rattle.receiver_laws.specs.LegalReceptions.{BodyOpens}
 use Rattle.reception_parts.specs.ControlBlock.{state_from, IsSound}
-use Rattle.reception_parts.specs.ReceivedFile.{received_of, with_segment, end_of, IsSegmentOf}
+use Rattle.reception_parts.specs.ReceivedFile.{received_of}
 use Rattle.txn_events.specs.declared.answer.Answer.{Answer}
 pub use Rattle.txn_events.specs.Logs.{IsWhy}
 use Rattle.txn_events.specs.Logs.{StandsAt, IsAnswered}
-use Rattle.reception_parts.specs.declared.received_file.ReceivedFile.{ReceivedFile}
 use Rattle.reception_parts.specs.FileChange.{metadata_after, segment_of, received_after, FitsFile, HasRoom, runs_in, adds}
 use Rattle.reception_parts.specs.declared.file_change.FileChange.{FileChange}
 use Rattle.receiver_core.specs.declared.plan.Plan.{Plan}

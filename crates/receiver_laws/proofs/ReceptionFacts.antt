@@ -20,7 +20,6 @@ use Rattle.pdu_values.specs.declared.bodies.Finished.{Finished}
 use Rattle.txn_events.specs.declared.event.What.{What}
 use Rattle.txn_events.specs.Events.{body_of_event}
 use Rattle.indications.specs.declared.indication.Indication.{Indication}
-use Rattle.indications.specs.declared.indication.Indication.TheVariants as told
 pub use Rattle.indications.specs.Words.{is_complete}
 use Rattle.indications.specs.Words.{is_end, is_metadata, is_eof, is_paused, tells_of, MayFollow, MayFinish}
 use Rattle.indications.specs.Words.{paused_after}

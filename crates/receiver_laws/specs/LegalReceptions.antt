@@ -3,8 +3,6 @@ use Rattle.std.specs.Prelude.{◌≡◌, ℕ, ◌<◌, false, IsSome, List, [], 
 use Rattle.cfdp_types.specs.ChecksumType as checksum
 use Rattle.txn_events.specs.declared.event.What.{What}
 use Rattle.txn_events.specs.declared.event.What.TheVariants as what
-use Rattle.pdu_values.specs.declared.pdu.Body.{Body}
-use Rattle.pdu_values.specs.declared.pdu.Body.TheVariants as body
 use Rattle.pdu_values.specs.declared.bodies.Metadata.{Metadata}
 use Rattle.pdu_values.specs.declared.bodies.Eof.{Eof}
 use Rattle.modular_sum.specs.Sum.{sum}

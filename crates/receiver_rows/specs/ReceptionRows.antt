@@ -26,14 +26,10 @@ use Rattle.txn_events.specs.declared.refusal.Refusal.{Refusal}
 use Rattle.pdu_values.specs.Numbers.{digits}
 use Rattle.pdu_values.specs.Pdu.{PduValue}
 use Rattle.pdu_values.specs.Spelling.{written}
-use Rattle.pdu_values.specs.declared.pdu.Direction.TheVariants.{TowardReceiver}
 use Rattle.pdu_values.specs.declared.pdu.Header.{Header}
 use Rattle.pdu_values.specs.declared.pdu.Body.{Body}
 use Rattle.pdu_values.specs.declared.pdu.Body.TheVariants as body
-use Rattle.pdu_values.specs.declared.bodies.Metadata.{Metadata}
 use Rattle.pdu_values.specs.declared.bodies.Eof.{Eof}
-use Rattle.pdu_values.specs.declared.bodies.Acknowledged.TheVariants as acknowledged
-use Rattle.pdu_values.specs.declared.bodies.TransactionStatus.TheVariants.{Terminated}
 use Rattle.pdu_values.specs.declared.bodies.Prompt.{Prompt}
 use Rattle.pdu_values.specs.declared.bodies.Prompt.TheVariants as prompt
 use Rattle.indications.specs.declared.indication.Indication.{Indication}

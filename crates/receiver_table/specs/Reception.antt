@@ -1,5 +1,5 @@
 -- The receiving end of a transaction in both classes: what a log of its events and answers gives.
-use Rattle.std.specs.Prelude.{ℕ, ◌+◌, ◌-◌, max, Bool, false, not, ◌||◌, ◌&&◌, nat_le, ◌==◌, is_some, if◌then◌else◌, List, [], ◌∷◌, ◌++◌, length, slice_get, Option, Some, None}
+use Rattle.std.specs.Prelude.{ℕ, ◌+◌, ◌-◌, max, Bool, false, not, ◌||◌, ◌&&◌, nat_le, ◌==◌, is_some, if◌then◌else◌, List, [], ◌∷◌, length, slice_get, Option, Some, None}
 use Rattle.std.specs.List.{list_any}
 use Rattle.cfdp_types.specs.Condition as condition
 use Rattle.cfdp_types.specs.Steps.{armed_after, is_kind, older_or, newer_or}
@@ -8,7 +8,6 @@ use Rattle.cfdp_types.specs.declared.key.TxnKey.{TxnKey}
 use Rattle.cfdp_types.specs.declared.key.Deposit.{Deposit}
 use Rattle.cfdp_types.specs.declared.names.TimerKind.{TimerKind}
 use Rattle.cfdp_types.specs.declared.names.TimerKind.TheVariants.{Nak}
-use Rattle.cfdp_types.specs.declared.timer_op.TimerOp.{TimerOp}
 use Rattle.gap_list.specs.Runs.{new_runs}
 use Rattle.gap_list.specs.declared.run.Run.{Run}
 use Rattle.txn_events.specs.declared.event.What.{What}
@@ -21,7 +20,6 @@ use Rattle.pdu_values.specs.declared.bodies.Metadata.{Metadata}
 use Rattle.pdu_values.specs.declared.bodies.Eof.{Eof}
 use Rattle.pdu_values.specs.declared.bodies.FileData.{FileData}
 use Rattle.pdu_values.specs.declared.bodies.Finished.{Finished}
-use Rattle.indications.specs.declared.indication.Indication.{Indication}
 use Rattle.indications.specs.Words.{is_end}
 use Rattle.indications.specs.Words.{paused_after, is_resumed, is_fault}
 use Rattle.txn_events.specs.Events.{body_of_event, is_expiration}

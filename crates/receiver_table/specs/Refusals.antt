@@ -1,7 +1,6 @@
 -- Which events a reception refuses, and why: the first reason that applies, in the order of their numbers.
-use Rattle.std.specs.Prelude.{◌+◌, ◌-◌, Bool, true, false, not, ◌||◌, ◌&&◌, nat_le, nat_lt, ◌==◌, if◌then◌else◌, length, Option, Some, None}
-use Rattle.cfdp_types.specs.Condition as condition
-use Rattle.cfdp_types.specs.declared.limits.TheConstants.{FILE_OCTETS, JOURNAL_ENTRIES, JOURNAL_ENTRIES_KEPT}
+use Rattle.std.specs.Prelude.{◌-◌, Bool, true, false, not, ◌||◌, ◌&&◌, nat_le, if◌then◌else◌, Option, Some, None}
+use Rattle.cfdp_types.specs.declared.limits.TheConstants.{JOURNAL_ENTRIES, JOURNAL_ENTRIES_KEPT}
 use Rattle.txn_events.specs.declared.event.What.{What}
 use Rattle.txn_events.specs.declared.event.What.TheVariants as what
 use Rattle.txn_events.specs.declared.refusal.Refusal.{Refusal}

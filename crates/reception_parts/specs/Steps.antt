@@ -1,21 +1,16 @@
 -- What follows an event that is answered by a response, as the code computes it.
-use Rattle.std.specs.Prelude.{◌≡◌, ◌+◌, max, ◌||◌, Bool, [], false, if◌then◌else◌, map, Option, Some, None}
+use Rattle.std.specs.Prelude.{◌≡◌, ◌+◌, max, ◌||◌, Bool, [], false, Option, None}
 use Rattle.std.specs.List.{list_any}
-use Rattle.cfdp_types.specs.Params.{timer_length}
-use Rattle.cfdp_types.specs.Steps.{Effect, newer_or, older_or, operations}
+use Rattle.cfdp_types.specs.Steps.{newer_or, older_or}
 use Rattle.cfdp_types.specs.declared.key.Deposit.{Deposit}
 use Rattle.cfdp_types.specs.declared.names.TimerKind.{TimerKind}
-use Rattle.txn_events.specs.Timers.{stamp_of, stamp_by, tries_of, tries_by}
+use Rattle.txn_events.specs.Timers.{tries_of, tries_by}
 use Rattle.indications.specs.Words.{paused_after}
 use Rattle.indications.specs.Words.{is_end}
 use Rattle.txn_events.specs.declared.event.What.{What}
 use Rattle.txn_events.specs.Events.{body_of_event}
 use Rattle.receiver_table.specs.Reception.{is_storing, is_suspended, waiting_after, eof_of, extent_of, file_data_of}
-use Rattle.receiver_table.specs.Answers.{effect_of, bodies_of, pdu_to_sender}
 use Rattle.reception_parts.specs.ControlBlock.{bare}
-use Rattle.reception_parts.specs.Response.{response_value}
-use Rattle.reception_parts.specs.FileChange.{adds}
-use Rattle.reception_parts.specs.declared.file_change.FileChange.{FileChange}
 use Rattle.reception_parts.specs.declared.response.Response as response_type
 use Rattle.reception_parts.specs.declared.control.ControlBlock.{ControlBlock}
 

@@ -1,16 +1,16 @@
 -- A plan holds the table's answer, and what follows it.
 use Rattle.cfdp_types.specs.declared.limits.TheConstants.{JOURNAL_ENTRIES, JOURNAL_ENTRIES_KEPT}
-use Rattle.std.proofs.Common.{◌≡◌, ◌⊎◌, ℕ, ◌+◌, ◌-◌, ◌<◌, ◌≤◌, Bool, true, false, not, ◌&&◌, ◌||◌, nat_lt, if◌then◌else◌, List, length, Option, Some, None, Ok, Err, Result, refl, sym, ap, subst, ◌∙◌, arith, inl, inr}
+use Rattle.std.proofs.Common.{◌≡◌, ◌⊎◌, ℕ, ◌+◌, ◌-◌, ◌<◌, ◌≤◌, Bool, true, false, not, ◌&&◌, ◌||◌, nat_lt, if◌then◌else◌, length, Option, Some, None, Ok, Err, refl, sym, ap, ◌∙◌, arith, inl, inr}
 use Rattle.std.proofs.Math.Path.{fun_ext}
 use Rattle.std.proofs.lemmas.Bool.{leb-false, ltb-true}
-use Rattle.std.specs.Prelude.{IsOk, IfOk, IfErr}
+use Rattle.std.specs.Prelude.{IsOk}
 use Rattle.gap_list.specs.Runs.{in_runs}
 use Rattle.std.specs.List.{list_any}
 use Rattle.std.specs.Option.{option_to_list}
 use Rattle.cfdp_types.specs.Condition as condition
 use Rattle.cfdp_types.specs.Handlers.{handler_in}
 use Rattle.cfdp_types.specs.Params.{timer_length}
-use Rattle.cfdp_types.specs.Steps.{Effect, arms, keeps, stops, armed_after, operations, newer_or}
+use Rattle.cfdp_types.specs.Steps.{operations, newer_or}
 use Rattle.cfdp_types.specs.declared.condition.Condition.{Condition}
 use Rattle.cfdp_types.specs.declared.names.Class.{Class}
 use Rattle.cfdp_types.specs.declared.names.Class.TheVariants.{One, Two}
@@ -26,14 +26,14 @@ use Rattle.txn_events.specs.declared.refusal.Refusal.{Refusal}
 use Rattle.txn_events.specs.declared.refusal.Refusal.TheVariants as refusal
 use Rattle.txn_events.specs.Events.{is_of_other_class, is_stale_timer, needs_room}
 use Rattle.pdu_values.specs.declared.bodies.Eof.{Eof}
-use Rattle.sender_table.specs.Sending.{Sending, State, Event, happens, Entry, step, state_of, covers, asks_for, requests_of, eof_among, extent_of}
+use Rattle.sender_table.specs.Sending.{Sending, State, Event, happens, step, covers, asks_for, requests_of, eof_among, extent_of}
 use Rattle.sender_table.specs.Refusals.{refusal_of, is_stale_store, is_misplaced, is_full}
 use Rattle.sender_table.specs.Answers.{Response, cancel_response, fault_response, response_to, with_event, without_timers, with_timers, accepted_at, answer_at, effect_of}
 use Rattle.sender_core.specs.ControlBlock.{state_from, nowhere, IsSound, IsInside}
 use Rattle.txn_events.specs.Timers.{AreFew, stamp_of}
 use Rattle.txn_events.proofs.AnswerLemmas.{answer_of_parts, same_answer}
 use Rattle.txn_events.proofs.TimerLemmas.{armed_follows, counted}
-use Rattle.sender_core.specs.Core.{shown, sending_of, pdus_of_response, IsResponse, IsNext, HoldsResponse, IsPlanOf, IsWhy, StandsAfter, effect_by, arming, remainder_of, remains_after, plan_answer}
+use Rattle.sender_core.specs.Core.{shown, sending_of, pdus_of_response, IsResponse, IsNext, HoldsResponse, IsPlanOf, effect_by, arming, remainder_of, remains_after, plan_answer}
 use Rattle.sender_core.specs.declared.plan.Remainder.{Remainder}
 use Rattle.sender_core.specs.declared.plan.Plan.{Plan}
 use Rattle.sender_core.specs.declared.response.Response as response_type

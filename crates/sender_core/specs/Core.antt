@@ -1,5 +1,5 @@
 -- How the code keeps a sender, and what it plans.
-use Rattle.std.specs.Prelude.{◌≡◌, ℕ, ◌+◌, max, nat_lt, not, ◌&&◌, ◌||◌, Bool, false, List, [], ◌∷◌, length, map, Option, None, ◌⊎◌, Result, Ok, Err, IsOk}
+use Rattle.std.specs.Prelude.{◌≡◌, ℕ, ◌+◌, max, nat_lt, not, ◌&&◌, ◌||◌, Bool, false, List, [], ◌∷◌, length, map, Option, None}
 use Rattle.std.specs.Option.{option_to_list}
 use Rattle.cfdp_types.specs.declared.key.TxnKey.{TxnKey}
 use Rattle.cfdp_types.specs.declared.names.TimerKind.TheVariants.{Ack}
@@ -16,8 +16,6 @@ use Rattle.cfdp_types.specs.Put.{PutValue}
 use Rattle.gap_list.specs.declared.run.Run.{Run}
 use Rattle.gap_list.specs.Runs.{in_runs}
 use Rattle.pdu_values.specs.Pdu.{PduValue}
-use Rattle.txn_events.specs.declared.refusal.Refusal.{Refusal}
-use Rattle.txn_events.specs.declared.refusal.Refusal.TheVariants as refusal
 use Rattle.sender_table.specs.Sending.{Sending, Event, happens, State, Entry, state_of, step, is_metadata, asks_for_metadata, requests_of, extent_of, eof_among, acknowledges_eof, tries_after, covers, asks_for}
 use Rattle.sender_table.specs.Answers.{answer_at, header_of}
 use Rattle.sender_table.specs.Answers as table

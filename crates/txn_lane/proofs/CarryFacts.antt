@@ -1,5 +1,5 @@
 -- What a planned step answers, over the result of carrying it out.
-use Rattle.std.proofs.Common.{◌≡◌, [], ◌∷◌, ◌++◌, IfOk, OnErr, IfErr, IsOk, Result, Ok, Err, refl, sym, ap, ◌∙◌, subst}
+use Rattle.std.proofs.Common.{◌≡◌, [], ◌∷◌, ◌++◌, OnErr, IfErr, IsOk, Result, Ok, Err, refl, sym, ap, ◌∙◌, subst}
 use Rattle.txn_events.specs.declared.answer.Answer.{Answer}
 use Rattle.txn_events.specs.declared.event.Event.{Event}
 use Rattle.sender_core.specs.Core.{sending_of, StandsAfter}

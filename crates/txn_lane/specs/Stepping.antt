@@ -6,7 +6,6 @@ use Rattle.indications.specs.declared.bundle.Bundle.{Bundle}
 use Rattle.txn_events.specs.declared.refusal.Refusal.{Refusal}
 use Rattle.txn_events.specs.declared.refusal.Refusal.TheVariants as refusal
 use Rattle.sender_core.specs.Core.{IsWhy}
-use Rattle.sender_table.specs.Sending as sender
 use Rattle.lane_table.specs.declared.done.Done.{Done}
 use Rattle.txn_events.specs.declared.event.Event.{Event}
 use Rattle.lane_table.specs.declared.refused.Refused.{Refused}

@@ -1,9 +1,8 @@
-use Rattle.std.proofs.Common.{◌≡◌, ◌∷◌, List, Ok, inl, inr, refl, sym, ap, ◌∙◌, subst, IsSome}
+use Rattle.std.proofs.Common.{◌≡◌, Ok, inl, inr, refl, sym, ap, ◌∙◌, subst, IsSome}
 use Rattle.std.proofs.lemmas.Result.{err_from_is_err_and, IfOk-weaker, IfErr-weaker}
 use Rattle.sender_table.specs.Answers.{answer_at}
-use Rattle.sender_core.specs.Core.{shown, sending_of, StandsAfter, plan_answer}
-use Rattle.sender_table.specs.Sending.{Entry, happens}
-use Rattle.lane_table.specs.Logs.{to_sender}
+use Rattle.sender_core.specs.Core.{shown, sending_of, plan_answer}
+use Rattle.sender_table.specs.Sending.{happens}
 use Rattle.txn_lane.proofs.CarryFacts.{on_err, goes_from, unmoved_as}
 use Rattle.txn_lane.proofs.stepping.advance.Goals as goal
 

@@ -1,7 +1,6 @@
 use Rattle.std.proofs.Common.{◌∷◌, [], Ok, inr, sym, ap, ◌∙◌, subst, IsSome}
 use Rattle.std.proofs.lemmas.Result.{err_from_is_err_and}
 use Rattle.sender_core.specs.Core.{sending_by, StandsAfter, plan_answer}
-use Rattle.sender_table.specs.Sending.{put}
 use Rattle.lane_table.specs.Logs.{to_sender}
 use Rattle.txn_lane.proofs.OpenFacts.{put_accepted}
 use Rattle.txn_lane.proofs.stepping.start.Goals as goal
