@@ -14,8 +14,10 @@ use Rattle.ind_words.specs.declared.reader.WordReader.{WordReader}
 use Rattle.indications.specs.declared.side.Side.{Side}
 use Rattle.indications.specs.declared.side.Side.TheVariants.{Receiver}
 use Rattle.ind_words.specs.Marks.{marks_of}
-use Rattle.ind_words.specs.Offsets.{Kept, IsFree, IsInitial, covers, room_left}
-use Rattle.ind_words.specs.Reading.{HasRoom, MayGoOn, Knows, HasAdded, StandsAfter}
+use Rattle.gap_list.specs.Runs.{IsFree}
+use Rattle.ind_words.specs.declared.segments.Segments.{Segments}
+use Rattle.ind_words.specs.Offsets.{IsInitial}
+use Rattle.ind_words.specs.Reading.{covers, room_left, HasRoom, MayGoOn, Knows, HasAdded, StandsAfter}
 use Rattle.indications.specs.Kinds.{kind_of, is_segment_reception, has_octet}
 use Rattle.indications.specs.Words.{IsNext, IsNextOf, IsBegunOf, IsWordOf, IsFilled, is_end, is_segment, tells_of, told_onto}
 use Rattle.indications.proofs.WordLemmas.{told_onto-append, list_any-told_onto, count_by-told_onto, MayFollowOf-append, MayFollowOf-front, MayFollowOf-rest}
@@ -60,7 +62,7 @@ adds_nothing reader next other = record {
 }
 
 -- the segments that cover all offsets below some size
-pub initial_filled : (segments : Option Kept) (before : List Indication) → ((i : ℕ) → covers segments i ≡ list_any (tells_of i) before)
+pub initial_filled : (segments : Option Segments) (before : List Indication) → ((i : ℕ) → covers segments i ≡ list_any (tells_of i) before)
     → IsInitial (covers segments) ↔ IsFilled before
 initial_filled segments before covered = (
   λ initial. (
@@ -80,7 +82,7 @@ initial_filled segments before covered = (
 )
 
 -- when a segment may be taken
-pub segment_exact : (segments : Option Kept) (room : ℕ) (before : List Indication) (next : Indication) (offset length : ℕ) (result : Bool)
+pub segment_exact : (segments : Option Segments) (room : ℕ) (before : List Indication) (next : Indication) (offset length : ℕ) (result : Bool)
     → kind_of next ≡ kind.Segment offset length
     → (IsTrue result ↔ ((0 < length) × (offset + length ≤ FILE_OCTETS) × IsFree (covers segments) offset (offset + length) × (0 < room_left segments)))
     → room_left segments + count_by is_segment before ≡ room

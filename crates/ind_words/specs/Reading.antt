@@ -1,12 +1,23 @@
 -- What a reader of words has taken, and what it may take next.
-use Rattle.std.specs.Prelude.{◌≡◌, ℕ, ◌+◌, ◌<◌, ◌||◌, IsTrue, List, [], ◌∷◌, ◌++◌}
+use Rattle.std.specs.Prelude.{◌≡◌, ℕ, ◌+◌, ◌<◌, Bool, false, ◌||◌, IsTrue, List, [], ◌∷◌, ◌++◌, Option, None, Some}
 use Rattle.std.specs.List.{list_any, count_by}
 use Rattle.indications.specs.declared.indication.Indication.{Indication}
+use Rattle.gap_list.specs.Covered.{covered}
 use Rattle.ind_words.specs.declared.reader.WordReader.{WordReader}
+use Rattle.ind_words.specs.declared.segments.Segments.{Segments}
 use Rattle.indications.specs.declared.side.Side.{Side}
 use Rattle.ind_words.specs.Marks.{marks_of}
-use Rattle.ind_words.specs.Offsets.{room_left, covers}
 use Rattle.indications.specs.Words.{IsBegunOf, told_onto, is_segment, tells_of}
+
+-- for how many more segments there is room
+abbrev pub room_left : Option Segments → ℕ
+room_left None = 0
+room_left (Some segments) = segments.left
+
+-- whether an offset was told of
+abbrev pub covers : Option Segments → ℕ → Bool
+covers None i = false
+covers (Some segments) i = covered segments.offsets i
 
 -- there is room for the next indication, if it tells of a segment
 abbrev pub HasRoom : ℕ → List Indication → Indication → Type 0

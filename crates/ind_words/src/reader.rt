@@ -1,5 +1,7 @@
 use crate::marks::Marks;
-use crate::segments::{Segments, take_segment};
+use crate::segments::Segments;
+use cfdp_types::limits::FILE_OCTETS;
+use gap_list::Run;
 use indications::{Indication, IndicationKind, Side};
 use std::alloc::{AllocError, Global};
 
@@ -23,8 +25,8 @@ impl WordReader {
     ghost use Rattle.indications.specs.declared.indication.Indication.{Indication};
     ghost use Rattle.indications.specs.declared.side.Side.{Side};
     ghost use Rattle.indications.specs.declared.side.Side.TheVariants.{Receiver};
-    ghost use Rattle.ind_words.specs.Offsets.{covers, room_left, IsInitial};
-    ghost use Rattle.ind_words.specs.Reading.{StandsAfter, Knows, MayGoOn, HasRoom, HasAdded};
+    ghost use Rattle.ind_words.specs.Offsets.{IsInitial};
+    ghost use Rattle.ind_words.specs.Reading.{covers, room_left, StandsAfter, Knows, MayGoOn, HasRoom, HasAdded};
     ghost use Rattle.indications.specs.Words.{IsNextOf, IsNext, IsWordOf, is_end};
 
     /// A reader that has room for no segment. Takes no memory.
@@ -136,4 +138,41 @@ impl WordReader {
             Some(segments) => segments.is_initial(),
         }
     }
+}
+
+ghost use Rattle.std.specs.Prelude.{◌≡◌, ◌+◌, ◌<◌, ◌≤◌, ◌↔◌, true, false, IsTrue, IfSome, IsSome};
+ghost use Rattle.cfdp_types.specs.declared.limits.TheConstants.{FILE_OCTETS};
+ghost use Rattle.gap_list.specs.Runs.{SameSet, with_range, IsFree};
+ghost use Rattle.ind_words.specs.Reading.{covers, room_left};
+
+// Takes a segment that is within a file and shares no offset with those before it, while there is
+// room.
+fn take_segment(segments: &mut Option<Segments>, offset: u32, length: u32) -> bool
+    ensures exact { IsTrue result ↔ ((0 < length) × (offset + length ≤ FILE_OCTETS)
+        × IsFree (covers segments.old) offset (offset + length) × (0 < room_left segments.old)) }
+    ensures left { result ≡ true → room_left segments.new + 1 ≡ room_left segments.old }
+    ensures covered { result ≡ true
+        → SameSet (covers segments.new) (with_range (covers segments.old) offset (offset + length)) }
+    ensures refused { result ≡ false → segments.new ≡ segments.old }
+{
+    let Some(segments) = segments else {
+        return false;
+    };
+    match run_of(offset, length) {
+        None => false,
+        Some(run) => segments.take(run),
+    }
+}
+
+// The offsets of a segment, where it is not empty and within a file.
+fn run_of(offset: u32, length: u32) -> Option<Run>
+    ensures some { IfSome result (λ run. (run.start ≡ offset) × (run.end ≡ offset + length)
+        × (0 < length) × (offset + length ≤ FILE_OCTETS)) }
+    ensures none { 0 < length → offset + length ≤ FILE_OCTETS → IsSome result }
+{
+    let end = offset.checked_add(length)?;
+    if length == 0 || end > FILE_OCTETS {
+        return None;
+    }
+    Some(Run { start: offset, end })
 }

@@ -1,5 +1,5 @@
 use Rattle.ind_words.proofs.SegmentLemmas.{take_exact}
-use Rattle.ind_words.proofs.segments.take_segment.Goals as goal
+use Rattle.ind_words.proofs.reader.take_segment.Goals as goal
 
 pub returns-in-Some-run_of-clause-exact : goal.returns-in-Some-run_of-clause-exact
 returns-in-Some-run_of-clause-exact c =
