@@ -1,11 +1,12 @@
 -- What is found at a place among rising runs.
-use Rattle.std.proofs.Common.{◌≡◌, ℕ, suc, ◌+◌, ◌-◌, ◌<◌, ◌≤◌, max, min, Bool, true, false, ◌||◌, ◌⊎◌, ◌↔◌, IsTrue, not, nat_le, nat_lt, List, [], ◌∷◌, length, get_or, take, drop, refl, ap, sym, ◌∙◌, arith, subst, ⊎_elim, Some, None, slice_get}
+use Rattle.std.proofs.Common.{◌≡◌, ℕ, suc, ◌+◌, ◌-◌, ◌<◌, ◌≤◌, max, min, Bool, true, false, ◌&&◌, ◌||◌, ◌⊎◌, ◌↔◌, IsTrue, not, nat_le, nat_lt, List, [], ◌∷◌, length, get_or, take, drop, refl, ap, sym, ◌∙◌, arith, subst, ⊎_elim, Some, None, slice_get}
 use Rattle.std.specs.List.{All}
-use Rattle.std.proofs.lemmas.Bool.{cond_both, le-leb, lt-leb, lt-ltb, le-ltb, and_right, leb-true, leb-false, or_left, or_right, or_from, true≢false, false≢true, not-false, not-true}
+use Rattle.std.proofs.Math.Bool.{and-false, and-true}
+use Rattle.std.proofs.lemmas.Bool.{cases_lt, cond_both, le-leb, lt-leb, lt-ltb, le-ltb, and_right, leb-true, leb-false, or_left, or_right, or_from, true≢false, false≢true, not-false, not-true}
 use Rattle.std.proofs.lemmas.List.Elements.{All-head, All-tail}
 use Rattle.std.proofs.lemmas.Option.{slice_get_within, get_or_from_slice_get}
 use Rattle.gap_list.specs.declared.run.Run.{Run}
-use Rattle.gap_list.specs.Runs.{is_within, in_runs, runs_from, runs_of, missing_runs, first_missing, IsFree, IsExtent, IsRisingFrom}
+use Rattle.gap_list.specs.Runs.{is_within, in_runs, without_range, runs_from, runs_of, missing_runs, first_run, first_missing, IsFree, IsExtent, IsRisingFrom}
 use Rattle.gap_list.specs.Places.{end_or, start_or, begins_from, last_end}
 use Rattle.gap_list.proofs.RunLemmas.{is_within_tells, runs_from-none, runs_from-all, in_runs-runs_of, IsRisingFrom-runs_of}
 use Rattle.gap_list.proofs.SetLemmas.{below_rising, missing_runs-full, ends-runs_of, in_set-runs_of, full_from_missing_runs}
@@ -120,20 +121,71 @@ gap_end-stops runs place limit rising to =
     ∙ or_right (in_runs (take place runs) (start_or limit (drop place runs))) (in_runs (drop place runs) (start_or limit (drop place runs)))
     (start_or-stops (beyond 0 (take place runs)) limit (drop place runs) (rising_drop runs place rising) to)
 
+-- ---- the lowest run
+
+first_run-some : (set : ℕ → Bool) (start end limit : ℕ) → start < end → end ≤ limit
+    → ((i : ℕ) → i < start → set i ≡ false) → ((i : ℕ) → start ≤ i → i < end → set i ≡ true) → (end < limit → set end ≡ false)
+    → first_run set limit ≡ Some (record { start = start; end = end })
+unfolding runs_of
+first_run-some set start end limit filled below front has stops =
+    let whole : limit - 0 ≡ limit = omega arith in
+    let skipped : runs_from set 0 limit ≡ runs_from set start (limit - start) =
+    rw whole at (runs_from-none set 0 start limit (omega arith) (omega arith) (λ i from to. front i to)) in
+    ap (λ (l : List Run). slice_get l 0) (skipped ∙ runs_from-all set start end limit filled below has stops)
+
+first_run-none : (set : ℕ → Bool) (limit : ℕ) → ((i : ℕ) → i < limit → set i ≡ false) → first_run set limit ≡ None
+unfolding runs_of runs_from
+first_run-none set limit none =
+    let whole : limit - 0 ≡ limit = omega arith in
+    let nothing : limit - limit ≡ 0 = omega arith in
+    ap (λ (l : List Run). slice_get l 0)
+    (rw (whole, nothing) at (runs_from-none set 0 limit limit (omega arith) (omega arith) (λ i from to. none i to)))
+
+-- a set without the offsets below one
+pub without_below : (set : ℕ → Bool) (offset i : ℕ) → i < offset → without_range set 0 offset i ≡ false
+without_below set offset i below = ap (λ b. set i && not b) (within_run 0 offset i (omega arith) below) ∙ and-false (set i)
+
+pub without_above : (set : ℕ → Bool) (offset i : ℕ) → offset ≤ i → without_range set 0 offset i ≡ set i
+without_above set offset i from = ap (λ b. set i && not b) (above_run 0 offset i from) ∙ and-true (set i)
+
+before_begin : (set : ℕ → Bool) (offset start i : ℕ) → ((i : ℕ) → offset ≤ i → i < start → set i ≡ false) → i < start
+    → without_range set 0 offset i ≡ false
+before_begin set offset start i missing before = ⊎_elim
+    (λ (below : i < offset). without_below set offset i below)
+    (λ (from : offset ≤ i). without_above set offset i from ∙ missing i from before)
+    (cases_lt i offset)
+
+pub first_from-some : (set : ℕ → Bool) (offset start reached limit : ℕ) → offset ≤ start → start < limit → start ≤ reached
+    → ((i : ℕ) → offset ≤ i → i < start → set i ≡ false) → set start ≡ true
+    → ((i : ℕ) → start ≤ i → i < reached → set i ≡ true) → set reached ≡ false
+    → first_run (without_range set 0 offset) limit ≡ Some (record { start = start; end = min reached limit })
+first_from-some set offset start reached limit from below after missing begins has stops =
+    let filled : start < reached = ⊎_elim
+    (λ (less : start < reached). less)
+    (λ (le : reached ≤ start).
+    let e : reached ≡ start = omega arith in
+    absurd (true≢false (sym begins ∙ ap set (sym e) ∙ stops)))
+    (cases_lt start reached) in
+    first_run-some (without_range set 0 offset) start (min reached limit) limit (omega arith) (omega arith)
+    (λ i before. before_begin set offset start i missing before)
+    (λ i reach to. without_above set offset i (omega arith) ∙ has i reach (omega arith))
+    (λ less.
+    let e : min reached limit ≡ reached = omega arith in
+    rw e (without_above set offset reached (omega arith) ∙ stops))
+
+pub first_from-none : (set : ℕ → Bool) (offset start limit : ℕ) → limit ≤ start
+    → ((i : ℕ) → offset ≤ i → i < start → set i ≡ false) → first_run (without_range set 0 offset) limit ≡ None
+first_from-none set offset start limit past missing =
+    first_run-none (without_range set 0 offset) limit (λ i below. before_begin set offset start i missing (omega arith))
+
 -- ---- the lowest run that is missing
 
 pub first_missing-some : (set : ℕ → Bool) (start end limit : ℕ) → start < end → end ≤ limit
     → ((i : ℕ) → 0 ≤ i → i < start → set i ≡ true) → ((i : ℕ) → start ≤ i → i < end → set i ≡ false) → (end < limit → set end ≡ true)
     → first_missing set limit ≡ Some (record { start = start; end = end })
-unfolding runs_of
 first_missing-some set start end limit filled below front missing stops =
-    let left_out : ℕ → Bool = λ i. not (set i) in
-    let whole : limit - 0 ≡ limit = omega arith in
-    let skipped : runs_from left_out 0 limit ≡ runs_from left_out start (limit - start) =
-    rw whole at (runs_from-none left_out 0 start limit (omega arith) (omega arith) (λ i from to. ap not (front i from to))) in
-    let first : runs_from left_out start (limit - start) ≡ record { start = start; end = end } ∷ runs_from left_out end (limit - end) =
-    runs_from-all left_out start end limit filled below (λ i from to. ap not (missing i from to)) (λ less. ap not (stops less)) in
-    ap (λ (l : List Run). slice_get l 0) (skipped ∙ first)
+    first_run-some (λ i. not (set i)) start end limit filled below (λ i to. ap not (front i (omega arith) to))
+    (λ i from to. ap not (missing i from to)) (λ less. ap not (stops less))
 
 pub first_missing-none : (set : ℕ → Bool) (limit reached : ℕ) → limit ≤ reached → ((i : ℕ) → 0 ≤ i → i < reached → set i ≡ true)
     → first_missing set limit ≡ None

@@ -56,6 +56,10 @@ new_runs set start end = runs_of (λ offset. is_within start end offset && not (
 abbrev pub missing_runs : (ℕ → Bool) → ℕ → List Run
 missing_runs set limit = runs_of (λ offset. not (set offset)) limit
 
+-- the lowest maximal run of a set below a limit
+abbrev pub first_run : (ℕ → Bool) → ℕ → Option Run
+first_run set limit = slice_get (runs_of set limit) 0
+
 -- the lowest maximal run below a limit of what isn't in the set
 abbrev pub first_missing : (ℕ → Bool) → ℕ → Option Run
 first_missing set limit = slice_get (missing_runs set limit) 0
@@ -130,3 +134,8 @@ first_missing_none = refl
 missing_first_with : take 1 (missing_runs (with_range two_parts 2 3) 8) ≡ record { start = 3; end = 4 } ∷ []
 unfolding runs_of runs_from
 missing_first_with = refl
+
+-- the first run of a set, whose front is taken out
+first_run_without : first_run (without_range two_runs 0 2) 13 ≡ Some (record { start = 2; end = 4 })
+unfolding runs_of runs_from
+first_run_without = refl

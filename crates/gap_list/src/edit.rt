@@ -107,3 +107,15 @@ pub fn remove(runs: &mut Vec<Run>, start: u32, end: u32)
         insert_filled(runs, first, below);
     }
 }
+
+// Moves all runs into a vector that has room for them.
+pub fn move_to(runs: &mut Vec<Run>, mut spare: Vec<Run>)
+    requires { vec_len runs.old ≤ vec_capacity spare }
+    ensures items { runs.new.items ≡ runs.old.items }
+    ensures len { vec_len runs.new ≡ vec_len runs.old }
+    ensures room { vec_capacity spare ≤ vec_capacity runs.new }
+{
+    spare.clear();
+    let _moved = spare.append(runs);
+    *runs = spare;
+}

@@ -27,8 +27,8 @@ impl Model for Gaps {
 #[tactic(auto, unfolding(crate::specs::Covered::covered))]
 impl Gaps {
     ghost use Rattle.std.specs.Prelude.{◌≡◌, ◌↔◌, ℕ, ◌+◌, ◌<◌, ◌≤◌, false, take, IfOk, OnOk, OnErr, IsTrue};
-    ghost use Rattle.gap_list.specs.Covered.{covered};
-    ghost use Rattle.gap_list.specs.Runs.{SameSet, IsFree, with_range, without_range, new_runs, missing_runs, first_missing, IsExtent};
+    ghost use Rattle.gap_list.specs.Covered.{covered, HasRoomWith};
+    ghost use Rattle.gap_list.specs.Runs.{SameSet, IsFree, with_range, without_range, new_runs, missing_runs, first_run, first_missing, IsExtent};
 
     /// Covers nothing.
     pub fn new(alloc: Global) -> Gaps
@@ -56,6 +56,33 @@ impl Gaps {
         ensures kept { self.old.room ≤ self.new.room }
     {
         self.runs.reserve(count)
+    }
+
+    /// A set that covers nothing and has room for the runs here and so many more, where there is no
+    /// room for these here. It has room for the runs here twice, so that sets which grow rarely move.
+    pub fn spare(&self, count: usize) -> Result<Option<Gaps>, AllocError>
+        ensures { IfOk result (λ spare. HasRoomWith self.now spare count) }
+    {
+        let len = self.runs.len();
+        if count <= self.runs.capacity() - len {
+            return Ok(None);
+        }
+        let Some(wanted) = count.checked_add(2 * len) else {
+            return Err(AllocError);
+        };
+        let spare = Gaps::with_room(*self.runs.allocator(), wanted)?;
+        Ok(Some(spare))
+    }
+
+    /// Moves to a spare set, where there is one. What that one covers is given up.
+    pub fn move_to(&mut self, spare: Option<Gaps>)
+        requires { HasRoomWith self.old spare 0 }
+        ensures same { SameSet (covered self.new) (covered self.old) }
+        ensures room { (count : ℕ) → HasRoomWith self.old spare count → count ≤ self.new.room }
+    {
+        if let Some(spare) = spare {
+            edit::move_to(&mut self.runs, spare.runs);
+        }
     }
 
     /// Adds the offsets from `start` to `end` - 1, in room that is there.
@@ -156,6 +183,13 @@ impl Gaps {
         ensures { result ≡ first_missing (covered self.now) limit }
     {
         search::first_gap(self.runs.as_slice(), limit)
+    }
+
+    /// The lowest of the maximal runs below the limit of what is covered from an offset on.
+    pub fn first_from(&self, offset: u32, limit: u32) -> Option<Run>
+        ensures { result ≡ first_run (without_range (covered self.now) 0 offset) limit }
+    {
+        search::first_run(self.runs.as_slice(), offset, limit)
     }
 
     /// One that covers the same offsets.

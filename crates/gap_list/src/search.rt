@@ -1,6 +1,6 @@
 //! Where an offset stands among rising runs, found by halves.
 ghost use Rattle.std.specs.Prelude.{◌≡◌, ◌↔◌, ℕ, ◌<◌, ◌≤◌, true, false, IsTrue, nat_le, nat_lt, length, take, drop, All};
-ghost use Rattle.gap_list.specs.Runs.{in_runs, with_range, first_missing, IsFree, IsExtent, IsRisingFrom};
+ghost use Rattle.gap_list.specs.Runs.{in_runs, with_range, without_range, first_run, first_missing, IsFree, IsExtent, IsRisingFrom};
 ghost use Rattle.gap_list.specs.Places.{end_or, start_or, begins_from, last_end};
 
 use crate::run::Run;
@@ -110,6 +110,36 @@ pub fn first_gap(runs: &[Run], limit: u32) -> Option<Run>
         Some(Run {
             start,
             end: gap_end(runs, start, limit),
+        })
+    } else {
+        None
+    }
+}
+
+// The first offset from this one on that a run has, or one that is no lower than the limit.
+fn begin_from(runs: &[Run], offset: u32, limit: u32) -> u32
+    requires { IsRisingFrom 0 runs.now }
+    ensures at_or_after { offset ≤ result }
+    ensures missing { (i : ℕ) → offset ≤ i → i < result → in_runs runs.now i ≡ false }
+    ensures stops { result < limit → in_runs runs.now result ≡ true }
+{
+    if offset < limit && end_from(runs, offset) == offset {
+        gap_end(runs, offset, limit)
+    } else {
+        offset
+    }
+}
+
+// The lowest maximal run below the limit of the offsets from one on that a run has.
+pub fn first_run(runs: &[Run], offset: u32, limit: u32) -> Option<Run>
+    requires { IsRisingFrom 0 runs.now }
+    ensures { result ≡ first_run (without_range (in_runs runs.now) 0 offset) limit }
+{
+    let start = begin_from(runs, offset, limit);
+    if start < limit {
+        Some(Run {
+            start,
+            end: end_from(runs, start).min(limit),
         })
     } else {
         None

@@ -116,6 +116,24 @@ fn parts_in_room(rt: HostRuntime) -> Result<(), Fail> {
 }
 
 #[test]
+fn first_runs_and_spare_room(rt: HostRuntime) -> Result<(), Fail> {
+    let mut gaps = Gaps::with_room(rt.alloc(), 3)?;
+    gaps.add(2, 6);
+    gaps.add(8, 12);
+    assert_eq!(rt; gaps.first_from(0, 20), Some(Run { start: 2, end: 6 }));
+    assert_eq!(rt; gaps.first_from(4, 5), Some(Run { start: 4, end: 5 }));
+    assert_eq!(rt; gaps.first_from(6, 20), Some(Run { start: 8, end: 12 }));
+    assert_eq!(rt; gaps.first_from(6, 8), None);
+    assert_eq!(rt; gaps.first_from(12, 20), None);
+    let spare = gaps.spare(100)?;
+    assert!(rt; spare.is_some() && gaps.spare(1)?.is_none());
+    gaps.move_to(spare);
+    assert!(rt; gaps.spare(100)?.is_none());
+    assert_eq!(rt; gaps.first_from(9, 20), Some(Run { start: 9, end: 12 }));
+    Ok(())
+}
+
+#[test]
 fn plans(rt: HostRuntime) -> Result<(), Fail> {
     let mut gaps = Gaps::new(rt.alloc());
     let _ = gaps.cover(0, 4)?;
