@@ -1,4 +1,3 @@
-pub mod RemainingLemmas
 pub mod CoreLemmas
 pub mod ResponseData
 pub mod PlanLemmas

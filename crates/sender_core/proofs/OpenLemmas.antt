@@ -1,37 +1,24 @@
 -- A sender that is opened stands before its Put, and plans it.
 use Rattle.cfdp_types.specs.declared.limits.TheConstants.{FILE_OCTETS}
-use Rattle.std.proofs.Common.{◌≡◌, ℕ, ◌<◌, ◌≤◌, Bool, true, false, ◌&&◌, ◌||◌, nat_lt, List, [], ◌∷◌, length, None, Ok, eqb, refl, sym, ap, ◌∙◌, arith, inl, inr}
-use Rattle.std.proofs.lemmas.Bool.{cases_Bool, ltb-true, le-ltb, lt-ltb}
+use Rattle.std.proofs.Common.{◌≡◌, ℕ, ◌<◌, ◌≤◌, Bool, true, false, ◌&&◌, ◌||◌, nat_lt, [], ◌∷◌, length, None, Ok, refl, sym, ap, ◌∙◌, arith}
+use Rattle.std.proofs.lemmas.Bool.{le-ltb, lt-ltb}
 use Rattle.std.specs.Prelude.{IsOk, Err}
-use Rattle.gap_list.specs.declared.run.Run.{Run}
 use Rattle.txn_events.specs.declared.refusal.Refusal.TheVariants as refusal
 use Rattle.sender_core.specs.Core.{IsPlanOf, remainder_of, plan_answer, sending_of, shown}
 use Rattle.sender_core.specs.declared.plan.Remainder.TheVariants as remainder
 use Rattle.sender_core.specs.declared.plan.Plan.{Plan}
 use Rattle.sender_core.specs.declared.sender.SenderCore.{SenderCore}
-use Rattle.std.proofs.lemmas.Bool.Decides.{nat_tests}
 use Rattle.cfdp_types.specs.declared.names.TimerKind.{TimerKind}
 use Rattle.cfdp_types.specs.declared.names.TimerKind.TheVariants.{Ack, Nak, Check, Inactivity}
-use Rattle.gap_list.specs.Runs.{in_runs}
 use Rattle.indications.specs.declared.indication.Indication.TheVariants as told
 use Rattle.txn_events.specs.declared.answer.Answer.{Answer}
 use Rattle.txn_events.proofs.AnswerLemmas.{answer_of_parts, same_answer}
 use Rattle.sender_table.specs.Sending.{Sending, State, put, initial, step, state_of}
 use Rattle.sender_table.specs.Answers.{answer_at}
-use Rattle.sender_core.specs.Remaining.{whole}
-use Rattle.sender_core.specs.ControlBlock.{state_from, first, IsInside}
+use Rattle.sender_core.specs.Remaining.{still}
+use Rattle.sender_core.specs.ControlBlock.{state_from, first}
 use Rattle.sender_core.specs.declared.control.ControlBlock.{ControlBlock}
 use Rattle.sender_core.proofs.PlanLemmas.{same_state}
-
-pub whole_has : (size i : ℕ) → in_runs (whole size) i ≡ nat_lt i size
-whole_has size i =
-    elim (cases_Bool (eqb size 0)) [
-      | inl none ↦ rw none (grind (arith, nat_tests, none))
-      | inr some ↦ rw some (grind (arith, nat_tests))
-    ]
-
-pub whole_inside : (size : ℕ) → IsInside size (in_runs (whole size))
-whole_inside size i has = ltb-true i size (sym (whole_has size i) ∙ has)
 
 none_runs : (kind : TimerKind) → (state_from (first 0) (λ i. false)).armed kind ≡ None
 none_runs Ack = refl
@@ -45,15 +32,16 @@ none_expired Nak = refl
 none_expired Check = refl
 none_expired Inactivity = refl
 
-pub opened : (sending : Sending) → state_from (first 0) (in_runs (whole (length sending.request.file))) ≡ initial sending
+pub opened : (sending : Sending) (remains : ℕ → Bool) → ((i : ℕ) → remains i ≡ nat_lt i (length sending.request.file))
+    → state_from (first 0) remains ≡ initial sending
 unfolding initial
-opened sending =
-    same_state (state_from (first 0) (in_runs (whole (length sending.request.file)))) _ refl refl (λ i. whole_has (length sending.request.file) i) refl refl refl refl none_runs none_expired refl
+opened sending remains whole =
+    same_state (state_from (first 0) remains) _ refl refl whole refl refl refl refl none_runs none_expired refl
 
-still : (set below : Bool) → set ≡ ((set && true) || (below && false))
-still true below = refl
-still false true = refl
-still false false = refl
+unmoved : (set below : Bool) → set ≡ ((set && true) || (below && false))
+unmoved true below = refl
+unmoved false true = refl
+unmoved false false = refl
 
 put_tries : (sending : Sending) (remains : ℕ → Bool) (kind : TimerKind)
     → (state_from (first 1) remains).tries kind ≡ (step sending (state_from (first 0) remains) (record { event = put; answer = record { inds = told.Transaction ∷ []; pdus = []; timers = []; deposit = None } })).tries kind
@@ -67,7 +55,7 @@ pub put_follows : (sending : Sending) (remains : ℕ → Bool)
     → state_from (first 1) remains ≡ step sending (state_from (first 0) remains) (record { event = put; answer = record { inds = told.Transaction ∷ []; pdus = []; timers = []; deposit = None } })
 unfolding step
 put_follows sending remains =
-    same_state (state_from (first 1) remains) _ refl refl (λ i. still (remains i) (nat_lt i (length sending.request.file))) refl refl refl refl (λ kind. refl)
+    same_state (state_from (first 1) remains) _ refl refl (λ i. unmoved (remains i) (nat_lt i (length sending.request.file))) refl refl refl refl (λ kind. refl)
     (put_tries sending remains) refl
 
 pub put_answered : (sending : Sending) (remains : ℕ → Bool) → length sending.request.file ≤ FILE_OCTETS
@@ -75,13 +63,11 @@ pub put_answered : (sending : Sending) (remains : ℕ → Bool) → length sendi
 unfolding answer_at step
 put_answered sending remains small = rw (le-ltb FILE_OCTETS (length sending.request.file) small) refl
 
-pub opens : (sending : Sending) (control : ControlBlock) (runs : List Run) (size : ℕ) → control ≡ first 0 → runs ≡ whole size → size ≡ length sending.request.file
-    → state_from control (in_runs runs) ≡ state_of sending []
+pub opens : (sending : Sending) (control : ControlBlock) (remains : ℕ → Bool) (size : ℕ) → control ≡ first 0
+    → ((i : ℕ) → remains i ≡ nat_lt i size) → size ≡ length sending.request.file → state_from control remains ≡ state_of sending []
 unfolding state_of
-opens sending control runs size stands are is =
-    ap (λ s. state_from s (in_runs runs)) stands
-    ∙ ap (λ r. state_from (first 0) (in_runs r)) (are ∙ ap whole is)
-    ∙ opened sending
+opens sending control remains size stands whole is =
+    ap (λ s. state_from s remains) stands ∙ opened sending remains (λ i. whole i ∙ ap (λ n. nat_lt i n) is)
 
 pub next_is : (control : ControlBlock) → control ≡ first 0 → record control { entries = 1 } ≡ first 1
 next_is control is = ap (λ (s : ControlBlock). record s { entries = 1 }) is
@@ -96,7 +82,7 @@ pub put_plan : (core : SenderCore) (plan : Plan) → core.control ≡ first 0 �
     → plan.answer.deposit ≡ None → IsPlanOf core plan put
 put_plan core plan stands next is_left inds pdus timers nothing =
     let s : Sending = sending_of core in
-    let remains : ℕ → Bool = in_runs core.remaining in
+    let remains : ℕ → Bool = still core.remaining in
     let empty : Answer = record { inds = told.Transaction ∷ []; pdus = []; timers = []; deposit = None } in
     let answer : plan_answer plan ≡ empty = answer_is plan inds pdus timers nothing in
     record {
@@ -110,6 +96,7 @@ put_plan core plan stands next is_left inds pdus timers nothing =
       };
       nothing = nothing;
       inside = λ i has. core.inside i (ap (λ l. remainder_of core.remaining l i) (sym is_left) ∙ has);
+      room = rw is_left tt;
       sound = λ runs. rw next (record {
         few = record { entries = omega arith; tries = record { ack = omega arith; nak = omega arith; check = omega arith; inactivity = omega arith } };
         goes_on = λ e. omega arith;

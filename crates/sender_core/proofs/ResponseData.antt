@@ -2,7 +2,7 @@
 use Rattle.std.proofs.Common.{◌≡◌, ℕ, ◌+◌, ◌-◌, ◌<◌, ◌≤◌, min, max, Bool, true, false, not, ◌&&◌, ◌||◌, nat_lt, if◌then◌else◌, List, [], ◌∷◌, length, take, drop, Option, Some, None, eqb, refl, sym, ap, ◌∙◌, arith, inl, inr, cond}
 use Rattle.std.specs.List.{list_any}
 use Rattle.std.proofs.lemmas.List.{length-take, length-drop}
-use Rattle.std.proofs.lemmas.Bool.{cases_Bool, ltb-false}
+use Rattle.std.proofs.lemmas.Bool.{cases_Bool, ltb-true}
 use Rattle.std.proofs.lemmas.Bool.Decides.{nat_tests}
 use Rattle.cfdp_types.specs.Handlers.{handler_in}
 use Rattle.cfdp_types.specs.Condition as condition
@@ -14,8 +14,7 @@ use Rattle.cfdp_types.specs.declared.names.Handler.TheVariants as handler
 use Rattle.cfdp_types.specs.declared.names.TimerKind.{TimerKind}
 use Rattle.cfdp_types.specs.declared.names.TimerKind.TheVariants.{Ack, Nak, Check, Inactivity}
 use Rattle.gap_list.specs.declared.run.Run.{Run}
-use Rattle.gap_list.specs.Runs.{is_within, in_runs, IsRisingFrom}
-use Rattle.gap_list.proofs.SetLemmas.{below_rising}
+use Rattle.gap_list.specs.Runs.{is_within, without_range}
 use Rattle.txn_events.specs.declared.event.What.{What}
 use Rattle.txn_events.specs.declared.event.What.TheVariants as what
 use Rattle.pdu_values.specs.Pdu.{PduValue}
@@ -25,8 +24,9 @@ use Rattle.pdu_values.specs.declared.bodies.Eof.{Eof}
 use Rattle.sender_table.specs.Sending.{Sending, State, happens, covers, extent_of, asks_for, requests_of, is_closing}
 use Rattle.sender_table.specs.Refusals.{runs_to_send}
 use Rattle.sender_table.specs.Answers.{Response, cancel_response, fault_response, sends_eof, sends_next, on_pump, on_body, on_timer, response_to, last_eof, ends_unreported, nothing}
-use Rattle.sender_core.specs.Remaining.{without_first, with_requests}
+use Rattle.sender_core.specs.Remaining.{with_requests}
 use Rattle.sender_core.specs.Core.{pdus_of_response, remains_after}
+use Rattle.sender_core.proofs.CoreLemmas.{IsLowest, lowest}
 
 -- no octet of the file is sent
 pub record NoData (pdus : List PduValue) : Type 0 where
@@ -168,30 +168,15 @@ or_false : (b : Bool) → (b || false) ≡ b
 or_false true = refl
 or_false false = refl
 
--- the first octets of the lowest run are taken
-without_first_has : (n : ℕ) (run : Run) (later : List Run) (i : ℕ) → n ≤ run.end - run.start → run.start < run.end → IsRisingFrom (run.end + 1) later
-    → in_runs (without_first n (run ∷ later)) i ≡ (in_runs (run ∷ later) i && not (is_within run.start (run.start + n) i))
-without_first_has n run later i few filled rising =
-    elim (cases_Bool (is_within run.start (run.start + n) i)) [
-      | inl here ↦
-          let below : i < run.end = grind (arith, nat_tests, here) in
-          let none : in_runs later i ≡ false = below_rising (run.end + 1) later i rising (omega arith) in
-          elim (cases_Bool (nat_lt n (run.end - run.start))) [
-            | inl part ↦
-                let gone : is_within (run.start + n) run.end i ≡ false = grind (arith, nat_tests, here) in
-                rw (part, here, none, gone) (sym (and_false _))
-            | inr whole ↦ rw (whole, here, none) (sym (and_false _))
-          ]
-      | inr there ↦
-          elim (cases_Bool (nat_lt n (run.end - run.start))) [
-            | inl part ↦
-                let same : is_within (run.start + n) run.end i ≡ is_within run.start run.end i = grind (arith, nat_tests, there) in
-                rw (part, there, same) (sym (and_true _))
-            | inr whole ↦
-                let all : run.start + n ≡ run.end = omega (arith, ltb-false n (run.end - run.start) whole) in
-                let gone : is_within run.start run.end i ≡ false = rw all at there in
-                rw (whole, there, gone) (sym (and_true _))
-          ]
+-- without what lies below the end of a range, where nothing lies below its start
+without_front : (set : ℕ → Bool) (start end i : ℕ) → ((i : ℕ) → i < start → set i ≡ false)
+    → without_range set 0 end i ≡ (set i && not (is_within start end i))
+without_front set start end i front =
+    elim (cases_Bool (nat_lt i start)) [
+      | inl below ↦ rw (front i (ltb-true i start below)) refl
+      | inr above ↦
+          let same : is_within 0 end i ≡ is_within start end i = grind (arith, nat_tests, above) in
+          ap (λ b. set i && not b) same
     ]
 
 part_taken : (set within covered below : Bool) → covered ≡ within → (set && not within) ≡ ((set && not covered) || (below && false))
@@ -200,14 +185,14 @@ part_taken set within covered below is =
 
 -- the first octets of the lowest run are sent
 pub left_by_part : (sending : Sending) (state : State) (n : ℕ) (run : Run) (later : List Run) (i : ℕ) → state.metadata_remains ≡ false → runs_to_send sending state ≡ run ∷ later
-    → state.remains i ≡ in_runs (run ∷ later) i → n ≡ min sending.params.segment_octets (run.end - run.start) → IsRisingFrom 0 (run ∷ later) → run.end ≤ length sending.request.file
-    → in_runs (without_first n (run ∷ later)) i ≡ remains_after sending state what.Pump i
-left_by_part sending state n run later i remains runs has part rising inside =
+    → n ≡ min sending.params.segment_octets (run.end - run.start)
+    → without_range state.remains 0 (run.start + n) i ≡ remains_after sending state what.Pump i
+left_by_part sending state n run later i remains runs part =
     let file : List ℕ = sending.request.file in
     let m : ℕ = min sending.params.segment_octets (run.end - run.start) in
-    let long : length (take m (drop run.start file)) ≡ n = omega (arith, length-take m (drop run.start file), length-drop run.start file, part, rising.1, inside) in
+    let first : IsLowest state.remains (length file) run = lowest state.remains (length file) run later runs in
+    let long : length (take m (drop run.start file)) ≡ n = omega (arith, length-take m (drop run.start file), length-drop run.start file, part, first.filled, first.within) in
     let covered : list_any (covers i) (pdus_of_response sending (response_to sending state state (happens what.Pump))) ≡ is_within run.start (run.start + n) i =
     rw (remains, runs) (or_false (is_within run.start (run.start + length (take m (drop run.start file))) i) ∙ ap (λ k. is_within run.start (run.start + k) i) long) in
-    without_first_has n run later i (omega (arith, part)) rising.1 rising.2
-    ∙ ap (λ b. b && not (is_within run.start (run.start + n) i)) (sym has)
+    without_front state.remains run.start (run.start + n) i first.front
     ∙ part_taken (state.remains i) _ _ (nat_lt i (length file)) covered

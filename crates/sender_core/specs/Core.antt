@@ -13,13 +13,13 @@ use Rattle.txn_events.specs.declared.event.What.{What}
 use Rattle.txn_events.specs.Timers.{tries_of, stamp_of, stamp_by}
 use Rattle.sender_core.specs.declared.control.ControlBlock.{ControlBlock}
 use Rattle.cfdp_types.specs.Put.{PutValue}
-use Rattle.gap_list.specs.declared.run.Run.{Run}
-use Rattle.gap_list.specs.Runs.{in_runs}
+use Rattle.gap_list.specs.Runs.{without_range}
 use Rattle.pdu_values.specs.Pdu.{PduValue}
 use Rattle.sender_table.specs.Sending.{Sending, Event, happens, State, Entry, state_of, step, is_metadata, asks_for_metadata, requests_of, extent_of, eof_among, acknowledges_eof, tries_after, covers, asks_for}
 use Rattle.sender_table.specs.Answers.{answer_at, header_of}
 use Rattle.sender_table.specs.Answers as table
-use Rattle.sender_core.specs.Remaining.{without_first}
+use Rattle.sender_core.specs.Remaining.{still, with_asked, HasRoom}
+use Rattle.sender_core.specs.declared.remaining.Remaining.{Remaining}
 use Rattle.sender_core.specs.ControlBlock.{state_from, nowhere, IsSound, IsInside}
 use Rattle.txn_events.specs.declared.answer.Answer.{Answer}
 pub use Rattle.txn_events.specs.Logs.{IsWhy}
@@ -39,7 +39,7 @@ sending_of core = sending_by core.key core.params core.request
 
 -- what a core stands at
 abbrev pub shown : SenderCore → State
-shown core = state_from core.control (in_runs core.remaining)
+shown core = state_from core.control (still core.remaining)
 
 -- what the core holds is what the log gives
 abbrev pub StandsAfter : SenderCore → List Entry → Type 0
@@ -50,10 +50,15 @@ abbrev pub plan_answer : Plan → Answer
 plan_answer plan = plan.answer
 
 -- the offsets that are to be sent after a plan
-abbrev pub remainder_of : List Run → Remainder → ℕ → Bool
-remainder_of runs remainder.Same = in_runs runs
-remainder_of runs (remainder.Without count) = in_runs (without_first count runs)
-remainder_of runs (remainder.Requested others) = in_runs others
+abbrev pub remainder_of : Remaining → Remainder → ℕ → Bool
+remainder_of remaining remainder.Same = still remaining
+remainder_of remaining (remainder.SentTo end) = without_range (still remaining) 0 end
+remainder_of remaining (remainder.Requested asked) = with_asked (still remaining) asked
+
+-- there is room for what a plan asks for
+abbrev pub HasRoomFor : Remaining → Remainder → Type 0
+HasRoomFor remaining (remainder.Requested asked) = HasRoom remaining asked
+HasRoomFor remaining _ = Unit {0}
 
 -- the PDU and the rest of a response of the table
 abbrev pub pdus_of_response : Sending → table.Response → List PduValue
@@ -120,4 +125,5 @@ pub record IsPlanOf (core : SenderCore) (plan : Plan) (event : Event) : Type 0 w
       (state_from plan.next (remainder_of core.remaining plan.remainder))
   pub nothing : plan.answer.deposit ≡ None
   pub inside : IsInside (length core.request.file) (remainder_of core.remaining plan.remainder)
+  pub room : HasRoomFor core.remaining plan.remainder
   pub sound : core.control.ended ≡ false → IsSound (length core.request.file) plan.next

@@ -1,5 +1,5 @@
 use crate::control::ControlBlock;
-use crate::remaining::Remaining;
+use crate::remaining::Asked;
 use txn_events::Answer;
 
 /// What an event makes of the offsets that are still to be sent.
@@ -7,10 +7,10 @@ use txn_events::Answer;
 pub(crate) enum Remainder {
     /// They are the same.
     Same,
-    /// So many of the first offsets of the lowest run are sent.
-    Without(u32),
+    /// All below this one are sent.
+    SentTo(u32),
     /// More are asked for.
-    Requested(Remaining),
+    Requested(Asked),
 }
 
 /// An event that is accepted, with its answer and all memory that it takes. It can be carried out

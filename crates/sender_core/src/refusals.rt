@@ -17,10 +17,7 @@ impl SenderCore {
     fn has_octets(&self) -> bool
         ensures { result ≡ nat_lt 0 (length (runs_to_send (sending_of self.now) (shown self.now))) }
     {
-        match self.remaining.first() {
-            None => false,
-            Some(_) => true,
-        }
+        self.first_run().is_some()
     }
 
     // Metadata, octets of the file, or the EOF.

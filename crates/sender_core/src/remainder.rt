@@ -9,26 +9,28 @@ use txn_events::What;
 impl SenderCore {
     ghost use Rattle.std.specs.Prelude.{◌≡◌, ℕ, IfOk};
     ghost use Rattle.txn_events.specs.declared.event.What.TheVariants as what;
-    ghost use Rattle.sender_core.specs.Core.{shown, sending_of, remainder_of, remains_after};
+    ghost use Rattle.sender_core.specs.Core.{shown, sending_of, remainder_of, remains_after, HasRoomFor};
 
     // What is left once the next PDU is sent.
     fn remainder_by_pump(&self) -> Remainder
-        ensures { (i : ℕ) → remainder_of self.now.remaining result i ≡ remains_after (sending_of self.now)
+        ensures after { (i : ℕ) → remainder_of self.now.remaining result i ≡ remains_after (sending_of self.now)
             (shown self.now) what.Pump i }
+        ensures room { HasRoomFor self.now.remaining result }
     {
         if self.control.metadata_remains {
             return Remainder::Same;
         }
-        match self.remaining.first() {
+        match self.first_run() {
             None => Remainder::Same,
-            Some(run) => Remainder::Without(self.part_of(run)),
+            Some(run) => Remainder::SentTo(run.start + self.part_of(run)),
         }
     }
 
     /// What is left after an event that is accepted in the present state.
     pub(crate) fn remainder(&self, event: &What) -> Result<Remainder, AllocError>
-        ensures { IfOk result (λ remainder. (i : ℕ) → remainder_of self.now.remaining remainder i ≡ remains_after
+        ensures after { IfOk result (λ remainder. (i : ℕ) → remainder_of self.now.remaining remainder i ≡ remains_after
             (sending_of self.now) (shown self.now) event.now i) }
+        ensures room { IfOk result (λ remainder. HasRoomFor self.now.remaining remainder) }
     {
         if matches!(event, What::Pump) {
             return Ok(self.remainder_by_pump());
@@ -36,24 +38,25 @@ impl SenderCore {
         match requests_of(event) {
             None => Ok(Remainder::Same),
             Some(requests) => {
-                let size = self.request.file().as_slice().len() as u32;
-                Ok(Remainder::Requested(self.remaining.with(requests, size)?))
+                let asked = self.remaining.asked(self.alloc, requests, self.size())?;
+                Ok(Remainder::Requested(asked))
             }
         }
     }
 }
 
-ghost use Rattle.std.specs.Prelude.{◌≡◌};
-ghost use Rattle.gap_list.specs.Runs.{in_runs};
-ghost use Rattle.sender_core.specs.Core.{remainder_of};
+ghost use Rattle.gap_list.specs.Runs.{SameSet};
+ghost use Rattle.sender_core.specs.Remaining.{still};
+ghost use Rattle.sender_core.specs.Core.{remainder_of, HasRoomFor};
 
 /// Carries out what a plan makes of the offsets that are still to be sent.
 pub(crate) fn apply_remainder(remaining: &mut Remaining, remainder: Remainder)
-    ensures { in_runs remaining.new ≡ remainder_of remaining.old remainder }
+    requires { HasRoomFor remaining.old remainder }
+    ensures { SameSet (still remaining.new) (remainder_of remaining.old remainder) }
 {
     match remainder {
         Remainder::Same => {}
-        Remainder::Without(count) => remaining.take_front(count),
-        Remainder::Requested(others) => *remaining = others,
+        Remainder::SentTo(end) => remaining.send_to(end),
+        Remainder::Requested(asked) => remaining.add(asked),
     }
 }

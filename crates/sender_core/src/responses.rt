@@ -15,7 +15,7 @@ use txn_events::What;
 impl SenderCore {
     ghost use Rattle.sender_table.specs.Refusals.{runs_to_send};
     ghost use Rattle.cfdp_types.specs.declared.limits.TheConstants.{SEGMENT_OCTETS_MOST};
-    ghost use Rattle.std.specs.Prelude.{◌≡◌, ◌≤◌, IfOk, ◌-◌, min, [], ◌∷◌, None, Some};
+    ghost use Rattle.std.specs.Prelude.{◌≡◌, ◌≤◌, IfOk, ◌-◌, min, [], ◌∷◌, None, Some, length, slice_get};
     ghost use Rattle.txn_events.specs.declared.event.What.TheVariants as what;
     ghost use Rattle.pdu_values.specs.declared.pdu.Body.TheVariants as body;
     ghost use Rattle.indications.specs.declared.indication.Indication.TheVariants as told;
@@ -135,6 +135,20 @@ impl SenderCore {
         }
     }
 
+    // The size of the file.
+    pub(crate) fn size(&self) -> u32
+        ensures { result ≡ length self.now.request.file }
+    {
+        self.request.file().as_slice().len() as u32
+    }
+
+    // The lowest run that is to be sent.
+    pub(crate) fn first_run(&self) -> Option<Run>
+        ensures { result ≡ slice_get (runs_to_send (sending_of self.now) (shown self.now)) 0 }
+    {
+        self.remaining.first(self.size())
+    }
+
     // What to send of the lowest run: as many octets as a part may hold.
     pub(crate) fn part_of(&self, run: Run) -> u32
         ensures part { result ≡ min self.now.params.segment_octets (run.end - run.start) }
@@ -145,11 +159,10 @@ impl SenderCore {
 
     // What remains of the file, and then the EOF.
     fn sends_next(&self) -> Result<Response, AllocError>
-        ensures runs { runs_to_send (sending_of self.now) (shown self.now) ≡ self.now.remaining }
-        ensures response { IfOk result (λ response. IsResponse (sending_of self.now) response
-            (sends_next (sending_of self.now) self.now.remaining)) }
+        ensures { IfOk result (λ response. IsResponse (sending_of self.now) response
+            (sends_next (sending_of self.now) (runs_to_send (sending_of self.now) (shown self.now)))) }
     {
-        match self.remaining.first() {
+        match self.first_run() {
             None => self.sends_eof(),
             Some(run) => {
                 let pdu = pdus::file_data(

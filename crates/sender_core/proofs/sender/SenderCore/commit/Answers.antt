@@ -1,4 +1,5 @@
 use Rattle.std.proofs.Common.{ap, ◌∙◌, sym}
+use Rattle.std.proofs.Math.Path.{fun_ext}
 use Rattle.sender_table.specs.Sending.{step, state_of}
 use Rattle.sender_core.specs.ControlBlock.{state_from}
 use Rattle.sender_core.specs.Core.{sending_of, plan_answer}
@@ -12,13 +13,16 @@ invariant_of-self c =
       headed = old.headed;
       fits = old.fits;
       small = old.small;
-      inside = λ i has. planned.inside i (sym (ap (λ r. r i) c.apply_remainder.ensures) ∙ has);
+      inside = λ i has. planned.inside i (sym (c.apply_remainder.ensures i) ∙ has);
       sound = planned.sound c.requires.runs;
     }
 
 pub returns-clause-stands : goal.returns-clause-stands
 unfolding state_of
 returns-clause-stands c event log planned stood =
-    ap (λ r. state_from c.args.plan.next r) c.apply_remainder.ensures
+    ap (λ r. state_from c.args.plan.next r) (fun_ext c.apply_remainder.ensures)
     ∙ planned.answered.follows
     ∙ ap (λ s. step (sending_of c.args.self.now) s (record { event = event; answer = plan_answer c.args.plan })) stood
+
+pub apply_remainder-requires : goal.apply_remainder-requires
+apply_remainder-requires c = c.requires.planned.1.room

@@ -1,21 +1,18 @@
-use Rattle.std.proofs.Common.{length, arith}
-use Rattle.sender_core.proofs.CoreLemmas.{runs_inside, first_inside}
+use Rattle.std.proofs.Common.{rules, length, sym, ◌∙◌, arith}
+use Rattle.sender_core.specs.Core.{shown}
+use Rattle.sender_core.proofs.CoreLemmas.{none_of, first_of, lowest}
 use Rattle.sender_core.proofs.sender.SenderCore.sends_next.Goals as goal
 
 pub file_data-requires-clause-inside : goal.file_data-requires-clause-inside
 file_data-requires-clause-inside c =
-    let first = c.in-Some.ensures.first in
-    let inside = first_inside (length c.args.self.now.request.file) c.args.self.now.remaining first.0 c.in-Some.run' first.1 c.in-Some.ensures.rising c.args.self.now.inside in
-    rw (c.as_slice.ensures, c.file.ensures) (omega (arith, inside.0, inside.1, c.part_of.ensures.part))
+    let core = c.args.self.now in
+    let first = first_of _ c.in-Some.run' (sym c.in-Some.is ∙ c.first_run.ensures) in
+    let lowest = lowest (shown core).remains (length core.request.file) c.in-Some.run' first.0 first.1 in
+    rw (c.as_slice.ensures, c.file.ensures) (omega (arith, lowest.filled, lowest.within, c.part_of.ensures.part))
 
-pub returns-in-None-clause-runs : goal.returns-in-None-clause-runs
-returns-in-None-clause-runs c =
-    runs_inside (length c.args.self.now.request.file) c.args.self.now.remaining c.in-None.ensures.rising c.args.self.now.inside
+pub returns-in-None : goal.returns-in-None
+returns-in-None c = rw (none_of _ (sym c.in-None.is ∙ c.first_run.ensures)) c.sends_eof.ensures
 
-pub returns-in_err-pdu-in-Some-clause-runs : goal.returns-in_err-pdu-in-Some-clause-runs
-returns-in_err-pdu-in-Some-clause-runs c =
-    runs_inside (length c.args.self.now.request.file) c.args.self.now.remaining c.in-Some.ensures.rising c.args.self.now.inside
-
-pub returns-in_ok-pdu-in-Some-clause-runs : goal.returns-in_ok-pdu-in-Some-clause-runs
-returns-in_ok-pdu-in-Some-clause-runs c =
-    runs_inside (length c.args.self.now.request.file) c.args.self.now.remaining c.in-Some.ensures.rising c.args.self.now.inside
+pub returns-in_ok-pdu-in-Some : goal.returns-in_ok-pdu-in-Some
+returns-in_ok-pdu-in-Some c =
+    rw (first_of _ c.in-Some.run' (sym c.in-Some.is ∙ c.first_run.ensures)).1 (search rules)
