@@ -5,3 +5,4 @@ pub mod Settings
 pub mod Reference
 pub mod Shown
 pub mod Walk
+pub mod Reads

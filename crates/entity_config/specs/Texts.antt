@@ -57,8 +57,12 @@ is_end None = false
 is_end (Some []) = true
 is_end (Some (x ∷ xs)) = false
 
--- four numbers up to 255 with dots between them, a colon and a port
+-- what follows four numbers up to 255 with dots between them, a colon and a port
+abbrev pub after_address : List ℕ → Option (List ℕ)
+after_address text =
+    option_and_then (after_number 65535) (option_and_then (after_part 58) (option_and_then (after_part 46)
+    (option_and_then (after_part 46) (after_part 46 text))))
+
+-- such an address, and nothing else
 abbrev pub is_address : List ℕ → Bool
-is_address text =
-    is_end (option_and_then (after_number 65535) (option_and_then (after_part 58) (option_and_then (after_part 46)
-    (option_and_then (after_part 46) (after_part 46 text)))))
+is_address text = is_end (after_address text)

@@ -13,6 +13,9 @@ use Rattle.cfdp_types.specs.declared.names.Handler.{Handler}
 use Rattle.cfdp_types.specs.declared.names.Handler.TheVariants.{Cancel, Suspend, Ignore, Abandon}
 use Rattle.cfdp_types.specs.declared.names.Role.{Role}
 use Rattle.cfdp_types.specs.declared.names.Role.TheVariants.{Send, RecvOne, RecvTwo}
+use Rattle.cfdp_types.specs.declared.params.ExpirationLimits.{ExpirationLimits}
+use Rattle.cfdp_types.specs.declared.params.FaultTables.{FaultTables}
+use Rattle.cfdp_types.specs.declared.params.TimerLengths.{TimerLengths}
 use Rattle.entity_config.specs.declared.entity.EntitySettings.{EntitySettings}
 use Rattle.entity_config.specs.declared.fault.ConfigFault.{ConfigFault}
 use Rattle.entity_config.specs.declared.fault.ConfigFault.TheVariants as fault
@@ -196,26 +199,41 @@ abbrev pub user_named : List (List ℕ) → Data → Read (Option ℕ)
 user_named users d = and_then (name_of key.User d) (λ name. known_user (position (is_same_text name) users))
 
 -- the parameters of a remote entity
-abbrev pub params_in : EntitySettings → Members → Read ParamsValue
-params_in entity ms =
+abbrev pub timers_in : Members → Read TimerLengths
+timers_in ms =
     and_then (number_at key.AckMilliseconds 1 TIMER_MILLISECONDS ms) (λ ack.
     and_then (number_at key.NakMilliseconds 1 TIMER_MILLISECONDS ms) (λ nak.
     and_then (number_at key.CheckMilliseconds 1 TIMER_MILLISECONDS ms) (λ check.
     and_then (number_at key.InactivityMilliseconds 1 TIMER_MILLISECONDS ms) (λ inactivity.
-    and_then (number_at key.AckLimit 1 EXPIRATIONS ms) (λ acks.
-    and_then (number_at key.NakLimit 1 EXPIRATIONS ms) (λ naks.
-    and_then (number_at key.CheckLimit 1 EXPIRATIONS ms) (λ checks.
+    Ok (record { ack = ack; nak = nak; check = check; inactivity = inactivity })))))
+
+abbrev pub limits_in : Members → Read ExpirationLimits
+limits_in ms =
+    and_then (number_at key.AckLimit 1 EXPIRATIONS ms) (λ ack.
+    and_then (number_at key.NakLimit 1 EXPIRATIONS ms) (λ nak.
+    and_then (number_at key.CheckLimit 1 EXPIRATIONS ms) (λ check.
+    Ok (record { ack = ack; nak = nak; check = check }))))
+
+abbrev pub tables_in : Members → Read FaultTables
+tables_in ms =
     and_then (handlers_at Send ms) (λ send.
     and_then (handlers_at RecvOne ms) (λ receive_one.
     and_then (handlers_at RecvTwo ms) (λ receive_two.
+    Ok (record { send = send; receive_one = receive_one; receive_two = receive_two }))))
+
+abbrev pub params_in : EntitySettings → Members → Read ParamsValue
+params_in entity ms =
+    and_then (timers_in ms) (λ timers.
+    and_then (limits_in ms) (λ limits.
+    and_then (tables_in ms) (λ tables.
     Ok (record {
       local = entity.local;
       lengths = entity.lengths;
       segment_octets = entity.segment_octets;
-      timers = record { ack = ack; nak = nak; check = check; inactivity = inactivity };
-      limits = record { ack = acks; nak = naks; check = checks };
-      tables = record { send = send; receive_one = receive_one; receive_two = receive_two };
-    })))))))))))
+      timers = timers;
+      limits = limits;
+      tables = tables;
+    }))))
 
 -- the user has room for one more source
 abbrev pub takes_source : List PeerValue → Option ℕ → Bool

@@ -1,5 +1,4 @@
 ghost use Rattle.std.specs.Prelude.{◌≡◌, ◌==◌, find, option_copied, position, string_bytes};
-ghost use Rattle.entity_config.specs.Settings.{table_key};
 ghost use Rattle.entity_config.specs.Texts.{is_same_text};
 
 use crate::change::{Limited, change_handler, change_limit};
@@ -7,7 +6,7 @@ use crate::entity::EntitySettings;
 use crate::fault::{ConfigFault, Key};
 use crate::reference::reference_params;
 use crate::remote::{Peer, Remote};
-use crate::setting::Setting;
+use crate::setting::{Setting, key_of_table};
 use cfdp_types::limits::{CONFIGURED_NUMBER, EXPIRATIONS, QUEUE_BUNDLES};
 use cfdp_types::{Condition, EntityId, Handler, HeaderLengths, Role};
 use std::alloc::{AllocError, Global};
@@ -54,8 +53,8 @@ impl Config {
     ghost use Rattle.std.specs.Prelude.{OnOk, OnErr, IfErr};
     ghost use Rattle.entity_config.specs.declared.setting.Setting.TheVariants as setting;
     ghost use Rattle.entity_config.specs.Settings.{limit_set, with_setting};
-    ghost use Rattle.entity_config.specs.Shown.{peer_shown};
-    ghost use Rattle.entity_config.specs.Values.{is_entity, has_id};
+    ghost use Rattle.entity_config.specs.Shown.{peer_shown, shown};
+    ghost use Rattle.entity_config.specs.Values.{is_config, is_entity, has_id};
 
     /// The configuration that worked examples and scripts run with: entity 2 with the users alice and bob,
     /// and entity 1, whose files go to alice.
@@ -79,6 +78,18 @@ impl Config {
             users,
             peers,
         })
+    }
+
+    /// The configuration of parts that keep all limits.
+    pub(crate) fn of_parts(entity: EntitySettings, users: Vec<String>, peers: Vec<Peer>) -> Config
+        requires { IsTrue (is_config (shown entity users peers)) }
+        ensures { result ≡ shown entity users peers }
+    {
+        Config {
+            entity,
+            users,
+            peers,
+        }
     }
 
     /// What it says of the entity itself.
@@ -225,19 +236,8 @@ impl Config {
     }
 }
 
-// The key of a role's table.
-fn key_of_table(role: Role) -> Key
-    ensures { result ≡ table_key role }
-{
-    match role {
-        Role::Send => Key::Send,
-        Role::RecvOne => Key::ReceiveOne,
-        Role::RecvTwo => Key::ReceiveTwo,
-    }
-}
-
-// The place of a name among some.
-fn place_of(names: &[String], name: &str) -> Option<usize>
+/// The place of a name among some.
+pub(crate) fn place_of(names: &[String], name: &str) -> Option<usize>
     ensures { result ≡ position (λ other. is_same_text name.now (string_bytes other)) names.now }
 {
     names.iter().position(|other| name == other.as_str())

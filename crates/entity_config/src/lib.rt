@@ -5,6 +5,7 @@ mod change;
 mod config;
 mod entity;
 mod fault;
+mod reading;
 mod reference;
 mod remote;
 mod setting;
@@ -12,6 +13,7 @@ mod setting;
 pub use config::Config;
 pub use entity::EntitySettings;
 pub use fault::{ConfigFault, Key, Section};
+pub use reading::read_config;
 pub use remote::Remote;
 pub use setting::Setting;
 
