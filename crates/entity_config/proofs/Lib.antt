@@ -7,5 +7,6 @@ pub mod Distinct
 pub mod ReadLimits
 pub mod RemoteLimits
 pub mod WalkRows
+pub mod RemoteRows
 pub mod Rows
 pub mod TextRows
