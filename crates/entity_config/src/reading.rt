@@ -23,8 +23,9 @@ use cfdp_types::limits::{REMOTES, USERS};
 use std::alloc::Global;
 use toml::Table;
 
-/// Reads a configuration, a text in TOML, whole: an entity, its users and the remote entities. The first fault counts,
-/// whatever the order of the text; where memory ran out, nothing is said of the text.
+/// Reads a configuration, a text in TOML: the entity, its users and the remote entities. `docs/configuration.md` says
+/// which keys it has, in which ranges. The first fault in the order of the keys is told, whatever their order in
+/// the text; `NoMemory` says nothing of the text.
 pub fn read_config(alloc: Global, text: &str) -> Result<Config, ConfigFault>
     ensures ok { IfOk result (λ config. config_of text.now ≡ Ok config) }
     ensures refused { IfErr result (λ fault. (fault ≡ ConfigFault.NoMemory) ⊎ (config_of text.now ≡ Err fault)) }

@@ -25,7 +25,7 @@ fn number_of(value: &Value, key: Key, least: u64, most: u64) -> Result<u64, Conf
         return Err(ConfigFault::WrongType(key));
     };
     match u64::try_from(number) {
-        Ok(number) if least <= number && number <= most => Ok(number),
+        Ok(number) if (least..=most).contains(&number) => Ok(number),
         _ => Err(ConfigFault::OutOfRange(key)),
     }
 }

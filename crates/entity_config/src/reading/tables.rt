@@ -64,7 +64,7 @@ pub(crate) fn counted(
     ensures { Reads (λ tables. map (λ table. table_view table.now) tables.items) result (counted key least most (view value.now)) }
 {
     let tables = tables_of(alloc, value, key)?;
-    if tables.len() < least || tables.len() > most {
+    if !(least..=most).contains(&tables.len()) {
         return Err(ConfigFault::OutOfRange(key));
     }
     Ok(tables)

@@ -40,7 +40,7 @@ fn is_user_name(name: &str) -> bool
     ensures { result ≡ is_user_name name.now }
 {
     let octets = name.as_bytes();
-    1 <= octets.len() && octets.len() <= USER_NAME_OCTETS && are_name_octets(octets)
+    (1..=USER_NAME_OCTETS).contains(&octets.len()) && are_name_octets(octets)
 }
 
 // Whether each octet is a letter from a to z, or a digit.
