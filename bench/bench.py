@@ -2,9 +2,10 @@
 
 usage: bench.py PROGRAM
 
-The scripts are made here: one reception of a large file in segments of 256 and of 1,400 octets, many
-small receptions one after another, and datagrams of every kind, each at one size and at eight times
-that size.
+The scripts are made here: one reception of a large file in order, in segments of 256 and of 1,400 octets,
+many small receptions one after another, and datagrams of every kind, each at one size and at eight times
+that size. Below each pair stand the bars that it has, for a machine with four processors and no other work:
+for the large file and for the datagrams their speed, and for all how time and memory grow.
 """
 
 import os
@@ -17,6 +18,14 @@ import time
 LARGE = 512 * 1024
 SMALL = 10_000
 MIXED = 200_000
+
+RUNS = 5
+
+# The bars: how many times as long a script of eight times the size may take; the peak memory beside four
+# times the file, in octets; the least speed of each kind of script that has one, by its unit.
+GROWTH = 10
+MEMORY = 16_000_000
+SPEEDS = {"large": (200, "MB/s"), "mixed": (1_000_000, "lines/s")}
 
 
 def checksum(octets):
@@ -111,28 +120,46 @@ def run(program, script):
         return seconds, usage.ru_maxrss * 1024
 
 
-def measure(program, name, kind, size, segment):
-    """Prints one row: the best of five runs."""
-    with tempfile.NamedTemporaryFile() as script:
-        words = [sys.executable, __file__, "make", kind, str(size), str(segment)]
-        subprocess.run(words, stdout=script, check=True)
-        octets = os.path.getsize(script.name)
-        with open(script.name, "rb") as lines:
-            count = sum(1 for _ in lines)
-        seconds, memory = min(run(program, script.name) for _ in range(5))
-    print(
-        f"{name:<26} {count:>7,} lines {octets / 1e6:>6.2f} MB {seconds:>6.3f} s"
-        f" {count / seconds:>10,.0f} lines/s {octets / 1e6 / seconds:>6.1f} MB/s"
-        f" {memory / 1e6:>5.1f} MB peak"
-    )
-    return seconds
+class Row:
+    """What the best of some runs of one script took."""
+
+    def __init__(self, program, kind, size, segment):
+        with tempfile.NamedTemporaryFile() as script:
+            words = [sys.executable, __file__, "make", kind, str(size), str(segment)]
+            subprocess.run(words, stdout=script, check=True)
+            self.octets = os.path.getsize(script.name)
+            with open(script.name, "rb") as lines:
+                self.count = sum(1 for _ in lines)
+            self.seconds, self.memory = min(run(program, script.name) for _ in range(RUNS))
+        self.speeds = {"MB/s": self.octets / 1e6 / self.seconds, "lines/s": self.count / self.seconds}
+
+    def show(self, name):
+        """Prints the row."""
+        print(
+            f"{name:<26} {self.count:>7,} lines {self.octets / 1e6:>6.2f} MB {self.seconds:>6.3f} s"
+            f" {self.speeds['lines/s']:>10,.0f} lines/s {self.speeds['MB/s']:>6.1f} MB/s"
+            f" {self.memory / 1e6:>5.1f} MB peak"
+        )
+
+
+def show_bar(what, met):
+    """Prints a bar."""
+    print(f"  {'met' if met else 'MISSED'}: {what}")
 
 
 def compare(program, kind, size, segment, name):
-    """Measures one size and eight times that size."""
-    one = measure(program, name(size), kind, size, segment)
-    eight = measure(program, name(8 * size), kind, 8 * size, segment)
-    print(f"  eight times the size takes {eight / one:.1f} times as long")
+    """Measures one size and eight times that size, and prints the bars."""
+    one = Row(program, kind, size, segment)
+    one.show(name(size))
+    eight = Row(program, kind, 8 * size, segment)
+    eight.show(name(8 * size))
+    growth = eight.seconds / one.seconds
+    show_bar(f"eight times the size takes {growth:.1f} times as long, at most {GROWTH}", growth <= GROWTH)
+    most = MEMORY + (4 * 8 * size if kind == "large" else 0)
+    show_bar(f"{eight.memory / 1e6:.1f} MB of memory, at most {most / 1e6:.1f}", eight.memory <= most)
+    if kind in SPEEDS:
+        least, unit = SPEEDS[kind]
+        show_bar(f"{eight.speeds[unit]:,.0f} {unit}, at least {least:,}", eight.speeds[unit] >= least)
 
 
 def main():
