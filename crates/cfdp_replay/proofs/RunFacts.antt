@@ -2,7 +2,7 @@
 use Rattle.std.proofs.Common.{◌≡◌, ℕ, zero, suc, ◌+◌, ◌≤◌, ◌<◌, true, List, [], ◌∷◌, ◌++◌, length, take, Option, Some, None, refl, sym, ap, subst, ◌∙◌, arith, ◌⊎◌, inl, inr, append_assoc, append-nil}
 use Rattle.std.specs.Prelude.{slice_get, IfSome}
 use Rattle.std.specs.Io.KnownBytes.{Appends}
-use Rattle.std.proofs.KnownBytes.{Appends-trans}
+use Rattle.std.proofs.KnownBytes.{Appends-nil, Appends-trans}
 use Rattle.std.proofs.lemmas.List.{length-append, take_at}
 use Rattle.std.proofs.Math.Seq.{take-append-add}
 use Rattle.script_io.specs.declared.fault.ReplayFault.{ReplayFault}
@@ -155,6 +155,14 @@ write_stops lines (Some rest) (Some more) line count world world' old mid new te
 pub begins : (script : List ℕ) (world : World) (old : Option (List ℕ)) → Stands world fresh → Appends old old [] → Ran (lines_of script) (Some script) 0 world old old
 begins script world old stands none = record { done = []; session = fresh; text = []; counted = refl; few = omega arith; others = refl; plays = (refl, refl); stands = stands; written = none }
 
+pub nothing_played : (lines : List (List ℕ)) (old : Option (List ℕ)) → StopsBehind lines old old
+nothing_played lines old = record {
+  count = 0;
+  within = omega arith;
+  few = omega arith;
+  prints = record { after = fresh; text = []; plays = (refl, refl); written = Appends-nil old };
+}
+
 pub line_too_many : (lines : List (List ℕ)) (left after : Option (List ℕ)) (line : List ℕ) (world : World) (old new : Option (List ℕ)) → GivesLine left after line → Ran lines left LINES world old new → StopsAt lines (LINES + 1) old new
 line_too_many lines None after line world old new gives ran = absurd ran.others
 line_too_many lines (Some rest) None line world old new gives ran = absurd gives
@@ -163,3 +171,7 @@ line_too_many lines (Some rest) (Some more) line world old new gives ran = stops
 pub if_some_then : {A : Type 0} (o : Option A) (P Q : A → Type 0) → IfSome o P → ((x : A) → P x → Q x) → IfSome o Q
 if_some_then None P Q p f = tt
 if_some_then (Some x) P Q p f = f x p
+
+pub if_some_always : {A : Type 0} (o : Option A) (P : A → Type 0) → ((x : A) → P x) → IfSome o P
+if_some_always None P f = tt
+if_some_always (Some x) P f = f x

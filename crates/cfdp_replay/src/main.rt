@@ -6,6 +6,8 @@ mod command;
 mod ending;
 pub mod laws;
 mod queue;
+#[cfg(test)]
+mod reader_tests;
 mod replay;
 mod reply;
 #[cfg(test)]
@@ -20,7 +22,7 @@ use ending::conclude;
 use replay::replay;
 use script_io::ReplayFault;
 use std::io;
-use std::io::{BufReader, BufWriter, Write};
+use std::io::{BufWriter, Write};
 use std::process::ExitCode;
 
 fn main(rt: HostRuntime) -> ExitCode {
@@ -30,9 +32,8 @@ fn main(rt: HostRuntime) -> ExitCode {
 
 // Replays the standard input to the standard output.
 fn run(rt: &HostRuntime) -> Result<(), ReplayFault> {
-    let mut reader = BufReader::new(rt.alloc(), rt.reader()).map_err(|_| ReplayFault::NoMemory)?;
     let mut writer = BufWriter::new(rt.alloc(), io::writer(rt)).map_err(|_| ReplayFault::NoMemory)?;
-    let result = replay(rt.alloc(), &mut reader, &mut writer);
+    let result = replay(rt.alloc(), &mut rt.reader(), &mut writer);
     let flushed = writer.flush().map_err(|_| ReplayFault::Write);
     result.and(flushed)
 }

@@ -11,21 +11,35 @@ ghost use Rattle.cfdp_replay.specs.Running.{Ran, GoesOn, PlaysTo};
 use crate::command::command_of;
 use crate::text::push_reply;
 use crate::world::World;
-use script_io::{NextLine, ReplayFault, next_line, write_whole};
+use script_io::{NextLine, ReplayFault, in_blocks, next_line, write_whole};
 use std::alloc::Global;
-use std::io::{Read, Write};
+use std::io::{BufRead, Read, Write};
 
 /// The most lines of a script.
 pub const LINES: u32 = 1_000_000;
 
 /// Runs the script that the reader holds through an entity, and writes what it answers, line by
-/// line.
+/// line. It reads ahead, by blocks: where it ends before the text does, the reader stands further
+/// than the last line that was played.
 pub fn replay<R: Read, W: Write>(
     alloc: Global,
     reader: &mut R,
     writer: &mut W,
 ) -> Result<(), ReplayFault>
     ensures { IfSome (R.remaining reader.old)
+        (λ script. Replays result (lines_of script) (W.contents writer.old) (W.contents writer.new)) }
+{
+    let mut blocks = in_blocks(alloc, reader)?;
+    play_lines(alloc, &mut blocks, writer)
+}
+
+// The same for a reader that shows its blocks.
+fn play_lines<B: BufRead, W: Write>(
+    alloc: Global,
+    reader: &mut B,
+    writer: &mut W,
+) -> Result<(), ReplayFault>
+    ensures { IfSome (B.remaining reader.old)
         (λ script. Replays result (lines_of script) (W.contents writer.old) (W.contents writer.new)) }
 {
     let mut world = World::new(alloc);
@@ -40,8 +54,8 @@ pub fn replay<R: Read, W: Write>(
 }
 
 // Behind the last line that a script may have no line comes.
-fn ends<R: Read>(reader: &mut R, line: &mut Vec<u8>) -> Result<(), ReplayFault>
-    ensures { (lines : List (List ℕ)) (world : World) (old new : Option (List ℕ)) → Ran lines (R.remaining reader.old)
+fn ends<B: BufRead>(reader: &mut B, line: &mut Vec<u8>) -> Result<(), ReplayFault>
+    ensures { (lines : List (List ℕ)) (world : World) (old new : Option (List ℕ)) → Ran lines (B.remaining reader.old)
         LINES world old new
         → Replays result lines old new }
 {
@@ -53,18 +67,18 @@ fn ends<R: Read>(reader: &mut R, line: &mut Vec<u8>) -> Result<(), ReplayFault>
 }
 
 // Plays the next line, and says whether there was one.
-fn turn<R: Read, W: Write>(
+fn turn<B: BufRead, W: Write>(
     world: &mut World,
     line: &mut Vec<u8>,
     text: &mut String,
-    reader: &mut R,
+    reader: &mut B,
     writer: &mut W,
     count: u32,
 ) -> Result<bool, ReplayFault>
     requires { count < LINES }
-    ensures { (lines : List (List ℕ)) (old : Option (List ℕ)) → Ran lines (R.remaining reader.old) count world.old old
+    ensures { (lines : List (List ℕ)) (old : Option (List ℕ)) → Ran lines (B.remaining reader.old) count world.old old
         (W.contents writer.old)
-        → GoesOn result lines (R.remaining reader.new) count world.new old (W.contents writer.new) }
+        → GoesOn result lines (B.remaining reader.new) count world.new old (W.contents writer.new) }
 {
     match next_line(reader, line)? {
         NextLine::End => return Ok(false),

@@ -1,8 +1,11 @@
 -- The lines of a text, and what a reader gives of them.
-use Rattle.std.specs.Prelude.{◌≡◌, ℕ, ◌<◌, ◌≤◌, ◌==◌, if◌then◌else◌, List, [], ◌∷◌, length, ⊤, Option, Some, None}
+use Rattle.std.specs.Prelude.{◌≡◌, ◌≢◌, ℕ, ◌+◌, ◌<◌, ◌≤◌, ◌==◌, if◌then◌else◌, List, [], ◌∷◌, ◌++◌, length, All, ⊤, Option, Some, None}
 use Rattle.std.specs.List.{onto_first}
+use Rattle.std.specs.Io.KnownBytes.{Consumes}
 use Rattle.script_io.specs.declared.input.NextLine.{NextLine}
 use Rattle.script_io.specs.declared.input.NextLine.TheVariants.{Line, TooLong, End}
+use Rattle.script_io.specs.declared.input.Piece.{Piece}
+use Rattle.script_io.specs.declared.input.Piece.TheVariants as piece
 
 -- the lines of a text: each ends in a line feed, which the last may lack
 abbrev pub lines_of : List ℕ → List (List ℕ)
@@ -41,9 +44,14 @@ GivesNext Line old new line = GivesLine old new line
 GivesNext TooLong old new line = GivesTooLong old
 GivesNext End old new line = GivesEnd old new
 
--- what one octet more, or the end, did to a reader's text
-abbrev pub GivesOctet : Option (List ℕ) → Option (List ℕ) → Option ℕ → Type 0
-GivesOctet None new found = ⊤
-GivesOctet (Some text) None found = ⊥
-GivesOctet (Some text) (Some rest) None = (text ≡ []) × (rest ≡ [])
-GivesOctet (Some text) (Some rest) (Some octet) = text ≡ octet ∷ rest
+-- what a piece of a text adds to a line: all of it, but for the line feed that ends the last
+abbrev pub Adds : Piece → List ℕ → List ℕ → List ℕ → Type 0
+Adds piece.Part text line grown = All (λ octet. octet ≢ 10) text × (grown ≡ line ++ text) × (0 < length text)
+Adds piece.Last text line grown =
+    (part : List ℕ) × (text ≡ part ++ 10 ∷ []) × All (λ octet. octet ≢ 10) part × (grown ≡ line ++ part)
+Adds piece.TooLong text line grown = All (λ octet. octet ≢ 10) text × (line_octets < length line + length text)
+Adds piece.End text line grown = (text ≡ []) × (grown ≡ line)
+
+-- a piece of the reader's text is taken, and adds to a line
+abbrev pub GivesPiece : Piece → Option (List ℕ) → Option (List ℕ) → List ℕ → List ℕ → Type 0
+GivesPiece kind old new line grown = (text : List ℕ) × Consumes old new text × Adds kind text line grown

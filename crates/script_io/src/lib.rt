@@ -4,7 +4,9 @@
 mod fault;
 mod input;
 mod output;
+#[cfg(test)]
+mod tests;
 
 pub use fault::{INTERRUPTIONS, ReplayFault};
-pub use input::{LINE_OCTETS, NextLine, next_line};
+pub use input::{BLOCK_OCTETS, LINE_OCTETS, NextLine, in_blocks, next_line};
 pub use output::write_whole;

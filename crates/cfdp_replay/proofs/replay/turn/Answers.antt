@@ -17,8 +17,8 @@ returns-in_err-next_line g c = λ lines old ran.
 
 pub returns-in-TooLong : goal.returns-in-TooLong
 returns-in-TooLong g c = λ lines old ran.
-    let left = g.R.Read.remaining c.args.reader.now in
-    let after = g.R.Read.remaining c.next_line.new.reader in
+    let left = g.B.Read.remaining c.args.reader.now in
+    let after = g.B.Read.remaining c.next_line.new.reader in
     let gives : GivesTooLong left = subst (λ (n : NextLine). GivesNext n left after c.next_line.new.line.items) c.in-TooLong.is c.in_ok-next_line.ensures.found in
     long_stops lines left c.args.count c.args.world.now old _ gives ran
 
@@ -29,8 +29,8 @@ returns-in_err-play g c = λ lines old ran.
 
 pub returns-then-not-branch : goal.returns-then-not-branch
 returns-then-not-branch g c = λ lines old ran.
-    let left = g.R.Read.remaining c.args.reader.now in
-    let after = g.R.Read.remaining c.next_line.new.reader in
+    let left = g.B.Read.remaining c.args.reader.now in
+    let after = g.B.Read.remaining c.next_line.new.reader in
     let line = c.next_line.new.line.items in
     let gives : GivesLine left after line = subst (λ (n : NextLine). GivesNext n left after line) c.in-Line.is c.in_ok-next_line.ensures.found in
     let bad_line : c.in_ok-play.field-0 ≡ false = search rules in
@@ -40,8 +40,8 @@ returns-then-not-branch g c = λ lines old ran.
 pub returns-in_err-write_whole : goal.returns-in_err-write_whole
 returns-in_err-write_whole g c = λ lines old ran.
     let p = err_from_is_err_and c.from_residual-in_err-write_whole.result c.from_residual-in_err-write_whole.ensures.1 in
-    let left = g.R.Read.remaining c.args.reader.now in
-    let after = g.R.Read.remaining c.next_line.new.reader in
+    let left = g.B.Read.remaining c.args.reader.now in
+    let after = g.B.Read.remaining c.next_line.new.reader in
     let line = c.next_line.new.line.items in
     let text = string_bytes c.play.new.text in
     let gives : GivesLine left after line = subst (λ (n : NextLine). GivesNext n left after line) c.in-Line.is c.in_ok-next_line.ensures.found in
@@ -55,8 +55,8 @@ returns-in_err-write_whole g c = λ lines old ran.
 
 pub returns : goal.returns
 returns g c = λ lines old ran.
-    let left = g.R.Read.remaining c.args.reader.now in
-    let after = g.R.Read.remaining c.next_line.new.reader in
+    let left = g.B.Read.remaining c.args.reader.now in
+    let after = g.B.Read.remaining c.next_line.new.reader in
     let line = c.next_line.new.line.items in
     let text = string_bytes c.play.new.text in
     let gives : GivesLine left after line = subst (λ (n : NextLine). GivesNext n left after line) c.in-Line.is c.in_ok-next_line.ensures.found in
