@@ -27,7 +27,7 @@ pub enum NextLine {
 }
 
 // What a block holds of a line.
-#[derive(Clone, Copy, Debug, PartialEq, Eq)]
+#[derive(Clone, Copy)]
 enum Piece {
     // A part of it: the block has no line feed.
     Part,
@@ -48,8 +48,8 @@ pub fn in_blocks<R: Read + Drop>(alloc: Global, reader: R) -> Result<BufReader<R
     BufReader::with_capacity(alloc, BLOCK_OCTETS, reader).map_err(|_| ReplayFault::NoMemory)
 }
 
-/// Puts the next line, without its line feed, in place of what `line` holds. After a fault nothing
-/// is known of the line, nor of where the reader stands.
+/// Puts the next line, without its line feed, in place of what `line` holds. After a fault, and where
+/// the line is too long, nothing is known of what `line` holds, nor of where the reader stands.
 pub fn next_line<B: BufRead>(reader: &mut B, line: &mut Vec<u8>) -> Result<NextLine, ReplayFault>
     ensures found { IfOk result
         (λ next. GivesNext next (B.remaining reader.old) (B.remaining reader.new) line.new.items) }
