@@ -20,7 +20,7 @@ mod world;
 
 use ending::conclude;
 use replay::replay;
-use script_io::ReplayFault;
+use script_io::{BLOCK_OCTETS, ReplayFault};
 use std::io;
 use std::io::{BufWriter, Write};
 use std::process::ExitCode;
@@ -30,9 +30,11 @@ fn main(rt: HostRuntime) -> ExitCode {
     ExitCode::from(conclude(ended, &mut io::writer(&rt), &mut rt.stderr()))
 }
 
-// Replays the standard input to the standard output.
+// Replays the standard input to the standard output. The answers are gathered, and written by blocks
+// and at any end.
 fn run(rt: &HostRuntime) -> Result<(), ReplayFault> {
-    let mut writer = BufWriter::new(rt.alloc(), io::writer(rt)).map_err(|_| ReplayFault::NoMemory)?;
+    let buffered = BufWriter::with_capacity(rt.alloc(), BLOCK_OCTETS, io::writer(rt));
+    let mut writer = buffered.map_err(|_| ReplayFault::NoMemory)?;
     let result = replay(rt.alloc(), &mut rt.reader(), &mut writer);
     let flushed = writer.flush().map_err(|_| ReplayFault::Write);
     result.and(flushed)

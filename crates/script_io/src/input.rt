@@ -1,6 +1,6 @@
 //! The lines of a script, found in the blocks that its reader shows.
 ghost use Rattle.std.specs.Prelude.{◌≡◌, ◌≤◌, ◌⊎◌, IfOk, IfErr, OnSome, length, take, vec_len};
-ghost use Rattle.std.specs.Io.Buffered.{reader_remaining};
+ghost use Rattle.std.specs.Io.Buffered.{reader_capacity, reader_remaining};
 ghost use Rattle.std.specs.Io.KnownBytes.{IsAtEnd};
 ghost use Rattle.script_io.specs.Lines.{Adds, GivesNext, GivesPiece};
 
@@ -43,6 +43,7 @@ enum Piece {
 /// is used, and so stands further than what was taken from the result.
 pub fn in_blocks<R: Read + Drop>(alloc: Global, reader: R) -> Result<BufReader<R>, ReplayFault>
     ensures same { IfOk result (λ blocks. reader_remaining R.remaining blocks ≡ R.remaining reader) }
+    ensures block { IfOk result (λ blocks. reader_capacity blocks ≡ BLOCK_OCTETS) }
     ensures fault { IfErr result (λ fault. fault ≡ ReplayFault.NoMemory) }
 {
     BufReader::with_capacity(alloc, BLOCK_OCTETS, reader).map_err(|_| ReplayFault::NoMemory)
