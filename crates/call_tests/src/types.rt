@@ -1,9 +1,10 @@
 use cfdp_types::{
     ChecksumType, Class, Condition, EntityId, ExpirationLimits, FaultTable, FaultTables, Handler,
-    HandlerNotAllowed, HeaderLengths, Image, Messages, Octets, Params, PutFault, PutRequest, Role,
+    HandlerNotAllowed, HeaderLengths, Messages, Octets, Params, PutFault, PutRequest, Role,
     TimerKind, TimerLengths,
 };
 use std::alloc::Global;
+use std::process::Abort;
 use std::test::*;
 
 #[test]
@@ -37,26 +38,50 @@ fn codes_and_numbers(rt: HostRuntime) {
 }
 
 #[test]
-fn octets_and_messages(rt: HostRuntime) -> Result<(), Fail> {
+fn octets(rt: HostRuntime) -> Result<(), Fail> {
     let alloc = rt.alloc();
     let name = Octets::from_slice(alloc, b"abc")?;
-    assert_eq!(rt; name.as_slice(), b"abc".as_slice());
+    hold_three(&rt, &name);
+    hold_three(&rt, &name.copy()?);
+    hold_three(&rt, &name.clone()?);
+    assert_eq!(rt; name.into_vec().as_slice(), b"abc".as_slice());
     assert_eq!(rt; Octets::new(alloc).as_slice().len(), 0);
-    assert_eq!(rt; Messages::with_capacity(alloc, 3)?.as_slice().len(), 0);
-    assert_eq!(rt; name.clone()?, name);
-    assert_eq!(rt; name.copy()?, name);
-    assert_ne!(rt; name, Octets::from_vec(vec![in alloc; 97, 98, 100]?));
-    assert_eq!(rt; name.clone()?.into_vec().as_slice(), b"abc".as_slice());
-
-    let mut messages = Messages::new(alloc);
-    messages.push(name)?;
-    messages.push(Octets::new(alloc))?;
-    assert_eq!(rt; messages.as_slice().len(), 2);
-    assert_eq!(rt; messages.clone()?, messages);
-    assert_eq!(rt; messages.copy()?, messages);
-    assert_eq!(rt; Messages::from_slices(alloc, &[b"abc", b""])?, messages);
-    assert_ne!(rt; Messages::new(alloc), messages);
     Ok(())
+}
+
+fn hold_three<R: Abort>(rt: &R, name: &Octets) {
+    assert_eq!(rt; name.as_slice(), b"abc".as_slice());
+}
+
+#[test]
+fn octets_of_a_vector(rt: HostRuntime) -> Result<(), Fail> {
+    let octets = Octets::from_vec(vec![in rt.alloc(); 97, 98, 100]?);
+    assert_eq!(rt; octets.as_slice(), b"abd".as_slice());
+    Ok(())
+}
+
+#[test]
+fn messages_in_order(rt: HostRuntime) -> Result<(), Fail> {
+    let alloc = rt.alloc();
+    let mut messages = Messages::with_capacity(alloc, 3)?;
+    messages.push(Octets::from_slice(alloc, b"abc")?)?;
+    messages.push(Octets::new(alloc))?;
+    hold_two(&rt, &messages);
+    hold_two(&rt, &messages.copy()?);
+    hold_two(&rt, &messages.clone()?);
+    hold_two(&rt, &Messages::from_slices(alloc, &[b"abc", b""])?);
+    assert!(rt; Messages::new(alloc).as_slice().is_empty());
+    Ok(())
+}
+
+fn hold_two<R: Abort>(rt: &R, messages: &Messages) {
+    match messages.as_slice() {
+        [first, second] => {
+            hold_three(rt, first);
+            assert!(rt; second.as_slice().is_empty());
+        }
+        _ => assert!(rt; false),
+    }
 }
 
 #[test]
@@ -153,34 +178,19 @@ fn parts_of_params(rt: HostRuntime) {
 
 #[test]
 fn kept_puts(rt: HostRuntime) -> Result<(), Fail> {
-    let alloc = rt.alloc();
-    let messages: [&[u8]; 2] = [b"m", b""];
-    let made = PutRequest::new(
-        alloc,
-        EntityId(1),
-        Class::Two,
-        b"a",
-        b"b",
-        &messages,
-        b"abc",
-    );
-    let Ok(put) = made else {
-        return Err("refused".into());
-    };
-    let put = put.copy()?;
+    let put = put_of(rt.alloc()).ok().ok_or("nothing is refused")?;
+    has_its_parts(&rt, &put);
+    has_its_parts(&rt, &put.copy()?);
+    Ok(())
+}
+
+fn has_its_parts<R: Abort>(rt: &R, put: &PutRequest) {
     assert_eq!(rt; put.destination(), EntityId(1));
     assert_eq!(rt; put.class(), Class::Two);
     assert_eq!(rt; put.source_name().as_slice(), b"a".as_slice());
     assert_eq!(rt; put.destination_name().as_slice(), b"b".as_slice());
-    assert_eq!(rt; *put.messages(), Messages::from_slices(alloc, &messages)?);
+    assert_eq!(rt; put.messages().as_slice().len(), 2);
     assert_eq!(rt; put.file().as_slice(), b"abc".as_slice());
-    let image = Image {
-        source_name: put.source_name().copy()?,
-        destination_name: put.destination_name().copy()?,
-        octets: put.file().copy()?,
-    };
-    assert_eq!(rt; image.octets, *put.file());
-    Ok(())
 }
 
 fn put_of(alloc: Global) -> Result<PutRequest, PutFault> {

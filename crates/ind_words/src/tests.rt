@@ -1,6 +1,7 @@
 use crate::{Indication, NotAWord, Side, WordReader};
 use cfdp_types::{Condition, Delivery, EntityId, FileStatus, Messages, Octets};
 use std::alloc::{AllocError, Global};
+use std::process::Abort;
 use std::test::*;
 
 fn segment(offset: u32, length: u32) -> Indication {
@@ -38,25 +39,38 @@ fn metadata(alloc: Global) -> Result<Indication, AllocError> {
     })
 }
 
+// Gives a reader indications, each with whether it takes it.
+fn read<R: Abort>(rt: &R, reader: &mut WordReader, told: &[(Indication, bool)]) {
+    for (indication, is_taken) in told {
+        assert_eq!(rt;
+            reader.next(indication).is_ok(),
+            *is_taken,
+            "{indication:?}"
+        );
+    }
+}
+
 #[test]
 fn receiver_with_room_for_three_segments(rt: HostRuntime) -> Result<(), Fail> {
     let mut reader = WordReader::with_room(rt.alloc(), Side::Receiver, 3)?;
-    assert_eq!(rt; reader.next(&segment(0, 4)), Ok(()));
-    assert_eq!(rt; reader.next(&segment(8, 4)), Ok(()));
-    assert_eq!(rt; reader.next(&segment(2, 4)), Err(NotAWord));
-    assert_eq!(rt; reader.next(&segment(4, 4)), Ok(()));
-    assert_eq!(rt; reader.next(&segment(12, 1)), Err(NotAWord));
+    let segments = [
+        (segment(0, 4), true),
+        (segment(8, 4), true),
+        (segment(2, 4), false),
+        (segment(4, 4), true),
+        (segment(12, 1), false),
+    ];
+    read(&rt, &mut reader, &segments);
     assert!(rt; !reader.at_end());
-    assert_eq!(rt; reader.next(&abandoned(12)), Ok(()));
+    let end = [
+        (abandoned(12), true),
+        (segment(12, 1), false),
+        (suspended(), false),
+        (finished(Delivery::Incomplete), false),
+        (abandoned(12), false),
+    ];
+    read(&rt, &mut reader, &end);
     assert!(rt; reader.at_end());
-    for later in [
-        segment(12, 1),
-        suspended(),
-        finished(Delivery::Incomplete),
-        abandoned(12),
-    ] {
-        assert_eq!(rt; reader.next(&later), Err(NotAWord));
-    }
     Ok(())
 }
 
@@ -64,50 +78,57 @@ fn receiver_with_room_for_three_segments(rt: HostRuntime) -> Result<(), Fail> {
 fn receiver_of_a_whole_file(rt: HostRuntime) -> Result<(), Fail> {
     let alloc = rt.alloc();
     let mut reader = WordReader::with_room(alloc, Side::Receiver, 8)?;
-    let complete = finished(Delivery::Complete);
-    assert_eq!(rt; reader.next(&metadata(alloc)?), Ok(()));
-    assert_eq!(rt; reader.next(&metadata(alloc)?), Err(NotAWord));
-    assert_eq!(rt; reader.next(&segment(8, 4)), Ok(()));
-    assert_eq!(rt; reader.next(&Indication::EofRecv), Ok(()));
-    assert_eq!(rt; reader.next(&Indication::EofRecv), Err(NotAWord));
-    assert_eq!(rt; reader.next(&complete), Err(NotAWord));
-    assert_eq!(rt; reader.next(&segment(0, 4)), Ok(()));
-    assert_eq!(rt; reader.next(&complete), Err(NotAWord));
-    assert_eq!(rt; reader.next(&segment(3, 2)), Err(NotAWord));
-    assert_eq!(rt; reader.next(&segment(7, 2)), Err(NotAWord));
-    assert_eq!(rt; reader.next(&segment(4, 0)), Err(NotAWord));
-    assert_eq!(rt; reader.next(&suspended()), Ok(()));
-    assert_eq!(rt; reader.next(&suspended()), Err(NotAWord));
-    assert_eq!(rt; reader.next(&Indication::Resumed { progress: 8 }), Ok(()));
-    assert_eq!(rt;
-        reader.next(&Indication::Resumed { progress: 8 }),
-        Err(NotAWord)
-    );
-    assert_eq!(rt; reader.next(&segment(4, 4)), Ok(()));
-    assert_eq!(rt; reader.next(&Indication::Transaction), Err(NotAWord));
-    assert_eq!(rt; reader.next(&complete), Ok(()));
+    let told = [
+        (metadata(alloc)?, true),
+        (segment(8, 4), true),
+        (Indication::EofRecv, true),
+        (Indication::EofRecv, false),
+        (finished(Delivery::Complete), false),
+        (segment(0, 4), true),
+        (finished(Delivery::Complete), false),
+        (segment(3, 2), false),
+        (segment(7, 2), false),
+        (segment(4, 0), false),
+        (suspended(), true),
+        (suspended(), false),
+        (Indication::Resumed { progress: 8 }, true),
+        (Indication::Resumed { progress: 8 }, false),
+        (segment(4, 4), true),
+        (Indication::Transaction, false),
+        (finished(Delivery::Complete), true),
+    ];
+    read(&rt, &mut reader, &told);
     assert!(rt; reader.at_end());
+    Ok(())
+}
+
+#[test]
+fn one_metadata(rt: HostRuntime) -> Result<(), Fail> {
+    let mut reader = WordReader::new(Side::Receiver);
+    let told = metadata(rt.alloc())?;
+    assert!(rt; reader.next(&told).is_ok());
+    assert_eq!(rt; reader.next(&told), Err(NotAWord));
     Ok(())
 }
 
 #[test]
 fn sender_from_transaction_to_end(rt: HostRuntime) {
     let mut reader = WordReader::new(Side::Sender);
-    assert_eq!(rt; reader.next(&Indication::EofSent), Err(NotAWord));
-    assert_eq!(rt; reader.next(&suspended()), Err(NotAWord));
-    assert_eq!(rt; reader.next(&Indication::Transaction), Ok(()));
-    assert_eq!(rt; reader.next(&Indication::Transaction), Err(NotAWord));
-    assert_eq!(rt;
-        reader.next(&Indication::Resumed { progress: 0 }),
-        Err(NotAWord)
-    );
-    assert_eq!(rt; reader.next(&suspended()), Ok(()));
-    assert_eq!(rt; reader.next(&Indication::EofSent), Ok(()));
-    assert_eq!(rt; reader.next(&Indication::EofSent), Err(NotAWord));
-    assert_eq!(rt; reader.next(&Indication::EofRecv), Err(NotAWord));
-    assert_eq!(rt; reader.next(&segment(0, 1)), Err(NotAWord));
+    let told = [
+        (Indication::EofSent, false),
+        (suspended(), false),
+        (Indication::Transaction, true),
+        (Indication::Transaction, false),
+        (Indication::Resumed { progress: 0 }, false),
+        (suspended(), true),
+        (Indication::EofSent, true),
+        (Indication::EofSent, false),
+        (Indication::EofRecv, false),
+        (segment(0, 1), false),
+    ];
+    read(&rt, &mut reader, &told);
     assert!(rt; !reader.at_end());
-    assert_eq!(rt; reader.next(&finished(Delivery::Complete)), Ok(()));
+    let end = [(finished(Delivery::Complete), true), (suspended(), false)];
+    read(&rt, &mut reader, &end);
     assert!(rt; reader.at_end());
-    assert_eq!(rt; reader.next(&suspended()), Err(NotAWord));
 }
