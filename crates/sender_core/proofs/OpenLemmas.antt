@@ -15,7 +15,7 @@ use Rattle.txn_events.specs.declared.answer.Answer.{Answer}
 use Rattle.txn_events.proofs.AnswerLemmas.{answer_of_parts, same_answer}
 use Rattle.sender_table.specs.Sending.{Sending, State, put, initial, step, state_of}
 use Rattle.sender_table.specs.Answers.{answer_at}
-use Rattle.sender_core.specs.Remaining.{still}
+use Rattle.sender_core.specs.Remaining.{to_send}
 use Rattle.sender_core.specs.ControlBlock.{state_from, first}
 use Rattle.sender_core.specs.declared.control.ControlBlock.{ControlBlock}
 use Rattle.sender_core.proofs.PlanLemmas.{same_state}
@@ -38,10 +38,10 @@ unfolding initial
 opened sending remains whole =
     same_state (state_from (first 0) remains) _ refl refl whole refl refl refl refl none_runs none_expired refl
 
-unmoved : (set below : Bool) → set ≡ ((set && true) || (below && false))
-unmoved true below = refl
-unmoved false true = refl
-unmoved false false = refl
+still : (set below : Bool) → set ≡ ((set && true) || (below && false))
+still true below = refl
+still false true = refl
+still false false = refl
 
 put_tries : (sending : Sending) (remains : ℕ → Bool) (kind : TimerKind)
     → (state_from (first 1) remains).tries kind ≡ (step sending (state_from (first 0) remains) (record { event = put; answer = record { inds = told.Transaction ∷ []; pdus = []; timers = []; deposit = None } })).tries kind
@@ -55,7 +55,7 @@ pub put_follows : (sending : Sending) (remains : ℕ → Bool)
     → state_from (first 1) remains ≡ step sending (state_from (first 0) remains) (record { event = put; answer = record { inds = told.Transaction ∷ []; pdus = []; timers = []; deposit = None } })
 unfolding step
 put_follows sending remains =
-    same_state (state_from (first 1) remains) _ refl refl (λ i. unmoved (remains i) (nat_lt i (length sending.request.file))) refl refl refl refl (λ kind. refl)
+    same_state (state_from (first 1) remains) _ refl refl (λ i. still (remains i) (nat_lt i (length sending.request.file))) refl refl refl refl (λ kind. refl)
     (put_tries sending remains) refl
 
 pub put_answered : (sending : Sending) (remains : ℕ → Bool) → length sending.request.file ≤ FILE_OCTETS
@@ -82,7 +82,7 @@ pub put_plan : (core : SenderCore) (plan : Plan) → core.control ≡ first 0 �
     → plan.answer.deposit ≡ None → IsPlanOf core plan put
 put_plan core plan stands next is_left inds pdus timers nothing =
     let s : Sending = sending_of core in
-    let remains : ℕ → Bool = still core.remaining in
+    let remains : ℕ → Bool = to_send core.remaining in
     let empty : Answer = record { inds = told.Transaction ∷ []; pdus = []; timers = []; deposit = None } in
     let answer : plan_answer plan ≡ empty = answer_is plan inds pdus timers nothing in
     record {

@@ -32,7 +32,7 @@ use Rattle.sender_core.specs.ControlBlock.{state_from, nowhere, IsSound, IsInsid
 use Rattle.txn_events.specs.Timers.{AreFew, stamp_of}
 use Rattle.txn_events.proofs.AnswerLemmas.{answer_of_parts, same_answer}
 use Rattle.txn_events.proofs.TimerLemmas.{armed_follows, counted}
-use Rattle.sender_core.specs.Remaining.{still}
+use Rattle.sender_core.specs.Remaining.{to_send}
 use Rattle.sender_core.specs.Core.{HasRoomFor, shown, sending_of, pdus_of_response, IsResponse, IsNext, HoldsResponse, IsPlanOf, effect_by, arming, remainder_of, remains_after, plan_answer}
 use Rattle.sender_core.specs.declared.plan.Remainder.{Remainder}
 use Rattle.sender_core.specs.declared.plan.Plan.{Plan}
@@ -226,7 +226,7 @@ inside_after false false covered asked e = absurd cc
 pub still_inside : (core : SenderCore) (event : What) (remainder : Remainder) → ((i : ℕ) → remainder_of core.remaining remainder i ≡ remains_after (sending_of core) (shown core) event i)
     → IsInside (length core.request.file) (remainder_of core.remaining remainder)
 still_inside core event remainder is i has =
-    elim (inside_after (still core.remaining i) (nat_lt i (length core.request.file)) _ _ (sym (is i) ∙ has)) [
+    elim (inside_after (to_send core.remaining i) (nat_lt i (length core.request.file)) _ _ (sym (is i) ∙ has)) [
       | inl kept ↦ core.inside i kept
       | inr below ↦ ltb-true i (length core.request.file) below
     ]

@@ -18,7 +18,7 @@ use Rattle.pdu_values.specs.Pdu.{PduValue}
 use Rattle.sender_table.specs.Sending.{Sending, Event, happens, State, Entry, state_of, step, is_metadata, asks_for_metadata, requests_of, extent_of, eof_among, acknowledges_eof, tries_after, covers, asks_for}
 use Rattle.sender_table.specs.Answers.{answer_at, header_of}
 use Rattle.sender_table.specs.Answers as table
-use Rattle.sender_core.specs.Remaining.{still, with_asked, HasRoom}
+use Rattle.sender_core.specs.Remaining.{to_send, with_nak, HasRoom}
 use Rattle.sender_core.specs.declared.remaining.Remaining.{Remaining}
 use Rattle.sender_core.specs.ControlBlock.{state_from, nowhere, IsSound, IsInside}
 use Rattle.txn_events.specs.declared.answer.Answer.{Answer}
@@ -39,7 +39,7 @@ sending_of core = sending_by core.key core.params core.request
 
 -- what a core stands at
 abbrev pub shown : SenderCore → State
-shown core = state_from core.control (still core.remaining)
+shown core = state_from core.control (to_send core.remaining)
 
 -- what the core holds is what the log gives
 abbrev pub StandsAfter : SenderCore → List Entry → Type 0
@@ -51,13 +51,13 @@ plan_answer plan = plan.answer
 
 -- the offsets that are to be sent after a plan
 abbrev pub remainder_of : Remaining → Remainder → ℕ → Bool
-remainder_of remaining remainder.Same = still remaining
-remainder_of remaining (remainder.SentTo end) = without_range (still remaining) 0 end
-remainder_of remaining (remainder.Requested asked) = with_asked (still remaining) asked
+remainder_of remaining remainder.Same = to_send remaining
+remainder_of remaining (remainder.SentTo end) = without_range (to_send remaining) 0 end
+remainder_of remaining (remainder.Requested nak) = with_nak (to_send remaining) nak
 
 -- there is room for what a plan asks for
 abbrev pub HasRoomFor : Remaining → Remainder → Type 0
-HasRoomFor remaining (remainder.Requested asked) = HasRoom remaining asked
+HasRoomFor remaining (remainder.Requested nak) = HasRoom remaining nak
 HasRoomFor remaining _ = Unit {0}
 
 -- the PDU and the rest of a response of the table

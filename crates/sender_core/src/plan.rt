@@ -1,5 +1,5 @@
 use crate::control::ControlBlock;
-use crate::remaining::Asked;
+use crate::remaining::NakRequests;
 use txn_events::Answer;
 
 /// What an event makes of the offsets that are still to be sent.
@@ -10,7 +10,7 @@ pub(crate) enum Remainder {
     /// All below this one are sent.
     SentTo(u32),
     /// More are asked for.
-    Requested(Asked),
+    Requested(NakRequests),
 }
 
 /// An event that is accepted, with its answer and all memory that it takes. It can be carried out

@@ -38,25 +38,27 @@ impl SenderCore {
         match requests_of(event) {
             None => Ok(Remainder::Same),
             Some(requests) => {
-                let asked = self.remaining.asked(self.alloc, requests, self.size())?;
-                Ok(Remainder::Requested(asked))
+                let nak = self
+                    .remaining
+                    .nak_requests(self.alloc, requests, self.size())?;
+                Ok(Remainder::Requested(nak))
             }
         }
     }
 }
 
 ghost use Rattle.gap_list.specs.Runs.{SameSet};
-ghost use Rattle.sender_core.specs.Remaining.{still};
+ghost use Rattle.sender_core.specs.Remaining.{to_send};
 ghost use Rattle.sender_core.specs.Core.{remainder_of, HasRoomFor};
 
 /// Carries out what a plan makes of the offsets that are still to be sent.
 pub(crate) fn apply_remainder(remaining: &mut Remaining, remainder: Remainder)
     requires { HasRoomFor remaining.old remainder }
-    ensures { SameSet (still remaining.new) (remainder_of remaining.old remainder) }
+    ensures { SameSet (to_send remaining.new) (remainder_of remaining.old remainder) }
 {
     match remainder {
         Remainder::Same => {}
         Remainder::SentTo(end) => remaining.send_to(end),
-        Remainder::Requested(asked) => remaining.add(asked),
+        Remainder::Requested(nak) => remaining.add(nak),
     }
 }

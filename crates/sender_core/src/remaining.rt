@@ -11,13 +11,13 @@ use std::alloc::{AllocError, Global};
 #[derive(Debug, Drop)]
 pub(crate) struct Remaining {
     offsets: Gaps,
-    // what lies below it was sent since it was last asked for
-    sent: u32,
+    // what lies below it is not to be sent
+    start: u32,
 }
 
 /// What a NAK asks for below a limit, with room to add it.
 #[derive(Debug, Drop)]
-pub(crate) struct Asked {
+pub(crate) struct NakRequests {
     requests: Vec<SegmentRequest>,
     limit: u32,
     spare: Option<Gaps>,
@@ -26,43 +26,43 @@ pub(crate) struct Asked {
 impl Remaining {
     ghost use Rattle.std.specs.Prelude.{◌≡◌, ℕ, IfOk, nat_lt};
     ghost use Rattle.gap_list.specs.Runs.{SameSet, without_range, first_run};
-    ghost use Rattle.sender_core.specs.Remaining.{still, with_requests, with_asked, HasRoom};
+    ghost use Rattle.sender_core.specs.Remaining.{to_send, with_requests, with_nak, HasRoom};
 
     /// Every offset of a file of this size.
     pub(crate) fn whole(alloc: Global, size: u32) -> Result<Remaining, AllocError>
-        ensures { IfOk result (λ remaining. (i : ℕ) → still remaining i ≡ nat_lt i size) }
+        ensures { IfOk result (λ remaining. (i : ℕ) → to_send remaining i ≡ nat_lt i size) }
     {
         let mut offsets = Gaps::with_room(alloc, 1)?;
         offsets.add(0, size);
-        Ok(Remaining { offsets, sent: 0 })
+        Ok(Remaining { offsets, start: 0 })
     }
 
     /// The lowest run below the limit.
     pub(crate) fn first(&self, limit: u32) -> Option<Run>
-        ensures { result ≡ first_run (still self.now) limit }
+        ensures { result ≡ first_run (to_send self.now) limit }
     {
-        self.offsets.first_from(self.sent, limit)
+        self.offsets.first_from(self.start, limit)
     }
 
     /// Takes away what lies below the end.
     pub(crate) fn send_to(&mut self, end: u32)
-        ensures { SameSet (still self.new) (without_range (still self.old) 0 end) }
+        ensures { SameSet (to_send self.new) (without_range (to_send self.old) 0 end) }
     {
-        self.sent = self.sent.max(end);
+        self.start = self.start.max(end);
     }
 
     /// What is asked for below the limit, with room to add it.
-    pub(crate) fn asked(
+    pub(crate) fn nak_requests(
         &self,
         alloc: Global,
         requests: &[SegmentRequest],
         limit: u32,
-    ) -> Result<Asked, AllocError>
-        ensures added { IfOk result (λ asked. (i : ℕ) → with_asked (still self.now) asked i
-            ≡ with_requests (still self.now) requests.now limit i) }
-        ensures room { IfOk result (λ asked. HasRoom self.now asked) }
+    ) -> Result<NakRequests, AllocError>
+        ensures added { IfOk result (λ nak. (i : ℕ) → with_nak (to_send self.now) nak i
+            ≡ with_requests (to_send self.now) requests.now limit i) }
+        ensures room { IfOk result (λ nak. HasRoom self.now nak) }
     {
-        Ok(Asked {
+        Ok(NakRequests {
             requests: Vec::from_slice(alloc, requests)?,
             limit,
             spare: self.offsets.spare(requests.len() + 1)?,
@@ -70,14 +70,14 @@ impl Remaining {
     }
 
     /// Adds what is asked for, in room that is there.
-    pub(crate) fn add(&mut self, asked: Asked)
-        requires { HasRoom self.old asked }
-        ensures { SameSet (still self.new) (with_asked (still self.old) asked) }
+    pub(crate) fn add(&mut self, nak: NakRequests)
+        requires { HasRoom self.old nak }
+        ensures { SameSet (to_send self.new) (with_nak (to_send self.old) nak) }
     {
-        self.offsets.move_to(asked.spare);
-        self.offsets.remove(0, self.sent);
-        self.sent = 0;
-        add_requests(&mut self.offsets, asked.requests.as_slice(), asked.limit);
+        self.offsets.move_to(nak.spare);
+        self.offsets.remove(0, self.start);
+        self.start = 0;
+        add_requests(&mut self.offsets, nak.requests.as_slice(), nak.limit);
     }
 }
 

@@ -3,7 +3,7 @@ ghost use Rattle.cfdp_types.specs.declared.limits.TheConstants.{FILE_OCTETS};
 ghost use Rattle.pdu_values.specs.Spelling.{HeaderFits};
 ghost use Rattle.sender_table.specs.Answers.{header_of};
 ghost use Rattle.sender_core.specs.ControlBlock.{IsSound, IsInside};
-ghost use Rattle.sender_core.specs.Remaining.{still};
+ghost use Rattle.sender_core.specs.Remaining.{to_send};
 
 use crate::control::ControlBlock;
 use crate::plan::Plan;
@@ -28,7 +28,7 @@ pub struct SenderCore {
     ghost headed: { header ≡ header_of (record { key = key; params = params; request = request }) },
     ghost fits: { HeaderFits header },
     ghost small: { length request.file ≤ FILE_OCTETS },
-    ghost inside: { IsInside (length request.file) (still remaining) },
+    ghost inside: { IsInside (length request.file) (to_send remaining) },
     ghost sound: { IsSound (length request.file) control },
 }
 

@@ -3,7 +3,7 @@ use Rattle.std.proofs.Common.{◌≡◌, ◌<◌, ◌≤◌, length, sym, ap, �
 use Rattle.std.proofs.lemmas.Result.{err_from_is_err_and}
 use Rattle.cfdp_types.specs.Put.{PutValue}
 use Rattle.sender_core.specs.Core.{sending_by}
-use Rattle.sender_core.specs.Remaining.{still}
+use Rattle.sender_core.specs.Remaining.{to_send}
 use Rattle.sender_core.proofs.OpenLemmas.{opens, next_is, put_plan, put_refused, put_taken}
 use Rattle.sender_core.proofs.sender.SenderCore.open.Goals as goal
 
@@ -34,7 +34,7 @@ pub returns-clause-stands : goal.returns-clause-stands
 returns-clause-stands c =
     let size : length c.as_slice-size.result.now ≡ length c.in_ok-request.request.file =
     ap length (c.as_slice-size.ensures ∙ c.file.ensures ∙ ap (λ (r : PutValue). r.file) (sym c.in_ok-request.ensures)) in
-    opens (sending_by c.args.key c.args.params c.in_ok-request.request) c.first-first.result (still c.in_ok-remaining.remaining) (length c.as_slice-size.result.now)
+    opens (sending_by c.args.key c.args.params c.in_ok-request.request) c.first-first.result (to_send c.in_ok-remaining.remaining) (length c.as_slice-size.result.now)
     c.first-first.ensures c.in_ok-remaining.ensures size
 
 pub returns-clause-planned : goal.returns-clause-planned
