@@ -1,5 +1,6 @@
 -- What the file store is given while a deposit waits.
-use Rattle.std.proofs.Common.{◌≡◌, ℕ, true, Option, Some, None, refl, arith}
+use Rattle.std.proofs.Common.{◌≡◌, ℕ, true, Option, Some, None, refl, ap, arith}
+use Rattle.std.specs.Prelude.{is_some}
 use Rattle.std.proofs.lemmas.Bool.Decides.{nat_tests}
 use Rattle.cfdp_types.specs.Steps.{is_stamp}
 use Rattle.receiver_table.specs.Reception.{State, state_of}
