@@ -198,7 +198,7 @@ known_user (Some user) = Ok (Some user)
 abbrev pub user_named : List (List ℕ) → Data → Read (Option ℕ)
 user_named users d = and_then (name_of key.User d) (λ name. known_user (position (is_same_text name) users))
 
--- the parameters of a remote entity
+-- the timers of a remote entity
 abbrev pub timers_in : Members → Read TimerLengths
 timers_in ms =
     and_then (number_at key.AckMilliseconds 1 TIMER_MILLISECONDS ms) (λ ack.
@@ -207,6 +207,7 @@ timers_in ms =
     and_then (number_at key.InactivityMilliseconds 1 TIMER_MILLISECONDS ms) (λ inactivity.
     Ok (record { ack = ack; nak = nak; check = check; inactivity = inactivity })))))
 
+-- its limits of expirations
 abbrev pub limits_in : Members → Read ExpirationLimits
 limits_in ms =
     and_then (number_at key.AckLimit 1 EXPIRATIONS ms) (λ ack.
@@ -214,6 +215,7 @@ limits_in ms =
     and_then (number_at key.CheckLimit 1 EXPIRATIONS ms) (λ check.
     Ok (record { ack = ack; nak = nak; check = check }))))
 
+-- its fault tables
 abbrev pub tables_in : Members → Read FaultTables
 tables_in ms =
     and_then (handlers_at Send ms) (λ send.
@@ -221,6 +223,7 @@ tables_in ms =
     and_then (handlers_at RecvTwo ms) (λ receive_two.
     Ok (record { send = send; receive_one = receive_one; receive_two = receive_two }))))
 
+-- all its parameters
 abbrev pub params_in : EntitySettings → Members → Read ParamsValue
 params_in entity ms =
     and_then (timers_in ms) (λ timers.

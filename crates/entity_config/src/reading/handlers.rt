@@ -98,7 +98,8 @@ fn handler_at(
     key: Key,
     condition: Condition,
 ) -> Result<FaultTable, ConfigFault>
-    ensures handlers { result ≡ handler_at (table_key handlers.role) handlers.role (table_view table.now) key condition handlers }
+    ensures handlers { result
+        ≡ handler_at (table_key handlers.role) handlers.role (table_view table.now) key condition handlers }
     ensures role { IfOk result (λ changed. changed.role ≡ handlers.role) }
 {
     let Some(value) = value_at(table, key) else {
@@ -115,7 +116,8 @@ fn with_named(
     condition: Condition,
     word: &str,
 ) -> Result<FaultTable, ConfigFault>
-    ensures handlers { result ≡ with_named (table_key handlers.role) handlers.role condition handlers (handler_named word.now) }
+    ensures handlers { result
+        ≡ with_named (table_key handlers.role) handlers.role condition handlers (handler_named word.now) }
     ensures role { IfOk result (λ changed. changed.role ≡ handlers.role) }
 {
     let refused = ConfigFault::HandlerNotAllowed(key_of_table(handlers.role()));

@@ -93,7 +93,8 @@ fn is_one_of(id: EntityId, peers: &[Peer]) -> bool
 }
 
 fn address_at(table: &Table) -> Result<&str, ConfigFault>
-    ensures { seen (λ address. address.now) result ≡ required Key.Address address_in (value_at Key.Address (table_view table.now)) }
+    ensures { seen (λ address. address.now) result
+        ≡ required Key.Address address_in (value_at Key.Address (table_view table.now)) }
 {
     address_in(required(table, Key::Address)?)
 }

@@ -61,7 +61,8 @@ pub(crate) fn counted(
     least: usize,
     most: usize,
 ) -> Result<Vec<&Table>, ConfigFault>
-    ensures { Reads (λ tables. map (λ table. table_view table.now) tables.items) result (counted key least most (view value.now)) }
+    ensures { Reads (λ tables. map (λ table. table_view table.now) tables.items)
+        result (counted key least most (view value.now)) }
 {
     let tables = tables_of(alloc, value, key)?;
     if !(least..=most).contains(&tables.len()) {
@@ -71,7 +72,8 @@ pub(crate) fn counted(
 }
 
 fn tables_of(alloc: Global, value: &Value, key: Key) -> Result<Vec<&Table>, ConfigFault>
-    ensures { Reads (λ tables. map (λ table. table_view table.now) tables.items) result (tables_of key (view value.now)) }
+    ensures { Reads (λ tables. map (λ table. table_view table.now) tables.items)
+        result (tables_of key (view value.now)) }
 {
     let Some(items) = value.as_array() else {
         return Err(ConfigFault::WrongType(key));

@@ -14,7 +14,8 @@ use toml::Table;
 
 /// The names of the users, in the order of their tables.
 pub(crate) fn users_in(alloc: Global, tables: &[&Table]) -> Result<Vec<String>, ConfigFault>
-    ensures { Reads (λ users. map string_bytes users.items) result (users_in [] (map (λ table. table_view table.now) tables.now)) }
+    ensures { Reads (λ users. map string_bytes users.items)
+        result (users_in [] (map (λ table. table_view table.now) tables.now)) }
 {
     let mut users = Vec::new(alloc);
     for table in tables {
