@@ -2,6 +2,7 @@ use cfdp_types::limits::FILE_OCTETS;
 use cfdp_types::{Class, Condition, EntityId, TimerKind, TimerLengths, TimerOp, TxnKey};
 use indications::Indication;
 use pdu_values::{Body, Direction, Eof, Header, KeepAlive, Pdu};
+use std::process::Abort;
 use std::test::*;
 use txn_events::{
     CountResets, Event, Pdus, Refusal, Stamps, TimerChange, TimerChanges, TimerContext, TimerOps,
@@ -61,19 +62,30 @@ fn asked_of_bodies(rt: HostRuntime) {
 }
 
 #[test]
-fn refusals_and_copies(rt: HostRuntime) -> Result<(), Fail> {
+fn refusals(rt: HostRuntime) {
     assert_eq!(rt; Refusal::QueueFull.number(), 13);
     assert_eq!(rt; Refusal::StaleStored.name(), "StaleStored");
+}
+
+#[test]
+fn copies(rt: HostRuntime) -> Result<(), Fail> {
     let key = TxnKey {
         source: EntityId(1),
         seq: 5,
     };
     let event = Event::On(key, What::Stored(3, true));
-    let Event::On(copied_key, What::Stored(stamp, kept)) = event.copy()? else {
-        return Err("another event")?;
-    };
-    assert_eq!(rt; (copied_key, stamp, kept), (key, 3, true));
+    answers_a_deposit(&rt, &event);
+    answers_a_deposit(&rt, &event.copy()?);
     Ok(())
+}
+
+fn answers_a_deposit<R: Abort>(rt: &R, event: &Event) {
+    match event {
+        Event::On(key, What::Stored(stamp, is_kept)) => {
+            assert_eq!(rt; (key.seq, *stamp, *is_kept), (5, 3, true));
+        }
+        _ => assert!(rt; false),
+    }
 }
 
 #[test]

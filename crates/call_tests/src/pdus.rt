@@ -5,6 +5,7 @@ use pdu_values::{
     Ack, Acknowledged, Body, Direction, Directive, Eof, FileData, Finished, Header, KeepAlive,
     Metadata, Nak, Pdu, SegmentRequest, SegmentRequests, TransactionStatus, octets_for,
 };
+use std::process::Abort;
 use std::test::*;
 
 #[test]
@@ -67,8 +68,7 @@ fn what_a_receiver_sends(rt: HostRuntime) {
 }
 
 #[test]
-fn what_a_sender_sends(rt: HostRuntime) -> Result<(), Fail> {
-    let alloc = rt.alloc();
+fn the_end_of_a_file(rt: HostRuntime) {
     let eof = Eof {
         condition: Condition::NO_ERROR,
         checksum: 0x6162_6300,
@@ -76,15 +76,35 @@ fn what_a_sender_sends(rt: HostRuntime) -> Result<(), Fail> {
         location: None,
     };
     assert_eq!(rt; *Pdu::eof(HEADER, eof).body(), Body::Eof(eof));
-    let file_data = FileData {
-        offset: 0,
-        octets: Octets::from_slice(alloc, b"abc")?,
-    };
-    let pdu = Pdu::file_data(HEADER, file_data);
+}
+
+#[test]
+fn octets_of_a_file(rt: HostRuntime) -> Result<(), Fail> {
+    let octets = Octets::from_slice(rt.alloc(), b"abc")?;
+    let pdu = Pdu::file_data(HEADER, FileData { offset: 4, octets });
+    has_octets(&rt, &pdu);
+    has_octets(&rt, &pdu.clone()?);
+    let (header, body) = pdu.into_parts();
+    assert_eq!(rt; header, HEADER);
+    assert!(rt; matches!(body, Body::FileData(_)));
+    Ok(())
+}
+
+fn has_octets<R: Abort>(rt: &R, pdu: &Pdu) {
     assert!(rt; !pdu.is_toward_sender());
-    let (copied_header, copied_body) = pdu.clone()?.into_parts();
-    assert_eq!(rt; copied_header, HEADER);
-    assert_eq!(rt; &copied_body, pdu.body());
+    assert_eq!(rt; *pdu.header(), HEADER);
+    match pdu.body() {
+        Body::FileData(file_data) => {
+            assert_eq!(rt; file_data.offset, 4);
+            assert_eq!(rt; file_data.octets.as_slice(), b"abc".as_slice());
+        }
+        _ => assert!(rt; false),
+    }
+}
+
+#[test]
+fn metadata_of_a_file(rt: HostRuntime) -> Result<(), Fail> {
+    let alloc = rt.alloc();
     let metadata = Metadata {
         closure: false,
         checksum_type: ChecksumType::MODULAR,
@@ -93,7 +113,8 @@ fn what_a_sender_sends(rt: HostRuntime) -> Result<(), Fail> {
         destination_name: Octets::from_slice(alloc, b"b")?,
         messages: Messages::new(alloc),
     };
-    assert!(rt; !Pdu::metadata(HEADER, metadata).is_toward_sender());
+    let pdu = Pdu::metadata(HEADER, metadata);
+    assert!(rt; !pdu.is_toward_sender());
     Ok(())
 }
 

@@ -1,5 +1,6 @@
 use entity_workers::{Filestore, FolderStore, MemoryStore, StoreFault};
 use std::fs;
+use std::process::Abort;
 use std::rt::Files;
 use std::test::*;
 
@@ -46,37 +47,36 @@ fn files_of<R: Files + AllocGlobal + Clone + Drop>(rt: &R, folder: &str) -> Resu
     Ok(count)
 }
 
+// Gives a store a file that it keeps, in a folder.
+fn keeps<R: Files + AllocGlobal + Abort + Drop, S: Files + AllocGlobal + Drop>(
+    rt: &R,
+    store: &mut FolderStore<S>,
+    folder: &str,
+    name: &str,
+    octets: &[u8],
+) -> Result<(), Fail> {
+    assert_eq!(rt; store.deposit(name.as_bytes(), octets), Ok(()));
+    let kept = octets_of(rt, folder, name)?;
+    assert_eq!(rt; kept.as_slice(), octets);
+    Ok(())
+}
+
 #[test]
 fn files_in_a_folder(rt: HostRuntime) -> Result<(), Fail> {
     let folder = new_folder(&rt, "files")?;
+    let place = folder.as_str();
     let mut store = FolderStore::new(rt.clone()?, folder.clone()?);
-    assert_eq!(rt; store.deposit(b"b", b"abc"), Ok(()));
-    assert_eq!(rt;
-        octets_of(&rt, folder.as_str(), "b")?.as_slice(),
-        b"abc".as_slice()
-    );
-    assert_eq!(rt; store.deposit(b"empty", b""), Ok(()));
-    assert_eq!(rt; octets_of(&rt, folder.as_str(), "empty")?.len(), 0);
+    keeps(&rt, &mut store, place, "b", b"abc")?;
+    keeps(&rt, &mut store, place, "empty", b"")?;
     // a name that is there is replaced whole
-    assert_eq!(rt; store.deposit(b"b", b"z"), Ok(()));
-    assert_eq!(rt;
-        octets_of(&rt, folder.as_str(), "b")?.as_slice(),
-        b"z".as_slice()
-    );
+    keeps(&rt, &mut store, place, "b", b"z")?;
     // a part that an earlier run left is in nobody's way
-    fs::write(
-        &rt,
-        format!(in rt.alloc(); "{folder}/.part-0")?.as_str(),
-        b"left",
-    )?;
-    assert_eq!(rt; store.deposit(b"c", b"other"), Ok(()));
-    assert_eq!(rt;
-        octets_of(&rt, folder.as_str(), "c")?.as_slice(),
-        b"other".as_slice()
-    );
-    assert_eq!(rt; files_of(&rt, folder.as_str())?, 4);
+    let part = format!(in rt.alloc(); "{folder}/.part-0")?;
+    fs::write(&rt, part.as_str(), b"left")?;
+    keeps(&rt, &mut store, place, "c", b"other")?;
+    assert_eq!(rt; files_of(&rt, place)?, 4);
     assert_eq!(rt; (store.calls(), store.failures()), (4, 0));
-    fs::remove_dir_all(&rt, folder.as_str())?;
+    fs::remove_dir_all(&rt, place)?;
     Ok(())
 }
 
