@@ -23,4 +23,6 @@ test:
 
 # how fast and how large a run is; no part of the gate
 bench: build
+	@cd crates/core_bench && rt run -- eof-last 64 > /dev/null
 	python3 bench/bench.py $(program)
+	python3 bench/cores.py crates/core_bench/out/core_bench

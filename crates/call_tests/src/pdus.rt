@@ -75,7 +75,8 @@ fn the_end_of_a_file(rt: HostRuntime) {
         size: 3,
         location: None,
     };
-    assert_eq!(rt; *Pdu::eof(HEADER, eof).body(), Body::Eof(eof));
+    let pdu = Pdu::eof(HEADER, eof);
+    assert_eq!(rt; *pdu.body(), Body::Eof(eof));
 }
 
 #[test]

@@ -45,7 +45,7 @@ fn last_first(number: u32, count: u32) -> u32 {
     count.saturating_sub(number).saturating_sub(1)
 }
 
-// Each place once, where the count is even and no multiple of 5 or 7.
+// Each place once, where the count is no multiple of 5 or 7.
 fn mixed(number: u32, count: u32) -> u32 {
     let scattered = u64::from(number) * 42_875;
     scattered.checked_rem(u64::from(count)).unwrap_or(0) as u32

@@ -77,7 +77,8 @@ fn params_with_limit(params: Params, limited: Limited, limit: u8) -> Params
 /// Changes a limit for every remote entity.
 pub(crate) fn change_limit(peers: &mut Vec<Peer>, limited: Limited, limit: u8)
     requires { 1 ≤ limit }
-    ensures { map peer_shown peers.new.items ≡ map (with_params (with_limit limited limit)) (map peer_shown peers.old.items) }
+    ensures { map peer_shown peers.new.items
+        ≡ map (with_params (with_limit limited limit)) (map peer_shown peers.old.items) }
 {
     for peer in peers.iter_mut() {
         peer.remote.params = params_with_limit(peer.remote.params, limited, limit);

@@ -225,7 +225,8 @@ impl Config {
         handler: Handler,
     ) -> Result<(), ConfigFault>
         ensures ok { OnOk result (with_setting (setting.Handler role condition handler) self.old ≡ Ok self.new) }
-        ensures refused { IfErr result (λ fault. with_setting (setting.Handler role condition handler) self.old ≡ Err fault) }
+        ensures refused { IfErr result
+            (λ fault. with_setting (setting.Handler role condition handler) self.old ≡ Err fault) }
         ensures err { OnErr result (self.new ≡ self.old) }
     {
         if !role.allows(condition, handler) {

@@ -51,8 +51,7 @@ pub fn add(runs: &mut Vec<Run>, start: u32, end: u32)
     requires room { vec_len runs.old < vec_capacity runs.old }
     ensures rising { IsRisingFrom 0 runs.new.items }
     ensures added { SameSet (in_runs runs.new.items) (with_range (in_runs runs.old.items) start end) }
-    ensures len { vec_len runs.new ≤ vec_len runs.old + 1 }
-    ensures room { vec_capacity runs.new ≡ vec_capacity runs.old }
+    ensures room { (vec_len runs.new ≤ vec_len runs.old + 1) × (vec_capacity runs.new ≡ vec_capacity runs.old) }
 {
     let first = ended_below(runs.as_slice(), start);
     let last = begun_by(runs.as_slice(), end);
@@ -88,8 +87,7 @@ pub fn remove(runs: &mut Vec<Run>, start: u32, end: u32)
     requires room { vec_len runs.old < vec_capacity runs.old }
     ensures rising { IsRisingFrom 0 runs.new.items }
     ensures removed { SameSet (in_runs runs.new.items) (without_range (in_runs runs.old.items) start end) }
-    ensures len { vec_len runs.new ≤ vec_len runs.old + 1 }
-    ensures room { vec_capacity runs.new ≡ vec_capacity runs.old }
+    ensures room { (vec_len runs.new ≤ vec_len runs.old + 1) × (vec_capacity runs.new ≡ vec_capacity runs.old) }
 {
     let first = ended_below(runs.as_slice(), start);
     let last = begun_by(runs.as_slice(), end - 1);

@@ -165,7 +165,8 @@ impl Gaps {
         count: usize,
     ) -> Result<Vec<Run>, AllocError>
         requires { start ≤ end }
-        ensures { IfOk result (λ runs. runs.items ≡ take count (missing_runs (with_range (covered self.now) start end) limit)) }
+        ensures { IfOk result
+            (λ runs. runs.items ≡ take count (missing_runs (with_range (covered self.now) start end) limit)) }
     {
         let mut missing = Vec::new(*self.runs.allocator());
         walk::put_gaps_with(

@@ -76,8 +76,7 @@ pub fn end_from(runs: &[Run], offset: u32) -> u32
 // The first offset above this one that a run has, or the limit where there is none below it.
 pub fn gap_end(runs: &[Run], offset: u32, limit: u32) -> u32
     requires rising { IsRisingFrom 0 runs.now }
-    requires below { offset < limit }
-    requires missing { in_runs runs.now offset ≡ false }
+    requires gap { (offset < limit) × (in_runs runs.now offset ≡ false) }
     ensures after { offset < result }
     ensures within { result ≤ limit }
     ensures missing { (i : ℕ) → offset ≤ i → i < result → in_runs runs.now i ≡ false }

@@ -27,7 +27,8 @@ pub fn put_gaps(
     most: usize,
 ) -> Result<(), AllocError>
     requires { IsRisingFrom 0 runs.now }
-    ensures { OnOk result (gaps.new.items ≡ gaps.old.items ++ take (most - length gaps.old.items) (new_runs (in_runs runs.now) start end)) }
+    ensures { OnOk result (gaps.new.items
+        ≡ gaps.old.items ++ take (most - length gaps.old.items) (new_runs (in_runs runs.now) start end)) }
 {
     let mut place = ended_below(runs, start);
     let mut offset = start;
@@ -58,7 +59,8 @@ pub fn put_gaps_with(
     requires ordered { range.start ≤ range.end }
     requires rising { IsRisingFrom 0 runs.now }
     requires empty { gaps.old.items ≡ [] }
-    ensures { OnOk result (gaps.new.items ≡ take most (missing_runs (with_range (in_runs runs.now) range.start range.end) limit)) }
+    ensures { OnOk result (gaps.new.items
+        ≡ take most (missing_runs (with_range (in_runs runs.now) range.start range.end) limit)) }
 {
     if range.start == range.end {
         put_gaps(gaps, runs, 0, limit, most)?;

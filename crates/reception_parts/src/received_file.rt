@@ -189,7 +189,8 @@ impl ReceivedFile {
         requires segment { IsSegmentOf self.old segment }
         requires octets { end_of segment ≤ vec_len self.old.octets }
         requires run { 0 < self.old.gaps.room }
-        ensures received { (i : ℕ) → received_of self.new i ≡ with_segment (received_of self.old) (Some segment.file_data) i }
+        ensures received { (i : ℕ) → received_of self.new i
+            ≡ with_segment (received_of self.old) (Some segment.file_data) i }
     {
         self.lay(&segment);
         self.gaps.add(segment.file_data.offset, segment.end);

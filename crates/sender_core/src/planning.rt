@@ -53,7 +53,8 @@ impl SenderCore {
     // Plans an event in the present state.
     fn plan_now(&self, event: &What) -> Result<Plan, Refusal>
         ensures planned { IfOk result (λ plan. IsPlanOf self.now plan (happens event.now)) }
-        ensures refused { IfErr result (λ why. IsWhy (answer_at (sending_of self.now) (shown self.now) (happens event.now)) why) }
+        ensures refused { IfErr result
+            (λ why. IsWhy (answer_at (sending_of self.now) (shown self.now) (happens event.now)) why) }
     {
         if let Some(refusal) = self.refusal_of(event) {
             return Err(refusal);

@@ -109,7 +109,8 @@ impl Slots {
     /// Adds a place for a timer that has none.
     fn push(&mut self, key: TxnKey, kind: TimerKind, run: Run) -> Result<(), AllocError>
         requires { value_at key kind self.old.entries.entries ≡ None }
-        ensures ok { OnOk result (self.new.entries.entries ≡ self.old.entries.entries ++ (slot.Timer key kind, Some run) ∷ []) }
+        ensures ok { OnOk result (self.new.entries.entries
+            ≡ self.old.entries.entries ++ (slot.Timer key kind, Some run) ∷ []) }
         ensures err { OnErr result (self.new.entries.entries ≡ self.old.entries.entries) }
     {
         self.entries.insert(Slot::Timer { key, kind }, Some(run))?;

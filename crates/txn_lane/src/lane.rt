@@ -32,7 +32,8 @@ impl Model for Lane {
 
     ghost view = { λ l. sending_state l.numbers l.greatest l.user l.lane l.source l.last l.before (journal_of l.running) };
 
-    ghost invariant = { λ l. IsHeld (sending_state l.numbers l.greatest l.user l.lane l.source l.last l.before (journal_of l.running)) l.running };
+    ghost invariant = { λ l. IsHeld
+        (sending_state l.numbers l.greatest l.user l.lane l.source l.last l.before (journal_of l.running)) l.running };
 }
 
 impl Lane {

@@ -53,7 +53,8 @@ fn open(
     params: Params,
 ) -> Result<(Running, Step, Option<Bundle>), Refusal>
     ensures opened { IfOk result (λ opened. IsOpenedBy key request.now params opened.0 opened.1) }
-    ensures bundle { IfOk result (λ opened. opened.2 ≡ bundle_for address.user address.lane key (plan_answer opened.1.plan).inds) }
+    ensures bundle { IfOk result
+        (λ opened. opened.2 ≡ bundle_for address.user address.lane key (plan_answer opened.1.plan).inds) }
     ensures refused { IfErr result (λ why. IsWhy
         (answer_at (sending_by key params request.now) (initial (sending_by key params request.now)) put) why) }
 {
