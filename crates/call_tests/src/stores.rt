@@ -47,15 +47,13 @@ fn files_of<R: Files + AllocGlobal + Clone + Drop>(rt: &R, folder: &str) -> Resu
     Ok(count)
 }
 
-// Gives a store a file that it keeps, in a folder.
-fn keeps<R: Files + AllocGlobal + Abort + Drop, S: Files + AllocGlobal + Drop>(
+// A folder's file holds these octets.
+fn holds<R: Files + AllocGlobal + Abort>(
     rt: &R,
-    store: &mut FolderStore<S>,
     folder: &str,
     name: &str,
     octets: &[u8],
 ) -> Result<(), Fail> {
-    assert_eq!(rt; store.deposit(name.as_bytes(), octets), Ok(()));
     let kept = octets_of(rt, folder, name)?;
     assert_eq!(rt; kept.as_slice(), octets);
     Ok(())
@@ -66,14 +64,18 @@ fn files_in_a_folder(rt: HostRuntime) -> Result<(), Fail> {
     let folder = new_folder(&rt, "files")?;
     let place = folder.as_str();
     let mut store = FolderStore::new(rt.clone()?, folder.clone()?);
-    keeps(&rt, &mut store, place, "b", b"abc")?;
-    keeps(&rt, &mut store, place, "empty", b"")?;
+    assert_eq!(rt; store.deposit(b"b", b"abc"), Ok(()));
+    holds(&rt, place, "b", b"abc")?;
+    assert_eq!(rt; store.deposit(b"empty", b""), Ok(()));
+    holds(&rt, place, "empty", b"")?;
     // a name that is there is replaced whole
-    keeps(&rt, &mut store, place, "b", b"z")?;
+    assert_eq!(rt; store.deposit(b"b", b"z"), Ok(()));
+    holds(&rt, place, "b", b"z")?;
     // a part that an earlier run left is in nobody's way
     let part = format!(in rt.alloc(); "{folder}/.part-0")?;
     fs::write(&rt, part.as_str(), b"left")?;
-    keeps(&rt, &mut store, place, "c", b"other")?;
+    assert_eq!(rt; store.deposit(b"c", b"other"), Ok(()));
+    holds(&rt, place, "c", b"other")?;
     assert_eq!(rt; files_of(&rt, place)?, 4);
     assert_eq!(rt; (store.calls(), store.failures()), (4, 0));
     fs::remove_dir_all(&rt, place)?;

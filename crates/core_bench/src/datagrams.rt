@@ -62,10 +62,13 @@ pub(crate) fn nak(alloc: Global, size: u32, ranges: &[(u32, u32)]) -> Result<Wha
 
 // The arrival of a datagram with this first octet, whose data field has these parts.
 fn arrival(alloc: Global, first: u8, parts: &[&[u8]]) -> Result<What> {
-    let size: usize = parts.iter().map(|part| part.len()).sum();
+    let mut size = 0usize;
+    for part in parts {
+        size = size.saturating_add(part.len());
+    }
     let mut octets = Vec::with_capacity(alloc, size)?;
     octets.push(first)?;
-    octets.extend_from_slice(&(size as u16).to_be_bytes())?;
+    octets.extend_from_slice(&u16::try_from(size)?.to_be_bytes())?;
     octets.extend_from_slice(&[0, 1, 5, 2])?;
     for part in parts {
         octets.extend_from_slice(part)?;

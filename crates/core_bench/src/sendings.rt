@@ -35,34 +35,45 @@ fn pump(core: &mut SenderCore, count: u32) -> Result<()> {
     Ok(())
 }
 
+// The Put of the file.
+fn request(alloc: Global) -> Result<PutRequest> {
+    let mut octets = Vec::with_capacity(alloc, FILE as usize)?;
+    octets.resize(FILE as usize, 90)?;
+    let file = octets.as_slice();
+    match PutRequest::new(alloc, EntityId(2), Class::Two, b"a", b"b", &[], file) {
+        Ok(request) => Ok(request),
+        Err(_) => Err(anyhow!("the request is refused")),
+    }
+}
+
+// The sender that a Put opens.
+fn opened(alloc: Global, request: &PutRequest) -> Result<SenderCore> {
+    match SenderCore::open(alloc, KEY, request, params()?) {
+        Ok((mut core, plan)) => {
+            let _ = core.commit(plan);
+            Ok(core)
+        }
+        Err(refusal) => Err(anyhow!("the sender is refused: {refusal:?}")),
+    }
+}
+
+// Asks a sender for parts of its file, and has it send one.
+fn ask(alloc: Global, core: &mut SenderCore, number: u32) -> Result<()> {
+    let ranges = requests(alloc, number)?;
+    let asked = nak(alloc, FILE, ranges.as_slice())?;
+    step(core, &asked)?;
+    step(core, &What::Pump)
+}
+
 /// A file that is sent, and so many NAKs, each for parts of one octet all over the file; one part is sent
 /// between two NAKs.
 pub(crate) fn naks(alloc: Global, count: u32) -> Result<u64> {
-    let mut octets = Vec::with_capacity(alloc, FILE as usize)?;
-    octets.resize(FILE as usize, 90)?;
-    let request = PutRequest::new(
-        alloc,
-        EntityId(2),
-        Class::Two,
-        b"a",
-        b"b",
-        &[],
-        octets.as_slice(),
-    );
-    let Ok(request) = request else {
-        bail!("the request is refused");
-    };
-    let (mut core, plan) = match SenderCore::open(alloc, KEY, &request, params()?) {
-        Ok(opened) => opened,
-        Err(refusal) => bail!("the sender is refused: {refusal:?}"),
-    };
-    let _ = core.commit(plan);
+    let request = request(alloc)?;
+    let mut core = opened(alloc, &request)?;
     // Metadata, the file and its EOF
     pump(&mut core, FILE / 256 + 2)?;
     for number in 0..count {
-        let asked = requests(alloc, number)?;
-        step(&mut core, &nak(alloc, FILE, asked.as_slice())?)?;
-        pump(&mut core, 1)?;
+        ask(alloc, &mut core, number)?;
     }
     Ok(u64::from(count))
 }

@@ -6,14 +6,10 @@ use cfdp_types::{
 
 /// Parts of 256 octets, and limits that no run reaches.
 pub(crate) fn params() -> Result<Params> {
-    let table = |role| match FaultTable::new(role, &[]) {
-        Ok(table) => Ok(table),
-        Err(_) => Err(anyhow!("no handler is refused")),
-    };
     let tables = FaultTables {
-        send: table(Role::Send)?,
-        receive_one: table(Role::RecvOne)?,
-        receive_two: table(Role::RecvTwo)?,
+        send: cancelling(Role::Send)?,
+        receive_one: cancelling(Role::RecvOne)?,
+        receive_two: cancelling(Role::RecvTwo)?,
     };
     let lengths = HeaderLengths {
         entity_octets: 1,
@@ -33,4 +29,12 @@ pub(crate) fn params() -> Result<Params> {
     Params::new(EntityId(1), lengths, 256, timers, limits, tables).context(
         "the parameters are in range",
     )
+}
+
+// The table of a role that cancels at every fault.
+fn cancelling(role: Role) -> Result<FaultTable> {
+    match FaultTable::new(role, &[]) {
+        Ok(table) => Ok(table),
+        Err(_) => Err(anyhow!("no handler is refused")),
+    }
 }

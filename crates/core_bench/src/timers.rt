@@ -22,8 +22,10 @@ pub(crate) fn turns(alloc: Global, count: u32) -> Result<u64> {
             due = due.saturating_add(1);
         }
     }
-    while timers.due(u64::MAX).is_some() {
-        due = due.saturating_add(1);
+    for _ in 0..count {
+        if timers.due(u64::MAX).is_some() {
+            due = due.saturating_add(1);
+        }
     }
     Ok(due)
 }
