@@ -9,6 +9,7 @@ mod setting;
 mod timers;
 
 use anyhow::{Context, Result, bail};
+use receptions::Order;
 use std::alloc::Global;
 use std::env;
 
@@ -25,28 +26,13 @@ fn main(rt: HostRuntime) -> Result<()> {
 fn run(alloc: Global, scenario: &str, size: u32) -> Result<u64> {
     match scenario {
         "eof-last" => receptions::eof_last(alloc, size),
-        "eof-first-rising" => receptions::eof_first(alloc, size, first_first),
-        "eof-first-falling" => receptions::eof_first(alloc, size, last_first),
-        "eof-first-mixed" => receptions::eof_first(alloc, size, mixed),
+        "eof-first-rising" => receptions::eof_first(alloc, size, Order::Rising),
+        "eof-first-falling" => receptions::eof_first(alloc, size, Order::Falling),
+        "eof-first-mixed" => receptions::eof_first(alloc, size, Order::Mixed),
         "single-octets-falling" => receptions::single_octets_falling(alloc, size),
         "prompts" => receptions::prompts(alloc, size),
         "naks" => sendings::naks(alloc, size),
         "timers" => timers::turns(alloc, size),
         _ => bail!("there is no scenario {scenario}"),
     }
-}
-
-// The place of the segment that comes after so many others.
-fn first_first(number: u32, _count: u32) -> u32 {
-    number
-}
-
-fn last_first(number: u32, count: u32) -> u32 {
-    count.saturating_sub(number).saturating_sub(1)
-}
-
-// Each place once, where the count is no multiple of 5 or 7.
-fn mixed(number: u32, count: u32) -> u32 {
-    let scattered = u64::from(number) * 42_875;
-    scattered.checked_rem(u64::from(count)).unwrap_or(0) as u32
 }

@@ -10,6 +10,29 @@ use txn_events::What;
 /// Octets of a segment.
 const SEGMENT: u32 = 256;
 
+/// The order in which the segments of a file come.
+#[derive(Clone, Copy)]
+pub(crate) enum Order {
+    Rising,
+    Falling,
+    /// Scattered: each place once, where the count is no multiple of 5 or 7.
+    Mixed,
+}
+
+impl Order {
+    // The place of the segment that comes after so many others.
+    fn place(self, number: u32, count: u32) -> u32 {
+        match self {
+            Order::Rising => number,
+            Order::Falling => count.saturating_sub(number).saturating_sub(1),
+            Order::Mixed => {
+                let scattered = u64::from(number) * 42_875;
+                scattered.checked_rem(u64::from(count)).unwrap_or(0) as u32
+            }
+        }
+    }
+}
+
 // A file of this size.
 fn file(alloc: Global, size: u32) -> Result<Vec<u8>> {
     let mut octets = Vec::with_capacity(alloc, size as usize)?;
@@ -55,11 +78,10 @@ fn step(core: &mut ReceiverCore, event: &What) -> Result<(u64, bool)> {
 
 // Receives the segment at a place.
 fn receive(alloc: Global, core: &mut ReceiverCore, octets: &[u8], place: u32) -> Result<bool> {
-    let start = octets
-        .len()
-        .min((u64::from(place) * u64::from(SEGMENT)) as usize);
-    let end = octets.len().min(start.saturating_add(SEGMENT as usize));
-    let event = file_data(alloc, start as u32, &octets[start..end])?;
+    let start = place.saturating_mul(SEGMENT);
+    let from = octets.len().min(start as usize);
+    let to = octets.len().min(from.saturating_add(SEGMENT as usize));
+    let event = file_data(alloc, start, &octets[from..to])?;
     let (_, is_given) = step(core, &event)?;
     Ok(is_given)
 }
@@ -79,20 +101,20 @@ pub(crate) fn eof_last(alloc: Global, count: u32) -> Result<u64> {
     Ok(pdus)
 }
 
-/// The EOF of a file, and so many segments behind it, each at the place that `order` gives of its number and
-/// their count.
-pub(crate) fn eof_first<F: Fn(u32, u32) -> u32>(
-    alloc: Global,
-    count: u32,
-    order: F,
-) -> Result<u64> {
+/// The EOF of a file, and so many segments behind it in an order.
+pub(crate) fn eof_first(alloc: Global, count: u32, order: Order) -> Result<u64> {
     let size = count.saturating_mul(SEGMENT);
     let octets = file(alloc, size)?;
     let mut core = opened(alloc, size)?;
     let (pdus, _) = step(&mut core, &eof(alloc, sum_of(octets.as_slice()), size)?)?;
     let mut is_given = false;
     for number in 0..count {
-        is_given = receive(alloc, &mut core, octets.as_slice(), order(number, count))?;
+        is_given = receive(
+            alloc,
+            &mut core,
+            octets.as_slice(),
+            order.place(number, count),
+        )?;
     }
     if !is_given {
         bail!("the file is whole and is not given to the store");
