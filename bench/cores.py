@@ -21,6 +21,7 @@ SCENARIOS = [
     ("single-octets-falling", 30_000, 20, None),
     ("prompts", 10_000, 10, None),
     ("naks", 1_000, 10, None),
+    ("naks-of-octets", 1_000, 10, None),
     ("timers", 10_000, 10, None),
 ]
 

@@ -10,6 +10,7 @@ mod timers;
 
 use anyhow::{Context, Result, bail};
 use receptions::Order;
+use sendings::Parts;
 use std::alloc::Global;
 use std::env;
 
@@ -31,7 +32,8 @@ fn run(alloc: Global, scenario: &str, size: u32) -> Result<u64> {
         "eof-first-mixed" => receptions::eof_first(alloc, size, Order::Mixed),
         "single-octets-falling" => receptions::single_octets_falling(alloc, size),
         "prompts" => receptions::prompts(alloc, size),
-        "naks" => sendings::naks(alloc, size),
+        "naks" => sendings::naks(alloc, Parts::Segments, size),
+        "naks-of-octets" => sendings::naks(alloc, Parts::Octets, size),
         "timers" => timers::turns(alloc, size),
         _ => bail!("there is no scenario {scenario}"),
     }

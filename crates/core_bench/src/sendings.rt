@@ -10,6 +10,9 @@ use txn_events::What;
 /// Octets of the file that is sent.
 const FILE: u32 = 4 * 1024 * 1024;
 
+/// Octets of a segment.
+const SEGMENT: u32 = 256;
+
 /// Requests of a NAK.
 const REQUESTS: u32 = 64;
 
@@ -58,32 +61,52 @@ fn opened(alloc: Global, request: &PutRequest) -> Result<SenderCore> {
 }
 
 // Asks a sender for parts of its file, and has it send one.
-fn ask(alloc: Global, core: &mut SenderCore, number: u32) -> Result<()> {
-    let ranges = requests(alloc, number)?;
+fn ask(alloc: Global, core: &mut SenderCore, parts: Parts, number: u32) -> Result<()> {
+    let ranges = parts.requests(alloc, number)?;
     let asked = nak(alloc, FILE, ranges.as_slice())?;
     step(core, &asked)?;
     step(core, &What::Pump)
 }
 
-/// A file that is sent, and so many NAKs, each for parts of one octet all over the file; one part is sent
-/// between two NAKs.
-pub(crate) fn naks(alloc: Global, count: u32) -> Result<u64> {
+/// A file that is sent, and so many NAKs, each for parts of it all over; one part is sent between two NAKs.
+pub(crate) fn naks(alloc: Global, parts: Parts, count: u32) -> Result<u64> {
     let request = request(alloc)?;
     let mut core = opened(alloc, &request)?;
     // Metadata, the file and its EOF
-    pump(&mut core, FILE / 256 + 2)?;
+    pump(&mut core, FILE / SEGMENT + 2)?;
     for number in 0..count {
-        ask(alloc, &mut core, number)?;
+        ask(alloc, &mut core, parts, number)?;
     }
     Ok(u64::from(count))
 }
 
-// The requests of a NAK: other offsets in each.
-fn requests(alloc: Global, number: u32) -> Result<Vec<(u32, u32)>> {
-    let mut ranges = Vec::with_capacity(alloc, REQUESTS as usize)?;
-    for place in 0..REQUESTS {
-        let start = place * (FILE / REQUESTS) + number % (FILE / REQUESTS / 2) * 2;
-        ranges.push((start, start + 1))?;
+/// What a NAK asks for.
+#[derive(Clone, Copy)]
+pub(crate) enum Parts {
+    /// Whole segments, each second at most.
+    Segments,
+    /// Single octets, each second at most: as many runs as there can be.
+    Octets,
+}
+
+impl Parts {
+    // Octets of a part.
+    fn size(self) -> u32 {
+        match self {
+            Parts::Segments => SEGMENT,
+            Parts::Octets => 1,
+        }
     }
-    Ok(ranges)
+
+    // The requests of a NAK: its own part in each stretch of the file.
+    fn requests(self, alloc: Global, number: u32) -> Result<Vec<(u32, u32)>> {
+        let stretch = FILE / REQUESTS;
+        let inside = number.saturating_mul(2).saturating_mul(self.size()) % stretch;
+        let mut ranges = Vec::with_capacity(alloc, REQUESTS as usize)?;
+        for place in 0..REQUESTS {
+            let start = (place * stretch).saturating_add(inside);
+            ranges.push((start, start.saturating_add(self.size())))?;
+        }
+        Ok(ranges)
+    }
 }

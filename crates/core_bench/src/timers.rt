@@ -7,7 +7,8 @@ use timer_list::TimerList;
 /// Turns in which each tenth timer is armed again.
 const TURNS: u32 = 100;
 
-/// So many armed timers; in each turn each tenth is armed again, and the list is asked what is due.
+/// So many armed timers; in each turn each tenth is armed again, and the list is asked what is due. At the
+/// end some are taken out.
 pub(crate) fn turns(alloc: Global, count: u32) -> Result<u64> {
     let mut timers = TimerList::new(alloc);
     for seq in 0..count {
@@ -22,7 +23,7 @@ pub(crate) fn turns(alloc: Global, count: u32) -> Result<u64> {
             due = due.saturating_add(1);
         }
     }
-    for _ in 0..count {
+    for _ in 0..TURNS {
         if timers.due(u64::MAX).is_some() {
             due = due.saturating_add(1);
         }
