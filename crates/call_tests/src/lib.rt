@@ -1,5 +1,5 @@
-//! The public calls of the crates that hold types, numbers, sets, PDUs and what an entity keeps: each as its
-//! callers see it.
+//! The public calls of the crates that hold types, numbers, PDUs, timers and stores: each as its callers
+//! see it.
 #![tactic(auto)]
 
 #[cfg(test)]

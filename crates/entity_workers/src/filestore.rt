@@ -5,7 +5,7 @@ use thiserror::Error;
 /// Why a store doesn't keep a file.
 #[derive(Clone, Copy, Debug, PartialEq, Eq, Error)]
 pub enum StoreFault {
-    /// The store has no file of that name.
+    /// The store can't have a file of that name.
     #[error("the store can't have a file of that name")]
     BadName,
     /// The file couldn't be kept; want of memory too.

@@ -26,7 +26,7 @@ impl Model for Gaps {
 
 #[tactic(auto, unfolding(crate::specs::Covered::covered))]
 impl Gaps {
-    ghost use Rattle.std.specs.Prelude.{◌≡◌, ◌↔◌, ℕ, ◌+◌, ◌<◌, ◌≤◌, false, take, IfOk, OnOk, OnErr, IsTrue};
+    ghost use Rattle.std.specs.Prelude.{◌≡◌, ◌↔◌, ℕ, ◌+◌, ◌<◌, ◌≤◌, false, take, Ok, None, IfOk, IfSome, OnOk, OnErr, IsTrue};
     ghost use Rattle.gap_list.specs.Covered.{covered, HasRoomWith};
     ghost use Rattle.gap_list.specs.Runs.{SameSet, IsFree, with_range, without_range, new_runs, missing_runs, first_run, first_missing, IsExtent};
 
@@ -59,9 +59,12 @@ impl Gaps {
     }
 
     /// A set that covers nothing and has room for the runs here and so many more, where there is no
-    /// room for these here. It has room for the runs here twice, so that sets which grow rarely move.
+    /// room for these here. It has room for the runs here twice, so that sets which grow rarely move;
+    /// an error also where that number of runs is none.
     pub fn spare(&self, count: usize) -> Result<Option<Gaps>, AllocError>
-        ensures { IfOk result (λ spare. HasRoomWith self.now spare count) }
+        ensures room { IfOk result (λ spare. HasRoomWith self.now spare count) }
+        ensures none { count ≤ self.now.room → result ≡ Ok None }
+        ensures empty { IfOk result (λ found. IfSome found (λ spare. (offset : ℕ) → covered spare offset ≡ false)) }
     {
         let len = self.runs.len();
         if count <= self.runs.capacity() - len {

@@ -60,7 +60,7 @@ abbrev pub HasRoomFor : Remaining → Remainder → Type 0
 HasRoomFor remaining (remainder.Requested nak) = HasRoom remaining nak
 HasRoomFor remaining _ = Unit {0}
 
--- the PDU and the rest of a response of the table
+-- the PDUs of a response of the table
 abbrev pub pdus_of_response : Sending → table.Response → List PduValue
 pdus_of_response sending response = map (λ b. record { header = header_of sending; body = b }) response.bodies
 
