@@ -19,6 +19,7 @@ build:
 
 # the gate: every proof from nothing, the must-fail edits, the tests and the programs
 test:
+	@examples/same.sh
 	rt ci
 
 # how fast and how large a run is; no part of the gate
