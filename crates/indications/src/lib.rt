@@ -4,9 +4,11 @@
 mod bundle;
 mod indication;
 mod kind;
+mod outlet;
 mod side;
 
 pub use bundle::Bundle;
 pub use indication::{Indication, Indications, Phase};
 pub use kind::IndicationKind;
+pub use outlet::Outlet;
 pub use side::Side;

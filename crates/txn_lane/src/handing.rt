@@ -3,9 +3,8 @@ ghost use Rattle.std.specs.Prelude.{◌≡◌, IfOk, OnOk, IfErr, OnErr, IsSome}
 ghost use Rattle.txn_events.specs.declared.refusal.Refusal.TheVariants as refusal;
 ghost use Rattle.txn_lane.specs.Handing.{bundle_for, MayHandOver, IsHandedOver};
 
-use crate::outlet::Outlet;
 use cfdp_types::TxnKey;
-use indications::{Bundle, Indication, Indications};
+use indications::{Bundle, Indication, Indications, Outlet};
 use std::alloc::{AllocError, Global};
 use txn_events::Refusal;
 

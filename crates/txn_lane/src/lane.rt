@@ -1,9 +1,8 @@
 use crate::lane_refusals::{plainly, refused_by_key, refused_put};
-use crate::outlet::Outlet;
 use crate::running::Running;
 use crate::stepping::{LaneAddress, advance, done, start};
 use cfdp_types::{EntityId, Params, PutRequest, TxnKey};
-use indications::Indication;
+use indications::{Indication, Outlet};
 use lane_table::{Done, Numbers, Refused};
 use std::alloc::Global;
 use std::marker::Model;

@@ -5,13 +5,12 @@
 mod handing;
 mod lane;
 mod lane_refusals;
-mod outlet;
 mod running;
 mod stepping;
 
+pub use indications::Outlet;
 pub use lane::Lane;
 pub use lane_table::{Done, LaneSide, Numbers, Refused, laws};
-pub use outlet::Outlet;
 pub use txn_events::Event;
 
 #[cfg(test)]

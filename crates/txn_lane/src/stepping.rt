@@ -14,10 +14,9 @@ ghost use Rattle.txn_lane.specs.RunningCode.{IsStepOf, IsOpenedBy, IsStarted, Is
 ghost use Rattle.txn_lane.specs.Stepping.{IsNotCarried, IsGivenBack};
 
 use crate::handing::{bundle_for, hand_over};
-use crate::outlet::Outlet;
 use crate::running::{Running, Step};
 use cfdp_types::{Params, PutRequest, TxnKey};
-use indications::Bundle;
+use indications::{Bundle, Outlet};
 use lane_table::Done;
 use std::alloc::Global;
 use txn_events::{Answer, Refusal, What};

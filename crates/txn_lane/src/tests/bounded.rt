@@ -1,8 +1,7 @@
 ghost use Rattle.std.specs.Prelude.{◌≡◌, [], ◌++◌, ◌∷◌, length, vec_len, IfOk};
 ghost use Rattle.std.proofs.Common.{ap, ◌∙◌};
 
-use crate::outlet::Outlet;
-use indications::{Bundle, Indication};
+use indications::{Bundle, Indication, Outlet};
 use std::alloc::{AllocError, Global};
 
 /// A queue of one lane, with room for so many bundles.

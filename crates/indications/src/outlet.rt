@@ -2,7 +2,7 @@ ghost use Rattle.std.specs.Prelude.{◌≡◌, ℕ, List, [], ◌∷◌, ◌++�
 ghost use Rattle.indications.specs.LaneLists.{IsLaneList};
 ghost use Rattle.indications.specs.declared.bundle.Bundle.{Bundle as BundleValue};
 
-use indications::Bundle;
+use crate::bundle::Bundle;
 
 /// The end of a user's queue that one lane puts its bundles into.
 pub trait Outlet {
