@@ -1,0 +1,3 @@
+pub mod PassLists
+pub mod Keeping
+pub mod Answered

@@ -1,0 +1,91 @@
+-- How what is known of a queue changes.
+use Rattle.std.specs.Prelude.{◌≡◌, ℕ, List, [], ◌∷◌, ◌++◌, length, Some, None, get_or, set}
+use Rattle.cfdp_types.specs.declared.key.EntityId.{EntityId}
+use Rattle.indications.specs.declared.bundle.Bundle.{Bundle}
+use Rattle.indications.specs.LaneLists.{of_lane, IsLaneList}
+use Rattle.queue_rule.specs.declared.view.OutletView.{OutletView}
+use Rattle.queue_rule.specs.declared.view.PortView.{PortView}
+use Rattle.queue_rule.specs.declared.view.View.{View}
+use Rattle.queue_rule.specs.declared.view.View.TheVariants.{Port, Outlet, Spent}
+
+-- the lane sent one bundle more
+abbrev pub with_sent : OutletView → Bundle → OutletView
+with_sent outlet bundle = record outlet { sent = outlet.sent ++ bundle ∷ [] }
+
+-- the user took one bundle more
+abbrev pub with_taken : PortView → Bundle → PortView
+with_taken port bundle = record port { taken = port.taken ++ bundle ∷ [] }
+
+-- one lane more has an outlet
+abbrev pub with_lane : PortView → PortView
+with_lane port = record port { known = port.known ++ None ∷ [] }
+
+-- the outlet of a lane is given back, and all that the lane sent is known
+abbrev pub with_known : PortView → OutletView → PortView
+with_known port outlet = record port { known = set port.known outlet.lane (Some outlet.sent) }
+
+-- a user that took nothing, and has no lanes yet
+abbrev pub new_port : ℕ → ℕ → PortView
+new_port user room = record { user = user; room = room; taken = []; known = [] }
+
+-- the next lane, which sent nothing yet
+abbrev pub next_outlet : PortView → OutletView
+next_outlet port = record { user = port.user; room = port.room; lane = length port.known; sent = [] }
+
+-- what an outlet knows once its bundle is in the queue
+abbrev pub pushed : View → Bundle → View
+pushed (Outlet outlet) bundle = Outlet (with_sent outlet bundle)
+pushed view bundle = view
+
+-- what a port knows once the bundle is taken
+abbrev pub popped : View → Bundle → View
+popped (Port port) bundle = Port (with_taken port bundle)
+popped view bundle = view
+
+-- what a port knows once the next lane has an outlet, and what that knows
+abbrev pub split_port : View → View
+split_port (Port port) = Port (with_lane port)
+split_port view = view
+
+abbrev pub split_outlet : View → View
+split_outlet (Port port) = Outlet (next_outlet port)
+split_outlet view = Spent
+
+-- what a port knows once it has an outlet back
+abbrev pub joined : View → View → View
+joined (Port port) (Outlet outlet) = Port (with_known port outlet)
+joined view other = view
+
+-- what a lane sends, of some source
+abbrev pub IsSomeLaneList : ℕ → ℕ → List Bundle → Type 0
+IsSomeLaneList user lane bundles = (source : EntityId) × IsLaneList user lane source bundles
+
+-- what was taken of each lane is a lane list
+abbrev pub IsTakenInOrder : PortView → Type 0
+IsTakenInOrder port = (lane : ℕ) → IsSomeLaneList port.user lane (of_lane lane port.taken)
+
+-- all that a lane sent which is known is in what was taken, and behind it in these
+abbrev pub IsWholeWith : PortView → List Bundle → Type 0
+IsWholeWith port items =
+    (lane : ℕ) (bundles : List Bundle) → get_or port.known lane None ≡ Some bundles
+    → of_lane lane (port.taken ++ items) ≡ bundles
+
+-- what is learned of what the queue holds
+abbrev pub IsLearned : View → List Bundle → Type 0
+IsLearned (Port port) items = IsTakenInOrder port × IsWholeWith port items
+IsLearned view items = Unit {0}
+
+-- what was taken is in order
+abbrev pub IsOrderly : View → Type 0
+IsOrderly (Port port) = IsTakenInOrder port
+IsOrderly view = Unit {0}
+
+-- what an outlet knows
+abbrev pub outlet_in : View → OutletView
+outlet_in (Outlet outlet) = outlet
+outlet_in view = record { user = 0; room = 0; lane = 0; sent = [] }
+
+-- what a port knows
+abbrev pub port_in : View → PortView
+port_in (Port port) = port
+port_in view = new_port 0 0

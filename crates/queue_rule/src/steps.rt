@@ -1,0 +1,106 @@
+//! What those that share a queue do, each in one step.
+ghost use Rattle.std.specs.Prelude.{◌≡◌, ◌<◌, [], IfErr, IfOk, OnOk, OnErr, IfSome, IfNone, ◌++◌, ◌∷◌};
+ghost use Rattle.crossbeam_queue.specs.Passes.{view, IsPassOf, IsSamePass, ruled_capacity};
+ghost use Rattle.queue_rule.specs.Passes.{IsOutletOf, IsPortOf};
+ghost use Rattle.queue_rule.specs.declared.view.View.TheVariants.{Origin};
+ghost use Rattle.queue_rule.specs.Views.{outlet_in, port_in, with_sent, with_taken, with_lane, with_known, new_port, next_outlet};
+ghost use Rattle.queue_rule.specs.Views.{IsSomeLaneList, IsTakenInOrder, IsWholeWith};
+
+use crate::rule::{Fair, GivesBack, NextLane, OfUser, QueueOfUser, Sends, Takes};
+use crate::view::View;
+use crossbeam_queue::{Pass, RuledArrayQueue};
+use indications::Bundle;
+use std::alloc::{AllocError, Global};
+use std::marker::Brand;
+use std::sync::Wait;
+
+/// A user's queue, which threads share.
+pub type SharedQueue = RuledArrayQueue<Bundle, View, Fair>;
+
+/// What one of those that share a queue knows of it. It has no bytes.
+pub type QueuePass = Pass<Bundle, View>;
+
+/// Puts a bundle of an outlet's lane behind all that the queue holds, or gives it back where the
+/// queue was full.
+pub fn send<R: Wait>(
+    rt: &R,
+    queue: &SharedQueue,
+    pass: &mut QueuePass,
+    bundle: Bundle,
+) -> Result<(), Bundle>
+    requires pass { IsOutletOf queue.now pass.old }
+    requires of_lane { bundle.lane ≡ (outlet_in (view pass.old)).lane }
+    requires goes_on { IsSomeLaneList (outlet_in (view pass.old)).user (outlet_in (view pass.old)).lane
+        ((outlet_in (view pass.old)).sent ++ bundle ∷ []) }
+    ensures pass { IsOutletOf queue.now pass.new }
+    ensures same_pass { IsSamePass pass.old pass.new }
+    ensures sent { OnOk result (outlet_in (view pass.new) ≡ with_sent (outlet_in (view pass.old)) bundle) }
+    ensures back { IfErr result (λ back. back ≡ bundle) }
+    ensures kept { OnErr result (outlet_in (view pass.new) ≡ outlet_in (view pass.old)) }
+{
+    queue.push_as::<Sends, R>(rt, pass, bundle)
+}
+
+/// Takes the bundle at the front; none only where the queue was empty.
+pub fn take<R: Wait>(rt: &R, queue: &SharedQueue, pass: &mut QueuePass) -> Option<Bundle>
+    requires pass { IsPortOf queue.now pass.old }
+    ensures pass { IsPortOf queue.now pass.new }
+    ensures same_pass { IsSamePass pass.old pass.new }
+    ensures taken { IfSome result (λ bundle. port_in (view pass.new) ≡ with_taken (port_in (view pass.old)) bundle) }
+    ensures none { IfNone result (port_in (view pass.new) ≡ port_in (view pass.old)) }
+    ensures whole { IfNone result (IsWholeWith (port_in (view pass.new)) []) }
+    ensures in_order { IsTakenInOrder (port_in (view pass.new)) }
+{
+    queue.pop_as::<Takes, R>(rt, pass)
+}
+
+/// A queue that holds nothing, with room for so many bundles, and its first pass.
+pub fn open(alloc: Global, room: usize) -> Result<(SharedQueue, QueuePass), AllocError>
+    requires { 0 < room }
+    ensures { IfOk result
+        (λ opened. (ruled_capacity opened.0 ≡ room) × IsPassOf opened.0 opened.1 × (view opened.1 ≡ Origin)) }
+{
+    SharedQueue::ruled(alloc, room)
+}
+
+/// Makes the port of a user of the queue's first pass.
+pub fn open_port(queue: &SharedQueue, first: &mut QueuePass, user: usize) -> QueuePass
+    requires { IsPassOf queue.now first.old × (view first.old ≡ Origin) }
+    ensures port { IsPortOf queue.now result }
+    ensures new { port_in (view result) ≡ new_port user (ruled_capacity queue.now) }
+{
+    named_port::<Brand>(queue, first, user)
+}
+
+fn named_port<U: QueueOfUser>(queue: &SharedQueue, first: &mut QueuePass, user: usize) -> QueuePass
+    requires first { IsPassOf queue.now first.old × (view first.old ≡ Origin) }
+    requires user { user ≡ U.user }
+    requires room { ruled_capacity queue.now ≡ U.room }
+    ensures port { IsPortOf queue.now result }
+    ensures new { port_in (view result) ≡ new_port user (ruled_capacity queue.now) }
+{
+    queue.another::<OfUser<U>>(first)
+}
+
+/// Splits the outlet of the next lane off a port.
+pub fn next_lane(queue: &SharedQueue, pass: &mut QueuePass) -> QueuePass
+    requires port { IsPortOf queue.now pass.old }
+    ensures port { IsPortOf queue.now pass.new }
+    ensures same_pass { IsSamePass pass.old pass.new }
+    ensures lane { port_in (view pass.new) ≡ with_lane (port_in (view pass.old)) }
+    ensures outlet { IsOutletOf queue.now result }
+    ensures new { outlet_in (view result) ≡ next_outlet (port_in (view pass.old)) }
+{
+    queue.another::<NextLane>(pass)
+}
+
+/// Takes the outlet of a lane back.
+pub fn admit(queue: &SharedQueue, pass: &mut QueuePass, outlet: QueuePass)
+    requires port { IsPortOf queue.now pass.old }
+    requires outlet { IsOutletOf queue.now outlet }
+    ensures port { IsPortOf queue.now pass.new }
+    ensures same_pass { IsSamePass pass.old pass.new }
+    ensures known { port_in (view pass.new) ≡ with_known (port_in (view pass.old)) (outlet_in (view outlet)) }
+{
+    queue.absorb::<GivesBack>(pass, outlet);
+}
