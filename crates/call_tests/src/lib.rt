@@ -7,6 +7,8 @@ mod codec;
 #[cfg(test)]
 mod events;
 #[cfg(test)]
+mod gaps;
+#[cfg(test)]
 mod headers;
 #[cfg(test)]
 mod pdus;

@@ -2,14 +2,14 @@
 use Rattle.std.proofs.Common.{◌≡◌, ℕ, suc, ◌+◌, ◌-◌, ◌<◌, ◌≤◌, max, min, Bool, true, false, ◌&&◌, ◌||◌, ◌⊎◌, ◌↔◌, IsTrue, not, nat_le, nat_lt, List, [], ◌∷◌, length, get_or, take, drop, refl, ap, sym, ◌∙◌, arith, subst, ⊎_elim, Some, None, slice_get}
 use Rattle.std.specs.List.{All}
 use Rattle.std.proofs.Math.Bool.{and-false, and-true}
-use Rattle.std.proofs.lemmas.Bool.{cases_lt, cond_both, le-leb, lt-leb, lt-ltb, le-ltb, and_right, leb-true, leb-false, or_left, or_right, or_from, true≢false, false≢true, not-false, not-true}
+use Rattle.std.proofs.lemmas.Bool.{cases_lt, cond_both, le-leb, lt-leb, lt-ltb, le-ltb, and_right, leb-true, leb-false, or_left, or_right, or_from, true≢false, false≢true}
 use Rattle.std.proofs.lemmas.List.Elements.{All-head, All-tail}
 use Rattle.std.proofs.lemmas.Option.{slice_get_within, get_or_from_slice_get}
 use Rattle.gap_list.specs.declared.run.Run.{Run}
-use Rattle.gap_list.specs.Runs.{is_within, in_runs, without_range, runs_from, runs_of, missing_runs, first_run, first_missing, IsFree, IsExtent, IsRisingFrom}
+use Rattle.gap_list.specs.Runs.{is_within, in_runs, without_range, runs_from, runs_of, first_run, IsFree, IsExtent, IsRisingFrom}
 use Rattle.gap_list.specs.Places.{end_or, start_or, begins_from, last_end}
-use Rattle.gap_list.proofs.RunLemmas.{is_within_tells, runs_from-none, runs_from-all, in_runs-runs_of, IsRisingFrom-runs_of}
-use Rattle.gap_list.proofs.SetLemmas.{below_rising, missing_runs-full, ends-runs_of, in_set-runs_of, full_from_missing_runs}
+use Rattle.gap_list.proofs.RunLemmas.{is_within_tells, runs_from-none, runs_from-all}
+use Rattle.gap_list.proofs.SetLemmas.{below_rising}
 use Rattle.gap_list.proofs.RisingLemmas.{beyond, rising_drop, in_parts, in_rest}
 
 -- an offset within a run, and one outside
@@ -177,77 +177,6 @@ pub first_from-none : (set : ℕ → Bool) (offset start limit : ℕ) → limit 
     → ((i : ℕ) → offset ≤ i → i < start → set i ≡ false) → first_run (without_range set 0 offset) limit ≡ None
 first_from-none set offset start limit past missing =
     first_run-none (without_range set 0 offset) limit (λ i below. before_begin set offset start i missing (omega arith))
-
--- ---- the lowest run that is missing
-
-pub first_missing-some : (set : ℕ → Bool) (start end limit : ℕ) → start < end → end ≤ limit
-    → ((i : ℕ) → 0 ≤ i → i < start → set i ≡ true) → ((i : ℕ) → start ≤ i → i < end → set i ≡ false) → (end < limit → set end ≡ true)
-    → first_missing set limit ≡ Some (record { start = start; end = end })
-first_missing-some set start end limit filled below front missing stops =
-    first_run-some (λ i. not (set i)) start end limit filled below (λ i to. ap not (front i (omega arith) to))
-    (λ i from to. ap not (missing i from to)) (λ less. ap not (stops less))
-
-pub first_missing-none : (set : ℕ → Bool) (limit reached : ℕ) → limit ≤ reached → ((i : ℕ) → 0 ≤ i → i < reached → set i ≡ true)
-    → first_missing set limit ≡ None
-first_missing-none set limit reached le front =
-    ap (λ (l : List Run). slice_get l 0) (missing_runs-full set limit (λ i below. front i (omega arith) (omega arith)))
-
--- what the lowest missing run says of the set
-pub record IsFirstMissing (set : ℕ → Bool) (limit : ℕ) (run : Run) : Type 0 where
-  pub filled : run.start < run.end
-  pub within : run.end ≤ limit
-  pub covered : (i : ℕ) → i < run.start → IsTrue (set i)
-  pub missing : (i : ℕ) → run.start ≤ i → i < run.end → set i ≡ false
-  pub stops : run.end < limit → IsTrue (set run.end)
-
--- what runs don't have of what isn't in the set is in the set
-covered_by_rest : (set : ℕ → Bool) (limit i : ℕ) (runs : List Run) → missing_runs set limit ≡ runs → i < limit → in_runs runs i ≡ false → IsTrue (set i)
-covered_by_rest set limit i runs is below none =
-    let out : not (set i) ≡ false =
-    rw (lt-ltb i limit below) at (sym (in_runs-runs_of (λ offset. not (set offset)) limit i) ∙ ap (λ (l : List Run). in_runs l i) is ∙ none) in
-    not-false (set i) out
-
-first_of_runs : (set : ℕ → Bool) (limit : ℕ) (run : Run) (first : Run) (runs : List Run) → missing_runs set limit ≡ first ∷ runs
-    → Some first ≡ Some run → IsFirstMissing set limit first
-first_of_runs set limit run first runs is same =
-    let left_out : ℕ → Bool = λ offset. not (set offset) in
-    let rising : IsRisingFrom 0 (first ∷ runs) = subst (IsRisingFrom 0) is (IsRisingFrom-runs_of left_out limit) in
-    let one : 0 < length (first ∷ runs) = omega arith in
-    let end : first.end ≤ limit = subst (All (λ run. run.end ≤ limit)) is (ends-runs_of left_out limit) 0 first one in
-    record {
-      filled = rising.1;
-      within = end;
-      covered = λ i below.
-          covered_by_rest set limit i (first ∷ runs) is (omega (arith, rising.1))
-          (below_rising first.start (first ∷ runs) i (omega arith, rising.1, rising.2) below);
-      missing = λ i from to.
-          not-true (set i)
-          (subst (All (λ run. (offset : ℕ) → run.start ≤ offset → offset < run.end → (offset < limit) × IsTrue (not (set offset)))) is
-          (in_set-runs_of left_out limit) 0 first one i from to).1;
-      stops = λ less.
-          covered_by_rest set limit first.end (first ∷ runs) is less
-          (or_from (is_within first.start first.end first.end) (in_runs runs first.end)
-          (above_run first.start first.end first.end (omega arith)) (below_rising (first.end + 1) runs first.end rising.2 (omega arith)));
-    }
-
-first_of_list : (set : ℕ → Bool) (limit : ℕ) (run : Run) (runs : List Run) → missing_runs set limit ≡ runs → slice_get runs 0 ≡ Some run
-    → IsFirstMissing set limit run
-first_of_list set limit run [] is first = absurd cc
-first_of_list set limit run (one ∷ runs) is first =
-    let same : one ≡ run = cc in
-    subst (IsFirstMissing set limit) same (first_of_runs set limit run one runs is first)
-
-pub first_missing_tells : (set : ℕ → Bool) (limit : ℕ) (run : Run) → first_missing set limit ≡ Some run → IsFirstMissing set limit run
-first_missing_tells set limit run first = first_of_list set limit run (missing_runs set limit) refl first
-
-none_of_list : (set : ℕ → Bool) (limit : ℕ) (runs : List Run) → missing_runs set limit ≡ runs → slice_get runs 0 ≡ None
-    → (offset : ℕ) → offset < limit → IsTrue (set offset)
-none_of_list set limit [] is none = full_from_missing_runs set limit is
-none_of_list set limit (one ∷ runs) is none = absurd cc
-
--- where no run is the lowest missing one, nothing is missing
-pub full_from_first_missing : (set : ℕ → Bool) (limit : ℕ) → first_missing set limit ≡ None → (offset : ℕ) → offset < limit → IsTrue (set offset)
-full_from_first_missing set limit none = none_of_list set limit (missing_runs set limit) refl none
 
 -- ---- a free range
 

@@ -1,40 +1,14 @@
 -- Laws of the runs and the extent of a set, for the layers above.
-use Rattle.std.proofs.Common.{◌≡◌, ℕ, zero, suc, ◌+◌, ◌-◌, ◌<◌, ◌≤◌, max, Bool, true, false, ◌&&◌, ◌||◌, ◌⊎◌, not, nat_le, nat_lt, List, [], ◌∷◌, length, get_or, refl, ap, sym, ◌∙◌, arith, ⊎_elim, subst, IsTrue}
-use Rattle.std.specs.List.{All, AllPairs}
-use Rattle.std.proofs.lemmas.Bool.{cases_lt, cases_order, le-leb, lt-leb, lt-ltb, le-ltb, and_right, ltb-true, and_parts, or_left, or_right, or_from, and_from, and_left, not_from_true, true≢false, false≢true, not-false}
-use Rattle.std.proofs.lemmas.List.Elements.{All-nil, All-cons, All-weaker}
+use Rattle.std.proofs.Common.{◌≡◌, ℕ, ◌+◌, ◌-◌, ◌<◌, ◌≤◌, Bool, true, false, ◌&&◌, ◌||◌, ◌⊎◌, not, nat_le, nat_lt, List, [], ◌∷◌, get_or, refl, ap, sym, ◌∙◌, arith, ⊎_elim, subst, IsTrue}
+use Rattle.std.specs.List.{All}
+use Rattle.std.proofs.lemmas.Bool.{cases_lt, cases_order, le-leb, lt-leb, lt-ltb, le-ltb, and_right, ltb-true, and_parts, and_left, not_from_true, true≢false, false≢true, not-false}
 use Rattle.gap_list.specs.declared.run.Run.{Run}
-use Rattle.gap_list.specs.Runs.{is_within, in_runs, runs_of, new_runs, missing_runs, SameSet, with_range, IsExtent, IsRisingFrom}
+use Rattle.gap_list.specs.Runs.{is_within, in_runs, runs_of, new_runs, missing_runs, SameSet, IsRisingFrom}
 use Rattle.gap_list.proofs.RunLemmas.{in_runs_at, in_runs-runs_of, IsRisingFrom-runs_of, filled_from_rising, runs_of-same}
 
 -- each run of a set has an offset
 pub filled-runs_of : (set : ℕ → Bool) (limit : ℕ) → All (λ run. run.start < run.end) (runs_of set limit)
 filled-runs_of set limit = filled_from_rising 0 (runs_of set limit) (IsRisingFrom-runs_of set limit)
-
--- rising runs begin at or above the offset
-starts_from_rising : (offset : ℕ) (runs : List Run) → IsRisingFrom offset runs → All (λ run. offset ≤ run.start) runs
-starts_from_rising offset [] rising = All-nil (λ run. offset ≤ run.start)
-starts_from_rising offset (run ∷ runs) rising =
-    All-cons (λ run. offset ≤ run.start) run runs rising.0
-    (All-weaker (λ (later : Run). run.end + 1 ≤ later.start) (λ (later : Run). offset ≤ later.start)
-    (λ (later : Run) (h : run.end + 1 ≤ later.start). omega arith)
-    runs (starts_from_rising (run.end + 1) runs rising.2))
-
--- rising runs don't touch
-apart_from_rising : (offset : ℕ) (runs : List Run) → IsRisingFrom offset runs
-    → (i j : ℕ) (d : Run) → i < j → j < length runs → (get_or runs i d).end < (get_or runs j d).start
-apart_from_rising offset [] rising i j d before within = absurd (omega arith)
-apart_from_rising offset (run ∷ runs) rising i zero d before within = absurd (omega arith)
-apart_from_rising offset (run ∷ runs) rising zero (suc j) d before within =
-    let above : run.end + 1 ≤ (get_or runs j d).start =
-    starts_from_rising (run.end + 1) runs rising.2 j d (omega arith) in
-    omega arith
-apart_from_rising offset (run ∷ runs) rising (suc i) (suc j) d before within =
-    apart_from_rising (run.end + 1) runs rising.2 i j d (omega arith) (omega arith)
-
--- the runs of a set rise and don't touch
-pub apart-runs_of : (set : ℕ → Bool) (limit : ℕ) → AllPairs (λ lower higher. lower.end < higher.start) (runs_of set limit)
-apart-runs_of set limit = apart_from_rising 0 (runs_of set limit) (IsRisingFrom-runs_of set limit)
 
 -- each offset of a run is in the set and below the limit
 pub in_set-runs_of : (set : ℕ → Bool) (limit : ℕ)
@@ -185,50 +159,3 @@ full_from_missing_runs set limit none offset below =
     rw (lt-ltb offset limit below) at
     (sym (in_runs-runs_of (λ i. not (set i)) limit offset) ∙ ap (λ (runs : List Run). in_runs runs offset) none) in
     not-false (set offset) out
-
--- no extent of a set is greater than another
-IsExtent-greater : (set : ℕ → Bool) (extent other : ℕ) → IsExtent set extent → IsExtent set other → extent < other → ⊥
-IsExtent-greater set extent other is is' less =
-    true≢false (sym (is'.last (omega arith)) ∙ is.above (other - 1) (omega arith))
-
--- a set has one extent
-pub IsExtent-unique : (set : ℕ → Bool) (extent other : ℕ) → IsExtent set extent → IsExtent set other → extent ≡ other
-IsExtent-unique set extent other is is' = ⊎_elim
-    (λ (e : extent ≡ other). e)
-    (λ (apart : (extent < other) ⊎ (other < extent)). ⊎_elim
-    (λ (less : extent < other). absurd (IsExtent-greater set extent other is is' less))
-    (λ (more : other < extent). absurd (IsExtent-greater set other extent is' is more))
-    apart)
-    (cases_order extent other)
-
--- an empty set has the extent 0
-pub IsExtent-none : (set : ℕ → Bool) → ((offset : ℕ) → set offset ≡ false) → IsExtent set 0
-IsExtent-none set none = record { above = λ offset reached. none offset; last = λ positive. absurd (omega arith) }
-
--- sets that agree have the same extent
-pub IsExtent-same : (set other : ℕ → Bool) (extent : ℕ) → SameSet set other → IsExtent set extent → IsExtent other extent
-IsExtent-same set other extent same is = record {
-  above = λ offset reached. sym (same offset) ∙ is.above offset reached;
-  last = λ positive. sym (same (extent - 1)) ∙ is.last positive;
-}
-
--- offsets from start to end - 1 move the extent to the end, if it isn't above
-pub IsExtent-with_range : (set : ℕ → Bool) (extent start end : ℕ) → start < end → IsExtent set extent
-    → IsExtent (with_range set start end) (max extent end)
-IsExtent-with_range set extent start end filled is = record {
-  above = λ offset reached. or_from (set offset) (is_within start end offset) (is.above offset (omega arith))
-      (and_right (nat_le start offset) (nat_lt offset end) (le-ltb offset end (omega arith)));
-  last = λ positive. ⊎_elim
-      (λ (longer : extent < end).
-      let e : max extent end ≡ end = omega arith in
-      rw e (or_right (set (end - 1)) (is_within start end (end - 1))
-      (and_from (nat_le start (end - 1)) (nat_lt (end - 1) end)
-      (le-leb start (end - 1) (omega arith)) (lt-ltb (end - 1) end (omega arith)))))
-      (λ (kept : end ≤ extent).
-      let e : max extent end ≡ extent = omega arith in
-      rw e (or_left (set (extent - 1)) (is_within start end (extent - 1)) (is.last (omega arith))))
-      (cases_lt extent end);
-}
-
--- what holds of the runs of a set
-pub ruleset run_laws = (filled-runs_of, ends-runs_of, in_set-runs_of, apart-runs_of, in_runs-runs_of, missing_runs-full, full_from_missing_runs)

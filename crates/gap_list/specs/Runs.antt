@@ -1,5 +1,5 @@
 -- Sets of offsets, as tests of an offset, and the runs that they are made of.
-use Rattle.std.specs.Prelude.{◌≡◌, ℕ, zero, suc, ◌+◌, ◌-◌, ◌<◌, ◌≤◌, Bool, true, false, ◌&&◌, ◌||◌, ◌==◌, not, nat_le, nat_lt, cond, List, [], ◌∷◌, IsTrue, Option, Some, None, slice_get, take, refl}
+use Rattle.std.specs.Prelude.{◌≡◌, ℕ, zero, suc, ◌+◌, ◌-◌, ◌<◌, ◌≤◌, Bool, true, false, ◌&&◌, ◌||◌, ◌==◌, not, nat_le, nat_lt, cond, List, [], ◌∷◌, IsTrue, Option, Some, slice_get, take, refl}
 use Rattle.std.specs.List.{list_any}
 use Rattle.gap_list.specs.declared.run.Run.{Run}
 
@@ -60,10 +60,6 @@ missing_runs set limit = runs_of (λ offset. not (set offset)) limit
 abbrev pub first_run : (ℕ → Bool) → ℕ → Option Run
 first_run set limit = slice_get (runs_of set limit) 0
 
--- the lowest maximal run below a limit of what isn't in the set
-abbrev pub first_missing : (ℕ → Bool) → ℕ → Option Run
-first_missing set limit = slice_get (missing_runs set limit) 0
-
 -- one more than the greatest offset of the set, or 0 where it has none
 pub record IsExtent (set : ℕ → Bool) (extent : ℕ) : Type 0 where
   pub above : (offset : ℕ) → extent ≤ offset → set offset ≡ false
@@ -120,15 +116,6 @@ runs_without_middle = refl
 -- a range between two runs that touches neither is free, and one that shares an offset with a run is not
 free_between : IsTrue (not (two_runs 4)) × IsTrue (not (two_runs 7)) × IsTrue (two_runs 8)
 free_between = (refl, refl, refl)
-
--- the lowest run that is missing, and none where nothing is
-first_missing_between : first_missing two_runs 13 ≡ Some (record { start = 4; end = 8 })
-unfolding runs_of runs_from
-first_missing_between = refl
-
-first_missing_none : first_missing two_runs 4 ≡ None
-unfolding runs_of runs_from
-first_missing_none = refl
 
 -- the first run that is missing, once a range is added to two parts
 missing_first_with : take 1 (missing_runs (with_range two_parts 2 3) 8) ≡ record { start = 3; end = 4 } ∷ []

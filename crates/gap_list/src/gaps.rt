@@ -28,7 +28,7 @@ impl Model for Gaps {
 impl Gaps {
     ghost use Rattle.std.specs.Prelude.{◌≡◌, ◌↔◌, ℕ, ◌+◌, ◌<◌, ◌≤◌, false, take, Ok, None, IfOk, IfSome, OnOk, OnErr, IsTrue};
     ghost use Rattle.gap_list.specs.Covered.{covered, HasRoomWith};
-    ghost use Rattle.gap_list.specs.Runs.{SameSet, IsFree, with_range, without_range, new_runs, missing_runs, first_run, first_missing, IsExtent};
+    ghost use Rattle.gap_list.specs.Runs.{SameSet, IsFree, with_range, without_range, new_runs, missing_runs, first_run, IsExtent};
 
     /// Covers nothing.
     pub fn new(alloc: Global) -> Gaps
@@ -182,13 +182,6 @@ impl Gaps {
         Ok(missing)
     }
 
-    /// The lowest of the maximal runs below the limit that aren't covered.
-    pub fn first_missing(&self, limit: u32) -> Option<Run>
-        ensures { result ≡ first_missing (covered self.now) limit }
-    {
-        search::first_gap(self.runs.as_slice(), limit)
-    }
-
     /// The lowest of the maximal runs below the limit of what is covered from an offset on.
     pub fn first_from(&self, offset: u32, limit: u32) -> Option<Run>
         ensures { result ≡ first_run (without_range (covered self.now) 0 offset) limit }
@@ -226,6 +219,3 @@ impl Gaps {
         search::greatest_end(self.runs.as_slice())
     }
 }
-
-#[cfg(test)]
-mod tests;

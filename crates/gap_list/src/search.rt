@@ -1,6 +1,6 @@
 //! Where an offset stands among rising runs, found by halves.
 ghost use Rattle.std.specs.Prelude.{◌≡◌, ◌↔◌, ℕ, ◌<◌, ◌≤◌, true, false, IsTrue, nat_le, nat_lt, length, take, drop, All};
-ghost use Rattle.gap_list.specs.Runs.{in_runs, with_range, without_range, first_run, first_missing, IsFree, IsExtent, IsRisingFrom};
+ghost use Rattle.gap_list.specs.Runs.{in_runs, with_range, without_range, first_run, IsFree, IsExtent, IsRisingFrom};
 ghost use Rattle.gap_list.specs.Places.{end_or, start_or, begins_from, last_end};
 
 use crate::run::Run;
@@ -96,22 +96,6 @@ pub fn end_with(runs: &[Run], start: u32, end: u32) -> u32
         end_from(runs, end.max(reached))
     } else {
         reached
-    }
-}
-
-// The lowest maximal run below the limit that no run has.
-pub fn first_gap(runs: &[Run], limit: u32) -> Option<Run>
-    requires { IsRisingFrom 0 runs.now }
-    ensures { result ≡ first_missing (in_runs runs.now) limit }
-{
-    let start = end_from(runs, 0);
-    if start < limit {
-        Some(Run {
-            start,
-            end: gap_end(runs, start, limit),
-        })
-    } else {
-        None
     }
 }
 
