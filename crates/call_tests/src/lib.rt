@@ -1,9 +1,11 @@
-//! The public calls of the crates that hold types, numbers, PDUs, timers and stores: each as its callers
-//! see it.
+//! The public calls of the crates that hold types, numbers, sets, PDUs, timers, configurations and stores: each
+//! as its callers see it.
 #![tactic(auto)]
 
 #[cfg(test)]
 mod codec;
+#[cfg(test)]
+mod configs;
 #[cfg(test)]
 mod events;
 #[cfg(test)]

@@ -2,9 +2,9 @@
 use Rattle.std.proofs.Common.{◌≡◌, Bool, IsTrue, ◌&&◌, List, [], ◌∷◌, length, map, refl, ap, sym, subst}
 use Rattle.std.specs.List.{list_all}
 use Rattle.cfdp_types.specs.Params.{ParamsValue}
-use Rattle.entity_config.specs.declared.entity.EntitySettings.{EntitySettings}
+use Rattle.config_reading.specs.declared.entity.EntitySettings.{EntitySettings}
 use Rattle.entity_config.specs.Settings.{with_all_params, with_params}
-use Rattle.entity_config.specs.Values.{ConfigValue, PeerValue, are_of, are_routes, are_users, is_config, is_entity, route_of}
+use Rattle.config_reading.specs.Values.{ConfigValue, PeerValue, are_of, are_routes, are_users, is_config, is_entity, route_of}
 
 same_routes : (change : ParamsValue → ParamsValue) (peers : List PeerValue) → map route_of (map (with_params change) peers) ≡ map route_of peers
 same_routes change [] = refl

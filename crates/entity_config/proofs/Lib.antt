@@ -1,12 +1,2 @@
 pub mod Lists
 pub mod Kept
-pub mod Cancelling
-pub mod Tables
-pub mod Numbers
-pub mod Distinct
-pub mod ReadLimits
-pub mod RemoteLimits
-pub mod WalkRows
-pub mod RemoteRows
-pub mod Rows
-pub mod TextRows

@@ -1,9 +1,8 @@
 -- Lists that are seen through a function: what is found in them, and how they change one by one.
-use Rattle.std.proofs.Common.{◌≡◌, ℕ, suc, zero, ◌+◌, ◌<◌, Bool, true, false, cond, not, nat_lt, List, [], ◌∷◌, map, length, find, position, Option, Some, None, option_map, option_copied, Bor, get_or, set, take, drop, refl, ap, subst, ◌∙◌, arith}
-use Rattle.std.specs.List.{position_or_len}
-use Rattle.entity_config.specs.declared.remote.Peer.{Peer}
-use Rattle.entity_config.specs.Shown.{peer_shown}
-use Rattle.entity_config.specs.Values.{has_id}
+use Rattle.std.proofs.Common.{◌≡◌, ℕ, suc, zero, ◌<◌, Bool, true, false, cond, List, [], ◌∷◌, map, length, find, Option, Some, None, option_map, option_copied, Bor, get_or, set, take, drop, refl, ap, subst, ◌∙◌, arith}
+use Rattle.config_reading.specs.declared.remote.Peer.{Peer}
+use Rattle.config_reading.specs.Shown.{peer_shown}
+use Rattle.config_reading.specs.Values.{has_id}
 use Rattle.cfdp_types.specs.declared.key.EntityId.{EntityId}
 
 one_found : {A B : Type 0} (f : A → B) (x : A) (b : Bool) (more : Option A) → cond b (Some (f x)) (option_map f more) ≡ option_map f (cond b (Some x) more)
@@ -13,17 +12,6 @@ one_found f x false more = refl
 pub find-map : {A B : Type 0} (f : A → B) (test : B → Bool) (xs : List A) → find test (map f xs) ≡ option_map f (find (λ x. test (f x)) xs)
 find-map f test [] = refl
 find-map f test (x ∷ xs) = ap (λ more. cond (test (f x)) (Some (f x)) more) (find-map f test xs) ∙ one_found f x (test (f x)) (find (λ y. test (f y)) xs)
-
-position_or_len-map : {A B : Type 0} (f : A → B) (test : B → Bool) (xs : List A) → position_or_len test (map f xs) ≡ position_or_len (λ x. test (f x)) xs
-position_or_len-map f test [] = refl
-position_or_len-map f test (x ∷ xs) = ap (λ n. cond (not (test (f x))) (1 + n) 0) (position_or_len-map f test xs)
-
-length-seen : {A B : Type 0} (f : A → B) (xs : List A) → length (map f xs) ≡ length xs
-length-seen f [] = refl
-length-seen f (x ∷ xs) = ap suc (length-seen f xs)
-
-pub position-map : {A B : Type 0} (f : A → B) (test : B → Bool) (xs : List A) → position test (map f xs) ≡ position (λ x. test (f x)) xs
-position-map f test xs = (λ i. cond (nat_lt (position_or_len-map f test xs i) (length-seen f xs i)) (Some (position_or_len-map f test xs i)) None)
 
 -- the remote entity with an ID, as a contract sees it
 pub peer_found : (id : EntityId) (peers : List Peer) → find (has_id id) (map peer_shown peers) ≡ option_map peer_shown (find (λ peer. has_id id (peer_shown peer)) peers)

@@ -1,7 +1,7 @@
 -- The configuration that worked examples and scripts run with.
 use Rattle.std.specs.Prelude.{[], ◌∷◌, Some, codes}
 use Rattle.cfdp_types.specs.Reference.{reference}
-use Rattle.entity_config.specs.Values.{ConfigValue}
+use Rattle.config_reading.specs.Values.{ConfigValue}
 
 -- entity 2, for alice and bob, and entity 1, whose files go to alice
 abbrev pub reference_config : ConfigValue

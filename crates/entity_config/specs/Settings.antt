@@ -7,17 +7,18 @@ use Rattle.cfdp_types.specs.declared.names.Role.TheVariants.{Send, RecvOne, Recv
 use Rattle.cfdp_types.specs.declared.params.FaultTables.{FaultTables}
 use Rattle.cfdp_types.specs.Handlers.{is_allowed, with_handler}
 use Rattle.cfdp_types.specs.Params.{ParamsValue}
-use Rattle.entity_config.specs.declared.fault.ConfigFault.{ConfigFault}
-use Rattle.entity_config.specs.declared.fault.ConfigFault.TheVariants as fault
-use Rattle.entity_config.specs.declared.fault.Key.{Key}
-use Rattle.entity_config.specs.declared.fault.Key.TheVariants as key
+use Rattle.config_reading.specs.declared.fault.ConfigFault.{ConfigFault}
+use Rattle.config_reading.specs.declared.fault.ConfigFault.TheVariants as fault
+use Rattle.config_reading.specs.declared.fault.Key.{Key}
+use Rattle.config_reading.specs.declared.fault.Key.TheVariants as key
 use Rattle.cfdp_types.specs.declared.params.ExpirationLimits.{ExpirationLimits}
 use Rattle.entity_config.specs.declared.change.Limited.{Limited}
 use Rattle.entity_config.specs.declared.change.Limited.TheVariants.{Ack, Nak, Check}
 use Rattle.entity_config.specs.declared.setting.Setting.{Setting}
 use Rattle.entity_config.specs.declared.setting.Setting.TheVariants as setting
-use Rattle.entity_config.specs.Texts.{is_within}
-use Rattle.entity_config.specs.Values.{ConfigValue, PeerValue}
+use Rattle.config_reading.specs.Faults.{table_key}
+use Rattle.config_reading.specs.Texts.{is_within}
+use Rattle.config_reading.specs.Values.{ConfigValue, PeerValue}
 
 -- the same remote entity with other parameters
 abbrev pub with_params : (ParamsValue → ParamsValue) → PeerValue → PeerValue
@@ -54,12 +55,6 @@ if_within k least most n config = if is_within least most n then Ok config else 
 -- the same for a limit, in every remote
 abbrev pub limit_set : Limited → Key → ℕ → ConfigValue → Result ConfigValue ConfigFault
 limit_set limited k n config = if_within k 1 EXPIRATIONS n (with_all_params (with_limit limited n) config)
-
--- the key of a role's table
-abbrev pub table_key : Role → Key
-table_key Send = key.Send
-table_key RecvOne = key.ReceiveOne
-table_key RecvTwo = key.ReceiveTwo
 
 -- the configuration with the setting, or why it is refused
 abbrev pub with_setting : Setting → ConfigValue → Result ConfigValue ConfigFault

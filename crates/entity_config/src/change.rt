@@ -3,10 +3,10 @@ ghost use Rattle.std.specs.Prelude.{◌≡◌, ◌≤◌, map, IsTrue};
 ghost use Rattle.cfdp_types.specs.Handlers.{is_allowed};
 ghost use Rattle.cfdp_types.specs.Params.{AreExpirationLimits, AreFaultTables};
 ghost use Rattle.entity_config.specs.Settings.{limit_changed, tables_changed, with_limit, with_params, with_role_handler};
-ghost use Rattle.entity_config.specs.Shown.{peer_shown};
+ghost use Rattle.config_reading.specs.Shown.{peer_shown};
 
-use crate::remote::Peer;
 use cfdp_types::{Condition, ExpirationLimits, FaultTables, Handler, Params, Role};
+use config_reading::Peer;
 
 /// The timers whose expirations are counted.
 #[derive(Clone, Copy, Debug, PartialEq, Eq)]

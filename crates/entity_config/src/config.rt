@@ -1,14 +1,11 @@
-ghost use Rattle.std.specs.Prelude.{◌≡◌, ◌==◌, find, option_copied, position, string_bytes};
-ghost use Rattle.entity_config.specs.Texts.{is_same_text};
+ghost use Rattle.std.specs.Prelude.{◌≡◌, ◌==◌, find, option_copied};
 
 use crate::change::{Limited, change_handler, change_limit};
-use crate::entity::EntitySettings;
-use crate::fault::{ConfigFault, Key};
 use crate::reference::reference_params;
-use crate::remote::{Peer, Remote};
-use crate::setting::{Setting, key_of_table};
+use crate::setting::Setting;
 use cfdp_types::limits::{CONFIGURED_NUMBER, EXPIRATIONS, QUEUE_BUNDLES};
 use cfdp_types::{Condition, EntityId, Handler, HeaderLengths, Role};
+use config_reading::{ConfigFault, ConfigParts, EntitySettings, Key, Peer, Remote, place_of};
 use std::alloc::{AllocError, Global};
 use std::marker::Model;
 
@@ -35,11 +32,11 @@ pub struct Config {
 
 impl Model for Config {
     ghost use Rattle.std.specs.Prelude.{IsTrue, map, string_bytes};
-    ghost use Rattle.entity_config.specs.Values.{ConfigValue, is_config};
+    ghost use Rattle.config_reading.specs.Values.{ConfigValue, is_config};
 
     ghost Value = { ConfigValue };
 
-    ghost use Rattle.entity_config.specs.Shown.{shown};
+    ghost use Rattle.config_reading.specs.Shown.{shown};
 
     ghost view = { λ c. shown c.entity c.users c.peers };
 
@@ -49,12 +46,12 @@ impl Model for Config {
 impl Config {
     ghost use Rattle.entity_config.specs.Reference.{reference_config};
     ghost use Rattle.std.specs.Prelude.{◌≡◌, IfOk, IsTrue, length, position, slice_get, find, option_map, option_copied};
-    ghost use Rattle.entity_config.specs.Texts.{is_same_text};
+    ghost use Rattle.config_reading.specs.Texts.{is_same_text};
     ghost use Rattle.std.specs.Prelude.{OnOk, OnErr, IfErr};
     ghost use Rattle.entity_config.specs.declared.setting.Setting.TheVariants as setting;
     ghost use Rattle.entity_config.specs.Settings.{limit_set, with_setting};
-    ghost use Rattle.entity_config.specs.Shown.{peer_shown, shown};
-    ghost use Rattle.entity_config.specs.Values.{is_config, is_entity, has_id};
+    ghost use Rattle.config_reading.specs.Shown.{parts_shown, peer_shown};
+    ghost use Rattle.config_reading.specs.Values.{is_config, is_entity, has_id};
 
     /// The configuration that worked examples and scripts run with: entity 2 with the users alice and bob,
     /// and entity 1, whose files go to alice.
@@ -81,14 +78,14 @@ impl Config {
     }
 
     /// The configuration of parts that keep all limits.
-    pub(crate) fn of_parts(entity: EntitySettings, users: Vec<String>, peers: Vec<Peer>) -> Config
-        requires { IsTrue (is_config (shown entity users peers)) }
-        ensures { result ≡ shown entity users peers }
+    pub(crate) fn of_parts(parts: ConfigParts) -> Config
+        requires { IsTrue (is_config (parts_shown parts)) }
+        ensures { result ≡ parts_shown parts }
     {
         Config {
-            entity,
-            users,
-            peers,
+            entity: parts.entity,
+            users: parts.users,
+            peers: parts.peers,
         }
     }
 
@@ -230,18 +227,11 @@ impl Config {
         ensures err { OnErr result (self.new ≡ self.old) }
     {
         if !role.allows(condition, handler) {
-            return Err(ConfigFault::HandlerNotAllowed(key_of_table(role)));
+            return Err(ConfigFault::HandlerNotAllowed(Key::of_table(role)));
         }
         change_handler(&mut self.peers, role, condition, handler);
         Ok(())
     }
-}
-
-/// The place of a name among some.
-pub(crate) fn place_of(names: &[String], name: &str) -> Option<usize>
-    ensures { result ≡ position (λ other. is_same_text name.now (string_bytes other)) names.now }
-{
-    names.iter().position(|other| name == other.as_str())
 }
 
 // The first of some remote entities with an ID.

@@ -1,17 +1,11 @@
 //! The configuration that worked examples and scripts run with.
 ghost use Rattle.std.specs.Prelude.{◌≡◌};
-ghost use Rattle.cfdp_types.specs.Reference.{all_cancel, reference};
+ghost use Rattle.cfdp_types.specs.Reference.{reference};
 
 use cfdp_types::{
-    EntityId, ExpirationLimits, FaultTable, FaultTables, HeaderLengths, Params, Role, TimerLengths,
+    EntityId, ExpirationLimits, FaultTables, HeaderLengths, Params, Role, TimerLengths,
 };
-
-/// The fault table of a role in which every fault cancels.
-pub(crate) fn cancelling(role: Role) -> FaultTable
-    ensures { result ≡ all_cancel role }
-{
-    FaultTable::new(role, &[]).unwrap()
-}
+use config_reading::cancelling;
 
 /// Timers of a second, two expirations of each, and every fault cancels.
 pub(crate) fn reference_params() -> Params

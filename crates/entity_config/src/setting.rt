@@ -1,7 +1,3 @@
-ghost use Rattle.std.specs.Prelude.{◌≡◌};
-ghost use Rattle.entity_config.specs.Settings.{table_key};
-
-use crate::fault::Key;
 use cfdp_types::{Condition, Handler, Role};
 
 /// A change of a configuration. Limits and handlers change for every remote entity.
@@ -16,15 +12,4 @@ pub enum Setting {
     NakLimit(u64),
     CheckLimit(u64),
     Handler(Role, Condition, Handler),
-}
-
-/// The key of a role's table.
-pub(crate) fn key_of_table(role: Role) -> Key
-    ensures { result ≡ table_key role }
-{
-    match role {
-        Role::Send => Key::Send,
-        Role::RecvOne => Key::ReceiveOne,
-        Role::RecvTwo => Key::ReceiveTwo,
-    }
 }

@@ -1,6 +1,6 @@
 use Rattle.std.proofs.Common.{add-one, arith, rules}
 use Rattle.entity_config.specs.Settings.{with_limit, with_params}
-use Rattle.entity_config.specs.Shown.{peer_shown}
+use Rattle.config_reading.specs.Shown.{peer_shown}
 use Rattle.entity_config.proofs.Lists.{changed_step}
 use Rattle.entity_config.proofs.change.change_limit.Goals as goal
 

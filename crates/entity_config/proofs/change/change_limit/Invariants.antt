@@ -1,5 +1,5 @@
 use Rattle.entity_config.specs.Settings.{with_limit, with_params}
-use Rattle.entity_config.specs.Shown.{peer_shown}
+use Rattle.config_reading.specs.Shown.{peer_shown}
 use Rattle.entity_config.proofs.Lists.{AreChanged}
 use Rattle.entity_config.proofs.change.change_limit.Given as goal
 

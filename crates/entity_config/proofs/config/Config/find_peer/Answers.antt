@@ -1,5 +1,5 @@
 use Rattle.std.proofs.Common.{ap, option_map, sym, ◌∙◌}
-use Rattle.entity_config.specs.Shown.{peer_shown}
+use Rattle.config_reading.specs.Shown.{peer_shown}
 use Rattle.entity_config.proofs.Lists.{peer_found, shown_of_found}
 use Rattle.entity_config.proofs.config.Config.find_peer.Goals as goal
 

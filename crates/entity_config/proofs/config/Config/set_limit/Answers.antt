@@ -1,7 +1,7 @@
 use Rattle.std.proofs.Common.{IsTrue, List, map, refl, string_bytes, subst, sym}
 use Rattle.entity_config.specs.Settings.{with_limit}
-use Rattle.entity_config.specs.Shown.{shown}
-use Rattle.entity_config.specs.Values.{PeerValue, is_config}
+use Rattle.config_reading.specs.Shown.{shown}
+use Rattle.config_reading.specs.Values.{PeerValue, is_config}
 use Rattle.entity_config.proofs.Kept.{config_kept}
 use Rattle.entity_config.proofs.config.Config.set_limit.Goals as goal
 

@@ -1,6 +1,6 @@
 use Rattle.std.proofs.Common.{string_bytes, sym, ◌∙◌}
-use Rattle.entity_config.specs.Texts.{is_same_text}
-use Rattle.entity_config.proofs.Lists.{position-map}
+use Rattle.config_reading.specs.Texts.{is_same_text}
+use Rattle.config_reading.proofs.Lists.{position-map}
 use Rattle.entity_config.proofs.config.Config.user_of.Goals as goal
 
 pub returns : goal.returns

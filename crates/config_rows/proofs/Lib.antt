@@ -1,0 +1,4 @@
+pub mod WalkRows
+pub mod RemoteRows
+pub mod Rows
+pub mod TextRows

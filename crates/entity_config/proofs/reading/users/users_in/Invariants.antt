@@ -1,9 +1,0 @@
-use Rattle.std.proofs.Common.{◌≡◌, [], map, string_bytes}
-use Rattle.toml.specs.View.{table_view}
-use Rattle.entity_config.specs.Walk.{users_in}
-use Rattle.entity_config.proofs.Tables.{left}
-use Rattle.entity_config.proofs.reading.users.users_in.Given as goal
-
-abbrev pub invariant-loop-table : goal.invariant-loop-table
-invariant-loop-table l =
-    users_in [] (map (λ table. table_view table.now) l.tables) ≡ users_in (map string_bytes l.users.items) (left (λ table. table_view table.now) l.tables l.table-index)
