@@ -1,5 +1,6 @@
-use pdu_codec::{Body, DecodeFault, Header, Pdu, decode, encode, laws};
+use pdu_codec::{DecodeFault, Header, Pdu, decode, encode, laws};
 use std::alloc::{AllocError, Global};
+use std::process::Abort;
 use std::test::*;
 
 mod vectors;
@@ -17,35 +18,47 @@ fn header_text(alloc: Global, header: &Header) -> Result<String, AllocError> {
     format!(in alloc; "{:?} {:?} {lengths} {ids}", header.direction, header.class)
 }
 
-fn body_text(alloc: Global, body: &Body) -> Result<String, AllocError> {
-    format!(in alloc; "{body:?}")
+// What a PDU's header and body are.
+fn check_texts<R: AllocGlobal + Abort>(
+    rt: &R,
+    pdu: &Pdu,
+    header: &str,
+    body: &str,
+) -> Result<(), AllocError> {
+    let text = header_text(rt.alloc(), pdu.header())?;
+    assert_eq!(rt; text.as_str(), header);
+    let text = format!(in rt.alloc(); "{:?}", pdu.body())?;
+    assert_eq!(rt; text.as_str(), body);
+    Ok(())
 }
 
-fn written(alloc: Global, pdu: &Pdu) -> Result<Vec<u8>, AllocError> {
-    let mut out = Vec::new(alloc);
+// What is written for a PDU.
+fn check_written<R: AllocGlobal + Abort>(
+    rt: &R,
+    pdu: &Pdu,
+    octets: &[u8],
+) -> Result<(), AllocError> {
+    let mut out = Vec::new(rt.alloc());
     encode(pdu, &mut out)?;
-    Ok(out)
+    assert_eq!(rt; out.as_slice(), octets);
+    Ok(())
 }
 
 #[test]
 fn what_is_written_is_read(rt: HostRuntime) -> Result<(), Fail> {
     laws::round_trip();
-    let alloc = rt.alloc();
     for (octets, header, body) in WRITTEN {
-        let pdu = decode(alloc, octets)?;
-        assert_eq!(rt; header_text(alloc, pdu.header())?.as_str(), *header);
-        assert_eq!(rt; body_text(alloc, pdu.body())?.as_str(), *body);
-        assert_eq!(rt; written(alloc, &pdu)?.as_slice(), *octets);
+        let pdu = decode(rt.alloc(), octets)?;
+        check_texts(&rt, &pdu, header, body)?;
+        check_written(&rt, &pdu, octets)?;
     }
     Ok(())
 }
 
 #[test]
 fn what_has_no_meaning_is_not_written(rt: HostRuntime) -> Result<(), Fail> {
-    let alloc = rt.alloc();
     for (octets, plain) in READ_AS {
-        let pdu = decode(alloc, octets)?;
-        assert_eq!(rt; written(alloc, &pdu)?.as_slice(), *plain);
+        check_written(&rt, &decode(rt.alloc(), octets)?, plain)?;
     }
     Ok(())
 }
@@ -61,28 +74,32 @@ fn faults(rt: HostRuntime) {
     }
 }
 
+// Metadata with closure, and the messages "hi" and "x" behind an option of another type.
+const MESSAGES: &[u8] = b"\x24\x00\x13\x00\x01\x05\x02\x07\x40\x00\x00\x00\x03\x01\x61\x01\x62\
+    \x05\x00\x02\x02\x68\x69\x02\x01\x78";
+
+// What is written for it, behind a front.
+const MESSAGES_BEHIND: &[u8] = b"front\x24\x00\x11\x00\x01\x05\x02\x07\x40\x00\x00\x00\x03\x01\x61\
+    \x01\x62\x02\x02\x68\x69\x02\x01\x78";
+
 // Memory may run out anywhere here, and is there again at the next call: to be run with each
 // allocation refused in turn.
 #[test]
 fn memory(rt: HostRuntime) -> Result<(), Fail> {
-    let alloc = rt.alloc();
-    // Metadata with closure, and the messages "hi" and "x" behind an option of another type
-    let octets = b"\x24\x00\x13\x00\x01\x05\x02\x07\x40\x00\x00\x00\x03\x01\x61\x01\x62\
-        \x05\x00\x02\x02\x68\x69\x02\x01\x78";
-    let plain = b"front\x24\x00\x11\x00\x01\x05\x02\x07\x40\x00\x00\x00\x03\x01\x61\x01\x62\
-        \x02\x02\x68\x69\x02\x01\x78";
-    let pdu = match decode(alloc, octets) {
-        Ok(pdu) => pdu,
-        Err(fault) => {
-            assert_eq!(rt; fault, DecodeFault::NoMemory);
-            decode(alloc, octets).ok().ok_or("there is memory again")?
-        }
+    let pdu = match decode(rt.alloc(), MESSAGES) {
+        Err(DecodeFault::NoMemory) => decode(rt.alloc(), MESSAGES)?,
+        other => other?,
     };
-    let mut out = Vec::from_slice(alloc, b"front")?;
-    if encode(&pdu, &mut out).is_err() {
-        assert_eq!(rt; out.as_slice(), b"front".as_slice());
-        encode(&pdu, &mut out)?;
+    check_appended(&rt, &pdu, MESSAGES_BEHIND)
+}
+
+// What is written for a PDU behind a front.
+fn check_appended<R: AllocGlobal + Abort>(rt: &R, pdu: &Pdu, octets: &[u8]) -> Result<(), Fail> {
+    let mut out = Vec::from_slice(rt.alloc(), b"front")?;
+    if encode(pdu, &mut out).is_err() {
+        assert!(rt; out.as_slice() == b"front".as_slice());
+        encode(pdu, &mut out)?;
     }
-    assert_eq!(rt; out.as_slice(), plain.as_slice());
+    assert_eq!(rt; out.as_slice(), octets);
     Ok(())
 }

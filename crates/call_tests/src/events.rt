@@ -2,12 +2,16 @@ use cfdp_types::limits::FILE_OCTETS;
 use cfdp_types::{Class, Condition, EntityId, TimerKind, TimerLengths, TimerOp, TxnKey};
 use indications::Indication;
 use pdu_values::{Body, Direction, Eof, Header, KeepAlive, Pdu};
-use std::process::Abort;
 use std::test::*;
 use txn_events::{
     CountResets, Event, Pdus, Refusal, Stamps, TimerChange, TimerChanges, TimerContext, TimerOps,
     Tries, What, body_opens, has_fault, has_resumed, is_body_too_large, is_expiration,
     is_of_other_class, is_pdu, is_stale_timer, is_too_large, needs_room, operations, paused_after,
+};
+
+const KEY: TxnKey = TxnKey {
+    source: EntityId(1),
+    seq: 5,
 };
 
 // a Keep Alive of class 2
@@ -27,129 +31,220 @@ fn keep_alive() -> Pdu {
 #[test]
 fn pdus_in_order(rt: HostRuntime) -> Result<(), Fail> {
     let mut pdus = Pdus::new(rt.alloc());
-    assert_eq!(rt; pdus.as_slice().len(), 0);
     pdus.push(keep_alive())?;
     assert_eq!(rt; pdus.as_slice().len(), 1);
     Ok(())
 }
 
+// Whether an event is a PDU, is one of the other class in class 1 and in class 2, and needs room.
+fn asked(event: What) -> [bool; 4] {
+    let other = [
+        is_of_other_class(Class::One, &event),
+        is_of_other_class(Class::Two, &event),
+    ];
+    [is_pdu(&event), other[0], other[1], needs_room(&event)]
+}
+
 #[test]
 fn asked_of_events(rt: HostRuntime) {
-    let event = What::Pdu(keep_alive());
-    assert!(rt; is_pdu(&event) && !is_pdu(&What::Pump));
-    assert!(rt; is_of_other_class(Class::One, &event));
-    assert!(rt; !is_of_other_class(Class::Two, &event));
-    assert!(rt; needs_room(&event) && needs_room(&What::Report));
-    assert!(rt; !needs_room(&What::Abandon) && !needs_room(&What::Stored(3, true)));
+    let answers = [
+        asked(What::Pdu(keep_alive())),
+        asked(What::Report),
+        asked(What::Abandon),
+        asked(What::Stored(3, true)),
+    ];
+    let expected = [
+        [true, true, false, true],
+        [false, false, false, true],
+        [false; 4],
+        [false; 4],
+    ];
+    assert!(rt; answers == expected);
+}
+
+// An EOF of a file that is too large.
+fn large_eof(condition: Condition) -> Body {
+    Body::Eof(Eof {
+        condition,
+        checksum: 0,
+        size: FILE_OCTETS + 1,
+        location: None,
+    })
+}
+
+// Whether a body opens a reception, and is too large.
+fn asked_of(body: Body) -> [bool; 2] {
+    [body_opens(&body), is_body_too_large(&body)]
 }
 
 #[test]
 fn asked_of_bodies(rt: HostRuntime) {
-    let eof = Eof {
-        condition: Condition::NO_ERROR,
-        checksum: 0,
-        size: FILE_OCTETS + 1,
-        location: None,
-    };
-    let cancelled = Eof {
-        condition: Condition::CANCEL_REQUEST,
-        ..eof
-    };
-    assert!(rt; body_opens(&Body::Eof(eof)) && is_body_too_large(&Body::Eof(eof)));
-    assert!(rt; body_opens(&Body::Eof(cancelled)) && !is_body_too_large(&Body::Eof(cancelled)));
-    let event = What::Pdu(keep_alive());
-    assert!(rt; !is_too_large(&event) && !body_opens(keep_alive().body()));
+    let answers = [
+        asked_of(large_eof(Condition::NO_ERROR)),
+        asked_of(large_eof(Condition::CANCEL_REQUEST)),
+        asked_of(Body::KeepAlive(KeepAlive { progress: 3 })),
+    ];
+    assert!(rt; answers == [[true, true], [true, false], [false, false]]);
+}
+
+#[test]
+fn a_size_that_fits(rt: HostRuntime) {
+    assert!(rt; !is_too_large(&What::Pdu(keep_alive())));
 }
 
 #[test]
 fn refusals(rt: HostRuntime) {
-    assert_eq!(rt; Refusal::QueueFull.number(), 13);
-    assert_eq!(rt; Refusal::StaleStored.name(), "StaleStored");
+    let shown = (Refusal::QueueFull.number(), Refusal::StaleStored.name());
+    assert_eq!(rt; shown, (13, "StaleStored"));
 }
 
 #[test]
 fn copies(rt: HostRuntime) -> Result<(), Fail> {
-    let key = TxnKey {
-        source: EntityId(1),
-        seq: 5,
-    };
-    let event = Event::On(key, What::Stored(3, true));
-    answers_a_deposit(&rt, &event);
-    answers_a_deposit(&rt, &event.copy()?);
+    let copy = Event::On(KEY, What::Stored(3, true)).copy()?;
+    assert!(rt; answered(&copy) == Some((5, 3, true)));
     Ok(())
 }
 
-fn answers_a_deposit<R: Abort>(rt: &R, event: &Event) {
+// Of which transaction a deposit is answered, with which stamp, and whether it is kept.
+fn answered(event: &Event) -> Option<(u64, u32, bool)> {
     match event {
-        Event::On(key, What::Stored(stamp, is_kept)) => {
-            assert_eq!(rt; (key.seq, *stamp, *is_kept), (5, 3, true));
-        }
-        _ => assert!(rt; false),
+        Event::On(key, What::Stored(stamp, is_kept)) => Some((key.seq, *stamp, *is_kept)),
+        _ => None,
     }
 }
 
-#[test]
-fn asked_of_timers(rt: HostRuntime) {
+// Whether the expiration of a timer is that of the NAK timer, and is stale where that runs since stamp 4.
+fn asked_of_timer(kind: TimerKind, stamp: u32) -> [bool; 2] {
     let armed = Stamps {
         nak: Some(4),
         ..Stamps::NONE
     };
-    assert_eq!(rt; armed.of(TimerKind::Nak), Some(4));
-    assert_eq!(rt; armed.of(TimerKind::Ack), None);
-    let event = What::Timer(TimerKind::Nak, 4);
-    assert!(rt; is_expiration(TimerKind::Nak, &event));
-    assert!(rt; !is_expiration(TimerKind::Check, &event));
-    assert!(rt; !is_stale_timer(&armed, &event));
-    assert!(rt; is_stale_timer(&armed, &What::Timer(TimerKind::Nak, 3)));
-    assert!(rt; is_stale_timer(&armed, &What::Timer(TimerKind::Ack, 4)));
+    let event = What::Timer(kind, stamp);
+    [
+        is_expiration(TimerKind::Nak, &event),
+        is_stale_timer(&armed, &event),
+    ]
+}
+
+#[test]
+fn asked_of_timers(rt: HostRuntime) {
+    let answers = [
+        asked_of_timer(TimerKind::Nak, 4),
+        asked_of_timer(TimerKind::Nak, 3),
+        asked_of_timer(TimerKind::Ack, 4),
+    ];
+    assert!(rt; answers == [[true, false], [true, true], [false, true]]);
+}
+
+#[test]
+fn stamps_of_timers(rt: HostRuntime) {
+    let armed = Stamps {
+        nak: Some(4),
+        ..Stamps::NONE
+    };
+    assert!(rt; armed.of(TimerKind::Nak) == Some(4) && armed.of(TimerKind::Ack).is_none());
+}
+
+// Whether what is told suspends a transaction that was not suspended, or was, and tells of a fault or of
+// a resumption.
+fn asked_of_telling(told: Indication) -> [bool; 4] {
+    let told = [told];
+    let paused = [paused_after(false, &told), paused_after(true, &told)];
+    [paused[0], paused[1], has_fault(&told), has_resumed(&told)]
 }
 
 #[test]
 fn asked_of_indications(rt: HostRuntime) {
-    let suspended = Indication::Suspended {
-        condition: Condition::SUSPEND_REQUEST,
-    };
-    let resumed = Indication::Resumed { progress: 3 };
-    let fault = Indication::Fault {
-        condition: Condition::NAK_LIMIT,
-        progress: 3,
-    };
-    let told = [suspended, fault];
-    assert!(rt; paused_after(false, &told) && has_fault(&told) && !has_resumed(&told));
-    let told = [resumed];
-    assert!(rt; !paused_after(true, &told) && !has_fault(&told) && has_resumed(&told));
+    let answers = [
+        asked_of_telling(Indication::Suspended {
+            condition: Condition::SUSPEND_REQUEST,
+        }),
+        asked_of_telling(Indication::Fault {
+            condition: Condition::NAK_LIMIT,
+            progress: 3,
+        }),
+        asked_of_telling(Indication::Resumed { progress: 3 }),
+    ];
+    let expected = [
+        [true, true, false, false],
+        [false, true, true, false],
+        [false, false, false, true],
+    ];
+    assert!(rt; answers == expected);
 }
+
+const ONCE: Tries = Tries {
+    nak: 1,
+    ..Tries::NONE
+};
+
+const NO_RESETS: CountResets = CountResets {
+    ack: false,
+    nak: false,
+};
 
 #[test]
 fn counts(rt: HostRuntime) {
-    let never = CountResets {
-        ack: false,
-        nak: false,
-    };
-    let event = What::Timer(TimerKind::Nak, 4);
-    let once = Tries::NONE.after(&event, &[], never);
-    assert_eq!(rt;
-        once,
-        Tries {
-            nak: 1,
-            ..Tries::NONE
-        }
-    );
-    let resumed = Indication::Resumed { progress: 3 };
-    assert_eq!(rt; once.after(&What::Resume, &[resumed], never), Tries::NONE);
-    let resets = CountResets { nak: true, ..never };
-    assert_eq!(rt; once.after(&What::Report, &[], resets), Tries::NONE);
+    let expired = What::Timer(TimerKind::Nak, 4);
+    assert!(rt; Tries::NONE.after(&expired, &[], NO_RESETS) == ONCE);
 }
 
+#[test]
+fn counts_begin_again(rt: HostRuntime) {
+    let resets = CountResets {
+        nak: true,
+        ..NO_RESETS
+    };
+    assert!(rt; ONCE.after(&What::Report, &[], resets) == Tries::NONE);
+}
+
+#[test]
+fn counts_after_a_resumption(rt: HostRuntime) {
+    let resumed = [Indication::Resumed { progress: 3 }];
+    assert!(rt; ONCE.after(&What::Resume, &resumed, NO_RESETS) == Tries::NONE);
+}
+
+const ARM: TimerOp = TimerOp::Arm {
+    key: KEY,
+    kind: TimerKind::Ack,
+    stamp: 7,
+    ms: 1000,
+};
+
+const DISARM: TimerOp = TimerOp::Disarm {
+    key: KEY,
+    kind: TimerKind::Nak,
+    stamp: 7,
+};
+
+const BEFORE: Stamps = Stamps {
+    nak: Some(2),
+    check: Some(3),
+    ..Stamps::NONE
+};
+
 // Ack is armed, Nak stops, Check runs on and Inactivity did not run.
+const CHANGES: TimerChanges = TimerChanges {
+    ack: TimerChange::Arms,
+    nak: TimerChange::Stops,
+    check: TimerChange::Keeps,
+    inactivity: TimerChange::Stops,
+};
+
+#[test]
+fn stamps_after_a_step(rt: HostRuntime) {
+    let after = Stamps {
+        ack: Some(7),
+        nak: None,
+        ..BEFORE
+    };
+    assert!(rt; BEFORE.after(CHANGES, 7) == after);
+}
+
 #[test]
 fn timers_of_a_step(rt: HostRuntime) -> Result<(), Fail> {
-    let key = TxnKey {
-        source: EntityId(1),
-        seq: 5,
-    };
     let context = TimerContext {
-        key,
+        key: KEY,
         lengths: TimerLengths {
             ack: 1000,
             nak: 2000,
@@ -158,40 +253,16 @@ fn timers_of_a_step(rt: HostRuntime) -> Result<(), Fail> {
         },
         stamp: 7,
     };
-    let before = Stamps {
-        nak: Some(2),
-        check: Some(3),
-        ..Stamps::NONE
-    };
-    let changes = TimerChanges {
-        ack: TimerChange::Arms,
-        nak: TimerChange::Stops,
-        check: TimerChange::Keeps,
-        inactivity: TimerChange::Stops,
-    };
-    let arm = TimerOp::Arm {
-        key,
-        kind: TimerKind::Ack,
-        stamp: 7,
-        ms: 1000,
-    };
-    let disarm = TimerOp::Disarm {
-        key,
-        kind: TimerKind::Nak,
-        stamp: 7,
-    };
-    let ops = operations(rt.alloc(), &context, changes, &before)?;
-    assert_eq!(rt; ops.as_slice(), [arm, disarm].as_slice());
-    let after = Stamps {
-        ack: Some(7),
-        nak: None,
-        ..before
-    };
-    assert_eq!(rt; before.after(changes, 7), after);
+    let ops = operations(rt.alloc(), &context, CHANGES, &BEFORE)?;
+    assert!(rt; ops.as_slice() == [ARM, DISARM].as_slice());
+    Ok(())
+}
 
+#[test]
+fn operations_in_order(rt: HostRuntime) -> Result<(), Fail> {
     let mut ops = TimerOps::new(rt.alloc());
-    ops.push(disarm)?;
-    ops.push(arm)?;
-    assert_eq!(rt; ops.as_slice(), [disarm, arm].as_slice());
+    ops.push(DISARM)?;
+    ops.push(ARM)?;
+    assert!(rt; ops.as_slice() == [DISARM, ARM].as_slice());
     Ok(())
 }

@@ -3,33 +3,37 @@ use std::test::*;
 
 #[test]
 fn numbers(rt: HostRuntime) {
-    assert_eq!(rt; DecodeFault::TooShort.number(), 1);
-    assert_eq!(rt; DecodeFault::NoMemory.number(), 9);
+    let numbers = [
+        DecodeFault::TooShort.number(),
+        DecodeFault::NoMemory.number(),
+    ];
+    assert_eq!(rt; numbers, [1, 9]);
 }
 
-#[test]
-fn fixed_headers(rt: HostRuntime) {
-    // directive, toward the sender, class 2; IDs of 2 octets, sequence numbers of 4
-    let directive = FixedHeader {
-        first: 0x28,
+// Whether a header is of File Data, and says of segment metadata; octets of an ID and of a sequence number.
+fn shown(first: u8, lengths: u8) -> (bool, bool, u8, u8) {
+    let header = FixedHeader {
+        first,
         size: 5,
-        lengths: 0x13,
+        lengths,
         source: 1,
         sequence: 5,
         destination: 2,
     };
-    assert!(rt; !directive.is_file_data());
-    assert!(rt; !directive.has_segment_metadata());
-    assert_eq!(rt; directive.entity_octets(), 2);
-    assert_eq!(rt; directive.sequence_octets(), 4);
-    // File Data with segment metadata; both lengths are 8
-    let data = FixedHeader {
-        first: 0x34,
-        lengths: 0xFF,
-        ..directive
-    };
-    assert!(rt; data.is_file_data());
-    assert!(rt; data.has_segment_metadata());
-    assert_eq!(rt; data.entity_octets(), 8);
-    assert_eq!(rt; data.sequence_octets(), 8);
+    let is_file_data = header.is_file_data();
+    let has_metadata = header.has_segment_metadata();
+    (
+        is_file_data,
+        has_metadata,
+        header.entity_octets(),
+        header.sequence_octets(),
+    )
+}
+
+#[test]
+fn fixed_headers(rt: HostRuntime) {
+    // a directive toward the sender, in class 2
+    assert!(rt; shown(0x28, 0x13) == (false, false, 2, 4));
+    // File Data with segment metadata
+    assert!(rt; shown(0x34, 0xFF) == (true, true, 8, 8));
 }

@@ -1,5 +1,5 @@
-//! The public calls of the crates that hold types, numbers, sets, PDUs, timers, configurations and stores: each
-//! as its callers see it.
+//! The public calls of the crates that hold types, numbers, sets, PDUs, words, timers, configurations and stores:
+//! each as its callers see it.
 #![tactic(auto)]
 
 #[cfg(test)]
@@ -24,3 +24,5 @@ mod telling;
 mod timers;
 #[cfg(test)]
 mod types;
+#[cfg(test)]
+mod words;

@@ -1,27 +1,35 @@
-use entity_workers::{Filestore, FolderStore, MemoryStore, StoreFault};
+use entity_workers::{Filestore, FolderStore, MemoryStore, StoreFault, StoredFile};
 use std::fs;
 use std::process::Abort;
 use std::rt::Files;
 use std::test::*;
 
 #[test]
-fn files_in_memory(rt: HostRuntime) -> Result<(), Fail> {
+fn files_in_memory(rt: HostRuntime) {
     let mut store = MemoryStore::new(rt.alloc());
-    assert_eq!(rt; store.deposit(b"b", b"abc"), Ok(()));
-    assert_eq!(rt; store.deposit(b"..", b""), Ok(()));
-    assert_eq!(rt; store.files().len(), 2);
-    let names = [b"b".as_slice(), b"..".as_slice()];
-    let octets = [b"abc".as_slice(), b"".as_slice()];
-    for (index, file) in store.files().iter().enumerate() {
-        assert_eq!(rt; Some(&file.name.as_slice()), names.get(index));
-        assert_eq!(rt; Some(&file.octets.as_slice()), octets.get(index));
+    assert!(rt; store.deposit(b"b", b"abc").is_ok());
+    assert!(rt; store.deposit(b"..", b"").is_ok());
+    assert!(rt; are_kept(store.files()));
+    assert!(rt; (store.calls(), store.failures()) == (2, 0));
+}
+
+fn are_kept(files: &[StoredFile]) -> bool {
+    match files {
+        [first, second] => is_file(first, b"b", b"abc") && is_file(second, b"..", b""),
+        _ => false,
     }
-    assert_eq!(rt; (store.calls(), store.failures()), (2, 0));
+}
+
+fn is_file(file: &StoredFile, name: &[u8], octets: &[u8]) -> bool {
+    file.name.as_slice() == name && file.octets.as_slice() == octets
+}
+
+#[test]
+fn numbers(rt: HostRuntime) {
     assert_eq!(rt;
-        (StoreFault::BadName.number(), StoreFault::Failed.number()),
-        (1, 2)
+        [StoreFault::BadName.number(), StoreFault::Failed.number()],
+        [1, 2]
     );
-    Ok(())
 }
 
 // An empty folder of a test's own.
@@ -30,11 +38,6 @@ fn new_folder<R: Files + AllocGlobal>(rt: &R, name: &str) -> Result<String, Fail
     let _ = fs::remove_dir_all(rt, folder.as_str());
     fs::create_dir(rt, folder.as_str())?;
     Ok(folder)
-}
-
-// What a folder's file holds.
-fn octets_of<R: Files + AllocGlobal>(rt: &R, folder: &str, name: &str) -> Result<Vec<u8>, Fail> {
-    Ok(fs::read(rt, format!(in rt.alloc(); "{folder}/{name}")?.as_str())?)
 }
 
 // How many files a folder has.
@@ -47,38 +50,46 @@ fn files_of<R: Files + AllocGlobal + Clone + Drop>(rt: &R, folder: &str) -> Resu
     Ok(count)
 }
 
-// A folder's file holds these octets.
-fn holds<R: Files + AllocGlobal + Abort>(
+// Gives a store a file, and reads it in the store's folder.
+fn keeps<R: Files + AllocGlobal + Abort, S: Files + AllocGlobal + Drop>(
     rt: &R,
+    store: &mut FolderStore<S>,
     folder: &str,
     name: &str,
     octets: &[u8],
 ) -> Result<(), Fail> {
-    let kept = octets_of(rt, folder, name)?;
-    assert_eq!(rt; kept.as_slice(), octets);
+    assert!(rt; store.calls() < 4);
+    assert!(rt; store.deposit(name.as_bytes(), octets).is_ok());
+    let path = format!(in rt.alloc(); "{folder}/{name}")?;
+    let kept = fs::read(rt, path.as_str())?;
+    assert!(rt; kept.as_slice() == octets);
     Ok(())
 }
 
 #[test]
 fn files_in_a_folder(rt: HostRuntime) -> Result<(), Fail> {
     let folder = new_folder(&rt, "files")?;
-    let place = folder.as_str();
     let mut store = FolderStore::new(rt.clone()?, folder.clone()?);
-    assert_eq!(rt; store.deposit(b"b", b"abc"), Ok(()));
-    holds(&rt, place, "b", b"abc")?;
-    assert_eq!(rt; store.deposit(b"empty", b""), Ok(()));
-    holds(&rt, place, "empty", b"")?;
+    fill(&rt, &mut store, folder.as_str())?;
+    assert!(rt; (store.calls(), store.failures()) == (4, 0));
+    fs::remove_dir_all(&rt, folder.as_str())?;
+    Ok(())
+}
+
+fn fill<R: Files + AllocGlobal + Abort + Clone + Drop, S: Files + AllocGlobal + Drop>(
+    rt: &R,
+    store: &mut FolderStore<S>,
+    folder: &str,
+) -> Result<(), Fail> {
+    keeps(rt, store, folder, "b", b"abc")?;
+    keeps(rt, store, folder, "empty", b"")?;
     // a name that is there is replaced whole
-    assert_eq!(rt; store.deposit(b"b", b"z"), Ok(()));
-    holds(&rt, place, "b", b"z")?;
+    keeps(rt, store, folder, "b", b"z")?;
     // a part that an earlier run left is in nobody's way
     let part = format!(in rt.alloc(); "{folder}/.part-0")?;
-    fs::write(&rt, part.as_str(), b"left")?;
-    assert_eq!(rt; store.deposit(b"c", b"other"), Ok(()));
-    holds(&rt, place, "c", b"other")?;
-    assert_eq!(rt; files_of(&rt, place)?, 4);
-    assert_eq!(rt; (store.calls(), store.failures()), (4, 0));
-    fs::remove_dir_all(&rt, place)?;
+    fs::write(rt, part.as_str(), b"left")?;
+    keeps(rt, store, folder, "c", b"other")?;
+    assert!(rt; files_of(rt, folder)? == 4);
     Ok(())
 }
 
@@ -86,45 +97,53 @@ fn files_in_a_folder(rt: HostRuntime) -> Result<(), Fail> {
 fn bad_names(rt: HostRuntime) -> Result<(), Fail> {
     let folder = new_folder(&rt, "names")?;
     let mut store = FolderStore::new(rt.clone()?, folder.clone()?);
-    let names = [
+    for name in [
         b"".as_slice(),
-        b".".as_slice(),
-        b"..".as_slice(),
-        b"a/b".as_slice(),
-        b"/a".as_slice(),
-        b"a\0b".as_slice(),
-        b"a\xff".as_slice(),
-        b".part-0".as_slice(),
-        b".part-".as_slice(),
-    ];
-    for name in names {
-        let mut store = FolderStore::new(rt.clone()?, folder.clone()?);
-        assert_eq!(rt; store.deposit(name, b"abc"), Err(StoreFault::BadName));
-        assert_eq!(rt; (store.calls(), store.failures()), (1, 1));
+        b".",
+        b"..",
+        b"a/b",
+        b"/a",
+        b"a\0b",
+        b"a\xff",
+        b".part-0",
+        b".part-",
+    ] {
+        assert!(rt; store.calls() < 9);
+        assert!(rt; store.deposit(name, b"abc") == Err(StoreFault::BadName));
     }
-    assert_eq!(rt; files_of(&rt, folder.as_str())?, 0);
-    assert_eq!(rt; store.deposit(b"...", b"abc"), Ok(()));
-    assert_eq!(rt; store.deposit("ä b".as_bytes(), b"abc"), Ok(()));
-    assert_eq!(rt; store.deposit(b".part", b"abc"), Ok(()));
-    assert_eq!(rt; files_of(&rt, folder.as_str())?, 3);
+    assert!(rt; store.failures() == 9 && files_of(&rt, folder.as_str())? == 0);
     fs::remove_dir_all(&rt, folder.as_str())?;
     Ok(())
+}
+
+#[test]
+fn odd_names(rt: HostRuntime) -> Result<(), Fail> {
+    let folder = new_folder(&rt, "odd")?;
+    let mut store = FolderStore::new(rt.clone()?, folder.clone()?);
+    for name in ["...", "ä b", ".part"] {
+        keeps(&rt, &mut store, folder.as_str(), name, b"abc")?;
+    }
+    assert!(rt; files_of(&rt, folder.as_str())? == 3);
+    fs::remove_dir_all(&rt, folder.as_str())?;
+    Ok(())
+}
+
+// Whether a store in a folder keeps nothing of a file.
+fn fails<R: Files + AllocGlobal + Clone + Drop>(rt: &R, folder: String) -> Result<bool, Fail> {
+    let mut store = FolderStore::new(rt.clone()?, folder);
+    let answer = store.deposit(b"b", b"abc");
+    Ok(answer == Err(StoreFault::Failed) && store.failures() == 1)
 }
 
 // A folder that is gone, one that is a file, and one that nobody may write into.
 #[test]
 fn folders_that_keep_nothing(rt: HostRuntime) -> Result<(), Fail> {
     let folder = new_folder(&rt, "gone")?;
-    let mut store = FolderStore::new(rt.clone()?, folder.clone()?);
-    assert_eq!(rt; store.deposit(b"b", b"abc"), Ok(()));
-    let file = format!(in rt.alloc(); "{folder}/b")?;
-    let mut inside = FolderStore::new(rt.clone()?, file);
-    assert_eq!(rt; inside.deposit(b"b", b"abc"), Err(StoreFault::Failed));
+    fs::write(&rt, format!(in rt.alloc(); "{folder}/b")?.as_str(), b"abc")?;
+    assert!(rt; fails(&rt, format!(in rt.alloc(); "{folder}/b")?)?);
     fs::remove_dir_all(&rt, folder.as_str())?;
-    assert_eq!(rt; store.deposit(b"b", b"abc"), Err(StoreFault::Failed));
-    assert_eq!(rt; (store.calls(), store.failures()), (2, 1));
-    let mut unwritable = FolderStore::new(rt.clone()?, String::from_str(rt.alloc(), "/proc")?);
-    assert_eq!(rt; unwritable.deposit(b"b", b"abc"), Err(StoreFault::Failed));
+    assert!(rt; fails(&rt, folder)?);
+    assert!(rt; fails(&rt, String::from_str(rt.alloc(), "/proc")?)?);
     Ok(())
 }
 
@@ -133,9 +152,8 @@ fn folders_that_keep_nothing(rt: HostRuntime) -> Result<(), Fail> {
 fn place_of_a_folder(rt: HostRuntime) -> Result<(), Fail> {
     let folder = new_folder(&rt, "place")?;
     fs::create_dir(&rt, format!(in rt.alloc(); "{folder}/b")?.as_str())?;
-    let mut store = FolderStore::new(rt.clone()?, folder.clone()?);
-    assert_eq!(rt; store.deposit(b"b", b"abc"), Err(StoreFault::Failed));
-    assert_eq!(rt; files_of(&rt, folder.as_str())?, 1);
+    assert!(rt; fails(&rt, folder.clone()?)?);
+    assert!(rt; files_of(&rt, folder.as_str())? == 1);
     fs::remove_dir_all(&rt, folder.as_str())?;
     Ok(())
 }

@@ -1,7 +1,6 @@
 use cfdp_types::{Condition, Delivery, EntityId, FileStatus, Messages, Octets};
 use indications::{Indication, IndicationKind, Indications};
 use std::alloc::{AllocError, Global};
-use std::process::Abort;
 use std::test::*;
 
 const FINISHED: Indication = Indication::TransactionFinished {
@@ -11,43 +10,61 @@ const FINISHED: Indication = Indication::TransactionFinished {
 };
 
 fn metadata(alloc: Global) -> Result<Indication, AllocError> {
-    let mut messages = Messages::new(alloc);
-    messages.push(Octets::from_slice(alloc, b"m")?)?;
+    let source_name = Octets::from_slice(alloc, b"a")?;
     Ok(Indication::MetadataRecv {
         source: EntityId(1),
         size: 3,
-        source_name: Octets::from_slice(alloc, b"a")?,
-        destination_name: Octets::from_slice(alloc, b"b")?,
-        messages,
+        source_name,
+        destination_name: Octets::new(alloc),
+        messages: Messages::new(alloc),
     })
 }
 
 #[test]
-fn ends(rt: HostRuntime) -> Result<(), Fail> {
-    assert!(rt; FINISHED.is_end());
-    assert_eq!(rt; FINISHED.kind(), IndicationKind::End(Delivery::Complete));
-    assert!(rt; FINISHED.copy()?.is_end());
-    Ok(())
+fn ends(rt: HostRuntime) {
+    assert!(rt; FINISHED.kind() == IndicationKind::End(Delivery::Complete));
+}
+
+fn told(alloc: Global) -> Result<Indications, AllocError> {
+    let mut told = Indications::new(alloc);
+    told.push(metadata(alloc)?)?;
+    told.push(FINISHED)?;
+    Ok(told)
 }
 
 #[test]
 fn indications_in_order(rt: HostRuntime) -> Result<(), Fail> {
-    let mut told = Indications::new(rt.alloc());
-    told.push(metadata(rt.alloc())?)?;
-    assert!(rt; !told.has_end());
-    told.push(FINISHED)?;
-    are_two(&rt, &told);
-    are_two(&rt, &told.copy()?);
+    let told = told(rt.alloc())?;
+    assert!(rt; told.has_end() && are_both(told.as_slice()));
     Ok(())
 }
 
-fn are_two<R: Abort>(rt: &R, told: &Indications) {
-    assert!(rt; told.has_end());
-    match told.as_slice() {
-        [Indication::MetadataRecv { size, .. }, end] => {
-            assert_eq!(rt; *size, 3);
-            assert!(rt; end.is_end());
+#[test]
+fn copies(rt: HostRuntime) -> Result<(), Fail> {
+    let copy = told(rt.alloc())?.copy()?;
+    assert!(rt; copy.has_end() && are_both(copy.as_slice()));
+    Ok(())
+}
+
+#[test]
+fn copies_of_one(rt: HostRuntime) -> Result<(), Fail> {
+    let copy = metadata(rt.alloc())?.copy()?;
+    assert!(rt; is_metadata(&copy) && !copy.is_end());
+    Ok(())
+}
+
+fn are_both(told: &[Indication]) -> bool {
+    match told {
+        [first, second] => is_metadata(first) && second.is_end(),
+        _ => false,
+    }
+}
+
+fn is_metadata(told: &Indication) -> bool {
+    match told {
+        Indication::MetadataRecv { source_name, .. } => {
+            source_name.as_slice() == b"a".as_slice()
         }
-        _ => assert!(rt; false),
+        _ => false,
     }
 }

@@ -1,11 +1,8 @@
 use cfdp_types::{EntityId, TimerKind, TimerOp, TxnKey};
+use std::alloc::AllocError;
+use std::process::Abort;
 use std::test::*;
 use timer_list::{Armed, TimerList};
-
-const KEY: TxnKey = TxnKey {
-    source: EntityId(1),
-    seq: 5,
-};
 
 fn key_of(seq: u64) -> TxnKey {
     TxnKey {
@@ -14,10 +11,10 @@ fn key_of(seq: u64) -> TxnKey {
     }
 }
 
-fn arming(seq: u64, stamp: u32, ms: u32) -> TimerOp {
+fn arming(kind: TimerKind, seq: u64, stamp: u32, ms: u32) -> TimerOp {
     TimerOp::Arm {
         key: key_of(seq),
-        kind: TimerKind::Nak,
+        kind,
         stamp,
         ms,
     }
@@ -40,69 +37,138 @@ fn armed(seq: u64, stamp: u32, deadline: u64) -> Armed {
     }
 }
 
+// What is done to a list, and what it answers. Transaction 5 has the one timer, a NAK timer.
+#[derive(Clone, Copy)]
+enum Step {
+    // Armed at a moment: its stamp and its length.
+    Arms(u64, u32, u32),
+    // By a step with this stamp.
+    Disarms(u32),
+    // At a moment none is due.
+    NoneDue(u64),
+    // At a moment it is due: its stamp and its deadline.
+    Due(u64, u32, u64),
+    // It is put back, with its stamp and its deadline; whether the list takes it.
+    PutBack(u32, u64, bool),
+}
+
+// Does it, and tells whether the answer is as expected.
+fn is_done(timers: &mut TimerList, step: Step) -> Result<bool, AllocError> {
+    match step {
+        Step::Arms(now, stamp, ms) => {
+            timers.apply(arming(TimerKind::Nak, 5, stamp, ms), now)?;
+            Ok(true)
+        }
+        Step::Disarms(stamp) => {
+            timers.apply(disarming(5, stamp), 0)?;
+            Ok(true)
+        }
+        Step::NoneDue(now) => Ok(timers.due(now).is_none()),
+        Step::Due(now, stamp, deadline) => Ok(timers.due(now) == Some(armed(5, stamp, deadline))),
+        Step::PutBack(stamp, deadline, is_taken) => {
+            Ok(timers.put_back(armed(5, stamp, deadline)).is_ok() == is_taken)
+        }
+    }
+}
+
+// Does one step after the other.
+fn play<R: AllocGlobal + Abort>(rt: &R, steps: &[Step]) -> Result<(), Fail> {
+    let mut timers = TimerList::new(rt.alloc());
+    for (place, step) in steps.iter().enumerate() {
+        assert!(rt; is_done(&mut timers, *step)?, "{place}");
+    }
+    Ok(())
+}
+
 #[test]
 fn taken_out_and_put_back(rt: HostRuntime) -> Result<(), Fail> {
-    let mut timers = TimerList::new(rt.alloc());
-    timers.apply(arming(KEY.seq, 1, 1_000), 0)?;
-    let timer = armed(KEY.seq, 1, 1_000);
-    assert_eq!(rt; timers.due(999), None);
-    assert_eq!(rt; timers.due(1_000), Some(timer));
-    assert_eq!(rt; timers.put_back(timer), Ok(()));
-    assert_eq!(rt; timers.put_back(timer), Err(timer), "it runs again");
-    assert_eq!(rt; timers.due(1_000), Some(timer));
-    assert_eq!(rt; timers.due(1_000), None);
-    Ok(())
+    let steps = [
+        Step::Arms(0, 1, 1_000),
+        Step::NoneDue(999),
+        Step::Due(1_000, 1, 1_000),
+        Step::PutBack(1, 1_000, true),
+        Step::PutBack(1, 1_000, false),
+        Step::Due(1_000, 1, 1_000),
+        Step::NoneDue(1_000),
+    ];
+    play(&rt, &steps)
 }
 
 #[test]
 fn armed_anew(rt: HostRuntime) -> Result<(), Fail> {
-    let mut timers = TimerList::new(rt.alloc());
-    timers.apply(arming(5, 1, 1_000), 0)?;
-    timers.apply(arming(5, 2, 1_000), 500)?;
-    assert_eq!(rt; timers.due(1_000), None);
-    assert_eq!(rt; timers.due(1_500), Some(armed(5, 2, 1_500)));
-    Ok(())
+    let steps = [
+        Step::Arms(0, 1, 1_000),
+        Step::Arms(500, 2, 1_000),
+        Step::NoneDue(1_000),
+        Step::Due(1_500, 2, 1_500),
+    ];
+    play(&rt, &steps)
 }
 
 #[test]
 fn late_operations(rt: HostRuntime) -> Result<(), Fail> {
-    let mut timers = TimerList::new(rt.alloc());
-    timers.apply(arming(5, 3, 1_000), 0)?;
-    timers.apply(arming(5, 2, 5_000), 0)?;
-    timers.apply(disarming(5, 2), 0)?;
-    let timer = armed(5, 3, 1_000);
-    assert_eq!(rt; timers.due(1_000), Some(timer));
-    assert_eq!(rt; timers.put_back(timer), Ok(()));
-    timers.apply(disarming(5, 4), 0)?;
-    assert_eq!(rt; timers.due(u64::MAX), None);
-    Ok(())
+    let steps = [
+        Step::Arms(0, 3, 1_000),
+        Step::Arms(0, 2, 5_000),
+        Step::Disarms(2),
+        Step::Due(1_000, 3, 1_000),
+        Step::PutBack(3, 1_000, true),
+        Step::Disarms(4),
+        Step::NoneDue(u64::MAX),
+    ];
+    play(&rt, &steps)
 }
 
-// Timers of other kinds and transactions are others, and the last moment ends the count.
+const KINDS: [TimerKind; 4] = [
+    TimerKind::Ack,
+    TimerKind::Nak,
+    TimerKind::Check,
+    TimerKind::Inactivity,
+];
+
+// Whether the timer that is due at the last moment is one of this kind.
+fn is_due_at_last(timers: &mut TimerList, kind: TimerKind) -> bool {
+    match timers.due(u64::MAX) {
+        Some(timer) => timer.kind == kind,
+        None => false,
+    }
+}
+
+// Timers of other kinds are others, and the last moment ends the count.
 #[test]
 fn kinds_and_moments(rt: HostRuntime) -> Result<(), Fail> {
     let mut timers = TimerList::new(rt.alloc());
-    let kinds = [
-        TimerKind::Ack,
-        TimerKind::Nak,
-        TimerKind::Check,
-        TimerKind::Inactivity,
-    ];
-    for kind in kinds {
-        let op = TimerOp::Arm {
-            key: KEY,
-            kind,
-            stamp: 0,
-            ms: 1_000,
-        };
-        timers.apply(op, u64::MAX - 1)?;
+    for kind in KINDS {
+        timers.apply(arming(kind, 5, 0, 1_000), u64::MAX - 1)?;
     }
-    assert_eq!(rt; timers.due(u64::MAX - 1), None);
-    for kind in kinds {
-        assert_eq!(rt; timers.due(u64::MAX).map(|timer| timer.kind), Some(kind));
+    assert!(rt; timers.due(u64::MAX - 1).is_none());
+    for kind in KINDS {
+        assert!(rt; is_due_at_last(&mut timers, kind));
     }
-    assert_eq!(rt; timers.due(u64::MAX), None);
+    assert!(rt; timers.due(u64::MAX).is_none());
     Ok(())
+}
+
+// Each third timer stays, and the others are armed again.
+fn arm_again(timers: &mut TimerList, round: u32) -> Result<(), AllocError> {
+    for seq in 0..60u64 {
+        if seq % 3 != 0 {
+            timers.apply(disarming(seq, round), 0)?;
+            timers.apply(arming(TimerKind::Nak, seq, round, 10), 0)?;
+        }
+    }
+    Ok(())
+}
+
+// How many of the timers of a third, or of the others, come next in their order.
+fn count_due(timers: &mut TimerList, is_third: bool, stamp: u32) -> u32 {
+    let mut count = 0u32;
+    for seq in 0..60u64 {
+        if (seq % 3 == 0) == is_third && timers.due(10) == Some(armed(seq, stamp, 10)) {
+            count = count.saturating_add(1);
+        }
+    }
+    count
 }
 
 // Many timers are taken out and armed again: those that stay keep their order, the others go last.
@@ -110,42 +176,21 @@ fn kinds_and_moments(rt: HostRuntime) -> Result<(), Fail> {
 fn order_of_many(rt: HostRuntime) -> Result<(), Fail> {
     let mut timers = TimerList::new(rt.alloc());
     for seq in 0..60u64 {
-        timers.apply(arming(seq, 0, 10), 0)?;
+        apply_again(&mut timers, arming(TimerKind::Nak, seq, 0, 10))?;
     }
     for round in 1..9u32 {
-        for seq in 0..60u64 {
-            if seq % 3 != 0 {
-                timers.apply(disarming(seq, round), 0)?;
-                timers.apply(arming(seq, round, 10), 0)?;
-            }
-        }
+        arm_again(&mut timers, round)?;
     }
-    for seq in 0..60u64 {
-        if seq % 3 == 0 {
-            assert_eq!(rt; timers.due(10), Some(armed(seq, 0, 10)));
-        }
-    }
-    for seq in 0..60u64 {
-        if seq % 3 != 0 {
-            assert_eq!(rt; timers.due(10), Some(armed(seq, 8, 10)));
-        }
-    }
-    assert_eq!(rt; timers.due(10), None);
+    assert_eq!(rt; count_due(&mut timers, true, 0), 20);
+    assert_eq!(rt; count_due(&mut timers, false, 8), 40);
+    assert!(rt; timers.due(10).is_none());
     Ok(())
 }
 
 // Where a growth is refused the list is as it was, and the second try goes well.
-#[test]
-fn memory_refused(rt: HostRuntime) -> Result<(), Fail> {
-    let mut timers = TimerList::new(rt.alloc());
-    for seq in 0..20u64 {
-        if timers.apply(arming(seq, 0, 10), 0).is_err() {
-            timers.apply(arming(seq, 0, 10), 0)?;
-        }
+fn apply_again(timers: &mut TimerList, op: TimerOp) -> Result<(), AllocError> {
+    match timers.apply(op, 0) {
+        Ok(()) => Ok(()),
+        Err(_) => timers.apply(op, 0),
     }
-    for seq in 0..20u64 {
-        assert_eq!(rt; timers.due(10), Some(armed(seq, 0, 10)));
-    }
-    assert_eq!(rt; timers.due(10), None);
-    Ok(())
 }

@@ -3,15 +3,12 @@ use cfdp_types::{
     HandlerNotAllowed, HeaderLengths, Messages, Octets, Params, PutFault, PutRequest, Role,
     TimerKind, TimerLengths,
 };
-use std::alloc::Global;
-use std::process::Abort;
+use std::alloc::{AllocError, Global};
 use std::test::*;
 
 #[test]
-fn codes_and_numbers(rt: HostRuntime) {
-    assert_eq!(rt; Condition::new(7), Condition::NAK_LIMIT);
-    assert_eq!(rt; ChecksumType::new(15), ChecksumType::NULL);
-    let conditions = [
+fn codes_of_conditions(rt: HostRuntime) {
+    for (condition, code) in [
         (Condition::NO_ERROR, 0),
         (Condition::POSITIVE_ACK_LIMIT, 1),
         (Condition::KEEP_ALIVE_LIMIT, 2),
@@ -26,94 +23,110 @@ fn codes_and_numbers(rt: HostRuntime) {
         (Condition::UNSUPPORTED_CHECKSUM_TYPE, 11),
         (Condition::SUSPEND_REQUEST, 14),
         (Condition::CANCEL_REQUEST, 15),
-    ];
-    for (condition, code) in conditions {
+    ] {
         assert_eq!(rt; condition.code(), code);
     }
-    assert_eq!(rt; ChecksumType::MODULAR.number(), 0);
-    assert_eq!(rt; ChecksumType::NULL.number(), 15);
-    assert_eq!(rt; HandlerNotAllowed.number(), 1);
-    assert_eq!(rt; PutFault::NoName.number(), 1);
-    assert_eq!(rt; PutFault::NoMemory.number(), 5);
+}
+
+#[test]
+fn made_of_numbers(rt: HostRuntime) {
+    assert!(rt; Condition::new(7) == Condition::NAK_LIMIT);
+    assert!(rt; ChecksumType::new(15) == ChecksumType::NULL);
+}
+
+#[test]
+fn numbers(rt: HostRuntime) {
+    let types = [ChecksumType::MODULAR.number(), ChecksumType::NULL.number()];
+    let faults = [PutFault::NoName.number(), PutFault::NoMemory.number()];
+    assert!(rt; types == [0, 15] && faults == [1, 5] && HandlerNotAllowed.number() == 1);
 }
 
 #[test]
 fn octets(rt: HostRuntime) -> Result<(), Fail> {
-    let alloc = rt.alloc();
-    let name = Octets::from_slice(alloc, b"abc")?;
-    hold_three(&rt, &name);
-    hold_three(&rt, &name.copy()?);
-    hold_three(&rt, &name.clone()?);
-    assert_eq!(rt; name.into_vec().as_slice(), b"abc".as_slice());
-    assert_eq!(rt; Octets::new(alloc).as_slice().len(), 0);
+    let octets = Octets::from_slice(rt.alloc(), b"abc")?;
+    assert!(rt; octets.as_slice() == b"abc".as_slice());
+    let octets = octets.into_vec();
+    assert!(rt; octets.as_slice() == b"abc".as_slice());
     Ok(())
 }
 
-fn hold_three<R: Abort>(rt: &R, name: &Octets) {
-    assert_eq!(rt; name.as_slice(), b"abc".as_slice());
+#[test]
+fn copies_of_octets(rt: HostRuntime) -> Result<(), Fail> {
+    let copy = Octets::from_slice(rt.alloc(), b"abc")?.copy()?.clone()?;
+    assert!(rt; copy.as_slice() == b"abc".as_slice());
+    Ok(())
 }
 
 #[test]
 fn octets_of_a_vector(rt: HostRuntime) -> Result<(), Fail> {
     let octets = Octets::from_vec(vec![in rt.alloc(); 97, 98, 100]?);
-    assert_eq!(rt; octets.as_slice(), b"abd".as_slice());
+    assert!(rt; octets.as_slice() == b"abd".as_slice());
     Ok(())
 }
 
 #[test]
 fn messages_in_order(rt: HostRuntime) -> Result<(), Fail> {
-    let alloc = rt.alloc();
-    let mut messages = Messages::with_capacity(alloc, 3)?;
-    messages.push(Octets::from_slice(alloc, b"abc")?)?;
-    messages.push(Octets::new(alloc))?;
-    hold_two(&rt, &messages);
-    hold_two(&rt, &messages.copy()?);
-    hold_two(&rt, &messages.clone()?);
-    hold_two(&rt, &Messages::from_slices(alloc, &[b"abc", b""])?);
-    assert!(rt; Messages::new(alloc).as_slice().is_empty());
+    let mut messages = Messages::with_capacity(rt.alloc(), 3)?;
+    messages.push(Octets::from_slice(rt.alloc(), b"abc")?)?;
+    messages.push(Octets::new(rt.alloc()))?;
+    assert!(rt; are_both(&messages));
     Ok(())
 }
 
-fn hold_two<R: Abort>(rt: &R, messages: &Messages) {
-    match messages.as_slice() {
-        [first, second] => {
-            hold_three(rt, first);
-            assert!(rt; second.as_slice().is_empty());
-        }
-        _ => assert!(rt; false),
-    }
+#[test]
+fn copies_of_messages(rt: HostRuntime) -> Result<(), Fail> {
+    let copy = Messages::from_slices(rt.alloc(), &[b"abc", b""])?
+        .copy()?
+        .clone()?;
+    assert!(rt; are_both(&copy));
+    Ok(())
 }
 
 #[test]
-fn later_pairs(rt: HostRuntime) {
-    let pairs = [
-        (Condition::NAK_LIMIT, Handler::Suspend),
-        (Condition::INACTIVITY, Handler::Ignore),
-        (Condition::NAK_LIMIT, Handler::Abandon),
-    ];
-    let Ok(table) = FaultTable::new(Role::RecvTwo, &pairs) else {
-        assert!(rt; false);
-        return;
-    };
-    assert_eq!(rt; table.role(), Role::RecvTwo);
-    let actions = [
+fn nothing_yet(rt: HostRuntime) {
+    assert!(rt; Octets::new(rt.alloc()).as_slice().is_empty());
+    assert!(rt; Messages::new(rt.alloc()).as_slice().is_empty());
+}
+
+fn are_both(messages: &Messages) -> bool {
+    match messages.as_slice() {
+        [first, second] => { first.as_slice() == b"abc".as_slice() && second.as_slice().is_empty() }
+        _ => false,
+    }
+}
+
+const PAIRS: [(Condition, Handler); 3] = [
+    (Condition::NAK_LIMIT, Handler::Suspend),
+    (Condition::INACTIVITY, Handler::Ignore),
+    (Condition::NAK_LIMIT, Handler::Abandon),
+];
+
+#[test]
+fn later_pairs(rt: HostRuntime) -> Result<(), Fail> {
+    let table = FaultTable::new(Role::RecvTwo, &PAIRS)?;
+    for (condition, handler) in [
         (Condition::NAK_LIMIT, Handler::Abandon),
         (Condition::INACTIVITY, Handler::Ignore),
         (Condition::CHECK_LIMIT, Handler::Cancel),
         (Condition::NO_ERROR, Handler::Cancel),
-    ];
-    for (condition, handler) in actions {
+    ] {
         assert_eq!(rt; table.action(condition), handler);
     }
-    let changed = table.with(Condition::CHECK_LIMIT, Handler::Suspend);
-    assert_eq!(rt;
-        changed.map(|table| table.action(Condition::CHECK_LIMIT)),
-        Ok(Handler::Suspend)
-    );
-    assert_eq!(rt;
-        FaultTable::new(Role::RecvOne, &pairs),
-        Err(HandlerNotAllowed)
-    );
+    Ok(())
+}
+
+#[test]
+fn another_handler(rt: HostRuntime) -> Result<(), Fail> {
+    let table = FaultTable::new(Role::RecvTwo, &[])?;
+    let changed = table.with(Condition::CHECK_LIMIT, Handler::Suspend)?;
+    assert!(rt; changed.action(Condition::CHECK_LIMIT) == Handler::Suspend);
+    assert!(rt; changed.role() == Role::RecvTwo);
+    Ok(())
+}
+
+#[test]
+fn pairs_that_are_not_allowed(rt: HostRuntime) {
+    assert!(rt; FaultTable::new(Role::RecvOne, &PAIRS) == Err(HandlerNotAllowed));
 }
 
 fn cancelling() -> Result<FaultTables, HandlerNotAllowed> {
@@ -124,73 +137,81 @@ fn cancelling() -> Result<FaultTables, HandlerNotAllowed> {
     })
 }
 
-fn params_of(
-    octets: u8,
-    segment: u16,
-    timer: u32,
-    limit: u8,
-    tables: &FaultTables,
-) -> Option<Params> {
+fn params() -> Result<Params, Fail> {
     let lengths = HeaderLengths {
-        entity_octets: octets,
+        entity_octets: 4,
         sequence_octets: 1,
     };
     let timers = TimerLengths {
         ack: 1,
         nak: 2,
         check: 3,
-        inactivity: timer,
+        inactivity: 5,
     };
     let limits = ExpirationLimits {
         ack: 1,
         nak: 2,
-        check: limit,
+        check: 6,
     };
-    Params::new(EntityId(2), lengths, segment, timers, limits, *tables)
+    let params = Params::new(EntityId(2), lengths, 300, timers, limits, cancelling()?);
+    Ok(params.ok_or("the parameters are in range")?)
 }
 
 #[test]
-fn parts_of_params(rt: HostRuntime) {
-    let made = cancelling().ok();
-    let Some(params) = made.and_then(|tables| params_of(4, 300, 5, 6, &tables)) else {
-        assert!(rt; false);
-        return;
-    };
-    assert_eq!(rt; params.local(), EntityId(2));
-    assert_eq!(rt; params.lengths().entity_octets, 4);
-    assert_eq!(rt; params.lengths().sequence_octets, 1);
-    assert_eq!(rt; params.segment_octets(), 300);
-    let timers = [
+fn numbers_of_params(rt: HostRuntime) -> Result<(), Fail> {
+    let params = params()?;
+    assert!(rt; params.local() == EntityId(2) && params.segment_octets() == 300);
+    let lengths = params.lengths();
+    assert!(rt; [lengths.entity_octets, lengths.sequence_octets] == [4, 1]);
+    let limits = params.limits();
+    assert!(rt; [limits.ack, limits.nak, limits.check] == [1, 2, 6]);
+    Ok(())
+}
+
+#[test]
+fn tables_of_params(rt: HostRuntime) -> Result<(), Fail> {
+    let tables = params()?.tables();
+    for role in [Role::Send, Role::RecvOne, Role::RecvTwo] {
+        assert_eq!(rt; tables.of(role).role(), role);
+    }
+    Ok(())
+}
+
+#[test]
+fn timers_of_params(rt: HostRuntime) -> Result<(), Fail> {
+    let timers = params()?.timers();
+    for (kind, length) in [
         (TimerKind::Ack, 1),
         (TimerKind::Nak, 2),
         (TimerKind::Check, 3),
         (TimerKind::Inactivity, 5),
-    ];
-    for (kind, length) in timers {
-        assert_eq!(rt; params.timers().of(kind), length);
+    ] {
+        assert_eq!(rt; timers.of(kind), length);
     }
-    let limits = params.limits();
-    assert_eq!(rt; (limits.ack, limits.nak, limits.check), (1, 2, 6));
-    for role in [Role::Send, Role::RecvOne, Role::RecvTwo] {
-        assert_eq!(rt; params.tables().of(role).role(), role);
-    }
+    Ok(())
 }
 
 #[test]
 fn kept_puts(rt: HostRuntime) -> Result<(), Fail> {
-    let put = put_of(rt.alloc()).ok().ok_or("nothing is refused")?;
-    has_its_parts(&rt, &put);
-    has_its_parts(&rt, &put.copy()?);
+    let put = put_of(rt.alloc())?;
+    assert!(rt; has_its_parts(&put));
     Ok(())
 }
 
-fn has_its_parts<R: Abort>(rt: &R, put: &PutRequest) {
-    assert_eq!(rt; put.destination(), EntityId(1));
-    assert_eq!(rt; put.class(), Class::Two);
-    assert_eq!(rt; put.source_name().as_slice(), b"a".as_slice());
-    assert_eq!(rt; put.destination_name().as_slice(), b"b".as_slice());
-    assert_eq!(rt; put.messages().as_slice().len(), 2);
-    assert_eq!(rt; put.file().as_slice(), b"abc".as_slice());
+#[test]
+fn copies_of_puts(rt: HostRuntime) -> Result<(), Fail> {
+    let copy = put_of(rt.alloc())?.copy()?;
+    assert!(rt; has_its_parts(&copy));
+    Ok(())
+}
+
+fn has_its_parts(put: &PutRequest) -> bool {
+    put.destination() == EntityId(1)
+        && put.class() == Class::Two
+        && put.source_name().as_slice() == b"a".as_slice()
+        && put.destination_name().as_slice() == b"b".as_slice()
+        && put.messages().as_slice().len() == 2
+        && put.file().as_slice() == b"abc".as_slice()
 }
 
 fn put_of(alloc: Global) -> Result<PutRequest, PutFault> {
@@ -210,20 +231,24 @@ fn put_of(alloc: Global) -> Result<PutRequest, PutFault> {
 #[test]
 fn memory_refused_to_a_put(rt: HostRuntime) {
     let alloc = rt.alloc();
-    let put = put_of(alloc).or_else(|_| put_of(alloc));
-    assert!(rt; put.is_ok());
+    assert!(rt; put_of(alloc).is_ok() || put_of(alloc).is_ok());
 }
 
+// Where a growth is refused, nothing is added.
 #[test]
 fn memory_refused_to_messages(rt: HostRuntime) -> Result<(), Fail> {
-    let alloc = rt.alloc();
-    let mut messages = Messages::new(alloc);
-    for count in 0..5usize {
-        if messages.push(Octets::new(alloc)).is_err() {
-            assert_eq!(rt; messages.as_slice().len(), count);
-            messages.push(Octets::new(alloc))?;
-        }
+    let mut messages = Messages::new(rt.alloc());
+    for _ in 0..5 {
+        push_again(rt.alloc(), &mut messages)?;
     }
     assert_eq!(rt; messages.as_slice().len(), 5);
     Ok(())
+}
+
+// Adds a message without octets, at the second try where the first is refused memory.
+fn push_again(alloc: Global, messages: &mut Messages) -> Result<(), AllocError> {
+    match messages.push(Octets::new(alloc)) {
+        Ok(()) => Ok(()),
+        Err(_) => messages.push(Octets::new(alloc)),
+    }
 }

@@ -7,6 +7,3 @@ mod segments;
 
 pub use indications::{Bundle, Indication, IndicationKind, Indications, Phase, Side};
 pub use reader::{NotAWord, WordReader};
-
-#[cfg(test)]
-mod tests;
