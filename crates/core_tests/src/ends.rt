@@ -4,7 +4,8 @@
 use crate::events::{event_of, pdu_of};
 use crate::setting::{Acts, params};
 use crate::texts::{answer_text, image_text, refused};
-use cfdp_types::{Class, EntityId, PutRequest, TxnKey};
+use cfdp_types::{Class, EntityId, Params, PutFault, PutRequest, TxnKey};
+use pdu_values::Pdu;
 use receiver_core::ReceiverCore;
 use sender_core::SenderCore;
 use std::alloc::{AllocError, Global};
@@ -25,8 +26,8 @@ pub(crate) const SENT: TxnKey = TxnKey {
 };
 
 /// One end of a transaction.
-#[derive(Debug, Drop)]
-enum End {
+#[derive(Drop)]
+pub(crate) enum End {
     Receives(ReceiverCore),
     Sends(SenderCore),
 }
@@ -108,68 +109,124 @@ fn row_of(line: &str) -> Result<(u32, &str, &str), Fail> {
 }
 
 // The lines of a script, in their order.
-fn play<R: Abort>(rt: &R, alloc: Global, end: &mut End, script: &str) -> Result<(), Fail> {
+fn play<R: AllocGlobal + Abort>(
+    rt: &R,
+    end: &mut End,
+    title: &str,
+    script: &str,
+) -> Result<(), Fail> {
     for line in script.lines() {
         let line = line.trim();
         if !line.is_empty() {
-            play_line(rt, alloc, end, line)?;
+            play_line(rt, end, title, line)?;
         }
     }
     Ok(())
 }
 
-fn play_line<R: Abort>(rt: &R, alloc: Global, end: &mut End, line: &str) -> Result<(), Fail> {
+fn play_line<R: AllocGlobal + Abort>(
+    rt: &R,
+    end: &mut End,
+    title: &str,
+    line: &str,
+) -> Result<(), Fail> {
     let (count, event, answer) = row_of(line)?;
     for _ in 0..count {
-        let answered = end.line(alloc, event)?;
-        assert_eq!(rt; answered.as_str(), answer, "at {event}");
+        let answered = end.line(rt.alloc(), event)?;
+        assert_eq!(rt; answered.as_str(), answer, "{title}, at {event}");
     }
     Ok(())
 }
 
-// A reception that a PDU opens, with what that is answered.
-fn opened(alloc: Global, acts: (Acts, Acts), hex: &str) -> Result<(End, String), Fail> {
+// Compares what an end's first event is answered, and plays what follows.
+fn play_from<R: AllocGlobal + Abort>(
+    rt: &R,
+    begun: (End, Answer),
+    title: &str,
+    answer: &str,
+    script: &str,
+) -> Result<(), Fail> {
+    let (mut end, answered) = begun;
+    let text = answer_text(rt.alloc(), end.key(), &answered)?;
+    assert_eq!(rt; text.as_str(), answer, "{title}, at its beginning");
+    play(rt, &mut end, title, script)
+}
+
+/// The reception that a PDU opens, with what that is answered.
+pub(crate) fn reception(
+    alloc: Global,
+    pdu: &Pdu,
+    params: Params,
+) -> Result<(End, Answer), Refusal> {
+    if !ReceiverCore::may_open(RECEIVED, pdu) {
+        return Err(Refusal::NoTransaction);
+    }
+    let (mut core, plan) = ReceiverCore::open(alloc, RECEIVED, pdu, params)?;
+    let answer = core.commit(plan);
+    Ok((End::Receives(core), answer))
+}
+
+// The same, of a PDU in hex.
+fn received_from(alloc: Global, acts: (Acts, Acts), hex: &str) -> Result<(End, Answer), Fail> {
     let params = params(acts.0, acts.1)?;
     let pdu = pdu_of(alloc, hex)?;
-    if !ReceiverCore::may_open(RECEIVED, &pdu) {
-        return Err("the first PDU opens".into());
-    }
-    let (mut core, plan) = ReceiverCore::open(alloc, RECEIVED, &pdu, params)?;
-    let text = answer_text(alloc, RECEIVED, &core.commit(plan))?;
-    Ok((End::Receives(core), text))
+    Ok(reception(alloc, &pdu, params)?)
 }
 
 /// Plays a reception: the first line is the PDU that opens it. Each fault cancels it.
-pub(crate) fn receives<R: AllocGlobal + Abort>(rt: &R, script: &str) -> Result<(), Fail> {
-    receives_with(rt, (&[], &[]), script)
+pub(crate) fn receives<R: AllocGlobal + Abort>(
+    rt: &R,
+    title: &str,
+    script: &str,
+) -> Result<(), Fail> {
+    receives_with(rt, title, (&[], &[]), script)
 }
 
 /// The same, where a reception does so at some faults, in class 1 and in class 2.
 pub(crate) fn receives_with<R: AllocGlobal + Abort>(
     rt: &R,
+    title: &str,
     acts: (Acts, Acts),
     script: &str,
 ) -> Result<(), Fail> {
     let (first, rest) = script.trim().split_once('\n').ok_or("a line follows")?;
     let (_, event, answer) = row_of(first)?;
     let hex = event.strip_prefix("pdu ").ok_or("a PDU comes first")?;
-    let (mut end, text) = opened(rt.alloc(), acts, hex)?;
-    assert_eq!(rt; text.as_str(), answer, "at {event}");
-    play(rt, rt.alloc(), &mut end, rest)
+    let begun = received_from(rt.alloc(), acts, hex)?;
+    play_from(rt, begun, title, answer, rest)
+}
+
+/// The Put of a file.
+pub(crate) fn request(alloc: Global, class: Class, file: &[u8]) -> Result<PutRequest, PutFault> {
+    PutRequest::new(alloc, EntityId(1), class, b"a", b"b", &[], file)
+}
+
+/// The sender that a Put opens, with what that is answered.
+pub(crate) fn sending(
+    alloc: Global,
+    request: &PutRequest,
+    params: Params,
+) -> Result<(End, Answer), Refusal> {
+    let (mut core, plan) = SenderCore::open(alloc, SENT, request, params)?;
+    let answer = core.commit(plan);
+    Ok((End::Sends(core), answer))
+}
+
+// The same, of the Put of a file.
+fn sent_from(alloc: Global, class: Class, file: &[u8]) -> Result<(End, Answer), Fail> {
+    let params = params(&[], &[])?;
+    let request = request(alloc, class, file)?;
+    Ok(sending(alloc, &request, params)?)
 }
 
 /// Plays what follows the Put of a file, which is answered by Transaction alone.
 pub(crate) fn sends<R: AllocGlobal + Abort>(
     rt: &R,
+    title: &str,
     class: Class,
     file: &[u8],
     script: &str,
 ) -> Result<(), Fail> {
-    let alloc = rt.alloc();
-    let params = params(&[], &[])?;
-    let request = PutRequest::new(alloc, EntityId(1), class, b"a", b"b", &[], file)?;
-    let (mut core, plan) = SenderCore::open(alloc, SENT, &request, params)?;
-    let text = answer_text(alloc, SENT, &core.commit(plan))?;
-    assert_eq!(rt; text.as_str(), "Transaction");
-    play(rt, alloc, &mut End::Sends(core), script)
+    let begun = sent_from(rt.alloc(), class, file)?;
+    play_from(rt, begun, title, "Transaction", script)
 }

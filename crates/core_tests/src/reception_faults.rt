@@ -3,44 +3,36 @@ use crate::ends::{receives, receives_with};
 use cfdp_types::{Condition, Handler};
 use std::test::*;
 
-#[test]
-fn a_size_error(rt: HostRuntime) -> Result<(), Fail> {
-    receives(
-        &rt,
+// Each with what it is about. Each fault cancels.
+const SCRIPTS: &[(&str, &str)] = &[
+    (
+        "a size error",
         "
         pdu 34000900010502000000006162636465: File-Segment-Recv 0 5; arm inactivity 0 4000
         pdu 24000a0001050204006162630000000003: EOF-Recv; Finished 6 Incomplete Discarded; disarm inactivity 1
         pdu 24000a0001050204006162630000000003: ended
         ",
-    )
-}
-
-// A segment that ends above the size of an EOF that came before it, in both classes.
-#[test]
-fn a_size_error_after_the_end(rt: HostRuntime) -> Result<(), Fail> {
-    receives(
-        &rt,
+    ),
+    // A segment that ends above the size of an EOF that came before it, in both classes.
+    (
+        "a size error after the end, in class 1",
         "
         pdu 24000a0001050204006162630000000003: EOF-Recv; arm check 0 3000; arm inactivity 0 4000
         pdu 3400070001050200000002616263: File-Segment-Recv 2 3; Finished 6 Incomplete Discarded; disarm check 1; disarm inactivity 1
         report: ended
         ",
-    )?;
-    receives(
-        &rt,
+    ),
+    (
+        "a size error after the end, in class 2",
         "
         pdu 20000a0001050204006162630000000003: 28000300010502064001; 2800190001050208000000000000000300000000000000000000000000000003; EOF-Recv; arm nak 0 2000; arm inactivity 0 4000
         pdu 3000070001050200000002616263: 280005000105020564060102; File-Segment-Recv 2 3; arm ack 1 1000; disarm nak 1; disarm inactivity 1
         report: Report Closing 5
         ",
-    )
-}
-
-// While it closes, EOFs are acknowledged and nothing else of the file is taken.
-#[test]
-fn while_it_closes(rt: HostRuntime) -> Result<(), Fail> {
-    receives(
-        &rt,
+    ),
+    // While it closes, EOFs are acknowledged and nothing else of the file is taken.
+    (
+        "while it closes",
         "
         pdu 30000900010502000000006162636465: File-Segment-Recv 0 5; arm inactivity 0 4000
         pdu 20000a0001050204006162630000000003: 28000300010502064001; 280005000105020564060102; EOF-Recv; arm ack 1 1000; disarm inactivity 1
@@ -52,64 +44,34 @@ fn while_it_closes(rt: HostRuntime) -> Result<(), Fail> {
         pdu 20000300010502065162: Finished 6 Incomplete Discarded; disarm ack 4
         report: ended
         ",
-    )
-}
-
-#[test]
-fn a_checksum_error(rt: HostRuntime) -> Result<(), Fail> {
-    receives(
-        &rt,
+    ),
+    (
+        "a checksum error",
         "
         pdu 24000a0001050207000000000301610162: Metadata-Recv 1 3 61 62; arm inactivity 0 4000
         pdu 3400070001050200000000616263: File-Segment-Recv 0 3; arm inactivity 1 4000
         pdu 24000a0001050204006162630100000003: EOF-Recv; Finished 5 Incomplete Discarded; disarm inactivity 2
         stored 2 yes: ended
         ",
-    )
-}
-
-// The ACK says that the transaction is over.
-#[test]
-fn a_checksum_error_that_abandons(rt: HostRuntime) -> Result<(), Fail> {
-    receives_with(
-        &rt,
-        (&[], &[(Condition::FILE_CHECKSUM_FAILURE, Handler::Abandon)]),
-        "
-        pdu 20000a0001050207000000000301610162: Metadata-Recv 1 3 61 62; arm inactivity 0 4000
-        pdu 3000070001050200000000616263: File-Segment-Recv 0 3; arm inactivity 1 4000
-        pdu 20000a0001050204006162630100000003: 28000300010502064002; EOF-Recv; Abandoned 5 3; disarm inactivity 2
-        ",
-    )
-}
-
-// This Finished PDU has no fault location.
-#[test]
-fn another_checksum_type(rt: HostRuntime) -> Result<(), Fail> {
-    receives(
-        &rt,
+    ),
+    // This Finished PDU has no fault location.
+    (
+        "another checksum type",
         "
         pdu 20000a0001050207010000000301610162: 2800020001050205b4; Metadata-Recv 1 3 61 62; arm ack 0 1000
         report: Report Closing 0
         ",
-    )
-}
-
-#[test]
-fn another_checksum_type_in_class_one(rt: HostRuntime) -> Result<(), Fail> {
-    receives(
-        &rt,
+    ),
+    (
+        "another checksum type in class one",
         "
         pdu 24000a0001050207010000000301610162: Metadata-Recv 1 3 61 62; Finished 11 Incomplete Discarded
         pdu 3400070001050200000000616263: ended
         ",
-    )
-}
-
-// The NAK is sent again, and at the limit there is a fault.
-#[test]
-fn what_never_comes(rt: HostRuntime) -> Result<(), Fail> {
-    receives(
-        &rt,
+    ),
+    // The NAK is sent again, and at the limit there is a fault.
+    (
+        "what never comes",
         "
         pdu 3000070001050200000000616263: File-Segment-Recv 0 3; arm inactivity 0 4000
         pdu 20000a0001050204006162630000000003: 28000300010502064001; 280011000105020800000000000000030000000000000000; EOF-Recv; arm nak 1 2000; arm inactivity 1 4000
@@ -121,6 +83,43 @@ fn what_never_comes(rt: HostRuntime) -> Result<(), Fail> {
         timer ack 4: Finished 7 Incomplete Discarded; disarm ack 5
         timer ack 5: ended
         ",
+    ),
+    // The first Metadata and each segment with something new begin the count of NAKs again.
+    (
+        "progress begins the count again",
+        "
+        pdu 20000a0001050204006162630000000003: 28000300010502064001; 2800190001050208000000000000000300000000000000000000000000000003; EOF-Recv; arm nak 0 2000; arm inactivity 0 4000
+        timer nak 0: 2800190001050208000000000000000300000000000000000000000000000003; arm nak 1 2000
+        pdu 20000a0001050207000000000301610162: Metadata-Recv 1 3 61 62; arm inactivity 2 4000
+        timer nak 1: 280011000105020800000000000000030000000000000003; arm nak 3 2000
+        pdu 300005000105020000000162: File-Segment-Recv 1 1; arm inactivity 4 4000
+        timer nak 3: 2800190001050208000000000000000300000000000000010000000200000003; arm nak 5 2000
+        pdu 300005000105020000000162: arm inactivity 6 4000
+        timer nak 5: 280005000105020574060102; arm ack 7 1000; disarm nak 7; disarm inactivity 7
+        ",
+    ),
+];
+
+#[test]
+fn faults_that_cancel(rt: HostRuntime) -> Result<(), Fail> {
+    for (title, script) in SCRIPTS {
+        receives(&rt, title, script)?;
+    }
+    Ok(())
+}
+
+// The ACK says that the transaction is over.
+#[test]
+fn a_checksum_error_that_abandons(rt: HostRuntime) -> Result<(), Fail> {
+    receives_with(
+        &rt,
+        "a checksum error that abandons",
+        (&[], &[(Condition::FILE_CHECKSUM_FAILURE, Handler::Abandon)]),
+        "
+        pdu 20000a0001050207000000000301610162: Metadata-Recv 1 3 61 62; arm inactivity 0 4000
+        pdu 3000070001050200000000616263: File-Segment-Recv 0 3; arm inactivity 1 4000
+        pdu 20000a0001050204006162630100000003: 28000300010502064002; EOF-Recv; Abandoned 5 3; disarm inactivity 2
+        ",
     )
 }
 
@@ -129,6 +128,7 @@ fn what_never_comes(rt: HostRuntime) -> Result<(), Fail> {
 fn what_never_comes_suspends(rt: HostRuntime) -> Result<(), Fail> {
     receives_with(
         &rt,
+        "what never comes suspends",
         (&[], &[(Condition::NAK_LIMIT, Handler::Suspend)]),
         "
         pdu 3000070001050200000000616263: File-Segment-Recv 0 3; arm inactivity 0 4000
@@ -142,28 +142,11 @@ fn what_never_comes_suspends(rt: HostRuntime) -> Result<(), Fail> {
     )
 }
 
-// The first Metadata and each segment with something new begin the count of NAKs again.
-#[test]
-fn progress_begins_the_count_again(rt: HostRuntime) -> Result<(), Fail> {
-    receives(
-        &rt,
-        "
-        pdu 20000a0001050204006162630000000003: 28000300010502064001; 2800190001050208000000000000000300000000000000000000000000000003; EOF-Recv; arm nak 0 2000; arm inactivity 0 4000
-        timer nak 0: 2800190001050208000000000000000300000000000000000000000000000003; arm nak 1 2000
-        pdu 20000a0001050207000000000301610162: Metadata-Recv 1 3 61 62; arm inactivity 2 4000
-        timer nak 1: 280011000105020800000000000000030000000000000003; arm nak 3 2000
-        pdu 300005000105020000000162: File-Segment-Recv 1 1; arm inactivity 4 4000
-        timer nak 3: 2800190001050208000000000000000300000000000000010000000200000003; arm nak 5 2000
-        pdu 300005000105020000000162: arm inactivity 6 4000
-        timer nak 5: 280005000105020574060102; arm ack 7 1000; disarm nak 7; disarm inactivity 7
-        ",
-    )
-}
-
 #[test]
 fn checks_that_are_ignored(rt: HostRuntime) -> Result<(), Fail> {
     receives_with(
         &rt,
+        "checks that are ignored",
         (&[(Condition::CHECK_LIMIT, Handler::Ignore)], &[]),
         "
         pdu 24000a0001050204006162630000000003: EOF-Recv; arm check 0 3000; arm inactivity 0 4000
@@ -179,6 +162,7 @@ fn checks_that_are_ignored(rt: HostRuntime) -> Result<(), Fail> {
 fn inactivity_that_is_ignored(rt: HostRuntime) -> Result<(), Fail> {
     receives_with(
         &rt,
+        "inactivity that is ignored",
         (&[], &[(Condition::INACTIVITY, Handler::Ignore)]),
         "
         pdu 20000a0001050207000000000301610162: Metadata-Recv 1 3 61 62; arm inactivity 0 4000

@@ -1,5 +1,5 @@
 //! Receptions, line by line.
-use crate::ends::{RECEIVED, receives};
+use crate::ends::{RECEIVED, receives, reception};
 use crate::events::pdu_of;
 use crate::setting::params;
 use receiver_core::ReceiverCore;
@@ -7,10 +7,10 @@ use std::alloc::AllocError;
 use std::test::*;
 use txn_events::Refusal;
 
-#[test]
-fn a_file_in_class_one(rt: HostRuntime) -> Result<(), Fail> {
-    receives(
-        &rt,
+// Each with what it is about: the first PDU opens the reception.
+const SCRIPTS: &[(&str, &str)] = &[
+    (
+        "a file in class one",
         "
         pdu 24000a0001050207000000000301610162: Metadata-Recv 1 3 61 62; arm inactivity 0 4000
         pdu 3400070001050200000000616263: File-Segment-Recv 0 3; arm inactivity 1 4000
@@ -25,13 +25,9 @@ fn a_file_in_class_one(rt: HostRuntime) -> Result<(), Fail> {
         stored 2 yes: Finished 0 Complete Retained
         report: ended
         ",
-    )
-}
-
-#[test]
-fn an_empty_file(rt: HostRuntime) -> Result<(), Fail> {
-    receives(
-        &rt,
+    ),
+    (
+        "an empty file",
         "
         pdu 24000a0001050207000000000001610162: Metadata-Recv 1 0 61 62; arm inactivity 0 4000
         pdu 24000a0001050204000000000000000000: EOF-Recv; disarm inactivity 1; deposit 1
@@ -39,14 +35,10 @@ fn an_empty_file(rt: HostRuntime) -> Result<(), Fail> {
         stored 1 yes: Finished 0 Complete Retained
         cancel: ended
         ",
-    )
-}
-
-// What came first at an offset stays; a segment that covers a gap is told where it is new.
-#[test]
-fn overlapping_segments(rt: HostRuntime) -> Result<(), Fail> {
-    receives(
-        &rt,
+    ),
+    // What came first at an offset stays; a segment that covers a gap is told where it is new.
+    (
+        "overlapping segments",
         "
         pdu 340008000105020000000061626364: File-Segment-Recv 0 4; arm inactivity 0 4000
         pdu 3400080001050200000008696a6b6c: File-Segment-Recv 8 4; arm inactivity 1 4000
@@ -56,14 +48,10 @@ fn overlapping_segments(rt: HostRuntime) -> Result<(), Fail> {
         image 4: image 61 62 6162636478787878696a6b6c
         stored 4 no: Finished 4 Incomplete Rejected
         ",
-    )
-}
-
-// A segment over two others, one that is known, and one without octets.
-#[test]
-fn segments_in_pieces(rt: HostRuntime) -> Result<(), Fail> {
-    receives(
-        &rt,
+    ),
+    // A segment over two others, one that is known, and one without octets.
+    (
+        "segments in pieces",
         "
         pdu 34000600010502000000006162: File-Segment-Recv 0 2; arm inactivity 0 4000
         pdu 34000600010502000000046566: File-Segment-Recv 4 2; arm inactivity 1 4000
@@ -72,13 +60,9 @@ fn segments_in_pieces(rt: HostRuntime) -> Result<(), Fail> {
         pdu 3400040001050200000063: arm inactivity 4 4000
         report: Report Active 8
         ",
-    )
-}
-
-#[test]
-fn requests_in_class_one(rt: HostRuntime) -> Result<(), Fail> {
-    receives(
-        &rt,
+    ),
+    (
+        "requests in class one",
         "
         pdu 24000a0001050207000000000301610162: Metadata-Recv 1 3 61 62; arm inactivity 0 4000
         suspend: refused WrongState
@@ -88,14 +72,10 @@ fn requests_in_class_one(rt: HostRuntime) -> Result<(), Fail> {
         cancel: Finished 15 Incomplete Discarded; disarm inactivity 1
         cancel: ended
         ",
-    )
-}
-
-// The NAK asks for the Metadata alone; the Finished PDU is sent again, and at the limit the reception ends.
-#[test]
-fn a_file_in_class_two(rt: HostRuntime) -> Result<(), Fail> {
-    receives(
-        &rt,
+    ),
+    // The NAK asks for the Metadata alone; the Finished PDU is sent again, and at the limit the reception ends.
+    (
+        "a file in class two",
         "
         pdu 3000070001050200000000616263: File-Segment-Recv 0 3; arm inactivity 0 4000
         pdu 20000a0001050204006162630000000003: 28000300010502064001; 280011000105020800000000000000030000000000000000; EOF-Recv; arm nak 1 2000; arm inactivity 1 4000
@@ -109,14 +89,10 @@ fn a_file_in_class_two(rt: HostRuntime) -> Result<(), Fail> {
         timer ack 4: Finished 0 Complete Retained; disarm ack 6
         report: ended
         ",
-    )
-}
-
-// While it is suspended, data is taken; the ACK of the Finished PDU has another condition, which says nothing.
-#[test]
-fn suspended_while_data_comes(rt: HostRuntime) -> Result<(), Fail> {
-    receives(
-        &rt,
+    ),
+    // While it is suspended, data is taken; the ACK of the Finished PDU has another condition, which says nothing.
+    (
+        "suspended while data comes",
         "
         pdu 20000a0001050207000000000301610162: Metadata-Recv 1 3 61 62; arm inactivity 0 4000
         pdu 20000a0001050204006162630000000003: 28000300010502064001; 280011000105020800000000000000030000000000000003; EOF-Recv; arm nak 1 2000; arm inactivity 1 4000
@@ -127,13 +103,9 @@ fn suspended_while_data_comes(rt: HostRuntime) -> Result<(), Fail> {
         pdu 20000300010502065102: Finished 4 Incomplete Rejected; disarm ack 6
         resume: ended
         ",
-    )
-}
-
-#[test]
-fn requests_while_suspended(rt: HostRuntime) -> Result<(), Fail> {
-    receives(
-        &rt,
+    ),
+    (
+        "requests while suspended",
         "
         pdu 20000a0001050207000000000301610162: Metadata-Recv 1 3 61 62; arm inactivity 0 4000
         resume: refused WrongState
@@ -150,14 +122,10 @@ fn requests_while_suspended(rt: HostRuntime) -> Result<(), Fail> {
         abandon: Abandoned 15 0; disarm ack 9
         abandon: ended
         ",
-    )
-}
-
-// A Prompt for a NAK leaves all timers as they are.
-#[test]
-fn prompts(rt: HostRuntime) -> Result<(), Fail> {
-    receives(
-        &rt,
+    ),
+    // A Prompt for a NAK leaves all timers as they are.
+    (
+        "prompts",
         "
         pdu 20000a0001050207000000000301610162: Metadata-Recv 1 3 61 62; arm inactivity 0 4000
         pdu 3000070001050200000000616263: File-Segment-Recv 0 3; arm inactivity 1 4000
@@ -166,49 +134,33 @@ fn prompts(rt: HostRuntime) -> Result<(), Fail> {
         timer inactivity 1: refused StaleTimer
         abandon: Abandoned 15 3; disarm inactivity 4
         ",
-    )
-}
-
-#[test]
-fn a_prompt_before_the_names(rt: HostRuntime) -> Result<(), Fail> {
-    receives(
-        &rt,
+    ),
+    (
+        "a prompt before the names",
         "
         pdu 3000070001050200000000616263: File-Segment-Recv 0 3; arm inactivity 0 4000
         pdu 200002000105020900: 280011000105020800000000000000030000000000000000
         cancel: 2800050001050205f4060102; arm ack 2 1000; disarm inactivity 2
         ",
-    )
-}
-
-#[test]
-fn cancelled_by_the_sender(rt: HostRuntime) -> Result<(), Fail> {
-    receives(
-        &rt,
+    ),
+    (
+        "cancelled by the sender",
         "
         pdu 20000d0001050204f00000000000000000060101: 280003000105020640f2; Finished 15 Incomplete Discarded
         pdu 20000a0001050207000000000301610162: ended
         ",
-    )
-}
-
-#[test]
-fn cancelled_by_the_sender_in_class_one(rt: HostRuntime) -> Result<(), Fail> {
-    receives(
-        &rt,
+    ),
+    (
+        "cancelled by the sender in class one",
         "
         pdu 24000a0001050207000000000301610162: Metadata-Recv 1 3 61 62; arm inactivity 0 4000
         pdu 24000d0001050204f00000000000000000060101: Finished 15 Incomplete Discarded; disarm inactivity 1
         pdu 24000a0001050207000000000301610162: ended
         ",
-    )
-}
-
-// Of another class; an ACK that does not fit; what goes the other way; one octet above the greatest file.
-#[test]
-fn what_is_refused(rt: HostRuntime) -> Result<(), Fail> {
-    receives(
-        &rt,
+    ),
+    // Of another class; an ACK that does not fit; what goes the other way; one octet above the greatest file.
+    (
+        "what is refused",
         "
         pdu 20000a0001050207000000000301610162: Metadata-Recv 1 3 61 62; arm inactivity 0 4000
         pdu 24000a0001050207000000000301610162: refused ModeMismatch
@@ -221,7 +173,30 @@ fn what_is_refused(rt: HostRuntime) -> Result<(), Fail> {
         stored 0 yes: refused StaleStored
         report: Report Active 0
         ",
-    )
+    ),
+    // After 65,534 entries only the file store's answer and Abandon are taken.
+    (
+        "a full journal",
+        "
+        pdu 20000a0001050207000000000301610162: Metadata-Recv 1 3 61 62; arm inactivity 0 4000
+        pdu 3000070001050200000000616263: File-Segment-Recv 0 3; arm inactivity 1 4000
+        pdu 20000a0001050204006162630000000003: 28000300010502064001; EOF-Recv; disarm inactivity 2; deposit 2
+        65531 times report: Report Storing 3
+        report: refused JournalFull
+        stored 2 yes: 280002000105020502; arm ack 65534 1000
+        timer ack 65534: refused JournalFull
+        abandon: Abandoned 15 3; disarm ack 65535
+        abandon: ended
+        ",
+    ),
+];
+
+#[test]
+fn whole_receptions(rt: HostRuntime) -> Result<(), Fail> {
+    for (title, script) in SCRIPTS {
+        receives(&rt, title, script)?;
+    }
+    Ok(())
 }
 
 // 65 octets, with a gap before each: a NAK asks for 64 of the gaps, and its scope ends with the last of
@@ -238,7 +213,7 @@ fn more_gaps_than_a_nak_asks_for(rt: HostRuntime) -> Result<(), Fail> {
     script.push_str("pdu 20000a0001050204000000000000000082: 28000300010502064001; ")?;
     write_nak(&mut script)?;
     script.push_str("; EOF-Recv; arm nak 66 2000; arm inactivity 66 4000\n")?;
-    receives(&rt, script.as_str())
+    receives(&rt, "more gaps than a NAK asks for", script.as_str())
 }
 
 // The event with a stamp brings the octet at an offset, which is new.
@@ -261,31 +236,12 @@ fn write_nak(script: &mut String) -> Result<(), AllocError> {
     Ok(())
 }
 
-// After 65,534 entries only the file store's answer and Abandon are taken.
-#[test]
-fn a_full_journal(rt: HostRuntime) -> Result<(), Fail> {
-    receives(
-        &rt,
-        "
-        pdu 20000a0001050207000000000301610162: Metadata-Recv 1 3 61 62; arm inactivity 0 4000
-        pdu 3000070001050200000000616263: File-Segment-Recv 0 3; arm inactivity 1 4000
-        pdu 20000a0001050204006162630000000003: 28000300010502064001; EOF-Recv; disarm inactivity 2; deposit 2
-        65531 times report: Report Storing 3
-        report: refused JournalFull
-        stored 2 yes: 280002000105020502; arm ack 65534 1000
-        timer ack 65534: refused JournalFull
-        abandon: Abandoned 15 3; disarm ack 65535
-        abandon: ended
-        ",
-    )
-}
-
 // Metadata of a file that is too large opens nothing.
 #[test]
 fn too_large_a_file(rt: HostRuntime) -> Result<(), Fail> {
+    let params = params(&[], &[])?;
     let pdu = pdu_of(rt.alloc(), "24000a0001050207000040000101610162")?;
-    assert!(rt; ReceiverCore::may_open(RECEIVED, &pdu));
-    let opened = ReceiverCore::open(rt.alloc(), RECEIVED, &pdu, params(&[], &[])?);
+    let opened = reception(rt.alloc(), &pdu, params);
     assert!(rt; matches!(opened, Err(Refusal::TooLarge)));
     Ok(())
 }

@@ -1,33 +1,27 @@
 //! Senders: what follows the Put of a file.
-use crate::ends::{SENT, sends};
+use crate::ends::{request, sending, sends};
 use crate::setting::params;
-use cfdp_types::{Class, EntityId, PutRequest};
-use sender_core::SenderCore;
+use cfdp_types::{Class, Params, PutRequest};
+use std::alloc::Global;
 use std::test::*;
 use txn_events::Refusal;
 
-#[test]
-fn a_file_in_class_one(rt: HostRuntime) -> Result<(), Fail> {
-    sends(
-        &rt,
+// Each with what it is about and its class: the Put of three octets is answered, and this follows.
+const SCRIPTS: &[(&str, Class, &str)] = &[
+    (
+        "a file in class one",
         Class::One,
-        b"abc",
         "
         pump: 24000a0002040107000000000301610162
         pump: 3400070002040100000000616263
         pump: 24000a0002040104006162630000000003; EOF-Sent; Finished 0 Incomplete Unreported
         pump: ended
         ",
-    )
-}
-
-// The EOF that cancels has the checksum and the size of what was sent.
-#[test]
-fn cancelled(rt: HostRuntime) -> Result<(), Fail> {
-    sends(
-        &rt,
+    ),
+    // The EOF that cancels has the checksum and the size of what was sent.
+    (
+        "cancelled",
         Class::Two,
-        b"abc",
         "
         pump: 20000a0002040107000000000301610162
         pump: 3000070002040100000000616263
@@ -38,15 +32,10 @@ fn cancelled(rt: HostRuntime) -> Result<(), Fail> {
         timer ack 4: Finished 15 Incomplete Unreported; disarm ack 5
         cancel: ended
         ",
-    )
-}
-
-#[test]
-fn suspended_and_resumed(rt: HostRuntime) -> Result<(), Fail> {
-    sends(
-        &rt,
+    ),
+    (
+        "suspended and resumed",
         Class::Two,
-        b"abc",
         "
         resume: refused WrongState
         suspend: Suspended 14
@@ -56,16 +45,11 @@ fn suspended_and_resumed(rt: HostRuntime) -> Result<(), Fail> {
         resume: Resumed 0
         pump: 20000a0002040107000000000301610162
         ",
-    )
-}
-
-// A segment is asked for again, and the receiver says that it keeps the file.
-#[test]
-fn a_file_in_class_two(rt: HostRuntime) -> Result<(), Fail> {
-    sends(
-        &rt,
+    ),
+    // A segment is asked for again, and the receiver says that it keeps the file.
+    (
+        "a file in class two",
         Class::Two,
-        b"abc",
         "
         pump: 20000a0002040107000000000301610162
         pump: 3000070002040100000000616263
@@ -77,16 +61,11 @@ fn a_file_in_class_two(rt: HostRuntime) -> Result<(), Fail> {
         pdu 280002000204010502: 20000300020401065102; Finished 0 Complete Retained; disarm inactivity 7
         pump: ended
         ",
-    )
-}
-
-// The EOF is sent again, and then the limit is a fault that cancels.
-#[test]
-fn never_acknowledged(rt: HostRuntime) -> Result<(), Fail> {
-    sends(
-        &rt,
+    ),
+    // The EOF is sent again, and then the limit is a fault that cancels.
+    (
+        "never acknowledged",
         Class::Two,
-        b"abc",
         "
         pump: 20000a0002040107000000000301610162
         pump: 3000070002040100000000616263
@@ -97,16 +76,11 @@ fn never_acknowledged(rt: HostRuntime) -> Result<(), Fail> {
         pdu 28000300020401064011: Finished 1 Incomplete Unreported; disarm ack 6
         pump: ended
         ",
-    )
-}
-
-// An ACK of an EOF that was not sent, a Finished PDU of class 1, and a PDU that goes the wrong way.
-#[test]
-fn what_is_refused(rt: HostRuntime) -> Result<(), Fail> {
-    sends(
-        &rt,
+    ),
+    // An ACK of an EOF that was not sent, a Finished PDU of class 1, and a PDU that goes the wrong way.
+    (
+        "what is refused",
         Class::Two,
-        b"abc",
         "
         pdu 28000300020401064001: refused WrongState
         pdu 2c0002000204010502: refused ModeMismatch
@@ -116,16 +90,11 @@ fn what_is_refused(rt: HostRuntime) -> Result<(), Fail> {
         abandon: Abandoned 15 0
         abandon: ended
         ",
-    )
-}
-
-// After 65,534 entries only Abandon is taken.
-#[test]
-fn a_full_journal(rt: HostRuntime) -> Result<(), Fail> {
-    sends(
-        &rt,
+    ),
+    // After 65,534 entries only Abandon is taken.
+    (
+        "a full journal",
         Class::Two,
-        b"abc",
         "
         65533 times report: Report Active 0
         pump: refused JournalFull
@@ -133,30 +102,39 @@ fn a_full_journal(rt: HostRuntime) -> Result<(), Fail> {
         abandon: Abandoned 15 0
         abandon: ended
         ",
-    )
+    ),
+];
+
+#[test]
+fn whole_sendings(rt: HostRuntime) -> Result<(), Fail> {
+    for (title, class, script) in SCRIPTS {
+        sends(&rt, title, *class, b"abc", script)?;
+    }
+    Ok(())
 }
 
-// A file of the greatest size is taken, and one octet more is too large.
 #[test]
-fn too_large_a_file(rt: HostRuntime) -> Result<(), Fail> {
-    let mut file = vec![in rt.alloc(); 0; 4_194_304]?;
+fn the_greatest_file(rt: HostRuntime) -> Result<(), Fail> {
+    let file = vec![in rt.alloc(); 0; 4_194_304]?;
     sends(
         &rt,
+        "the greatest file",
         Class::One,
         file.as_slice(),
         "pump: 24000a0002040107000040000001610162",
-    )?;
-    file.push(0)?;
-    let request = PutRequest::new(
-        rt.alloc(),
-        EntityId(1),
-        Class::One,
-        b"a",
-        b"b",
-        &[],
-        file.as_slice(),
-    )?;
-    let opened = SenderCore::open(rt.alloc(), SENT, &request, params(&[], &[])?);
-    assert!(rt; matches!(opened, Err(Refusal::TooLarge)));
+    )
+}
+
+#[test]
+fn too_large_a_file(rt: HostRuntime) -> Result<(), Fail> {
+    let params = params(&[], &[])?;
+    let file = vec![in rt.alloc(); 0; 4_194_305]?;
+    let request = request(rt.alloc(), Class::One, file.as_slice())?;
+    assert!(rt; is_too_large(rt.alloc(), &request, params));
     Ok(())
+}
+
+// Whether a Put is refused, since its file is too large.
+fn is_too_large(alloc: Global, request: &PutRequest, params: Params) -> bool {
+    matches!(sending(alloc, request, params), Err(Refusal::TooLarge))
 }
