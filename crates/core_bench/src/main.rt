@@ -3,38 +3,61 @@
 #![tactic(auto)]
 
 mod datagrams;
+mod fault;
 mod receptions;
 mod sendings;
 mod setting;
 mod timers;
 
-use anyhow::{Context, Result, bail};
-use receptions::Order;
+use fault::Fault;
+use receptions::{Coming, Order};
 use sendings::Parts;
 use std::alloc::Global;
 use std::env;
 
-fn main(rt: HostRuntime) -> Result<()> {
-    let mut words = env::args(&rt)?.skip(1);
-    let scenario = words.next().context("usage: core_bench SCENARIO SIZE")?;
-    let size = words.next().context("usage: core_bench SCENARIO SIZE")?;
-    let counted = run(rt.alloc(), scenario.as_str(), size.parse::<u32>()?)?;
-    rt.println(counted)?;
-    Ok(())
+/// What is run.
+#[derive(Clone, Copy)]
+enum Scenario {
+    Receives(Coming),
+    Sends(Parts),
+    Times,
+}
+
+fn main(rt: HostRuntime) -> Result<(), Fault> {
+    let (scenario, size) = wanted(&rt)?;
+    let counted = run(rt.alloc(), scenario, size)?;
+    Ok(rt.println(counted)?)
+}
+
+// The scenario and the size that the program's arguments name.
+fn wanted(rt: &HostRuntime) -> Result<(Scenario, u32), Fault> {
+    let mut words = env::args(rt)?.skip(1);
+    let scenario = words.next().ok_or(Fault::Usage)?;
+    let scenario = scenario_of(scenario.as_str()).ok_or(Fault::Usage)?;
+    let size = words.next().ok_or(Fault::Usage)?;
+    Ok((scenario, size.parse()?))
+}
+
+fn scenario_of(name: &str) -> Option<Scenario> {
+    match name {
+        "eof-last" => Some(Scenario::Receives(Coming::EofLast)),
+        "eof-first-rising" => Some(Scenario::Receives(Coming::EofFirst(Order::Rising))),
+        "eof-first-falling" => Some(Scenario::Receives(Coming::EofFirst(Order::Falling))),
+        "eof-first-mixed" => Some(Scenario::Receives(Coming::EofFirst(Order::Mixed))),
+        "single-octets-falling" => Some(Scenario::Receives(Coming::SingleOctets)),
+        "prompts" => Some(Scenario::Receives(Coming::Prompts)),
+        "naks" => Some(Scenario::Sends(Parts::Segments)),
+        "naks-of-octets" => Some(Scenario::Sends(Parts::Octets)),
+        "timers" => Some(Scenario::Times),
+        _ => None,
+    }
 }
 
 // Runs a scenario, and counts what it gave.
-fn run(alloc: Global, scenario: &str, size: u32) -> Result<u64> {
+fn run(alloc: Global, scenario: Scenario, size: u32) -> Result<u64, Fault> {
     match scenario {
-        "eof-last" => receptions::eof_last(alloc, size),
-        "eof-first-rising" => receptions::eof_first(alloc, size, Order::Rising),
-        "eof-first-falling" => receptions::eof_first(alloc, size, Order::Falling),
-        "eof-first-mixed" => receptions::eof_first(alloc, size, Order::Mixed),
-        "single-octets-falling" => receptions::single_octets_falling(alloc, size),
-        "prompts" => receptions::prompts(alloc, size),
-        "naks" => sendings::naks(alloc, Parts::Segments, size),
-        "naks-of-octets" => sendings::naks(alloc, Parts::Octets, size),
-        "timers" => timers::turns(alloc, size),
-        _ => bail!("there is no scenario {scenario}"),
+        Scenario::Receives(coming) => receptions::receive(alloc, coming, size),
+        Scenario::Sends(parts) => sendings::naks(alloc, parts, size),
+        Scenario::Times => timers::turns(alloc, size),
     }
 }

@@ -1,8 +1,9 @@
 //! Receptions of a file.
 use crate::datagrams::{KEY, eof, file_data, metadata, prompt};
+use crate::fault::Fault;
 use crate::setting::params;
-use anyhow::{Result, anyhow, bail};
 use modular_sum::sum_of;
+use pdu_codec::Pdu;
 use receiver_core::ReceiverCore;
 use std::alloc::Global;
 use txn_events::What;
@@ -33,8 +34,70 @@ impl Order {
     }
 }
 
+/// What comes behind the Metadata of a file of so many parts.
+#[derive(Clone, Copy)]
+pub(crate) enum Coming {
+    /// The segments in order, and the EOF behind them.
+    EofLast,
+    /// The EOF, and the segments in an order.
+    EofFirst(Order),
+    /// One octet at every second offset, the last first.
+    SingleOctets,
+    /// One octet behind each gap of one octet, and a Prompt for a NAK behind each.
+    Prompts,
+}
+
+impl Coming {
+    // The size of the file.
+    fn size(self, count: u32) -> u32 {
+        match self {
+            Coming::EofLast | Coming::EofFirst(_) => count.saturating_mul(SEGMENT),
+            Coming::SingleOctets | Coming::Prompts => count.saturating_mul(2),
+        }
+    }
+
+    // How many PDUs come.
+    fn pdus(self, count: u32) -> u32 {
+        match self {
+            Coming::EofLast | Coming::EofFirst(_) => count.saturating_add(1),
+            Coming::SingleOctets => count,
+            Coming::Prompts => count.saturating_mul(2),
+        }
+    }
+
+    // Whether the whole file comes.
+    fn is_whole(self) -> bool {
+        matches!(self, Coming::EofLast | Coming::EofFirst(_))
+    }
+
+    // The PDU that comes after so many others.
+    fn pdu(self, alloc: Global, file: &[u8], count: u32, number: u32) -> Result<Pdu, Fault> {
+        match self {
+            Coming::EofLast if number < count => segment(alloc, file, number),
+            Coming::EofFirst(order) if number > 0 => {
+                segment(alloc, file, order.place(number - 1, count))
+            }
+            Coming::EofLast | Coming::EofFirst(_) => eof(alloc, sum_of(file), self.size(count)),
+            Coming::SingleOctets => {
+                let place = Order::Falling.place(number, count);
+                file_data(alloc, place.saturating_mul(2), b"a")
+            }
+            Coming::Prompts if number % 2 == 0 => file_data(alloc, number | 1, b"a"),
+            Coming::Prompts => prompt(alloc),
+        }
+    }
+}
+
+// The segment at a place of a file.
+fn segment(alloc: Global, file: &[u8], place: u32) -> Result<Pdu, Fault> {
+    let start = place.saturating_mul(SEGMENT);
+    let from = file.len().min(start as usize);
+    let to = file.len().min(from.saturating_add(SEGMENT as usize));
+    file_data(alloc, start, &file[from..to])
+}
+
 // A file of this size.
-fn file(alloc: Global, size: u32) -> Result<Vec<u8>> {
+fn file_of(alloc: Global, size: u32) -> Result<Vec<u8>, Fault> {
     let mut octets = Vec::with_capacity(alloc, size as usize)?;
     for offset in 0..size {
         octets.push((offset / 7 % 256) as u8)?;
@@ -43,106 +106,42 @@ fn file(alloc: Global, size: u32) -> Result<Vec<u8>> {
 }
 
 // The reception that Metadata opens.
-fn opened(alloc: Global, size: u32) -> Result<ReceiverCore> {
-    let What::Pdu(pdu) = metadata(alloc, size)? else {
-        bail!("Metadata is a PDU");
-    };
+fn opened(alloc: Global, size: u32) -> Result<ReceiverCore, Fault> {
+    let params = params()?;
+    let pdu = metadata(alloc, size)?;
     if !ReceiverCore::may_open(KEY, &pdu) {
-        bail!("Metadata opens a reception");
+        return Err(Fault::Ended);
     }
-    match ReceiverCore::open(alloc, KEY, &pdu, params()?) {
-        Ok((mut core, plan)) => {
-            let _ = core.commit(plan);
-            Ok(core)
-        }
-        Err(refusal) => Err(anyhow!("the reception is refused: {refusal:?}")),
-    }
+    let (mut core, plan) = ReceiverCore::open(alloc, KEY, &pdu, params)?;
+    let _ = core.commit(plan);
+    Ok(core)
 }
 
 // Steps a reception, and answers how many PDUs it sends, and whether it gives the file to its store.
-fn step(core: &mut ReceiverCore, event: &What) -> Result<(u64, bool)> {
+fn step(core: &mut ReceiverCore, event: &What) -> Result<(u64, bool), Fault> {
     if core.has_ended() {
-        bail!("the reception has ended");
+        return Err(Fault::Ended);
     }
-    match core.plan(event) {
-        Ok(plan) => {
-            let answer = core.commit(plan);
-            Ok((
-                answer.pdus.as_slice().len() as u64,
-                answer.deposit.is_some(),
-            ))
-        }
-        Err(refusal) => Err(anyhow!("an event is refused: {refusal:?}")),
-    }
+    let plan = core.plan(event)?;
+    let answer = core.commit(plan);
+    let sent = answer.pdus.as_slice().len() as u64;
+    Ok((sent, answer.deposit.is_some()))
 }
 
-// Receives the segment at a place.
-fn receive(alloc: Global, core: &mut ReceiverCore, octets: &[u8], place: u32) -> Result<bool> {
-    let start = place.saturating_mul(SEGMENT);
-    let from = octets.len().min(start as usize);
-    let to = octets.len().min(from.saturating_add(SEGMENT as usize));
-    let event = file_data(alloc, start, &octets[from..to])?;
-    let (_, is_given) = step(core, &event)?;
-    Ok(is_given)
-}
-
-/// A file of so many segments in order, and its EOF behind them.
-pub(crate) fn eof_last(alloc: Global, count: u32) -> Result<u64> {
-    let size = count.saturating_mul(SEGMENT);
-    let octets = file(alloc, size)?;
-    let mut core = opened(alloc, size)?;
-    for place in 0..count {
-        receive(alloc, &mut core, octets.as_slice(), place)?;
+/// Receives what comes of a file, and counts the PDUs that are sent.
+pub(crate) fn receive(alloc: Global, coming: Coming, count: u32) -> Result<u64, Fault> {
+    let file = file_of(alloc, coming.size(count))?;
+    let mut core = opened(alloc, coming.size(count))?;
+    let (mut sent, mut is_given) = (0u64, false);
+    for number in 0..coming.pdus(count) {
+        let pdu = coming.pdu(alloc, file.as_slice(), count, number)?;
+        let stepped = step(&mut core, &What::Pdu(pdu))?;
+        sent = sent.saturating_add(stepped.0);
+        is_given = stepped.1;
     }
-    let (pdus, is_given) = step(&mut core, &eof(alloc, sum_of(octets.as_slice()), size)?)?;
-    if !is_given {
-        bail!("the file is whole and is not given to the store");
+    if is_given == coming.is_whole() {
+        Ok(sent)
+    } else {
+        Err(Fault::NotGiven)
     }
-    Ok(pdus)
-}
-
-/// The EOF of a file, and so many segments behind it in an order.
-pub(crate) fn eof_first(alloc: Global, count: u32, order: Order) -> Result<u64> {
-    let size = count.saturating_mul(SEGMENT);
-    let octets = file(alloc, size)?;
-    let mut core = opened(alloc, size)?;
-    let (pdus, _) = step(&mut core, &eof(alloc, sum_of(octets.as_slice()), size)?)?;
-    let mut is_given = false;
-    for number in 0..count {
-        is_given = receive(
-            alloc,
-            &mut core,
-            octets.as_slice(),
-            order.place(number, count),
-        )?;
-    }
-    if !is_given {
-        bail!("the file is whole and is not given to the store");
-    }
-    Ok(pdus)
-}
-
-/// So many segments of one octet at every second offset, the last first.
-pub(crate) fn single_octets_falling(alloc: Global, count: u32) -> Result<u64> {
-    let mut core = opened(alloc, count.saturating_mul(2))?;
-    let mut pdus = 0u64;
-    for number in 0..count {
-        let offset = (count - 1 - number).saturating_mul(2);
-        let (sent, _) = step(&mut core, &file_data(alloc, offset, b"a")?)?;
-        pdus = sent.saturating_add(pdus);
-    }
-    Ok(pdus)
-}
-
-/// A Prompt for a NAK at each of so many gaps.
-pub(crate) fn prompts(alloc: Global, count: u32) -> Result<u64> {
-    let mut core = opened(alloc, count.saturating_mul(2))?;
-    let mut pdus = 0u64;
-    for number in 0..count {
-        let offset = number.saturating_mul(2).saturating_add(1);
-        step(&mut core, &file_data(alloc, offset, b"a")?)?;
-        let (sent, _) = step(&mut core, &prompt(alloc)?)?;
-        pdus = sent.saturating_add(pdus);
-    }
-    Ok(pdus)
 }

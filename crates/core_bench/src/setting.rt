@@ -1,16 +1,21 @@
 //! What the measured transactions go by.
-use anyhow::{Context, Result, anyhow};
+use crate::fault::Fault;
 use cfdp_types::{
-    EntityId, ExpirationLimits, FaultTable, FaultTables, HeaderLengths, Params, Role, TimerLengths,
+    EntityId, ExpirationLimits, FaultTable, FaultTables, HandlerNotAllowed, HeaderLengths, Params,
+    Role, TimerLengths,
 };
 
-/// Parts of 256 octets, and limits that no run reaches.
-pub(crate) fn params() -> Result<Params> {
-    let tables = FaultTables {
-        send: cancelling(Role::Send)?,
-        receive_one: cancelling(Role::RecvOne)?,
-        receive_two: cancelling(Role::RecvTwo)?,
-    };
+// Tables that cancel at each fault.
+fn tables() -> Result<FaultTables, HandlerNotAllowed> {
+    Ok(FaultTables {
+        send: FaultTable::new(Role::Send, &[])?,
+        receive_one: FaultTable::new(Role::RecvOne, &[])?,
+        receive_two: FaultTable::new(Role::RecvTwo, &[])?,
+    })
+}
+
+/// Parts of 256 octets, limits that no run reaches, and each fault cancels.
+pub(crate) fn params() -> Result<Params, Fault> {
     let lengths = HeaderLengths {
         entity_octets: 1,
         sequence_octets: 1,
@@ -26,15 +31,5 @@ pub(crate) fn params() -> Result<Params> {
         nak: 2,
         check: 2,
     };
-    Params::new(EntityId(1), lengths, 256, timers, limits, tables).context(
-        "the parameters are in range",
-    )
-}
-
-// The table of a role that cancels at every fault.
-fn cancelling(role: Role) -> Result<FaultTable> {
-    match FaultTable::new(role, &[]) {
-        Ok(table) => Ok(table),
-        Err(_) => Err(anyhow!("no handler is refused")),
-    }
+    Params::new(EntityId(1), lengths, 256, timers, limits, tables()?).ok_or(Fault::BadSetting)
 }

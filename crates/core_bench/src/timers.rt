@@ -1,5 +1,5 @@
 //! Timers that are armed again and again.
-use anyhow::Result;
+use crate::fault::Fault;
 use cfdp_types::{EntityId, TimerKind, TimerOp, TxnKey};
 use std::alloc::Global;
 use timer_list::TimerList;
@@ -9,7 +9,7 @@ const TURNS: u32 = 100;
 
 /// So many armed timers; in each turn each tenth is armed again, and the list is asked what is due. At the
 /// end some are taken out.
-pub(crate) fn turns(alloc: Global, count: u32) -> Result<u64> {
+pub(crate) fn turns(alloc: Global, count: u32) -> Result<u64, Fault> {
     let mut timers = TimerList::new(alloc);
     for seq in 0..count {
         timers.apply(arming(seq, 0), 0)?;
@@ -19,16 +19,17 @@ pub(crate) fn turns(alloc: Global, count: u32) -> Result<u64> {
         for seq in (turn % 10..count).step_by(10) {
             timers.apply(arming(seq, turn), u64::from(turn))?;
         }
-        if timers.due(u64::from(turn)).is_some() {
-            due = due.saturating_add(1);
-        }
+        due = due.saturating_add(taken(&mut timers, u64::from(turn)));
     }
     for _ in 0..TURNS {
-        if timers.due(u64::MAX).is_some() {
-            due = due.saturating_add(1);
-        }
+        due = due.saturating_add(taken(&mut timers, u64::MAX));
     }
     Ok(due)
+}
+
+// How many timers are taken out where one that is due is asked for.
+fn taken(timers: &mut TimerList, now: u64) -> u64 {
+    u64::from(timers.due(now).is_some())
 }
 
 // The arming of a transaction's timer by a step.
