@@ -1,5 +1,5 @@
-//! The public calls of the crates that hold types, numbers, sets, PDUs, words, timers, configurations and stores:
-//! each as its callers see it.
+//! The public calls of the crates that hold types, numbers, sets, PDUs, words, timers, configurations, stores and
+//! scripts: each as its callers see it.
 #![tactic(auto)]
 
 #[cfg(test)]
@@ -12,6 +12,8 @@ mod events;
 mod gaps;
 #[cfg(test)]
 mod headers;
+#[cfg(test)]
+mod lines;
 #[cfg(test)]
 mod pdus;
 #[cfg(test)]

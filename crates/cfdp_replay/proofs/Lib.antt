@@ -5,3 +5,4 @@ pub mod SessionFacts
 pub mod RunFacts
 pub mod SoundFacts
 pub mod LimitFacts
+pub mod Rows

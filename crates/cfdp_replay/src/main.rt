@@ -3,24 +3,16 @@
 #![tactic(auto)]
 
 mod command;
-mod ending;
 pub mod laws;
 mod queue;
-#[cfg(test)]
-mod reader_tests;
 mod replay;
 mod reply;
-#[cfg(test)]
-mod script_tests;
-#[cfg(test)]
-mod tests;
 mod text;
 mod words;
 mod world;
 
-use ending::conclude;
 use replay::replay;
-use script_io::{BLOCK_OCTETS, ReplayFault};
+use script_io::{BLOCK_OCTETS, ReplayFault, conclude};
 use std::io;
 use std::io::{BufWriter, Write};
 use std::process::ExitCode;

@@ -1,7 +1,7 @@
 //! How a run ends.
 ghost use Rattle.std.specs.Prelude.{◌≡◌, is_ok, if◌then◌else◌};
 
-use script_io::ReplayFault;
+use crate::fault::ReplayFault;
 use std::io::Write;
 
 /// Says why a run ended, and answers the exit status. A bad line is an answer, and goes where the
