@@ -58,6 +58,7 @@ fn keeps<R: Files + AllocGlobal + Abort, S: Files + AllocGlobal + Drop>(
     name: &str,
     octets: &[u8],
 ) -> Result<(), Fail> {
+    // a deposit asks that its call can be counted
     assert!(rt; store.calls() < 4);
     assert!(rt; store.deposit(name.as_bytes(), octets).is_ok());
     let path = format!(in rt.alloc(); "{folder}/{name}")?;
