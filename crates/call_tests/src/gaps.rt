@@ -86,21 +86,22 @@ fn parts_in_room(rt: HostRuntime) -> Result<(), Fail> {
     gaps.add(10, 12);
     gaps.remove(3, 5);
     assert!(rt; lacks(&gaps, 12, &[run(0, 2), run(3, 5), run(8, 10)])?);
-    assert!(rt; tells_its_parts(&gaps)?);
+    assert!(rt; would_add(&gaps, 6, 11, &[run(8, 10)])?);
+    assert!(rt; lacks_first(&gaps, 2, &[run(0, 2), run(3, 5)])?);
+    assert!(rt; gaps.is_free(8, 10) && !gaps.is_free(8, 11) && !gaps.is_free(7, 8));
     Ok(())
 }
 
-// What is found among the runs from 2 to 2, 5 to 7 and 10 to 11.
-fn tells_its_parts(gaps: &Gaps) -> Result<bool, AllocError> {
-    let new = gaps.new_within(6, 11)?;
-    let first = gaps.missing_first(12, 2)?;
-    Ok(
-        new.as_slice() == [run(8, 10)].as_slice()
-            && first.as_slice() == [run(0, 2), run(3, 5)].as_slice()
-            && gaps.is_free(8, 10)
-            && !gaps.is_free(8, 11)
-            && !gaps.is_free(7, 8),
-    )
+// Whether a range would add just these runs.
+fn would_add(gaps: &Gaps, start: u32, end: u32, new: &[Run]) -> Result<bool, AllocError> {
+    let found = gaps.new_within(start, end)?;
+    Ok(found.as_slice() == new)
+}
+
+// Whether these are the first so many runs that are missing below 12.
+fn lacks_first(gaps: &Gaps, count: usize, runs: &[Run]) -> Result<bool, AllocError> {
+    let missing = gaps.missing_first(12, count)?;
+    Ok(missing.as_slice() == runs)
 }
 
 #[test]
