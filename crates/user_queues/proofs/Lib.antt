@@ -1,1 +1,3 @@
 pub mod QueueFacts
+pub mod OpeningFacts
+pub mod EndedLists

@@ -1,2 +1,5 @@
 pub mod Queue
 pub mod Standing
+pub mod Shared
+pub mod SharedStanding
+pub mod Opened

@@ -1,12 +1,18 @@
-//! Users' queues of bundles, which a user's lanes put into and the user takes from: today that of one
-//! thread.
+//! Users' queues of bundles, which a user's lanes put into and the user takes from: that of one thread, and
+//! those that threads share.
 #![tactic(auto)]
 
+mod lane_outlet;
 mod list_outlet;
 mod list_queue;
+mod queues;
+mod user_port;
 
+pub use lane_outlet::LaneOutlet;
 pub use list_outlet::ListOutlet;
 pub use list_queue::ListQueue;
+pub use queues::{Queues, UserQueue, open};
+pub use user_port::UserPort;
 
 #[cfg(test)]
 mod tests;

@@ -8,6 +8,8 @@ use indications::{Bundle, Indication, Indications, Outlet};
 use std::alloc::{AllocError, Global};
 use std::test::*;
 
+mod shared;
+
 const USER: usize = 3;
 
 fn bundle_of(alloc: Global, lane: usize) -> Result<Bundle, AllocError>

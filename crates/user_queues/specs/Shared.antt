@@ -1,0 +1,30 @@
+-- The ends of a queue that threads share: which queue it is, and what the end knows of it.
+use Rattle.std.specs.Prelude.{◌≡◌, ℕ, []}
+use Rattle.atomic_table.specs.Seated.{TableId}
+use Rattle.crossbeam_queue.specs.Passes.{Pass, view}
+use Rattle.indications.specs.declared.bundle.Bundle.{Bundle}
+use Rattle.queue_rule.specs.Views.{outlet_in, port_in}
+use Rattle.queue_rule.specs.declared.view.OutletView.{OutletView}
+use Rattle.queue_rule.specs.declared.view.PortView.{PortView}
+use Rattle.queue_rule.specs.declared.view.View.{View}
+
+-- an outlet: its queue, whose lane it is, and what the lane sent
+pub record OutletEnd : Type 0 where
+  pub queue : TableId
+  pub knows : OutletView
+
+-- a port: its queue, whose it is, and what was taken
+pub record PortEnd : Type 0 where
+  pub queue : TableId
+  pub knows : PortView
+
+-- what an end knows, by its pass
+abbrev pub outlet_end : Pass Bundle View → OutletEnd
+outlet_end pass = record { queue = pass.table_id; knows = outlet_in (view pass) }
+
+abbrev pub port_end : Pass Bundle View → PortEnd
+port_end pass = record { queue = pass.table_id; knows = port_in (view pass) }
+
+-- the outlet is of this lane of the first user, and sent nothing yet
+abbrev pub IsFreshLane : OutletEnd → ℕ → Type 0
+IsFreshLane outlet lane = (outlet.knows.user ≡ 0) × (outlet.knows.lane ≡ lane) × (outlet.knows.sent ≡ [])

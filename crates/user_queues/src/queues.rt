@@ -1,0 +1,66 @@
+//! How the queues of all users are opened.
+ghost use Rattle.std.specs.Prelude.{◌≡◌, ◌<◌, ℕ, Some, IfOk, length, slice_get, slice_index, vec_len};
+ghost use Rattle.user_queues.specs.Opened.{IsOpenedFor};
+
+use crate::lane_outlet::LaneOutlet;
+use crate::user_port::UserPort;
+use queue_rule::{next_lane, open_port};
+use std::alloc::{AllocError, Global};
+use std::sync::{Arc, Wait};
+
+/// The ends of a user's queue, which threads share.
+#[derive(Drop)]
+pub struct UserQueue<R: Copy> {
+    pub port: UserPort,
+    /// Those of the user's lanes, in order.
+    pub outlets: Vec<LaneOutlet<R>>,
+}
+
+/// The queues of all users, in order.
+#[derive(Drop)]
+pub struct Queues<R: Copy> {
+    pub users: Vec<UserQueue<R>>,
+}
+
+/// Opens a queue for each user, with so many lanes, and room for so many bundles.
+pub fn open<R: Wait + Copy>(
+    rt: R,
+    alloc: Global,
+    lanes: &[usize],
+    capacity: usize,
+) -> Result<Queues<R>, AllocError>
+    requires { 0 < capacity }
+    ensures users { IfOk result (λ queues. vec_len queues.users ≡ length lanes.now) }
+    ensures opened { IfOk result (λ queues. (user : ℕ) (ends : _) → slice_get queues.users.items user ≡ Some ends
+        → IsOpenedFor user (slice_index lanes.now user) capacity ends.port ends.outlets.items) }
+{
+    let mut users = Vec::with_capacity(alloc, lanes.len())?;
+    for (user, count) in lanes.iter().enumerate() {
+        users.push(open_user(rt, alloc, user, *count, capacity)?)?;
+    }
+    Ok(Queues { users })
+}
+
+// Opens the queue of a user.
+fn open_user<R: Wait + Copy>(
+    rt: R,
+    alloc: Global,
+    user: usize,
+    lanes: usize,
+    capacity: usize,
+) -> Result<UserQueue<R>, AllocError>
+    requires { 0 < capacity }
+    ensures { IfOk result (λ ends. IsOpenedFor user lanes capacity ends.port ends.outlets.items) }
+{
+    let (queue, mut first) = queue_rule::open(alloc, capacity)?;
+    let mut pass = open_port(&queue, &mut first, user);
+    let queue = Arc::new(alloc, queue)?;
+    let mut outlets = Vec::with_capacity(alloc, lanes)?;
+    for lane in 0..lanes {
+        let outlet = next_lane(&queue, &mut pass);
+        let shared = Arc::try_clone(&queue)?;
+        outlets.push(LaneOutlet::new(rt, shared, outlet, user, lane))?;
+    }
+    let port = UserPort::new(queue, pass, user);
+    Ok(UserQueue { port, outlets })
+}
