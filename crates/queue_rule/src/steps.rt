@@ -2,7 +2,7 @@
 ghost use Rattle.std.specs.Prelude.{◌≡◌, ◌<◌, [], IfErr, IfOk, OnOk, OnErr, IfSome, IfNone, ◌++◌, ◌∷◌};
 ghost use Rattle.crossbeam_queue.specs.Passes.{view, IsPassOf, IsSamePass, ruled_capacity};
 ghost use Rattle.queue_rule.specs.Passes.{IsOutletOf, IsPortOf};
-ghost use Rattle.queue_rule.specs.declared.view.View.TheVariants.{Origin};
+ghost use Rattle.queue_rule.specs.declared.view.View.TheVariants.{Origin, Outlet};
 ghost use Rattle.queue_rule.specs.Views.{outlet_in, port_in, with_sent, with_taken, with_lane, with_known, new_port, next_outlet};
 ghost use Rattle.queue_rule.specs.Views.{IsSomeLaneList, IsTakenInOrder, IsWholeWith};
 
@@ -97,7 +97,7 @@ pub fn next_lane(queue: &SharedQueue, pass: &mut QueuePass) -> QueuePass
 /// Takes the outlet of a lane back.
 pub fn admit(queue: &SharedQueue, pass: &mut QueuePass, outlet: QueuePass)
     requires port { IsPortOf queue.now pass.old }
-    requires outlet { IsOutletOf queue.now outlet }
+    requires outlet { IsPassOf queue.now outlet × (view outlet ≡ Outlet (outlet_in (view outlet))) }
     ensures port { IsPortOf queue.now pass.new }
     ensures same_pass { IsSamePass pass.old pass.new }
     ensures known { port_in (view pass.new) ≡ with_known (port_in (view pass.old)) (outlet_in (view outlet)) }

@@ -1,3 +1,4 @@
 pub mod QueueFacts
 pub mod OpeningFacts
 pub mod EndedLists
+pub mod MarkFacts

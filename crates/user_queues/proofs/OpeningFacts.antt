@@ -68,14 +68,19 @@ only_one {A} all (y ∷ rest) x one made = absurd (omega (arith, one, ap length 
 
 -- the two outlets of two lanes, the last one first
 pub two_outlets : (queue : TableId) (room : ℕ) (all one none : List OutletEnd) (first second : OutletEnd) → all ≡ fresh_outlets queue 0 room 2
-    → all ≡ one ++ second ∷ [] → one ≡ none ++ first ∷ [] → IsFreshLane first 0 × IsFreshLane second 1
+    → all ≡ one ++ second ∷ [] → one ≡ none ++ first ∷ []
+    → (IsFreshLane first 0 × IsFreshLane second 1) × (first.queue ≡ queue) × (second.queue ≡ queue)
 two_outlets queue room all one [] first second is last before =
     let both : first ∷ second ∷ [] ≡ fresh_outlet queue 0 room 0 ∷ fresh_outlet queue 0 room 1 ∷ [] =
     ap (λ (l : List OutletEnd). l ++ second ∷ []) (sym before) ∙ sym last ∙ is in
     let one_is : first ≡ fresh_outlet queue 0 room 0 = cc in
     let two_is : second ≡ fresh_outlet queue 0 room 1 = cc in (
-      (ap (λ (o : OutletEnd). o.knows.user) one_is, ap (λ (o : OutletEnd). o.knows.lane) one_is, ap (λ (o : OutletEnd). o.knows.sent) one_is),
-      (ap (λ (o : OutletEnd). o.knows.user) two_is, ap (λ (o : OutletEnd). o.knows.lane) two_is, ap (λ (o : OutletEnd). o.knows.sent) two_is),
+      (
+        (ap (λ (o : OutletEnd). o.knows.user) one_is, ap (λ (o : OutletEnd). o.knows.lane) one_is, ap (λ (o : OutletEnd). o.knows.sent) one_is),
+        (ap (λ (o : OutletEnd). o.knows.user) two_is, ap (λ (o : OutletEnd). o.knows.lane) two_is, ap (λ (o : OutletEnd). o.knows.sent) two_is),
+      ),
+      ap (λ (o : OutletEnd). o.queue) one_is,
+      ap (λ (o : OutletEnd). o.queue) two_is,
     )
 two_outlets queue room all one (x ∷ xs) first second is last before =
     let long : length all ≡ 2 = ap length is in

@@ -1,5 +1,5 @@
 -- The ends of a queue that threads share: which queue it is, and what the end knows of it.
-use Rattle.std.specs.Prelude.{◌≡◌, ℕ, []}
+use Rattle.std.specs.Prelude.{◌≡◌, ℕ, Bool, List, [], map, Option, is_some}
 use Rattle.atomic_table.specs.Seated.{TableId}
 use Rattle.crossbeam_queue.specs.Passes.{Pass, view}
 use Rattle.indications.specs.declared.bundle.Bundle.{Bundle}
@@ -24,6 +24,14 @@ outlet_end pass = record { queue = pass.table_id; knows = outlet_in (view pass) 
 
 abbrev pub port_end : Pass Bundle View → PortEnd
 port_end pass = record { queue = pass.table_id; knows = port_in (view pass) }
+
+-- all that the lane sent is known
+abbrev pub is_admitted : Option (List Bundle) → Bool
+is_admitted known = is_some known
+
+-- of which lanes
+abbrev pub admitted_in : PortView → List Bool
+admitted_in port = map is_admitted port.known
 
 -- the outlet is of this lane of the first user, and sent nothing yet
 abbrev pub IsFreshLane : OutletEnd → ℕ → Type 0

@@ -30,9 +30,11 @@ impl<R: Copy> Model for LaneOutlet<R> {
 }
 
 impl<R: Copy> LaneOutlet<R> {
-    ghost use Rattle.std.specs.Prelude.{◌≡◌};
+    ghost use Rattle.std.specs.Prelude.{◌≡◌, []};
     ghost use Rattle.std.specs.Arc.{arc_value};
+    ghost use Rattle.crossbeam_queue.specs.Passes.{view};
     ghost use Rattle.queue_rule.specs.Passes.{IsOutletOf};
+    ghost use Rattle.queue_rule.specs.declared.view.View.TheVariants.{Outlet};
     ghost use Rattle.user_queues.specs.Shared.{outlet_end};
 
     pub(crate) fn new(
@@ -54,6 +56,15 @@ impl<R: Copy> LaneOutlet<R> {
             user,
             lane,
         }
+    }
+
+    pub(crate) fn into_pass(self) -> QueuePass
+        ensures end { outlet_end result ≡ self }
+        ensures outlet { view result ≡ Outlet self.knows }
+        ensures slots { result.me.1 ≡ [] }
+    {
+        let LaneOutlet { pass, .. } = self;
+        pass
     }
 
     /// The number of the user.

@@ -56,11 +56,13 @@ fn open_user<R: Wait + Copy>(
     let mut pass = open_port(&queue, &mut first, user);
     let queue = Arc::new(alloc, queue)?;
     let mut outlets = Vec::with_capacity(alloc, lanes)?;
+    let mut admitted = Vec::with_capacity(alloc, lanes)?;
     for lane in 0..lanes {
         let outlet = next_lane(&queue, &mut pass);
         let shared = Arc::try_clone(&queue)?;
         outlets.push(LaneOutlet::new(rt, shared, outlet, user, lane))?;
+        admitted.push(false)?;
     }
-    let port = UserPort::new(queue, pass, user);
+    let port = UserPort::new(queue, pass, user, admitted);
     Ok(UserQueue { port, outlets })
 }

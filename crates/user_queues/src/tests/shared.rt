@@ -101,7 +101,8 @@ fn ends_of_two<R: Wait + Copy>(
     rt: R,
     alloc: Global,
 ) -> Result<Option<(UserPort, LaneOutlet<R>, LaneOutlet<R>)>, AllocError>
-    ensures { IfOk result (λ ends. IfSome ends (λ e. IsFreshLane e.1 0 × IsFreshLane e.2 1)) }
+    ensures { IfOk result (λ ends. IfSome ends
+        (λ e. (IsFreshLane e.1 0 × IsFreshLane e.2 1) × (e.1.queue ≡ e.0.queue) × (e.2.queue ≡ e.0.queue))) }
 {
     let mut queues = open(rt, alloc, &[2], 4)?;
     let Some(UserQueue { port, mut outlets }) = queues.users.pop() else {
@@ -144,5 +145,18 @@ fn two_producers(rt: HostRuntime) -> Result<(), Fail> {
         || consume(&rt, &mut port),
     );
     assert!(rt; one? && two? && all);
+    Ok(())
+}
+
+#[test]
+fn given_back(rt: HostRuntime) -> Result<(), Fail> {
+    let Some((mut port, first, second)) = ends_of_two(rt, rt.alloc())? else {
+        panic!(rt; "no ends");
+    };
+    port.admit(second);
+    assert!(rt; !port.is_complete(), "the first is out");
+    port.admit(first);
+    assert!(rt; port.is_complete());
+    assert!(rt; port.take(&rt).is_none());
     Ok(())
 }

@@ -3,6 +3,7 @@ use Rattle.std.specs.Arc.{arc_value}
 use Rattle.crossbeam_queue.specs.Passes.{view}
 use Rattle.queue_rule.specs.Views.{outlet_in, port_in}
 use Rattle.queue_rule.specs.Passes.{IsPortOf, IsOutletOf}
+use Rattle.user_queues.proofs.MarkFacts.{one_mark_more}
 use Rattle.user_queues.proofs.OpeningFacts.{is_next, one_lane_more, one_outlet_more}
 use Rattle.user_queues.proofs.queues.open_user.Goals as goal
 
@@ -25,4 +26,6 @@ loop-lane-preserved g c =
           c.loop-lane.invariant.port (ap (λ e. e.knows) end ∙ made.new)
           (ap (λ e. e.queue) end ∙ (outlet.of_queue.0 ∙ sym port.of_queue.0)) made.same_pass.0
           c.loop-lane.invariant.outlets c.in_ok-push.ensures.items;
+      admitted = one_mark_more c.loop-lane.admitted.items c.push-in-loop-lane.new.self.items (port_in (view c.loop-lane.pass))
+          (port_in (view c.next_lane-outlet.new.pass)) c.loop-lane.invariant.admitted made.lane c.in_ok-push-2.ensures.items;
     }
