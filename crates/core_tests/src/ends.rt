@@ -98,8 +98,8 @@ impl End {
     }
 }
 
-// A line of a script: how often, which event, and the answer.
-fn row_of(line: &str) -> Result<(u32, &str, &str), Fail> {
+/// A line of a script: how often, which event, and the answer.
+pub(crate) fn row_of(line: &str) -> Result<(u32, &str, &str), Fail> {
     let (event, answer) = line.split_once(": ").ok_or("an event is answered")?;
     let answer = if answer == "nothing" { "" } else { answer };
     match event.split_once(" times ") {

@@ -1,11 +1,15 @@
-//! Worked transactions, run through the code of the cores: what each event is answered, with the octets
-//! that are sent. Their values are worked out by hand from the tables.
+//! Worked transactions, run through the code of the cores and through lanes with their user's queue: what
+//! each event is answered, with the octets that are sent. Their values are worked out by hand from the tables.
 #![tactic(auto)]
 
+#[cfg(test)]
+mod desk;
 #[cfg(test)]
 mod ends;
 #[cfg(test)]
 mod events;
+#[cfg(test)]
+mod lanes;
 #[cfg(test)]
 mod reception_faults;
 #[cfg(test)]

@@ -1,11 +1,12 @@
 //! What an event is answered, as a text: the PDUs in hex, the indications, what is done with the timers
 //! and the stamp of the deposit, with semicolons between; or why it is refused.
 use cfdp_types::{Condition, Deposit, Image, Octets, TimerKind, TimerOp, TxnKey};
-use indications::Indication;
+use indications::{Bundle, Indication};
 use pdu_codec::encode;
 use pdu_values::Pdu;
 use std::alloc::{AllocError, Global};
 use txn_events::{Answer, Refusal};
+use txn_lane::Refused;
 
 /// The text of a refusal.
 pub(crate) fn refused(alloc: Global, refusal: Refusal) -> Result<String, AllocError> {
@@ -41,6 +42,28 @@ pub(crate) fn answer_text(
         let stamp = deposit.stamp;
         write!(text, "deposit {stamp}")?;
         push_owner(&mut text, key, deposit.key)?;
+    }
+    Ok(text)
+}
+
+/// The text of a bundle: the key of its transaction, and what it tells.
+pub(crate) fn bundle_text(alloc: Global, bundle: &Bundle) -> Result<String, AllocError> {
+    let mut text = String::new(alloc);
+    let source = bundle.key.source.0;
+    let seq = bundle.key.seq;
+    write!(text, "{source} {seq}")?;
+    push_indications(alloc, &mut text, bundle.inds.as_slice())?;
+    Ok(text)
+}
+
+/// The text of a refusal, with its echo.
+pub(crate) fn refused_by_lane(alloc: Global, refused: &Refused) -> Result<String, AllocError> {
+    let why = refused.why;
+    let mut text = String::new(alloc);
+    write!(text, "refused {why:?}")?;
+    if let Some(echo) = &refused.echo {
+        text.push_str("; echo ")?;
+        push_pdu(alloc, &mut text, echo)?;
     }
     Ok(text)
 }

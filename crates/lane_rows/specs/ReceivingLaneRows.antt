@@ -111,7 +111,8 @@ prompt_opens_not = refl
 pub report_opens_not : refusal_at fresh (on 5 what.Report) ≡ plain refusal.NoTransaction
 report_opens_not = refl
 
-pub put_opens_not : refusal_at fresh (Put (put_value Two abc) reference) ≡ plain refusal.NoTransaction
+-- a Put has no place here
+pub put_opens_not : refusal_at fresh (Put (put_value Two abc) reference) ≡ plain refusal.WrongState
 put_opens_not = refl
 
 -- Metadata of a file that is too large
@@ -133,6 +134,11 @@ running class = after fresh (metadata class 5 ∷ [])
 pub higher_is_busy : refusal_at (running One) (metadata One 7) ≡ plain refusal.LaneBusy
 unfolding initial step state_of runs_of runs_from
 higher_is_busy = refl
+
+-- so has a Put
+pub put_is_busy : refusal_at (running One) (Put (put_value Two abc) reference) ≡ plain refusal.LaneBusy
+unfolding initial step state_of runs_of runs_from
+put_is_busy = refl
 
 -- also where its file is too large
 pub higher_is_busy_before_too_large : refusal_at (running One) (pdu One 7 (body.Metadata (metadata_value 0 4194305))) ≡ plain refusal.LaneBusy

@@ -2,3 +2,5 @@ pub mod LogFacts
 pub mod SentFacts
 pub mod StepFacts
 pub mod RunFacts
+pub mod IssuedFacts
+pub mod NumberFacts

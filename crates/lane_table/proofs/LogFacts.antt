@@ -1,9 +1,11 @@
 -- What holds of logs of both ends: one event more, and the words that they tell.
-use Rattle.std.proofs.Common.{◌≡◌, Bool, true, false, List, [], ◌∷◌, ◌++◌, map, Option, Some, None, if◌then◌else◌, refl, sym, ap, ◌∙◌, subst}
+use Rattle.std.proofs.Common.{◌≡◌, ℕ, Bool, true, false, List, [], ◌∷◌, ◌++◌, map, Option, Some, None, Ok, Err, if◌then◌else◌, refl, sym, ap, ◌∙◌, subst}
 use Rattle.std.proofs.lemmas.Bool.{false≢true}
 use Rattle.std.proofs.lemmas.List.{map-append}
 use Rattle.cfdp_types.specs.declared.key.TxnKey.{TxnKey}
 use Rattle.txn_events.specs.Refusal.{unless_refused}
+use Rattle.txn_events.specs.declared.answer.Answer.{Answer}
+use Rattle.txn_events.specs.declared.refusal.Refusal.{Refusal}
 use Rattle.txn_events.specs.declared.event.What.{What}
 use Rattle.txn_events.specs.declared.event.What.TheVariants as what
 use Rattle.indications.specs.declared.indication.Indication.{Indication}
@@ -27,7 +29,11 @@ use Rattle.txn_events.specs.declared.event.Event.{Event}
 use Rattle.txn_events.specs.declared.event.Event.TheVariants.{Put, On}
 use Rattle.lane_table.specs.declared.lane_side.LaneSide.{LaneSide}
 use Rattle.lane_table.specs.declared.lane_side.LaneSide.TheVariants.{Sending, Receiving}
-use Rattle.lane_table.specs.Logs.{Transaction, sends, receives, Log, sent, received, body_opens, opened_by, to_sender, to_receiver, log_by, issued, has_ended, IsLegal, refused_behind, last_answer}
+use Rattle.std.specs.Option.{option_map}
+use Rattle.cfdp_types.specs.declared.key.EntityId.{EntityId}
+use Rattle.lane_table.specs.Keeping.{IsOfSide}
+use Rattle.lane_table.specs.Lane.{key_at, log_from}
+use Rattle.lane_table.specs.Logs.{Transaction, sends, receives, Log, sent, received, body_opens, IsOfKey, answered_behind, extended, opened_by, end_of, side_of, to_sender, to_receiver, log_by, issued, has_ended, IsLegal, refused_behind, last_answer}
 use Rattle.txn_events.proofs.AnswerLemmas.{log_after-append, log_after-rest}
 use Rattle.lane_table.specs.LaneLaws.{TellsWords}
 
@@ -85,6 +91,50 @@ legal_with (received reception log) (On key event) legal goes place taken =
     (goes, place, ap (λ why. unless_refused why (receiver_answers.accepted_at reception (receiver.state_of log) event)) taken, legal)
 legal_with (received reception log) (Put request params) legal goes place taken = absurd place
 
+-- ---- an event that its end answers
+
+accepted_is : (why : Option Refusal) (answer given : Answer) → unless_refused why answer ≡ Ok given → (why ≡ None) × (answer ≡ given)
+accepted_is None answer given e = (refl, cc)
+accepted_is (Some r) answer given e = absurd cc
+
+refused_is : (why : Option Refusal) (answer : Answer) (r : Refusal) → unless_refused why answer ≡ Err r → why ≡ Some r
+refused_is None answer r e = absurd cc
+refused_is (Some w) answer r e = cc
+
+-- it is not refused
+pub taken_behind : (log : Log) (event : Event) (answer : Answer) → answered_behind log event ≡ Ok answer → refused_behind log event ≡ None
+unfolding answer_at receiver_answers.answer_at
+taken_behind (sent sending log) event answer is = (accepted_is _ _ answer is).0
+taken_behind (received reception log) (On key event) answer is = (accepted_is _ _ answer is).0
+taken_behind (received reception log) (Put request params) answer is = absurd cc
+
+-- one that it does not answer is refused so
+pub refused_so : (log : Log) (event : Event) (why : Refusal) → answered_behind log event ≡ Err why → refused_behind log event ≡ Some why
+unfolding answer_at receiver_answers.answer_at
+refused_so (sent sending log) event why is = refused_is _ _ why is
+refused_so (received reception log) (On key event) why is = refused_is _ _ why is
+refused_so (received reception log) (Put request params) why is = cc
+
+-- the log with it
+pub with_answer : (log : Log) (event : Event) (answer : Answer) → answered_behind log event ≡ Ok answer → log_with log event ≡ extended log event answer
+unfolding answer_at receiver_answers.answer_at
+with_answer (sent sending log) event answer is =
+    ap (λ given. sent sending (record { event = to_sender event; answer = given } ∷ log)) (accepted_is _ _ answer is).1
+with_answer (received reception log) (On key event) answer is =
+    ap (λ given. received reception (record { event = event; answer = given } ∷ log)) (accepted_is _ _ answer is).1
+with_answer (received reception log) (Put request params) answer is = absurd cc
+
+pub last_is : (log : Log) (event : Event) (answer : Answer) → answered_behind log event ≡ Ok answer → last_answer (extended log event answer) ≡ answer
+last_is (sent sending log) event answer is = refl
+last_is (received reception log) (On key event) answer is = refl
+last_is (received reception log) (Put request params) answer is = absurd cc
+
+pub issued_is : (log : Log) (event : Event) (answer : Answer) → answered_behind log event ≡ Ok answer
+    → issued (extended log event answer) ≡ issued log ++ answer.inds
+issued_is (sent sending log) event answer is = refl
+issued_is (received reception log) (On key event) answer is = refl
+issued_is (received reception log) (Put request params) answer is = absurd cc
+
 -- ---- the first event, and those behind it
 
 pub nothing_legal : (transaction : Transaction) → IsLegal (log_by transaction [])
@@ -105,22 +155,12 @@ abbrev pub IfOpened : Option Transaction → (Transaction → Type 0) → Type 0
 IfOpened None P = Unit {0}
 IfOpened (Some transaction) P = P transaction
 
--- a PDU is of a key
-abbrev IsOfKey : What → TxnKey → Type 0
-IsOfKey (what.Pdu pdu) key = (pdu.header.source ≡ key.source) × (pdu.header.sequence ≡ key.seq)
-IsOfKey event key = Unit {0}
-
--- the PDU is of the key that it opens
-abbrev pub IsOfPdu : Event → TxnKey → Type 0
-IsOfPdu (Put request params) key = Unit {0}
-IsOfPdu (On named event) key = IsOfKey event key
-
 if_opens : (b : Bool) (transaction : Transaction) (P : Transaction → Type 0) → (b ≡ true → P transaction)
     → IfOpened (if b then Some transaction else None) P
 if_opens true transaction P holds = holds refl
 if_opens false transaction P holds = tt
 
-pub first_place : (side : LaneSide) (key : TxnKey) (event : Event) → IsOfPdu event key
+pub first_place : (side : LaneSide) (key : TxnKey) (event : Event) → IsOfKey event key
     → IfOpened (opened_by side key event) (λ transaction. HasPlace (log_by transaction []) event)
 first_place (Sending numbers greatest) key (Put request params) keyed = tt
 first_place (Receiving params) key (On named (what.Pdu pdu)) keyed =
@@ -175,6 +215,47 @@ lane_words (received reception log) legal = receiver_laws.tells_words reception 
 side_shown : (side : Side) (first : Indication) (rest : List Indication) → IsBegunOf side (first ∷ rest) → side ≡ side_by first
 side_shown Sender first rest begun = sym (sender_side first (opens_sender first rest begun))
 side_shown Receiver first rest begun = sym (receiver_side first rest begun)
+
+-- the beginning of a word is of its side
+pub begun_side : (side : Side) (word : List Indication) → IsBegunOf side word → IsOfSide side word
+begun_side side [] begun = tt
+begun_side side (first ∷ rest) begun = side_shown side first rest begun
+
+-- the transaction that an event opens at a lane is of the lane's end
+opened_side : (side : LaneSide) (key : TxnKey) (event : Event) (events : List Event)
+    → IfOpened (opened_by side key event) (λ transaction. end_of side ≡ side_of (log_by transaction events))
+opened_side (Sending numbers greatest) key (Put request params) events = refl
+opened_side (Receiving params) key (On named (what.Pdu pdu)) events =
+    if_opens (body_opens pdu.body) (receives (record { key = key; params = params; header = pdu.header }))
+    (λ transaction. Receiver ≡ side_of (log_by transaction events)) (λ opens. refl)
+opened_side (Sending numbers greatest) key (On named event) events = tt
+opened_side (Receiving params) key (Put request others) events = tt
+opened_side (Receiving params) key (On named what.Cancel) events = tt
+opened_side (Receiving params) key (On named what.Suspend) events = tt
+opened_side (Receiving params) key (On named what.Resume) events = tt
+opened_side (Receiving params) key (On named what.Report) events = tt
+opened_side (Receiving params) key (On named what.Abandon) events = tt
+opened_side (Receiving params) key (On named what.Pump) events = tt
+opened_side (Receiving params) key (On named (what.Timer kind stamp)) events = tt
+opened_side (Receiving params) key (On named (what.Stored stamp kept)) events = tt
+
+side_by_opened : (side : Side) (opened : Option Transaction) (events : List Event) (log : Log)
+    → option_map (λ transaction. log_by transaction events) opened ≡ Some log
+    → IfOpened opened (λ transaction. side ≡ side_of (log_by transaction events)) → side ≡ side_of log
+side_by_opened side None events log is same = absurd cc
+side_by_opened side (Some transaction) events log is same = same ∙ ap side_of (log_is (log_by transaction events) log is)
+  where
+    log_is : (one other : Log) → Some one ≡ Some other → one ≡ other
+    log_is one other is = cc
+
+-- the log of a lane's transaction is of the lane's end
+pub log_side : (side : LaneSide) (source : EntityId) (last : Option ℕ) (journal : List Event) (log : Log)
+    → log_from side source last journal ≡ Some log → end_of side ≡ side_of log
+log_side side source None journal log is = absurd cc
+log_side side source (Some number) [] log is = absurd cc
+log_side side source (Some number) (first ∷ later) log is =
+    side_by_opened (end_of side) (opened_by side (key_at source number) first) (first ∷ later) log is
+    (opened_side side (key_at source number) first (first ∷ later))
 
 -- the beginning of a word of a side shows its side
 pub begun_group : (side : Side) (word : List Indication) → IsBegunOf side word → IsBegunGroup word

@@ -9,16 +9,18 @@ use Rattle.indications.specs.declared.indication.Indication.{Indication}
 use Rattle.indications.specs.LaneLists.{number_of, told_of, has_number, tells, IsBegunGroup, IsWordGroup}
 use Rattle.indications.proofs.LaneLemmas.{IsLaneList-nil, IsLaneList-more, told_of-more, told_of-other, told_of-none, has_number-append}
 use Rattle.lane_table.specs.Lane.{IsRisen}
-use Rattle.lane_table.specs.Keeping.{IsUpTo, AreSent}
+use Rattle.indications.specs.declared.side.Side.{Side}
+use Rattle.lane_table.specs.Keeping.{IsUpTo, IsOfSide, AreSent}
 
 pub some_is : {A : Type 0} (a b : A) → Some a ≡ Some b → a ≡ b
 some_is a b e = cc
 
 -- ---- no bundle
 
-pub nothing_sent : (user lane : ℕ) (source : EntityId) → AreSent user lane source None None [] []
-nothing_sent user lane source = record {
+pub nothing_sent : (side : Side) (user lane : ℕ) (source : EntityId) → AreSent side user lane source None None [] []
+nothing_sent side user lane source = record {
   list = IsLaneList-nil user lane source;
+  sided = λ number. tt;
   current = λ number is. refl;
   reached = All-nil (λ bundle. IsUpTo None (number_of bundle));
   others = λ number has other. absurd (false≢true has);
@@ -66,11 +68,12 @@ cases_last (Some last) number P same other =
     ⊎_elim (λ (this : last ≡ number). same (ap Some this)) (λ (no : last ≡ number → ⊥). other (λ e. no (some_is last number e))) (cases_eq last number)
 
 -- a transaction with a higher number opens: of it nothing was told
-pub number_opens : (user lane : ℕ) (source : EntityId) (last before : Option ℕ) (told : List Indication) (bundles : List Bundle) (number : ℕ)
-    → AreSent user lane source last before told bundles → IsOver last told → IsRisen last (Some number)
-    → AreSent user lane source (Some number) last [] bundles
-number_opens user lane source last before told bundles number was over risen = record {
+pub number_opens : (side : Side) (user lane : ℕ) (source : EntityId) (last before : Option ℕ) (told : List Indication) (bundles : List Bundle) (number : ℕ)
+    → AreSent side user lane source last before told bundles → IsOver last told → IsRisen last (Some number)
+    → AreSent side user lane source (Some number) last [] bundles
+number_opens side user lane source last before told bundles number was over risen = record {
   list = was.list;
+  sided = was.sided;
   current = λ n is.
       subst (λ m. told_of m bundles ≡ []) (some_is number n is) (told_of-none number bundles (none_above last number bundles risen was.reached));
   reached =
@@ -94,12 +97,12 @@ has_before number bundles bundle other has =
     ∙ sym (has_number-append number bundles (bundle ∷ [])) ∙ has
 
 -- a bundle of the last transaction
-pub bundle_more : (user lane : ℕ) (source : EntityId) (number : ℕ) (before : Option ℕ) (told : List Indication) (bundles : List Bundle) (bundle : Bundle)
-    → AreSent user lane source (Some number) before told bundles
+pub bundle_more : (side : Side) (user lane : ℕ) (source : EntityId) (number : ℕ) (before : Option ℕ) (told : List Indication) (bundles : List Bundle) (bundle : Bundle)
+    → AreSent side user lane source (Some number) before told bundles
     → bundle.user ≡ user → bundle.lane ≡ lane → bundle.key ≡ record { source = source; seq = number } → tells bundle ≡ true
-    → IsBegunGroup (told ++ bundle.inds)
-    → AreSent user lane source (Some number) before (told ++ bundle.inds) (bundles ++ bundle ∷ [])
-bundle_more user lane source number before told bundles bundle was of_user of_lane of_key some begun =
+    → IsBegunGroup (told ++ bundle.inds) → IsOfSide side (told ++ bundle.inds)
+    → AreSent side user lane source (Some number) before (told ++ bundle.inds) (bundles ++ bundle ∷ [])
+bundle_more side user lane source number before told bundles bundle was of_user of_lane of_key some begun of_side =
     let is : number_of bundle ≡ number = ap (λ k. k.seq) of_key in
     let of_source : bundle.key.source ≡ source = ap (λ k. k.source) of_key in
     record {
@@ -108,6 +111,14 @@ bundle_more user lane source number before told bundles bundle was of_user of_la
           (subst (λ n. All (λ (other : Bundle). number_of other ≤ n) bundles) (sym is) was.reached)
           (rw (is, was.current number refl) begun)
           (λ n less has. (was.others n has (λ e. let same = some_is number n e in omega (arith, less, is, same))).1);
+      sided = λ n.
+          ⊎_elim
+          (λ (this : number ≡ n).
+          subst (IsOfSide side)
+          (sym (told_of-more n bundles bundle (is ∙ this) ∙ ap (λ (l : List Indication). l ++ bundle.inds) (was.current n (ap Some this)))) of_side)
+          (λ (no : number ≡ n → ⊥).
+          subst (IsOfSide side) (sym (told_of-other n bundles bundle (λ (e : number_of bundle ≡ n). no (sym is ∙ e)))) (was.sided n))
+          (cases_eq number n);
       current = λ n this.
           let same : number ≡ n = some_is number n this in
           told_of-more n bundles bundle (is ∙ same) ∙ ap (λ (l : List Indication). l ++ bundle.inds) (was.current n this);

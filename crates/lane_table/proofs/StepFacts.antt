@@ -16,11 +16,12 @@ use Rattle.txn_events.specs.declared.event.Event.{Event}
 use Rattle.txn_events.specs.declared.event.Event.TheVariants.{Put, On}
 use Rattle.lane_table.specs.declared.lane_side.LaneSide.{LaneSide}
 use Rattle.lane_table.specs.declared.lane_side.LaneSide.TheVariants.{Sending, Receiving}
-use Rattle.lane_table.specs.Logs.{Transaction, Log, opened_by, log_by, issued, has_ended, IsLegal, last_answer, side_of}
+use Rattle.indications.specs.declared.side.Side.{Side}
+use Rattle.lane_table.specs.Logs.{Transaction, Log, IsOfKey, opened_by, end_of, log_by, issued, has_ended, IsLegal, last_answer, side_of}
 use Rattle.lane_table.specs.Lane.{State, idle, key_at, is_above, log_from, log_of, goes_on, is_running, issued_in, issued_by, IsNumbered, IsRun, IsRisen, IsSound}
-use Rattle.lane_table.specs.Steps.{IsKeyed, next_in, next_number, number_in, is_foreign, is_new, new_transaction, log_before, is_unknown, is_old, is_busy, plainly, refused_by_end, refused_by_lane, refusal_at, stepped_by, stepped, answer_in, answer_of, IsBundle}
-use Rattle.lane_table.specs.Keeping.{AreSent, Keeps}
-use Rattle.lane_table.proofs.LogFacts.{log_with, log_by-more, HasPlace, issued_with, legal_with, nothing_legal, nothing_ended, nothing_issued, IfOpened, IsOfPdu, first_place, later_place, lane_words, begun_group, word_group}
+use Rattle.lane_table.specs.Steps.{IsKeyed, next_in, next_number, number_in, is_foreign, is_new, new_transaction, log_before, is_unknown, is_old, wants_to_open, is_busy, refused_number, refused_by_number, plainly, refused_by_end, refused_by_lane, refusal_at, stepped_by, stepped, answer_in, answer_of, IsBundle}
+use Rattle.lane_table.specs.Keeping.{IsOfSide, AreSent, Keeps}
+use Rattle.lane_table.proofs.LogFacts.{log_with, log_by-more, HasPlace, issued_with, legal_with, nothing_legal, nothing_ended, nothing_issued, IfOpened, first_place, later_place, lane_words, begun_group, word_group, begun_side, log_side}
 use Rattle.lane_table.proofs.SentFacts.{some_is, nothing_sent, IsOver, number_opens, bundle_more}
 
 -- ---- an event that is taken meets none of the reasons
@@ -37,6 +38,7 @@ record IsTaken (state : State) (event : Event) : Type 0 where
   known : is_unknown state event ≡ false
   young : is_old state event ≡ false
   free : is_busy state event ≡ false
+  numbered : refused_by_number state event ≡ None
   allowed : refused_by_end (log_before state (new_transaction state event)) event ≡ None
 
 or_none : {A : Type 0} (o rest : Option A) → option_or o rest ≡ None → (o ≡ None) × (rest ≡ None)
@@ -49,7 +51,7 @@ taken_by state event e =
     let one = if_none (is_unknown state event) _ _ both.0 in
     let two = if_none (is_old state event) _ _ one.1 in
     let three = if_none (is_busy state event) _ _ two.1 in
-    record { known = one.0; young = two.0; free = three.0; allowed = map_none plainly (refused_by_end (log_before state (new_transaction state event)) event) both.1 }
+    record { known = one.0; young = two.0; free = three.0; numbered = map_none plainly (refused_by_number state event) three.1; allowed = map_none plainly (refused_by_end (log_before state (new_transaction state event)) event) both.1 }
 
 -- ---- tests
 
@@ -156,7 +158,7 @@ comes_behind state key event sound taken none =
 
 -- ---- an event that opens
 
-if_some : {A : Type 0} (b : Bool) (o : Option A) (x : A) → (if b then o else None) ≡ Some x → (b ≡ true) × (o ≡ Some x)
+pub if_some : {A : Type 0} (b : Bool) (o : Option A) (x : A) → (if b then o else None) ≡ Some x → (b ≡ true) × (o ≡ Some x)
 if_some true o x e = (refl, e)
 if_some false o x e = absurd cc
 
@@ -165,7 +167,7 @@ same_source one other e =
     let same : one.0 ≡ other.0 = eqb-true (one.0) (other.0) (is_true (one.0 == other.0) e) in
     ap (λ (n : ℕ). let id : EntityId = record { 0 = n } in id) same
 
-of_pdu : (state : State) (event : Event) → IsKeyed event → is_foreign state event ≡ false → IsOfPdu event (key_at state.source (number_in state event))
+pub of_pdu : (state : State) (event : Event) → IsKeyed event → is_foreign state event ≡ false → IsOfKey event (key_at state.source (number_in state event))
 of_pdu state (Put request params) keyed known = tt
 of_pdu state (On named (what.Pdu pdu)) keyed known = (keyed.0 ∙ same_source named.source state.source known, keyed.1)
 of_pdu state (On named what.Cancel) keyed known = tt
@@ -177,12 +179,17 @@ of_pdu state (On named what.Pump) keyed known = tt
 of_pdu state (On named (what.Timer kind stamp)) keyed known = tt
 of_pdu state (On named (what.Stored stamp kept)) keyed known = tt
 
+pub not_foreign : (state : State) (event : Event) → is_unknown state event ≡ false → is_foreign state event ≡ false
+not_foreign state (Put request params) known = refl
+not_foreign state (On key event) known =
+    (both_false (is_foreign state (On key event)) (is_new state (On key event) && not (is_some (new_transaction state (On key event)))) known).0
+
 comes_first : (state : State) (event : Event) (transaction : Transaction) → IsKeyed event → IsTaken state event
     → new_transaction state event ≡ Some transaction → ComesTo state event
 comes_first state event transaction keyed taken is =
     let key : TxnKey = key_at state.source (number_in state event) in
     let opened = (if_some (is_new state event) (opened_by state.side key event) transaction is).1 in
-    let foreign = (both_false (is_foreign state event) (is_new state event && not (is_some (new_transaction state event))) taken.known).0 in
+    let foreign = not_foreign state event taken.known in
     record {
       log = log_by transaction [];
       before = ap (log_before state) is;
@@ -194,12 +201,18 @@ comes_first state event transaction keyed taken is =
           (first_place state.side key event (of_pdu state event keyed foreign));
     }
 
+-- a Put that gets a number opens
+put_opens : (side : LaneSide) (number : ℕ) (key : TxnKey) (request : _) (params : _) → refused_number side number ≡ None
+    → opened_by side key (Put request params) ≡ None → ⊥
+put_opens (Sending numbers greatest) number key request params numbered is = absurd cc
+put_opens (Receiving others) number key request params numbered is = absurd cc
+
 comes_by : (state : State) (event : Event) → IsSound state → IsKeyed event → IsTaken state event
     → (opened : Option Transaction) → new_transaction state event ≡ opened → ComesTo state event
 comes_by state event sound keyed taken (Some transaction) is = comes_first state event transaction keyed taken is
 comes_by state (On key event) sound keyed taken None is = comes_behind state key event sound taken is
 comes_by state (Put request params) sound keyed taken None is =
-    absurd (true≢false (sym (ap (λ o. not (is_some o)) is) ∙ taken.known))
+    absurd (put_opens state.side (next_number state) (key_at state.source (next_number state)) request params taken.numbered is)
 
 -- every event that is taken comes to a log that goes on
 pub comes_to : (state : State) (event : Event) → IsSound state → IsKeyed event → refusal_at state event ≡ None → ComesTo state event
@@ -268,32 +281,43 @@ over_by (Some number) None run over = absurd run
 over_by (Some number) (Some log) run over =
     word_group (side_of log) (issued log) ((lane_words log run).1 (is_true (has_ended log) over))
 
+opens_wants : (state : State) (event : Event) → is_some (new_transaction state event) ≡ true → wants_to_open state event ≡ true
+opens_wants state (Put request params) opens = refl
+opens_wants state (On key event) opens = opens
+
 sent_by : (state : State) (event : Event) (bundles : List Bundle) → IsSound state → IsTaken state event → Keeps state bundles
     → (opened : Option Transaction) → new_transaction state event ≡ opened → (log : Log) → log_before state opened ≡ Some log
-    → let next = stepped_by state event opened in AreSent next.user next.lane next.source next.last next.before (issued log) bundles
+    → let next = stepped_by state event opened in AreSent (end_of next.side) next.user next.lane next.source next.last next.before (issued log) bundles
 sent_by state event bundles sound taken keeps None is log before =
-    subst (λ told. AreSent state.user state.lane state.source state.last state.before told bundles) (ap issued_in before) keeps
+    subst (λ told. AreSent (end_of state.side) state.user state.lane state.source state.last state.before told bundles) (ap issued_in before) keeps
 sent_by state event bundles sound taken keeps (Some transaction) is log before =
-    let idles : is_running state ≡ false = sym (ap (λ o. is_some o && is_running state) is) ∙ taken.free in
-    subst (λ told. AreSent state.user state.lane state.source (Some (number_in state event)) state.last told bundles)
+    let idles : is_running state ≡ false = sym (ap (λ b. b && is_running state) (opens_wants state event (ap is_some is))) ∙ taken.free in
+    subst (λ told. AreSent (end_of state.side) state.user state.lane state.source (Some (number_in state event)) state.last told bundles)
     (sym (nothing_issued transaction) ∙ ap issued (some_is (log_by transaction []) log before))
-    (number_opens state.user state.lane state.source state.last state.before (issued_by state) bundles (number_in state event) keeps
+    (number_opens (end_of state.side) state.user state.lane state.source state.last state.before (issued_by state) bundles (number_in state event) keeps
     (over_by state.last (log_of state) sound.run idles) (rises state event transaction sound.numbered is))
 
-more_if : (user lane : ℕ) (source : EntityId) (last before : Option ℕ) (told : List Indication) (bundles : List Bundle) (bundle : Bundle)
-    → AreSent user lane source last before told bundles
+more_if : (side : Side) (user lane : ℕ) (source : EntityId) (last before : Option ℕ) (told : List Indication) (bundles : List Bundle) (bundle : Bundle)
+    → AreSent side user lane source last before told bundles
     → bundle.user ≡ user → bundle.lane ≡ lane → option_map (key_at source) last ≡ Some bundle.key → tells bundle ≡ true
-    → IsBegunGroup (told ++ bundle.inds)
-    → AreSent user lane source last before (told ++ bundle.inds) (bundles ++ bundle ∷ [])
-more_if user lane source None before told bundles bundle was of_user of_lane of_key some begun = absurd cc
-more_if user lane source (Some number) before told bundles bundle was of_user of_lane of_key some begun =
-    bundle_more user lane source number before told bundles bundle was of_user of_lane (sym (some_is (key_at source number) bundle.key of_key)) some begun
+    → IsBegunGroup (told ++ bundle.inds) → IsOfSide side (told ++ bundle.inds)
+    → AreSent side user lane source last before (told ++ bundle.inds) (bundles ++ bundle ∷ [])
+more_if side user lane source None before told bundles bundle was of_user of_lane of_key some begun of_side = absurd cc
+more_if side user lane source (Some number) before told bundles bundle was of_user of_lane of_key some begun of_side =
+    bundle_more side user lane source number before told bundles bundle was of_user of_lane (sym (some_is (key_at source number) bundle.key of_key)) some begun of_side
 
 begun_by : (log : Log) (event : Event) → IsLegal (log_with log event) → HasPlace log event
     → IsBegunGroup (issued log ++ (last_answer (log_with log event)).inds)
 begun_by log event legal place =
     subst IsBegunGroup (issued_with log event place)
     (begun_group (side_of (log_with log event)) (issued (log_with log event)) (lane_words (log_with log event) legal).0)
+
+sided_by : (side : Side) (log : Log) (event : Event) → side ≡ side_of (log_with log event) → IsLegal (log_with log event) → HasPlace log event
+    → IsOfSide side (issued log ++ (last_answer (log_with log event)).inds)
+sided_by side log event same legal place =
+    subst (IsOfSide side) (issued_with log event place)
+    (subst (λ s. IsOfSide s (issued (log_with log event))) (sym same)
+    (begun_side (side_of (log_with log event)) (issued (log_with log event)) (lane_words (log_with log event) legal).0))
 
 -- an event that is taken, and tells something in one bundle
 pub keeps_bundle : (state : State) (event : Event) (bundles : List Bundle) (bundle : Bundle) → IsSound state → Keeps state bundles
@@ -303,12 +327,14 @@ keeps_bundle state event bundles bundle sound keeps keyed free is some =
     let came = comes_to state event sound keyed free in
     let next : State = stepped state event in
     let inds : bundle.inds ≡ (last_answer (log_with came.log event)).inds = is.inds ∙ ap (λ o. (answer_in o).inds) came.after in
-    subst (λ told. AreSent next.user next.lane next.source next.last next.before told (bundles ++ bundle ∷ []))
+    subst (λ told. AreSent (end_of next.side) next.user next.lane next.source next.last next.before told (bundles ++ bundle ∷ []))
     (ap (λ l. issued came.log ++ l) inds ∙ sym (issued_with came.log event came.place) ∙ sym (ap issued_in came.after))
-    (more_if next.user next.lane next.source next.last next.before (issued came.log) bundles bundle
+    (more_if (end_of next.side) next.user next.lane next.source next.last next.before (issued came.log) bundles bundle
     (sent_by state event bundles sound (taken_by state event free) keeps (new_transaction state event) refl came.log came.before)
     is.user is.lane is.key some
-    (rw inds (begun_by came.log event (comes_legal state event free came) came.place)))
+    (rw inds (begun_by came.log event (comes_legal state event free came) came.place))
+    (rw inds (sided_by (end_of next.side) came.log event (log_side next.side next.source next.last next.journal (log_with came.log event) came.after)
+    (comes_legal state event free came) came.place)))
 
 -- an event that is taken, and tells nothing
 pub keeps_quiet : (state : State) (event : Event) (bundles : List Bundle) → IsSound state → Keeps state bundles
@@ -318,10 +344,10 @@ keeps_quiet state event bundles sound keeps keyed free none =
     let came = comes_to state event sound keyed free in
     let next : State = stepped state event in
     let inds : (last_answer (log_with came.log event)).inds ≡ [] = sym (ap (λ o. (answer_in o).inds) came.after) ∙ none in
-    subst (λ told. AreSent next.user next.lane next.source next.last next.before told bundles)
+    subst (λ told. AreSent (end_of next.side) next.user next.lane next.source next.last next.before told bundles)
     (sym (append-nil (issued came.log)) ∙ ap (λ l. issued came.log ++ l) (sym inds) ∙ sym (issued_with came.log event came.place) ∙ sym (ap issued_in came.after))
     (sent_by state event bundles sound (taken_by state event free) keeps (new_transaction state event) refl came.log came.before)
 
 -- before the first event
 pub idle_keeps : (side : LaneSide) (user lane : ℕ) (source : EntityId) → Keeps (idle side user lane source) []
-idle_keeps side user lane source = nothing_sent user lane source
+idle_keeps side user lane source = nothing_sent (end_of side) user lane source

@@ -1,12 +1,15 @@
 -- What a lane keeps of the bundles that it sent.
-use Rattle.std.specs.Prelude.{◌≡◌, ℕ, ◌≤◌, true, All, List, [], ◌∷◌, ◌++◌, Option, Some, None}
+use Rattle.std.specs.Prelude.{◌≡◌, ℕ, ◌≤◌, true, if◌then◌else◌, All, List, [], ◌∷◌, ◌++◌, Option, Some, None}
+use Rattle.cfdp_types.specs.Steps.{is_stamp}
 use Rattle.cfdp_types.specs.declared.key.EntityId.{EntityId}
 use Rattle.cfdp_types.specs.declared.key.TxnKey.{TxnKey}
 use Rattle.indications.specs.declared.bundle.Bundle.{Bundle}
 use Rattle.indications.specs.declared.indication.Indication.{Indication}
-use Rattle.indications.specs.LaneLists.{number_of, told_of, has_number, IsWordGroup, IsLaneList}
+use Rattle.indications.specs.LaneLists.{number_of, told_of, has_number, side_by, IsWordGroup, IsLaneList}
+use Rattle.indications.specs.declared.side.Side.{Side}
 use Rattle.txn_events.specs.declared.event.Event.{Event}
 use Rattle.lane_table.specs.Lane.{State, key_of, issued_by}
+use Rattle.lane_table.specs.Logs.{end_of}
 use Rattle.lane_table.specs.Steps.{IsKeyed, refusal_at, stepped, answer_of}
 
 -- a number is at most another, which is there
@@ -14,9 +17,16 @@ abbrev pub IsUpTo : Option ℕ → ℕ → Type 0
 IsUpTo None number = ⊥
 IsUpTo (Some last) number = number ≤ last
 
+-- what a transaction told, if it told anything, began as a transaction of this end begins
+abbrev pub IsOfSide : Side → List Indication → Type 0
+IsOfSide side [] = Unit {0}
+IsOfSide side (first ∷ rest) = side ≡ side_by first
+
 -- bundles of one lane, where of the last transaction these indications were told
-pub record AreSent (user lane : ℕ) (source : EntityId) (last before : Option ℕ) (told : List Indication) (bundles : List Bundle) : Type 0 where
+pub record AreSent (side : Side) (user lane : ℕ) (source : EntityId) (last before : Option ℕ) (told : List Indication) (bundles : List Bundle) : Type 0 where
   pub list : IsLaneList user lane source bundles
+  -- every transaction is one of the lane's end
+  pub sided : (number : ℕ) → IsOfSide side (told_of number bundles)
   -- what was told of the last transaction
   pub current : (number : ℕ) → last ≡ Some number → told_of number bundles ≡ told
   -- no number is above the last
@@ -27,7 +37,7 @@ pub record AreSent (user lane : ℕ) (source : EntityId) (last before : Option �
 
 -- the bundles that a lane sent
 abbrev pub Keeps : State → List Bundle → Type 0
-Keeps state bundles = AreSent state.user state.lane state.source state.last state.before (issued_by state) bundles
+Keeps state bundles = AreSent (end_of state.side) state.user state.lane state.source state.last state.before (issued_by state) bundles
 
 -- ---- a lane's run
 
@@ -49,3 +59,10 @@ sent_after state (event ∷ later) = bundle_of (stepped state event) ++ sent_aft
 abbrev pub AreTaken : State → List Event → Type 0
 AreTaken state [] = Unit {0}
 AreTaken state (event ∷ later) = IsKeyed event × (refusal_at state event ≡ None) × AreTaken (stepped state event) later
+
+-- of these events, those of the transaction with a number, where each is taken
+abbrev pub events_of : ℕ → State → List Event → List Event
+events_of number state [] = []
+events_of number state (event ∷ later) =
+    if is_stamp (stepped state event).last number then event ∷ events_of number (stepped state event) later
+    else events_of number (stepped state event) later

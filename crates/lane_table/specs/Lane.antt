@@ -1,5 +1,5 @@
 -- What a lane stands at: the transaction that it runs or ran last, and the one before.
-use Rattle.std.specs.Prelude.{ℕ, ◌+◌, ◌*◌, ◌<◌, Bool, true, false, not, nat_lt, List, [], ◌∷◌, Option, Some, None}
+use Rattle.std.specs.Prelude.{◌≡◌, ℕ, ◌+◌, ◌*◌, ◌/◌, ◌%◌, ◌<◌, Bool, true, false, not, nat_lt, List, [], ◌∷◌, Option, Some, None}
 use Rattle.std.specs.Option.{option_map}
 use Rattle.cfdp_types.specs.declared.key.EntityId.{EntityId}
 use Rattle.cfdp_types.specs.declared.key.TxnKey.{TxnKey}
@@ -50,6 +50,11 @@ number_at numbers user lane n = (n * numbers.lanes + lane) * numbers.users + use
 abbrev pub number_after : Numbers → ℕ → ℕ → Option ℕ → ℕ
 number_after numbers user lane None = number_at numbers user lane numbers.first
 number_after numbers user lane (Some last) = last + numbers.lanes * numbers.users
+
+-- a number gives back whose lane it is of, and which
+pub record IsNumberOf (numbers : Numbers) (user lane number : ℕ) : Type 0 where
+  pub of_user : number % numbers.users ≡ user
+  pub of_lane : number / numbers.users % numbers.lanes ≡ lane
 
 -- the numbers are of some lane and user, so that they rise
 abbrev pub IsNumbered : LaneSide → Type 0

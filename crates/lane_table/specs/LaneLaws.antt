@@ -1,19 +1,21 @@
 -- What holds of the log of every transaction, at both ends.
-use Rattle.std.specs.Prelude.{◌≡◌, ℕ, true, List, ◌++◌, None, Contains}
+use Rattle.std.specs.Prelude.{◌≡◌, ℕ, ◌<◌, All, true, List, ◌++◌, Some, None, Contains}
 use Rattle.cfdp_types.specs.declared.key.EntityId.{EntityId}
 use Rattle.cfdp_types.specs.declared.names.Delivery.TheVariants.{Complete}
 use Rattle.cfdp_types.specs.declared.names.FileStatus.{FileStatus}
 use Rattle.indications.specs.declared.indication.Indication.TheVariants as told
 use Rattle.indications.specs.declared.bundle.Bundle.{Bundle}
-use Rattle.indications.specs.LaneLists.{IsLaneList}
+use Rattle.indications.specs.LaneLists.{number_of, told_of, IsLaneList}
 use Rattle.indications.specs.Words.{IsBegunOf, IsWordOf}
 use Rattle.receiver_table.specs.Reception.{Reception, Entry, state_of}
 use Rattle.receiver_laws.specs.LegalReceptions.{IsGood}
 use Rattle.txn_events.specs.declared.event.Event.{Event}
 use Rattle.lane_table.specs.declared.lane_side.LaneSide.{LaneSide}
-use Rattle.lane_table.specs.Lane.{State, idle, IsNumbered, IsSound}
+use Rattle.lane_table.specs.declared.lane_side.LaneSide.TheVariants.{Sending}
+use Rattle.lane_table.specs.declared.lane_side.Numbers.{Numbers}
+use Rattle.lane_table.specs.Lane.{State, idle, IsNumberOf, log_from, issued_in, IsNumbered, IsSound}
 use Rattle.lane_table.specs.Steps.{IsKeyed, refusal_at, stepped}
-use Rattle.lane_table.specs.Keeping.{Keeps, bundle_of, sent_after, AreTaken}
+use Rattle.lane_table.specs.Keeping.{Keeps, bundle_of, sent_after, events_of, AreTaken}
 use Rattle.lane_table.specs.Logs.{Log, received, side_of, issued, has_ended, IsLegal}
 
 -- what a transaction tells its user is a beginning of a word of its side, and a word once it has ended
@@ -30,6 +32,19 @@ CompletesGood = (reception : Reception) (log : List Entry) (condition : ℕ) (st
 abbrev pub SendsLaneLists : Type 0
 SendsLaneLists = (side : LaneSide) (user lane : ℕ) (source : EntityId) (events : List Event) → IsNumbered side
     → AreTaken (idle side user lane source) events → IsLaneList user lane source (sent_after (idle side user lane source) events)
+
+-- of every transaction of a lane, also of those that are over, what was sent is what the log of its events tells
+abbrev pub SendsWhatLogsTell : Type 0
+SendsWhatLogsTell = (side : LaneSide) (user lane : ℕ) (source : EntityId) (events : List Event) (number : ℕ) → IsNumbered side
+    → AreTaken (idle side user lane source) events
+    → told_of number (sent_after (idle side user lane source) events)
+    ≡ issued_in (log_from side source (Some number) (events_of number (idle side user lane source) events))
+
+-- the numbers of what a sending lane sends give back its user and which of the user's lanes it is
+abbrev pub NumbersTellLanes : Type 0
+NumbersTellLanes = (numbers : Numbers) (greatest user lane : ℕ) (source : EntityId) (events : List Event) → user < numbers.users → lane < numbers.lanes
+    → AreTaken (idle (Sending numbers greatest) user lane source) events
+    → All (λ bundle. IsNumberOf numbers user lane (number_of bundle)) (sent_after (idle (Sending numbers greatest) user lane source) events)
 
 -- an event that a lane takes keeps what the lane knows of the bundles that it sent, with the step's bundle added
 abbrev pub StepsKeep : Type 0

@@ -1,5 +1,5 @@
 -- A transaction at either of its ends, with its log, and what a lane asks of both in the same words.
-use Rattle.std.specs.Prelude.{ℕ, Bool, if◌then◌else◌, List, [], ◌∷◌, map, Option, Some, None, Result, Err}
+use Rattle.std.specs.Prelude.{◌≡◌, ℕ, Bool, if◌then◌else◌, List, [], ◌∷◌, map, Option, Some, None, Result, Err}
 pub use Rattle.txn_events.specs.declared.answer.Answer.{Answer}
 pub use Rattle.txn_events.specs.Events.{body_opens}
 use Rattle.txn_events.specs.Logs.{empty_answer}
@@ -8,15 +8,17 @@ use Rattle.cfdp_types.specs.declared.image.Image.{Image}
 use Rattle.txn_events.specs.declared.event.What.{What}
 use Rattle.txn_events.specs.declared.event.What.TheVariants as what
 use Rattle.txn_events.specs.declared.refusal.Refusal.{Refusal}
-use Rattle.txn_events.specs.declared.refusal.Refusal.TheVariants.{StaleStored}
+use Rattle.txn_events.specs.declared.refusal.Refusal.TheVariants.{NoTransaction, StaleStored, WrongState}
 use Rattle.indications.specs.declared.indication.Indication.{Indication}
 use Rattle.indications.specs.declared.side.Side.{Side}
 use Rattle.indications.specs.declared.side.Side.TheVariants.{Sender, Receiver}
 use Rattle.sender_table.specs.Sending as sender
 use Rattle.sender_table.specs.Refusals as sender_refusals
+use Rattle.sender_table.specs.Answers as sender_answers
 use Rattle.sender_laws.specs.LegalSendings as sender_logs
 use Rattle.receiver_table.specs.Reception as receiver
 use Rattle.receiver_table.specs.Refusals as receiver_refusals
+use Rattle.receiver_table.specs.Answers as receiver_answers
 use Rattle.receiver_laws.specs.LegalReceptions as receiver_logs
 use Rattle.receiver_table.specs.Images.{image_at}
 use Rattle.txn_events.specs.declared.event.Event.{Event}
@@ -43,6 +45,11 @@ opened_by (Receiving params) key (On named (what.Pdu pdu)) =
     if body_opens pdu.body then Some (receives (record { key = key; params = params; header = pdu.header })) else None
 opened_by side key event = None
 
+-- a PDU is of a key
+abbrev pub IsOfKey : Event → TxnKey → Type 0
+IsOfKey (On named (what.Pdu pdu)) key = (pdu.header.source ≡ key.source) × (pdu.header.sequence ≡ key.seq)
+IsOfKey event key = Unit {0}
+
 -- ---- events as the ends see them
 
 -- as a sender sees one
@@ -62,6 +69,11 @@ log_by (sends sending) events = sent sending (sender_logs.log_of sending (map to
 log_by (receives reception) events = received reception (receiver_logs.log_of reception (to_receiver events))
 
 -- ---- what a log says
+
+-- the end that a lane's transactions have here
+abbrev pub end_of : LaneSide → Side
+end_of (Sending numbers greatest) = Sender
+end_of (Receiving params) = Receiver
 
 -- the end that it is of
 abbrev pub side_of : Log → Side
@@ -87,7 +99,24 @@ IsLegal (received reception log) = receiver_logs.IsLegal reception log
 abbrev pub refused_behind : Log → Event → Option Refusal
 refused_behind (sent sending log) event = sender_refusals.refusal_at sending (sender.state_of sending log) (to_sender event)
 refused_behind (received reception log) (On key event) = receiver_refusals.refusal_at reception (receiver.state_of log) event
-refused_behind (received reception log) (Put request params) = None
+refused_behind (received reception log) (Put request params) = Some WrongState
+
+-- what the end answers to an event behind it, or why it refuses it
+abbrev pub answered_behind : Log → Event → Result Answer Refusal
+answered_behind (sent sending log) event = sender_answers.answer_at sending (sender.state_of sending log) (to_sender event)
+answered_behind (received reception log) (On key event) = receiver_answers.answer_at reception (receiver.state_of log) event
+answered_behind (received reception log) (Put request params) = Err WrongState
+
+-- what the end of a transaction that opens answers to the event that opens it
+abbrev pub first_answer : Option Transaction → Event → Result Answer Refusal
+first_answer None event = Err NoTransaction
+first_answer (Some transaction) event = answered_behind (log_by transaction []) event
+
+-- a log with one event more, which was answered so; no Put stands behind a reception
+abbrev pub extended : Log → Event → Answer → Log
+extended (sent sending log) event answer = sent sending (record { event = to_sender event; answer = answer } ∷ log)
+extended (received reception log) (On key event) answer = received reception (record { event = event; answer = answer } ∷ log)
+extended (received reception log) (Put request params) answer = received reception log
 
 -- what its last event was answered
 abbrev pub last_answer : Log → Answer

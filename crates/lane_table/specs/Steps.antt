@@ -17,15 +17,15 @@ use Rattle.txn_events.specs.declared.event.Event.TheVariants.{Put, On}
 use Rattle.lane_table.specs.declared.lane_side.LaneSide.{LaneSide}
 use Rattle.lane_table.specs.declared.lane_side.LaneSide.TheVariants.{Sending, Receiving}
 use Rattle.lane_table.specs.declared.refused.Refused.{Refused}
-use Rattle.lane_table.specs.Logs.{Transaction, Log, Answer, opened_by, log_by, refused_behind, last_answer, image_in}
+use Rattle.lane_table.specs.Logs.{Transaction, Log, Answer, IsOfKey, opened_by, log_by, refused_behind, last_answer, image_in}
 use Rattle.lane_table.specs.Lane.{State, key_at, key_of, is_above, number_after, log_of, is_running}
 
 -- ---- the key of an event
 
 -- the key of a PDU is the PDU's
 abbrev pub IsKeyed : Event → Type 0
-IsKeyed (On key (what.Pdu pdu)) = (pdu.header.source ≡ key.source) × (pdu.header.sequence ≡ key.seq)
-IsKeyed event = Unit {0}
+IsKeyed (On key event) = IsOfKey (On key event) key
+IsKeyed (Put request params) = Unit {0}
 
 -- the number after the last; a receiving lane gives none
 abbrev pub next_in : LaneSide → ℕ → ℕ → Option ℕ → ℕ
@@ -68,27 +68,34 @@ log_before state (Some transaction) = Some (log_by transaction [])
 
 -- ---- refusals
 
--- NoTransaction: of another source, or of a number above the last where nothing is opened
+-- NoTransaction: of another source, or of a number above the last where nothing is opened; a Put has no key
 abbrev pub is_unknown : State → Event → Bool
-is_unknown state event = is_foreign state event || (is_new state event && not (is_some (new_transaction state event)))
+is_unknown state (Put request params) = false
+is_unknown state (On key event) = is_foreign state (On key event) || (is_new state (On key event) && not (is_some (new_transaction state (On key event))))
 
 -- OldTransaction: a number that was reached, and none that runs
 abbrev pub is_old : State → Event → Bool
 is_old state event = not (is_new state event) && not (is_stamp state.last (number_in state event) && is_running state)
 
+-- an event wants to open a transaction: each Put does
+abbrev pub wants_to_open : State → Event → Bool
+wants_to_open state (Put request params) = true
+wants_to_open state (On key event) = is_some (new_transaction state (On key event))
+
 -- LaneBusy: a transaction would open while another runs
 abbrev pub is_busy : State → Event → Bool
-is_busy state event = is_some (new_transaction state event) && is_running state
+is_busy state event = wants_to_open state event && is_running state
 
--- a number is more than the sequence length of a side holds
-abbrev pub exceeds : LaneSide → ℕ → Bool
-exceeds (Sending numbers greatest) number = nat_lt greatest number
-exceeds (Receiving params) number = false
+-- why no Put gets a number: at a lane that receives WrongState, and where the sequence length does not hold
+-- the next number SeqExhausted
+abbrev pub refused_number : LaneSide → ℕ → Option Refusal
+refused_number (Sending numbers greatest) number = if nat_lt greatest number then Some refusal.SeqExhausted else None
+refused_number (Receiving params) number = Some refusal.WrongState
 
--- SeqExhausted: a Put's number is more than the sequence length holds
-abbrev pub is_exhausted : State → Event → Bool
-is_exhausted state (Put request params) = exceeds state.side (next_number state)
-is_exhausted state (On key event) = false
+-- why a Put is refused by the number that it would get
+abbrev pub refused_by_number : State → Event → Option Refusal
+refused_by_number state (Put request params) = refused_number state.side (next_number state)
+refused_by_number state (On key event) = None
 
 -- the echo of a PDU
 abbrev pub echo_to : Event → Option PduValue
@@ -110,11 +117,10 @@ refused_by_lane state event =
     if is_unknown state event then Some (plainly refusal.NoTransaction)
     else if is_old state event then Some (record { why = refusal.OldTransaction; echo = echo_to event })
     else if is_busy state event then Some (plainly refusal.LaneBusy)
-    else if is_exhausted state event then Some (plainly refusal.SeqExhausted)
-    else None
+    else option_map plainly (refused_by_number state event)
 
--- why an event is refused, if it is: the first that applies, where a Put has no reason of its end between
--- LaneBusy and SeqExhausted; want of memory and a full queue aside
+-- why an event is refused, if it is: the first that applies, where a Put that gets a number has no reason of
+-- its end before TooLarge; want of memory and a full queue aside
 abbrev pub refusal_at : State → Event → Option Refused
 refusal_at state event =
     option_or (refused_by_lane state event) (option_map plainly (refused_by_end (log_before state (new_transaction state event)) event))

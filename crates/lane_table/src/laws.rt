@@ -1,6 +1,6 @@
 //! What holds of every transaction and of every lane, over their definitions alone.
 
-ghost use Rattle.lane_table.specs.LaneLaws.{TellsWords, CompletesGood, SendsLaneLists, StepsKeep};
+ghost use Rattle.lane_table.specs.LaneLaws.{TellsWords, CompletesGood, SendsLaneLists, SendsWhatLogsTell, NumbersTellLanes, StepsKeep};
 
 /// What a transaction tells its user, at either end, is a beginning of a word of its side, and a
 /// word once it has ended.
@@ -18,6 +18,18 @@ pub fn complete()
 /// its transactions, one after the other, with rising numbers; only the last may be a beginning.
 pub fn lists()
     ensures { SendsLaneLists }
+{}
+
+/// Whatever events a lane takes, from its first one on, what it sends of each of its transactions is
+/// what the log of that transaction's own events tells, no more and no less.
+pub fn issued()
+    ensures { SendsWhatLogsTell }
+{}
+
+/// Where a sending lane is one of its user's, and the user one of the entity's, the numbers of its
+/// transactions give back both, so that no two lanes share one.
+pub fn numbers()
+    ensures { NumbersTellLanes }
 {}
 
 /// What a lane knows of the bundles that it sent holds again after each event that it takes, with the

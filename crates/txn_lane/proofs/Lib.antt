@@ -1,8 +1,6 @@
-pub mod HeldFacts
 pub mod HandFacts
-pub mod OpenFacts
 pub mod CarryFacts
 pub mod TakenFacts
 pub mod OnFacts
-pub mod PutFacts
+pub mod FirstFacts
 pub mod KeepFacts

@@ -1,4 +1,4 @@
--- An event that a sending lane itself lets pass: what it comes to, and what is made of it.
+-- An event that a lane itself lets pass: what it comes to, and what is made of it.
 use Rattle.std.proofs.Common.{◌≡◌, ℕ, Bool, true, false, not, ◌&&◌, List, [], ◌∷◌, ◌++◌, Option, Some, None, is_some, Result, Ok, Err, IsOk, IsSome, inl, inr, refl, sym, ap, ◌∙◌, subst}
 use Rattle.std.specs.Option.{option_map, option_or}
 use Rattle.std.proofs.lemmas.Bool.{false≢true, true≢false, eqb-true}
@@ -7,12 +7,8 @@ use Rattle.cfdp_types.specs.Steps.{is_stamp}
 use Rattle.cfdp_types.specs.declared.key.TxnKey.{TxnKey}
 use Rattle.indications.specs.declared.bundle.Bundle.{Bundle}
 use Rattle.indications.specs.declared.indication.Indication.{Indication}
-use Rattle.txn_events.specs.Refusal.{unless_refused}
 use Rattle.txn_events.specs.declared.refusal.Refusal.{Refusal}
 use Rattle.txn_events.specs.declared.event.What.{What}
-use Rattle.sender_table.specs.Sending as sender
-use Rattle.sender_table.specs.Answers.{answer_at}
-use Rattle.sender_core.specs.Core.{shown, sending_of, StandsAfter}
 use Rattle.lane_table.specs.declared.done.Done.{Done}
 use Rattle.txn_events.specs.declared.event.Event.{Event}
 use Rattle.txn_events.specs.declared.event.Event.TheVariants.{On}
@@ -21,82 +17,64 @@ use Rattle.txn_lane.specs.Handing.{bundle_for, MayHandOver, IsHandedOver}
 use Rattle.lane_table.specs.Keeping.{Keeps, bundle_by, bundle_of}
 use Rattle.lane_table.specs.Lane.{State, key_at, key_of, log_of, goes_on, is_running, IsSound}
 use Rattle.txn_lane.specs.LaneCode.{Stands, IsHeld}
-use Rattle.lane_table.specs.Logs.{Log, sent, received, to_sender}
+use Rattle.lane_table.specs.Logs.{Log, issued, has_ended, answered_behind, extended}
+use Rattle.txn_core.specs.Transactions.{StandsAfter}
 use Rattle.txn_lane.specs.Stepping.{IsOffered, IsWhyNot, IsNotCarried}
 use Rattle.lane_table.specs.Steps.{IsKeyed, new_transaction, log_before, is_foreign, is_new, is_old, is_unknown, plainly, refused_by_end, refused_by_lane, refusal_at, stepped, stepped_by, answer_in, answer_of, IsDone}
 use Rattle.txn_lane.proofs.HandFacts.{may_hand_over}
-use Rattle.txn_lane.proofs.HeldFacts.{taken_by_both}
-use Rattle.lane_table.proofs.LogFacts.{log_with}
+use Rattle.lane_table.proofs.LogFacts.{log_with, taken_behind, refused_so, with_answer, last_is, issued_is}
 use Rattle.lane_table.proofs.RunFacts.{IsSame, same_by}
 use Rattle.lane_table.proofs.SentFacts.{some_is}
 use Rattle.lane_table.proofs.StepFacts.{ComesTo, comes_to, stays_sound, if_none, both_false, both_true, is_true, is_false, same_source}
 
--- an event that the lane itself lets pass comes to a sender's log
-pub record Meets (state : State) (event : Event) (key : TxnKey) (sending : sender.Sending) (front : List sender.Entry) : Type 0 where
+-- an event that the lane itself lets pass comes to this log
+pub record Meets (state : State) (event : Event) (key : TxnKey) (log : Log) : Type 0 where
   pub sound : IsSound state
   pub keyed : IsKeyed event
   pub passed : refused_by_lane state event ≡ None
-  pub before : log_before state (new_transaction state event) ≡ Some (sent sending front)
+  pub before : log_before state (new_transaction state event) ≡ Some log
   pub key_is : key_of (stepped state event) ≡ Some key
 
--- what its end says to it
-abbrev pub says : sender.Sending → List sender.Entry → Event → Result Answer Refusal
-says sending front event = answer_at sending (sender.state_of sending front) (to_sender event)
+by_end : (state : State) (event : Event) (key : TxnKey) (log : Log) → Meets state event key log
+    → refusal_at state event ≡ option_map plainly (refused_by_end (Some log) event)
+by_end state event key log meets =
+    ap (λ o. option_or o (option_map plainly (refused_by_end (log_before state (new_transaction state event)) event))) meets.passed
+    ∙ ap (λ o. option_map plainly (refused_by_end o event)) meets.before
 
-accepted_parts : (why : Option Refusal) (answer given : Answer) → unless_refused why answer ≡ Ok given → (why ≡ None) × (answer ≡ given)
-accepted_parts None answer given e = (refl, cc)
-accepted_parts (Some r) answer given e = absurd cc
+pub free_if : (state : State) (event : Event) (key : TxnKey) (log : Log) (answer : Answer)
+    → Meets state event key log → answered_behind log event ≡ Ok answer → refusal_at state event ≡ None
+free_if state event key log answer meets is = by_end state event key log meets ∙ ap (option_map plainly) (taken_behind log event answer is)
 
-refused_parts : (why : Option Refusal) (answer : Answer) (r : Refusal) → unless_refused why answer ≡ Err r → why ≡ Some r
-refused_parts None answer r e = absurd cc
-refused_parts (Some w) answer r e = cc
+free_of : (state : State) (event : Event) (key : TxnKey) (log : Log) (answered : Result Answer Refusal) → answered_behind log event ≡ answered
+    → Meets state event key log → IsOk answered → refusal_at state event ≡ None
+free_of state event key log (Ok answer) is meets ok = free_if state event key log answer meets is
+free_of state event key log (Err why) is meets ok = absurd (false≢true ok)
 
-ok_parts : (why : Option Refusal) (answer : Answer) → IsOk (unless_refused why answer) → why ≡ None
-ok_parts None answer e = refl
-ok_parts (Some w) answer e = absurd (false≢true e)
+pub log_then : (state : State) (event : Event) (key : TxnKey) (log : Log) (answer : Answer)
+    → Meets state event key log → answered_behind log event ≡ Ok answer → log_of (stepped state event) ≡ Some (extended log event answer)
+log_then state event key log answer meets is =
+    let came : ComesTo state event = comes_to state event meets.sound meets.keyed (free_if state event key log answer meets is) in
+    let same : came.log ≡ log = some_is came.log log (sym came.before ∙ meets.before) in
+    came.after ∙ ap (λ l. Some (log_with l event)) same ∙ ap Some (with_answer log event answer is)
 
-pub free_of : (state : State) (event : Event) (key : TxnKey) (sending : sender.Sending) (front : List sender.Entry) → Meets state event key sending front
-    → IsOk (says sending front event) → refusal_at state event ≡ None
-unfolding answer_at
-free_of state event key sending front meets ok =
-    taken_by_both state event sending front meets.passed meets.before (ok_parts _ _ ok)
-
-ok_of : (r : Result Answer Refusal) (answer : Answer) → r ≡ Ok answer → IsOk r
-ok_of (Ok other) answer is = refl
-ok_of (Err why) answer is = absurd cc
-
-pub free_if : (state : State) (event : Event) (key : TxnKey) (sending : sender.Sending) (front : List sender.Entry) (answer : Answer)
-    → Meets state event key sending front → says sending front event ≡ Ok answer → refusal_at state event ≡ None
-free_if state event key sending front answer meets is = free_of state event key sending front meets (ok_of (says sending front event) answer is)
-
-pub log_then : (state : State) (event : Event) (key : TxnKey) (sending : sender.Sending) (front : List sender.Entry) (answer : Answer)
-    → Meets state event key sending front → says sending front event ≡ Ok answer
-    → log_of (stepped state event) ≡ Some (sent sending (record { event = to_sender event; answer = answer } ∷ front))
-unfolding answer_at
-log_then state event key sending front answer meets is =
-    let came : ComesTo state event = comes_to state event meets.sound meets.keyed (free_if state event key sending front answer meets is) in
-    let same : came.log ≡ sent sending front = some_is came.log (sent sending front) (sym came.before ∙ meets.before) in
-    came.after ∙ ap (λ l. Some (log_with l event)) same
-    ∙ ap (λ given. Some (sent sending (record { event = to_sender event; answer = given } ∷ front))) (accepted_parts _ _ answer is).1
-
-pub answer_then : (state : State) (event : Event) (key : TxnKey) (sending : sender.Sending) (front : List sender.Entry) (answer : Answer)
-    → Meets state event key sending front → says sending front event ≡ Ok answer → answer_of (stepped state event) ≡ answer
-answer_then state event key sending front answer meets is = ap answer_in (log_then state event key sending front answer meets is)
+pub answer_then : (state : State) (event : Event) (key : TxnKey) (log : Log) (answer : Answer)
+    → Meets state event key log → answered_behind log event ≡ Ok answer → answer_of (stepped state event) ≡ answer
+answer_then state event key log answer meets is = ap answer_in (log_then state event key log answer meets is) ∙ last_is log event answer is
 
 -- ---- the outlet
 
-pub may_then : (state : State) (event : Event) (key : TxnKey) (sending : sender.Sending) (front : List sender.Entry) (answer : Answer)
-    → Meets state event key sending front → says sending front event ≡ Ok answer
+pub may_then : (state : State) (event : Event) (key : TxnKey) (log : Log) (answer : Answer)
+    → Meets state event key log → answered_behind log event ≡ Ok answer
     → (bundles : List Bundle) (stands : List Bundle → Type 0) → Keeps state bundles → stands bundles
     → (user lane other another : ℕ) → user ≡ state.user → lane ≡ state.lane → other ≡ state.user → another ≡ state.lane
     → MayHandOver user lane stands (bundle_for other another key answer.inds)
-may_then state event key sending front answer meets is bundles stands keeps stood user lane other another of_user of_lane of_other of_another =
+may_then state event key log answer meets is bundles stands keeps stood user lane other another of_user of_lane of_other of_another =
     subst (λ u. MayHandOver u lane stands (bundle_for other another key answer.inds)) (sym of_user)
     (subst (λ l. MayHandOver state.user l stands (bundle_for other another key answer.inds)) (sym of_lane)
     (subst (λ u. MayHandOver state.user state.lane stands (bundle_for u another key answer.inds)) (sym of_other)
     (subst (λ l. MayHandOver state.user state.lane stands (bundle_for state.user l key answer.inds)) (sym of_another)
-    (may_hand_over state event bundles stands key meets.sound meets.keyed (free_if state event key sending front answer meets is) keeps stood meets.key_is
-    answer.inds (ap (λ a. a.inds) (answer_then state event key sending front answer meets is))))))
+    (may_hand_over state event bundles stands key meets.sound meets.keyed (free_if state event key log answer meets is) keeps stood meets.key_is
+    answer.inds (ap (λ a. a.inds) (answer_then state event key log answer meets is))))))
 
 bundle_then : (next : State) (key : TxnKey) (inds : List Indication) → key_of next ≡ Some key → (answer_of next).inds ≡ inds
     → bundle_of next ≡ bundle_by next (Some key) inds
@@ -112,16 +90,16 @@ offered_by takes old new next user lane key (first ∷ rest) of_user of_lane han
     (subst (λ l. takes old (record { user = user; lane = l; key = key; inds = first ∷ rest }) new) of_lane handed)
 
 pub offered_then : {A : Type 0} (takes : A → Bundle → A → Type 0) (old new : A)
-    (state : State) (event : Event) (key : TxnKey) (sending : sender.Sending) (front : List sender.Entry) (answer : Answer)
-    → Meets state event key sending front → says sending front event ≡ Ok answer
+    (state : State) (event : Event) (key : TxnKey) (log : Log) (answer : Answer)
+    → Meets state event key log → answered_behind log event ≡ Ok answer
     → (user lane : ℕ) → user ≡ state.user → lane ≡ state.lane
     → IsHandedOver takes old new (bundle_for user lane key answer.inds)
     → IsOffered takes old new (bundle_of (stepped state event))
-offered_then takes old new state event key sending front answer meets is user lane of_user of_lane handed =
+offered_then takes old new state event key log answer meets is user lane of_user of_lane handed =
     let next : State = stepped state event in
     let same : IsSame state next = same_by state event (new_transaction state event) in
     subst (IsOffered takes old new)
-    (sym (bundle_then next key answer.inds meets.key_is (ap (λ a. a.inds) (answer_then state event key sending front answer meets is))))
+    (sym (bundle_then next key answer.inds meets.key_is (ap (λ a. a.inds) (answer_then state event key log answer meets is))))
     (offered_by takes old new next user lane key answer.inds (of_user ∙ sym same.user) (of_lane ∙ sym same.lane) handed)
 
 -- ---- why an event is not taken
@@ -131,48 +109,44 @@ full_by : (next : State) (user lane : ℕ) (key : TxnKey) (inds : List Indicatio
 full_by next user lane key [] some = absurd (false≢true some)
 full_by next user lane key (first ∷ rest) some = (record { user = next.user; lane = next.lane; key = key; inds = first ∷ rest }, refl)
 
-refused_then : (state : State) (event : Event) (key : TxnKey) (sending : sender.Sending) (front : List sender.Entry) (why : Refusal)
-    → Meets state event key sending front → says sending front event ≡ Err why → refusal_at state event ≡ Some (plainly why)
-unfolding answer_at
-refused_then state event key sending front why meets is =
-    ap (λ o. option_or o (option_map plainly (refused_by_end (log_before state (new_transaction state event)) event))) meets.passed
-    ∙ ap (λ o. option_map plainly (refused_by_end o event)) meets.before
-    ∙ ap (option_map plainly) (refused_parts _ _ why is)
+refused_then : (state : State) (event : Event) (key : TxnKey) (log : Log) (why : Refusal)
+    → Meets state event key log → answered_behind log event ≡ Err why → refusal_at state event ≡ Some (plainly why)
+refused_then state event key log why meets is = by_end state event key log meets ∙ ap (option_map plainly) (refused_so log event why is)
 
 pub why_not : {A : Type 0} (returns : A → A → Type 0) (old new : A)
-    (state : State) (event : Event) (key : TxnKey) (sending : sender.Sending) (front : List sender.Entry) (user lane : ℕ) (why : Refusal)
-    → Meets state event key sending front
-    → IsNotCarried returns old new user lane key (says sending front event) why
+    (state : State) (event : Event) (key : TxnKey) (log : Log) (user lane : ℕ) (why : Refusal)
+    → Meets state event key log
+    → IsNotCarried returns old new user lane key (answered_behind log event) why
     → IsWhyNot returns state event old new (plainly why)
-why_not returns old new state event key sending front user lane why meets (inl (same, inl is)) =
-    inl (same, inl (refused_then state event key sending front why meets is))
-why_not returns old new state event key sending front user lane why meets (inl (same, inr ran)) =
-    inl (same, inr (free_of state event key sending front meets ran.1, ap plainly ran.0))
-why_not returns old new state event key sending front user lane why meets (inr full) =
+why_not returns old new state event key log user lane why meets (inl (same, inl is)) =
+    inl (same, inl (refused_then state event key log why meets is))
+why_not returns old new state event key log user lane why meets (inl (same, inr ran)) =
+    inl (same, inr (free_of state event key log (answered_behind log event) refl meets ran.1, ap plainly ran.0))
+why_not returns old new state event key log user lane why meets (inr full) =
     let next : State = stepped state event in
     let answer : Answer = full.2.0 in
     let found = full_by next user lane key answer.inds full.2.2 in
-    let told = ap (λ a. a.inds) (answer_then state event key sending front answer meets full.2.1) in
-    inr (full.0, (free_if state event key sending front answer meets full.2.1, ap plainly full.1, (found.0, bundle_then next key answer.inds meets.key_is told ∙ found.1)))
+    let told = ap (λ a. a.inds) (answer_then state event key log answer meets full.2.1) in
+    inr (full.0, (free_if state event key log answer meets full.2.1, ap plainly full.1, (found.0, bundle_then next key answer.inds meets.key_is told ∙ found.1)))
 
 -- ---- what the lane holds then, and what the step gives
 
-pub held_then : (state : State) (event : Event) (key : TxnKey) (sending : sender.Sending) (front : List sender.Entry) (answer : Answer)
-    → Meets state event key sending front → says sending front event ≡ Ok answer
-    → (next : Running) → sending_of next.core ≡ sending → StandsAfter next.core (record { event = to_sender event; answer = answer } ∷ front)
-    → next.trace.items ≡ sender.issued front ++ answer.inds
+pub held_then : (state : State) (event : Event) (key : TxnKey) (log : Log) (answer : Answer)
+    → Meets state event key log → answered_behind log event ≡ Ok answer
+    → (next : Running) → StandsAfter next.core (extended log event answer) → next.trace.items ≡ issued log ++ answer.inds
     → IsHeld (stepped state event) (Some next)
-held_then state event key sending front answer meets is next same stood traced = record {
-  sound = stays_sound state event meets.sound meets.keyed (free_if state event key sending front answer meets is);
-  stands = subst (Stands (Some next)) (sym (log_then state event key sending front answer meets is)) (same, stood, traced);
+held_then state event key log answer meets is next stood traced = record {
+  sound = stays_sound state event meets.sound meets.keyed (free_if state event key log answer meets is);
+  stands =
+      subst (Stands (Some next)) (sym (log_then state event key log answer meets is)) (stood, traced ∙ sym (issued_is log event answer is));
 }
 
-pub done_then : (state : State) (event : Event) (key : TxnKey) (sending : sender.Sending) (front : List sender.Entry) (answer : Answer)
-    → Meets state event key sending front → says sending front event ≡ Ok answer
+pub done_then : (state : State) (event : Event) (key : TxnKey) (log : Log) (answer : Answer)
+    → Meets state event key log → answered_behind log event ≡ Ok answer
     → (done : Done) → done.key ≡ key → done.pdus ≡ answer.pdus → done.timers ≡ answer.timers → done.deposit ≡ answer.deposit
     → IsDone (stepped state event) done
-done_then state event key sending front answer meets is done of_key of_pdus of_timers of_deposit =
-    let told = answer_then state event key sending front answer meets is in
+done_then state event key log answer meets is done of_key of_pdus of_timers of_deposit =
+    let told = answer_then state event key log answer meets is in
     record {
       key = meets.key_is ∙ ap Some (sym of_key);
       pdus = of_pdus ∙ ap (λ a. a.pdus) (sym told);
@@ -183,34 +157,21 @@ done_then state event key sending front answer meets is done of_key of_pdus of_t
 -- ---- what the code's transaction is, where the lane's goes on
 
 pub record IsFound (running : Running) (found : Option Log) : Type 0 where
-  pub sending : sender.Sending
-  pub front : List sender.Entry
-  pub is : found ≡ Some (sent sending front)
-  pub same : sending_of running.core ≡ sending
-  pub stood : StandsAfter running.core front
-  pub traced : running.trace.items ≡ sender.issued front
-  pub runs : (shown running.core).ended ≡ false
+  pub log : Log
+  pub is : found ≡ Some log
+  pub stood : StandsAfter running.core log
+  pub traced : running.trace.items ≡ issued log
+  pub runs : has_ended log ≡ false
 
 pub found_by : (running : Running) (found : Option Log) → Stands (Some running) found → goes_on found ≡ true → IsFound running found
 found_by running None stands goes = absurd stands
-found_by running (Some (received reception log)) stands goes = absurd stands
-found_by running (Some (sent sending log)) stands goes = record {
-  sending = sending;
-  front = log;
-  is = refl;
-  same = stands.0;
-  stood = stands.1;
-  traced = stands.2;
-  runs =
-      ap (λ s. s.ended) stands.1 ∙ ap (λ s. (sender.state_of s log).ended) stands.0 ∙ is_false ((sender.state_of sending log).ended) goes;
-}
+found_by running (Some log) stands goes =
+    record { log = log; is = refl; stood = stands.0; traced = stands.1; runs = is_false (has_ended log) goes }
 
-pub stands_same : (running next : Running) (found : Option Log) → next.core ≡ running.core → next.trace.items ≡ running.trace.items
-    → Stands (Some running) found → Stands (Some next) found
+pub stands_same : (running next : Running) (found : Option Log) → ((log : Log) → StandsAfter running.core log → StandsAfter next.core log)
+    → next.trace.items ≡ running.trace.items → Stands (Some running) found → Stands (Some next) found
 stands_same running next None core trace stands = absurd stands
-stands_same running next (Some (received reception log)) core trace stands = absurd stands
-stands_same running next (Some (sent sending log)) core trace stands =
-    (ap sending_of core ∙ stands.0, subst (λ c. StandsAfter c log) (sym core) stands.1, trace ∙ stands.2)
+stands_same running next (Some log) core trace stands = (core log stands.0, trace ∙ stands.1)
 
 -- ---- an event of a key that the lane itself lets pass
 
@@ -248,7 +209,7 @@ of_last state key event none passed =
 
 pub meets_last : (state : State) (key : TxnKey) (event : What) (running : Running) → new_transaction state (On key event) ≡ None
     → IsSound state → IsKeyed (On key event) → refused_by_lane state (On key event) ≡ None
-    → (found : IsFound running (log_of state)) → Meets state (On key event) key found.sending found.front
+    → (found : IsFound running (log_of state)) → Meets state (On key event) key found.log
 meets_last state key event running none sound keyed passed found = record {
   sound = sound;
   keyed = keyed;

@@ -5,7 +5,7 @@ use Rattle.cfdp_types.specs.declared.key.TxnKey.{TxnKey}
 use Rattle.indications.specs.declared.bundle.Bundle.{Bundle}
 use Rattle.txn_events.specs.declared.refusal.Refusal.{Refusal}
 use Rattle.txn_events.specs.declared.refusal.Refusal.TheVariants as refusal
-use Rattle.sender_core.specs.Core.{IsWhy}
+use Rattle.txn_core.specs.Transactions.{IsWhy}
 use Rattle.lane_table.specs.declared.done.Done.{Done}
 use Rattle.txn_events.specs.declared.event.Event.{Event}
 use Rattle.lane_table.specs.declared.refused.Refused.{Refused}
@@ -48,16 +48,23 @@ pub record IsTaken (state : State) (event : Event) (next : State) (done : Done) 
   pub next_is : next ≡ stepped state event
   pub done_is : IsDone next done
 
+-- an outlet is still of its user and lane
+pub record IsSameEnd {O : Type 0} (user lane : O → ℕ) (old new : O) : Type 0 where
+  pub of_user : user new ≡ user old
+  pub of_lane : lane new ≡ lane old
+
 -- the step's bundle was offered once and taken, and every list that fitted the lane fits it with the bundle
-pub record IsHanded {O : Type 0} (takes : O → Bundle → O → Type 0) (stands : O → List Bundle → Type 0) (state next : State) (old new : O) : Type 0 where
+pub record IsHanded {O : Type 0} (user lane : O → ℕ) (takes : O → Bundle → O → Type 0) (stands : O → List Bundle → Type 0) (state next : State) (old new : O) : Type 0 where
   pub offered : IsOffered takes old new (bundle_of next)
+  pub same_end : IsSameEnd user lane old new
   pub keeps : (bundles : List Bundle) → stands old bundles → Keeps state bundles
       → stands new (bundles ++ bundle_of next) × Keeps next (bundles ++ bundle_of next)
 
 -- an event was not taken: the lane is as it was, and every list that fitted it fits it still
-pub record IsLeft {O : Type 0} (returns : O → O → Type 0) (stands : O → List Bundle → Type 0) (state : State) (event : Event) (next : State) (old new : O) (refused : Refused) : Type 0 where
+pub record IsLeft {O : Type 0} (user lane : O → ℕ) (returns : O → O → Type 0) (stands : O → List Bundle → Type 0) (state : State) (event : Event) (next : State) (old new : O) (refused : Refused) : Type 0 where
   pub same : next ≡ state
   pub why : IsWhyNot returns state event old new refused
+  pub same_end : IsSameEnd user lane old new
   pub still : (bundles : List Bundle) → stands old bundles → Keeps state bundles → stands new bundles × Keeps next bundles
 
 -- ---- inside the code
@@ -79,7 +86,7 @@ pub record IsGivenBack {O T : Type 0} (returns : O → O → Type 0) (bundle : O
   pub some : IsSome bundle
   pub returned : returns old new
 
--- why a sender's answer under a key is not carried out: there is none, memory ran out, or the queue was full
+-- why an answer under a key is not carried out: there is none, memory ran out, or the queue was full
 abbrev pub IsNotCarried : {A : Type 0} → (A → A → Type 0) → A → A → ℕ → ℕ → TxnKey → Result Answer Refusal → Refusal → Type 0
 IsNotCarried returns old new user lane key answered why =
     ((new ≡ old) × IsWhy answered why)

@@ -1,20 +1,19 @@
-use crate::lane_refusals::{plainly, refused_by_key, refused_put};
+use crate::lane_refusals::{LaneView, is_above, opens_at, plainly, refused_by_key, refused_put};
 use crate::running::Running;
 use crate::stepping::{LaneAddress, advance, done, start};
-use cfdp_types::{EntityId, Params, PutRequest, TxnKey};
+use cfdp_types::{EntityId, Image, Params, TxnKey};
 use indications::{Indication, Outlet};
-use lane_table::{Done, Numbers, Refused};
+use lane_table::{Done, LaneSide, Numbers, Refused};
 use std::alloc::Global;
 use std::marker::Model;
 use txn_events::{Event, Refusal, What};
 
-/// A lane of a user, which runs one sending transaction after the other. Contracts see what it
-/// stands at.
+/// A lane of a user, which runs one transaction after the other: those that its user puts, or those
+/// whose files come from one source. Contracts see what it stands at.
 #[derive(Debug, Drop)]
 pub struct Lane {
     alloc: Global,
-    numbers: Numbers,
-    greatest: u64,
+    side: LaneSide,
     user: usize,
     lane: usize,
     source: EntityId,
@@ -25,25 +24,26 @@ pub struct Lane {
 
 impl Model for Lane {
     ghost use Rattle.lane_table.specs.Lane.{State};
-    ghost use Rattle.txn_lane.specs.LaneCode.{sending_state, journal_of, IsHeld};
+    ghost use Rattle.txn_lane.specs.LaneCode.{lane_state, journal_of, IsHeld};
 
     ghost Value = { State };
 
-    ghost view = { λ l. sending_state l.numbers l.greatest l.user l.lane l.source l.last l.before (journal_of l.running) };
+    ghost view = { λ l. lane_state l.side l.user l.lane l.source l.last l.before (journal_of l.running) };
 
     ghost invariant = { λ l. IsHeld
-        (sending_state l.numbers l.greatest l.user l.lane l.source l.last l.before (journal_of l.running)) l.running };
+        (lane_state l.side l.user l.lane l.source l.last l.before (journal_of l.running)) l.running };
 }
 
 impl Lane {
-    ghost use Rattle.std.specs.Prelude.{◌≡◌, ◌<◌, ◌++◌, true, false, List, IfSome, IfNone, IfOk, IfErr, OnOk, OnErr};
+    ghost use Rattle.std.specs.Prelude.{◌≡◌, ◌<◌, ◌++◌, is_some, IsSome, Some, None, Ok, List, IfOk, IfErr, OnOk, OnErr};
     ghost use Rattle.indications.specs.declared.bundle.Bundle.{Bundle};
     ghost use Rattle.lane_table.specs.Keeping.{bundle_of};
     ghost use Rattle.txn_lane.specs.Stepping.{IsOutletOf, IsOffered, IsHanded, IsTaken, IsLeft, IsNotTaken, Passes};
-    ghost use Rattle.lane_table.specs.Steps.{IsKeyed, IsDone, plainly, refused_by_lane, refusal_at, stepped, next_number, exceeds};
-    ghost use Rattle.txn_events.specs.declared.event.Event.TheVariants.{Put, On};
-    ghost use Rattle.lane_table.specs.declared.lane_side.LaneSide.TheVariants.{Sending};
-    ghost use Rattle.lane_table.specs.Lane.{idle, key_of, is_running, issued_by, IsSound};
+    ghost use Rattle.lane_table.specs.Steps.{IsKeyed, IsDone, plainly, refused_by_lane, refused_number, refusal_at, stepped, next_number, number_in, new_transaction, image_of};
+    ghost use Rattle.txn_core.specs.Transactions.{IsWhy};
+    ghost use Rattle.txn_events.specs.declared.event.Event.TheVariants.{On};
+    ghost use Rattle.lane_table.specs.declared.lane_side.LaneSide.TheVariants.{Sending, Receiving};
+    ghost use Rattle.lane_table.specs.Lane.{idle, key_of, is_running, issued_by, IsNumbered, IsSound};
 
     /// A lane that has sent nothing yet: of a user's lane, for files of the source, by these
     /// numbers up to the greatest that the sequence length holds.
@@ -59,10 +59,32 @@ impl Lane {
         requires users { 0 < numbers.users }
         ensures { result ≡ idle (Sending numbers greatest) user lane source }
     {
+        let side = LaneSide::Sending { numbers, greatest };
+        Lane::idle(alloc, side, user, lane, source)
+    }
+
+    /// A lane that has received nothing yet: of a user's lane, for what comes from the source, by
+    /// these parameters.
+    pub fn receiving(
+        alloc: Global,
+        user: usize,
+        lane: usize,
+        source: EntityId,
+        params: Params,
+    ) -> Lane
+        ensures { result ≡ idle (Receiving params) user lane source }
+    {
+        Lane::idle(alloc, LaneSide::Receiving(params), user, lane, source)
+    }
+
+    // A lane that has opened nothing yet.
+    fn idle(alloc: Global, side: LaneSide, user: usize, lane: usize, source: EntityId) -> Lane
+        requires { IsNumbered side }
+        ensures { result ≡ idle side user lane source }
+    {
         Lane {
             alloc,
-            numbers,
-            greatest,
+            side,
             user,
             lane,
             source,
@@ -100,6 +122,20 @@ impl Lane {
         }
     }
 
+    /// The file of that transaction's deposit that waits, by its key and its stamp.
+    pub fn image(&self, key: TxnKey, stamp: u32) -> Result<Image, Refusal>
+        ensures image { IfOk result (λ image. image_of self.now key stamp ≡ Ok image) }
+        ensures refused { IfErr result (λ why. IsWhy (image_of self.now key stamp) why) }
+    {
+        if key.source.0 != self.source.0 || self.last != Some(key.seq) {
+            return Err(Refusal::StaleStored);
+        }
+        match &self.running {
+            None => Err(Refusal::StaleStored),
+            Some(running) => running.core.image(stamp),
+        }
+    }
+
     // Whether that transaction has not ended.
     pub(crate) fn is_running(&self) -> bool
         ensures { result ≡ is_running self.now }
@@ -110,28 +146,46 @@ impl Lane {
         }
     }
 
+    // Whether an event of a key opens a transaction here.
+    fn opens(&self, key: TxnKey, what: &What) -> bool
+        ensures { result ≡ is_some (new_transaction self.now (On key what.now)) }
+    {
+        is_above(key.seq, self.last) && opens_at(&self.side, what)
+    }
+
+    // The number of the next Put, or why it gets none.
+    fn next_number(&self) -> Result<u64, Refusal>
+        ensures held { IfOk result (λ number. number ≡ next_number self.now) }
+        ensures free { OnOk result (refused_number self.now.side (next_number self.now) ≡ None) }
+        ensures refused { IfErr result (λ why. refused_number self.now.side (next_number self.now) ≡ Some why) }
+    {
+        match &self.side {
+            LaneSide::Receiving(_) => Err(Refusal::WrongState),
+            LaneSide::Sending { numbers, greatest } => {
+                match numbers.up_to(*greatest, self.user, self.lane, self.last) {
+                    Some(number) => Ok(number),
+                    None => Err(Refusal::SeqExhausted),
+                }
+            }
+        }
+    }
+
     // Why the lane refuses an event, before its end is asked.
     pub(crate) fn refusal(&self, event: &Event) -> Option<Refused>
         ensures { result ≡ refused_by_lane self.now event.now }
     {
         let is_running = self.is_running();
         match event {
-            Event::Put(_, _) => {
-                let number = self.next_number();
-                refused_put(is_running, number.is_none())
+            Event::Put(_, _) => refused_put(is_running, self.next_number()),
+            Event::On(key, what) => {
+                let lane = LaneView {
+                    source: self.source,
+                    last: self.last,
+                    is_running,
+                };
+                refused_by_key(lane, self.opens(*key, what), *key, what)
             }
-            Event::On(key, what) => refused_by_key(self.source, self.last, is_running, *key, what),
         }
-    }
-
-    // The number of the next Put, where the sequence length holds it.
-    pub(crate) fn next_number(&self) -> Option<u64>
-        ensures held { IfSome result
-            (λ number. (number ≡ next_number self.now) × (exceeds self.now.side number ≡ false)) }
-        ensures beyond { IfNone result (exceeds self.now.side (next_number self.now) ≡ true) }
-    {
-        self.numbers
-            .up_to(self.greatest, self.user, self.lane, self.last)
     }
 
     /// Takes an event: what the step tells is offered to the outlet, and only then is the step made.
@@ -140,9 +194,9 @@ impl Lane {
         requires keyed { IsKeyed event.now }
         requires outlet { IsOutletOf O.user O.lane O.stands self.old outlet.old }
         ensures taken { IfOk result (λ done. IsTaken self.old event.now self.new done) }
-        ensures handed { OnOk result (IsHanded O.takes O.stands self.old self.new outlet.old outlet.new) }
+        ensures handed { OnOk result (IsHanded O.user O.lane O.takes O.stands self.old self.new outlet.old outlet.new) }
         ensures left { IfErr result
-            (λ refused. IsLeft O.returns O.stands self.old event.now self.new outlet.old outlet.new refused) }
+            (λ refused. IsLeft O.user O.lane O.returns O.stands self.old event.now self.new outlet.old outlet.new refused) }
     {
         if let Some(refused) = self.refusal(event) {
             return Err(refused);
@@ -164,32 +218,40 @@ impl Lane {
             (λ why. IsNotTaken O.returns self.old event.now self.new outlet.old outlet.new why) }
     {
         match event {
-            Event::Put(request, params) => self.step_put(request, *params, outlet),
-            Event::On(key, what) => self.step_on(*key, what, outlet),
+            Event::Put(_, _) => {
+                let seq = self.next_number()?;
+                self.step_first(seq, event, outlet)
+            }
+            Event::On(key, what) => {
+                if self.opens(*key, what) {
+                    self.step_first(key.seq, event, outlet)
+                } else {
+                    self.step_on(*key, what, outlet)
+                }
+            }
         }
     }
 
-    // Opens the transaction of a Put.
-    fn step_put<O: Outlet>(
+    // Opens a transaction, with this number.
+    fn step_first<O: Outlet>(
         &mut self,
-        request: &PutRequest,
-        params: Params,
+        seq: u64,
+        event: &Event,
         outlet: &mut O,
     ) -> Result<Done, Refusal>
-        requires passed { refused_by_lane self.old (Put request.now params) ≡ None }
+        requires passes { Passes self.old event.now }
+        requires opens { IsSome (new_transaction self.old event.now) }
+        requires number { seq ≡ number_in self.old event.now }
         requires outlet { IsOutletOf O.user O.lane O.stands self.old outlet.old }
         ensures sound { IsSound self.old }
-        ensures taken { IfOk result (λ done. IsTaken self.old (Put request.now params) self.new done) }
+        ensures taken { IfOk result (λ done. IsTaken self.old event.now self.new done) }
         ensures offered { OnOk result (IsOffered O.takes outlet.old outlet.new (bundle_of self.new)) }
         ensures left { IfErr result
-            (λ why. IsNotTaken O.returns self.old (Put request.now params) self.new outlet.old outlet.new why) }
+            (λ why. IsNotTaken O.returns self.old event.now self.new outlet.old outlet.new why) }
     {
-        let Some(seq) = self.next_number() else {
-            return Err(Refusal::SeqExhausted);
-        };
         let source = self.source;
         let key = TxnKey { source, seq };
-        let (running, answer) = start(self.address(), key, request, params, outlet)?;
+        let (running, answer) = start(self.address(), &self.side, key, event, outlet)?;
         self.before = self.last;
         self.last = Some(seq);
         self.running = Some(running);
@@ -204,6 +266,7 @@ impl Lane {
         outlet: &mut O,
     ) -> Result<Done, Refusal>
         requires passes { Passes self.old (On key what.now) }
+        requires opens_none { new_transaction self.old (On key what.now) ≡ None }
         requires outlet { IsOutletOf O.user O.lane O.stands self.old outlet.old }
         ensures sound { IsSound self.old }
         ensures taken { IfOk result (λ done. IsTaken self.old (On key what.now) self.new done) }

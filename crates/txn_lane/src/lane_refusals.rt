@@ -1,5 +1,8 @@
 //! Why a lane refuses an event before its end is asked.
-ghost use Rattle.std.specs.Prelude.{◌≡◌, ◌==◌};
+ghost use Rattle.std.specs.Prelude.{◌≡◌, ◌==◌, ℕ, is_some, Ok, Err};
+ghost use Rattle.txn_events.specs.declared.refusal.Refusal.{Refusal as RefusalValue};
+ghost use Rattle.lane_table.specs.Lane.{is_above};
+ghost use Rattle.lane_table.specs.Logs.{opened_by};
 ghost use Rattle.txn_events.specs.Events.{echo_of};
 ghost use Rattle.pdu_values.specs.Spelling.{HeaderFits};
 ghost use Rattle.pdu_values.specs.declared.pdu.Body.TheVariants as body;
@@ -10,9 +13,18 @@ ghost use Rattle.lane_table.specs.Steps.{echo_to};
 ghost use Rattle.txn_lane.specs.LaneCode.{refused_by_key, refused_put};
 
 use cfdp_types::{Class, Condition, EntityId, TxnKey};
-use lane_table::Refused;
+use lane_table::{LaneSide, Refused};
 use pdu_values::{Ack, Acknowledged, Body, Direction, Header, Pdu, TransactionStatus};
-use txn_events::{Refusal, What};
+use txn_events::{Refusal, What, body_opens};
+
+/// What the refusals of a lane go by.
+#[derive(Clone, Copy, Debug)]
+pub(crate) struct LaneView {
+    pub(crate) source: EntityId,
+    /// The number of the transaction that it opened last.
+    pub(crate) last: Option<u64>,
+    pub(crate) is_running: bool,
+}
 
 /// A refusal without an echo.
 pub(crate) fn plainly(why: Refusal) -> Refused
@@ -75,41 +87,62 @@ fn echo_to(event: &What) -> Option<Pdu>
     }
 }
 
-/// Why an event of a key is refused by a lane that it can't open anything at.
+/// Whether a number is above the last one.
+pub(crate) fn is_above(number: u64, last: Option<u64>) -> bool
+    ensures { result ≡ is_above number last }
+{
+    match last {
+        None => true,
+        Some(last) => number > last,
+    }
+}
+
+/// Whether an event of a key that is new to a lane opens a transaction there.
+pub(crate) fn opens_at(side: &LaneSide, event: &What) -> bool
+    ensures { (key opened : KeyValue) → result ≡ is_some (opened_by side.now opened (On key event.now)) }
+{
+    match (side, event) {
+        (LaneSide::Receiving(_), What::Pdu(pdu)) => body_opens(pdu.body()),
+        _ => false,
+    }
+}
+
+/// Why an event of a key is refused by a lane, by whether it would open a transaction there.
 pub(crate) fn refused_by_key(
-    source: EntityId,
-    last: Option<u64>,
-    is_running: bool,
+    lane: LaneView,
+    opens: bool,
     key: TxnKey,
     event: &What,
 ) -> Option<Refused>
-    ensures { result ≡ refused_by_key source last is_running key event.now }
+    ensures { result ≡ refused_by_key lane.source lane.last lane.is_running opens key event.now }
 {
-    let is_above = match last {
-        None => true,
-        Some(last) => key.seq > last,
-    };
-    if key.source.0 != source.0 || is_above {
+    let is_new = is_above(key.seq, lane.last);
+    if key.source.0 != lane.source.0 || (is_new && !opens) {
         return Some(plainly(Refusal::NoTransaction));
     }
-    if last == Some(key.seq) && is_running {
-        return None;
+    let is_of_running = lane.last == Some(key.seq) && lane.is_running;
+    if !is_new && !is_of_running {
+        return Some(Refused {
+            why: Refusal::OldTransaction,
+            echo: echo_to(event),
+        });
     }
-    Some(Refused {
-        why: Refusal::OldTransaction,
-        echo: echo_to(event),
-    })
+    if opens && lane.is_running {
+        return Some(plainly(Refusal::LaneBusy));
+    }
+    None
 }
 
-/// Why a Put is refused, by whether a transaction runs and whether there is no number left.
-pub(crate) fn refused_put(is_running: bool, is_exhausted: bool) -> Option<Refused>
-    ensures { result ≡ refused_put is_running is_exhausted }
+/// Why a Put is refused, by whether a transaction runs and by what the number that it would get says.
+pub(crate) fn refused_put(is_running: bool, number: Result<u64, Refusal>) -> Option<Refused>
+    ensures taken { (seq : ℕ) → number ≡ Ok seq → result ≡ refused_put is_running None }
+    ensures refused { (why : RefusalValue) → number ≡ Err why → result ≡ refused_put is_running (Some why) }
 {
     if is_running {
-        Some(plainly(Refusal::LaneBusy))
-    } else if is_exhausted {
-        Some(plainly(Refusal::SeqExhausted))
-    } else {
-        None
+        return Some(plainly(Refusal::LaneBusy));
+    }
+    match number {
+        Ok(_) => None,
+        Err(why) => Some(plainly(why)),
     }
 }

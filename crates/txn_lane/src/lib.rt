@@ -1,4 +1,4 @@
-//! Lanes: each runs one transaction after the other, sending ones or those that come from one source,
+//! Lanes: each runs one transaction after the other, those of its user or those that come from one source,
 //! and hands the indications of each step to its user's queue.
 #![tactic(auto)]
 
@@ -12,6 +12,3 @@ pub use indications::Outlet;
 pub use lane::Lane;
 pub use lane_table::{Done, LaneSide, Numbers, Refused, laws};
 pub use txn_events::Event;
-
-#[cfg(test)]
-mod tests;

@@ -1,16 +1,17 @@
 ghost use Rattle.std.specs.Prelude.{◌≡◌, ◌++◌, ◌+◌, ◌≤◌, vec_len, vec_capacity};
 
 use crate::handing::copies;
-use cfdp_types::{Params, PutRequest, TxnKey};
+use cfdp_types::TxnKey;
 use indications::Indication;
-use sender_core::{Plan, SenderCore};
+use lane_table::LaneSide;
 use std::alloc::Global;
+use txn_core::{TransactionCore, TransactionPlan};
 use txn_events::{Answer, Event, Refusal, What};
 
 /// The transaction that a lane runs or ran last.
 #[derive(Debug, Drop)]
 pub(crate) struct Running {
-    pub(crate) core: SenderCore,
+    pub(crate) core: TransactionCore,
     /// Its events that were taken, in order.
     pub(crate) journal: Vec<Event>,
     /// All that its user was told.
@@ -21,38 +22,35 @@ pub(crate) struct Running {
 #[derive(Debug, Drop)]
 pub(crate) struct Step {
     pub(crate) event: Event,
-    pub(crate) plan: Plan,
+    pub(crate) plan: TransactionPlan,
     /// What the plan tells, once more.
     pub(crate) told: Vec<Indication>,
 }
 
 impl Running {
-    ghost use Rattle.std.specs.Prelude.{◌≡◌, ◌∷◌, ◌++◌, [], false, List, IfOk, IfErr};
-    ghost use Rattle.txn_events.specs.declared.refusal.Refusal.TheVariants as refusal;
-    ghost use Rattle.sender_table.specs.Sending.{Entry, put, happens, initial};
-    ghost use Rattle.sender_table.specs.Answers.{answer_at};
-    ghost use Rattle.sender_core.specs.Core.{shown, sending_of, sending_by, StandsAfter, IsPlanOf, IsWhy, plan_answer};
-    ghost use Rattle.txn_events.specs.declared.event.Event.{Event as EventValue};
-    ghost use Rattle.txn_events.specs.declared.event.Event.TheVariants.{Put, On};
-    ghost use Rattle.lane_table.specs.Logs.{to_sender};
+    ghost use Rattle.std.specs.Prelude.{◌≡◌, ◌∷◌, ◌++◌, [], IsSome, IfOk, IfErr};
+    ghost use Rattle.txn_events.specs.declared.event.Event.TheVariants.{On};
+    ghost use Rattle.lane_table.specs.Logs.{Log, IsOfKey, opened_by, first_answer, answered_behind, extended};
+    ghost use Rattle.txn_core.specs.Transactions.{StandsAfter, IsWhy, plan_answer};
     ghost use Rattle.txn_lane.specs.RunningCode.{IsStepOf, IsOpenedBy, IsUnmoved, MayCommit};
 
-    /// The transaction that a Put opens, before its first event, and that event.
+    /// The transaction that an event opens, before its first event, and that event.
     pub(crate) fn open(
         alloc: Global,
+        side: &LaneSide,
         key: TxnKey,
-        request: &PutRequest,
-        params: Params,
+        event: &Event,
     ) -> Result<(Running, Step), Refusal>
-        ensures opened { IfOk result (λ opened. IsOpenedBy key request.now params opened.0 opened.1) }
-        ensures refused { IfErr result (λ why. IsWhy
-            (answer_at (sending_by key params request.now) (initial (sending_by key params request.now)) put) why) }
+        requires opens { IsSome (opened_by side.now key event.now) }
+        requires of_key { IsOfKey event.now key }
+        ensures opened { IfOk result (λ opened. IsOpenedBy (opened_by side.now key event.now) event.now opened.0 opened.1) }
+        ensures refused { IfErr result (λ why. IsWhy (first_answer (opened_by side.now key event.now) event.now) why) }
     {
-        let (core, plan) = SenderCore::open(alloc, key, request, params)?;
+        let (core, plan) = TransactionCore::open(alloc, side, key, event)?;
         let told = copies(alloc, &plan.answer().inds)?;
         let journal = Vec::with_capacity(alloc, 1)?;
         let trace = Vec::with_capacity(alloc, told.len())?;
-        let event = Event::Put(request.copy()?, params);
+        let event = event.copy()?;
         let running = Running {
             core,
             journal,
@@ -66,9 +64,8 @@ impl Running {
     pub(crate) fn plan(&mut self, alloc: Global, key: TxnKey, what: &What) -> Result<Step, Refusal>
         ensures same { IsUnmoved self.old self.new }
         ensures planned { IfOk result (λ step. IsStepOf self.new (On key what.now) step) }
-        ensures refused { (log : List Entry) → StandsAfter self.old.core log
-            → IfErr result
-            (λ why. IsWhy (answer_at (sending_of self.old.core) (shown self.old.core) (happens what.now)) why) }
+        ensures refused { (log : Log) → StandsAfter self.old.core log
+            → IfErr result (λ why. IsWhy (answered_behind log (On key what.now)) why) }
     {
         let plan = self.core.plan(what)?;
         let told = copies(alloc, &plan.answer().inds)?;
@@ -82,10 +79,8 @@ impl Running {
     pub(crate) fn commit(&mut self, step: Step) -> Answer
         requires { MayCommit self.old step }
         ensures answer { result ≡ plan_answer step.plan }
-        ensures sending { sending_of self.new.core ≡ sending_of self.old.core }
-        ensures stands { (log : List Entry) → StandsAfter self.old.core log
-            → StandsAfter self.new.core
-            (record { event = to_sender step.event; answer = plan_answer step.plan } ∷ log) }
+        ensures stands { (log : Log) → StandsAfter self.old.core log
+            → StandsAfter self.new.core (extended log step.event (plan_answer step.plan)) }
         ensures journal { self.new.journal.items ≡ self.old.journal.items ++ step.event ∷ [] }
         ensures trace { self.new.trace.items ≡ self.old.trace.items ++ (plan_answer step.plan).inds }
     {

@@ -1,25 +1,21 @@
 //! How an event of a transaction is carried out: it is planned, what it tells is offered, and only
 //! then does the transaction go on.
-ghost use Rattle.std.specs.Prelude.{◌≡◌, ◌∷◌, ◌++◌, [], false, List, Ok, IfOk, IfErr, OnOk, OnErr, IsSome};
-ghost use Rattle.txn_events.specs.declared.refusal.Refusal.TheVariants as refusal;
+ghost use Rattle.std.specs.Prelude.{◌≡◌, IsSome, Ok, IfOk, IfErr, OnOk, OnErr};
 ghost use Rattle.txn_events.specs.declared.answer.Answer.{Answer as AnswerValue};
-ghost use Rattle.sender_table.specs.Sending.{Entry, put, happens, initial};
-ghost use Rattle.sender_table.specs.Answers.{answer_at};
-ghost use Rattle.sender_core.specs.Core.{shown, sending_of, sending_by, StandsAfter, IsWhy, plan_answer};
-ghost use Rattle.txn_events.specs.declared.event.Event.{Event as EventValue};
-ghost use Rattle.txn_events.specs.declared.event.Event.TheVariants.{Put, On};
+ghost use Rattle.txn_events.specs.declared.event.Event.TheVariants.{On};
+ghost use Rattle.lane_table.specs.Logs.{Log, IsOfKey, opened_by, first_answer, answered_behind};
+ghost use Rattle.txn_core.specs.Transactions.{StandsAfter, IsWhy, plan_answer};
 ghost use Rattle.txn_lane.specs.Handing.{bundle_for, MayHandOver, IsHandedOver};
-ghost use Rattle.lane_table.specs.Logs.{to_sender};
-ghost use Rattle.txn_lane.specs.RunningCode.{IsStepOf, IsOpenedBy, IsStarted, IsGoing, IsUnmoved, GoesOn, MayCommit};
+ghost use Rattle.txn_lane.specs.RunningCode.{IsStepOf, IsOpenedBy, IsStarted, IsGoing, IsUnmoved, GoesOn, IsAdvanced, MayCommit};
 ghost use Rattle.txn_lane.specs.Stepping.{IsNotCarried, IsGivenBack};
 
 use crate::handing::{bundle_for, hand_over};
 use crate::running::{Running, Step};
-use cfdp_types::{Params, PutRequest, TxnKey};
+use cfdp_types::TxnKey;
 use indications::{Bundle, Outlet};
-use lane_table::Done;
+use lane_table::{Done, LaneSide};
 use std::alloc::Global;
-use txn_events::{Answer, Refusal, What};
+use txn_events::{Answer, Event, Refusal, What};
 
 /// What a step gives, but for what its user is told.
 pub(crate) fn done(key: TxnKey, answer: Answer) -> Done
@@ -47,17 +43,18 @@ pub(crate) struct LaneAddress {
 // Opens a transaction, with its first step and the bundle of what that tells.
 fn open(
     address: LaneAddress,
+    side: &LaneSide,
     key: TxnKey,
-    request: &PutRequest,
-    params: Params,
+    event: &Event,
 ) -> Result<(Running, Step, Option<Bundle>), Refusal>
-    ensures opened { IfOk result (λ opened. IsOpenedBy key request.now params opened.0 opened.1) }
+    requires opens { IsSome (opened_by side.now key event.now) }
+    requires of_key { IsOfKey event.now key }
+    ensures opened { IfOk result (λ opened. IsOpenedBy (opened_by side.now key event.now) event.now opened.0 opened.1) }
     ensures bundle { IfOk result
         (λ opened. opened.2 ≡ bundle_for address.user address.lane key (plan_answer opened.1.plan).inds) }
-    ensures refused { IfErr result (λ why. IsWhy
-        (answer_at (sending_by key params request.now) (initial (sending_by key params request.now)) put) why) }
+    ensures refused { IfErr result (λ why. IsWhy (first_answer (opened_by side.now key event.now) event.now) why) }
 {
-    let (running, step) = Running::open(address.alloc, key, request, params)?;
+    let (running, step) = Running::open(address.alloc, side, key, event)?;
     let bundle = bundle_for(address.user, address.lane, key, &step.plan.answer().inds)?;
     Ok((running, step, bundle))
 }
@@ -73,9 +70,8 @@ fn plan(
     ensures planned { IfOk result (λ planned. IsStepOf running.new (On key what.now) planned.0) }
     ensures bundle { IfOk result
         (λ planned. planned.1 ≡ bundle_for address.user address.lane key (plan_answer planned.0.plan).inds) }
-    ensures refused { (log : List Entry) → StandsAfter running.old.core log
-        → IfErr result
-        (λ why. IsWhy (answer_at (sending_of running.old.core) (shown running.old.core) (happens what.now)) why) }
+    ensures refused { (log : Log) → StandsAfter running.old.core log
+        → IfErr result (λ why. IsWhy (answered_behind log (On key what.now)) why) }
 {
     let step = running.plan(address.alloc, key, what)?;
     let bundle = bundle_for(address.user, address.lane, key, &step.plan.answer().inds)?;
@@ -101,25 +97,26 @@ fn carry_out<O: Outlet>(
     Ok(running.commit(step))
 }
 
-/// Opens a transaction by a Put.
+/// Opens a transaction by an event.
 pub(crate) fn start<O: Outlet>(
     address: LaneAddress,
+    side: &LaneSide,
     key: TxnKey,
-    request: &PutRequest,
-    params: Params,
+    event: &Event,
     outlet: &mut O,
 ) -> Result<(Running, Answer), Refusal>
-    requires may { (answer : AnswerValue) → answer_at (sending_by key params request.now)
-        (initial (sending_by key params request.now)) put ≡ Ok answer
+    requires opens { IsSome (opened_by side.now key event.now) }
+    requires of_key { IsOfKey event.now key }
+    requires may { (answer : AnswerValue) → first_answer (opened_by side.now key event.now) event.now ≡ Ok answer
         → MayHandOver (O.user outlet.old) (O.lane outlet.old) (O.stands outlet.old)
         (bundle_for address.user address.lane key answer.inds) }
-    ensures started { IfOk result (λ started. IsStarted key request.now params started.0 started.1) }
+    ensures started { IfOk result (λ started. IsStarted (opened_by side.now key event.now) event.now started.0 started.1) }
     ensures offered { IfOk result (λ started. IsHandedOver O.takes outlet.old outlet.new
         (bundle_for address.user address.lane key started.1.inds)) }
     ensures refused { IfErr result (λ why. IsNotCarried O.returns outlet.old outlet.new address.user address.lane key
-        (answer_at (sending_by key params request.now) (initial (sending_by key params request.now)) put) why) }
+        (first_answer (opened_by side.now key event.now) event.now) why) }
 {
-    let (mut running, step, bundle) = open(address, key, request, params)?;
+    let (mut running, step, bundle) = open(address, side, key, event)?;
     let answer = carry_out(&mut running, step, bundle, outlet)?;
     Ok((running, answer))
 }
@@ -133,18 +130,17 @@ pub(crate) fn advance<O: Outlet>(
     outlet: &mut O,
 ) -> Result<Answer, Refusal>
     requires goes { IsGoing running.old }
-    requires may { (answer : AnswerValue) → answer_at (sending_of running.old.core) (shown running.old.core)
-        (happens what.now) ≡ Ok answer
+    requires may { (log : Log) (answer : AnswerValue) → StandsAfter running.old.core log
+        → answered_behind log (On key what.now) ≡ Ok answer
         → MayHandOver (O.user outlet.old) (O.lane outlet.old) (O.stands outlet.old)
         (bundle_for address.user address.lane key answer.inds) }
-    ensures answer { IfOk result
-        (λ answer. answer_at (sending_of running.old.core) (shown running.old.core) (happens what.now) ≡ Ok answer) }
-    ensures goes_on { IfOk result (λ answer. GoesOn running.old running.new (On key what.now) answer) }
+    ensures taken { IfOk result (λ answer. IsAdvanced running.old running.new (On key what.now) answer) }
     ensures offered { IfOk result
         (λ answer. IsHandedOver O.takes outlet.old outlet.new (bundle_for address.user address.lane key answer.inds)) }
     ensures same { OnErr result (IsUnmoved running.old running.new) }
-    ensures refused { IfErr result (λ why. IsNotCarried O.returns outlet.old outlet.new address.user address.lane key
-        (answer_at (sending_of running.old.core) (shown running.old.core) (happens what.now)) why) }
+    ensures refused { (log : Log) → StandsAfter running.old.core log → IfErr result
+        (λ why. IsNotCarried O.returns outlet.old outlet.new address.user address.lane key
+        (answered_behind log (On key what.now)) why) }
 {
     let (step, bundle) = plan(running, address, key, what)?;
     carry_out(running, step, bundle, outlet)

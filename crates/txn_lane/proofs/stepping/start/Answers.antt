@@ -1,20 +1,28 @@
-use Rattle.std.proofs.Common.{◌∷◌, [], Ok, inr, sym, ap, ◌∙◌, subst, IsSome}
+use Rattle.std.proofs.Common.{Ok, inr, sym, ap, ◌∙◌, subst, IsSome}
 use Rattle.std.proofs.lemmas.Result.{err_from_is_err_and}
-use Rattle.sender_core.specs.Core.{sending_by, StandsAfter, plan_answer}
-use Rattle.lane_table.specs.Logs.{to_sender}
-use Rattle.txn_lane.proofs.OpenFacts.{put_accepted}
+use Rattle.lane_table.specs.Logs.{opened_by, extended}
+use Rattle.txn_core.specs.Transactions.{StandsAfter, plan_answer}
+use Rattle.txn_lane.proofs.CarryFacts.{first_planned, first_goes, first_stands}
 use Rattle.txn_lane.proofs.stepping.start.Goals as goal
+
+pub carry_out-requires-clause-may_commit : goal.carry_out-requires-clause-may_commit
+carry_out-requires-clause-may_commit g c =
+    let opened = c.in_ok-running.ensures.opened in
+    record {
+      planned = (c.args.event.now, opened.planned);
+      goes = first_goes c.in_ok-running.running (opened_by c.args.side.now c.args.key c.args.event.now) opened.stands;
+    }
 
 pub carry_out-requires-clause-may_offer : goal.carry_out-requires-clause-may_offer
 carry_out-requires-clause-may_offer g c =
     let opened = c.in_ok-running.ensures.opened in
-    let accepted = put_accepted c.in_ok-running.running.core c.in_ok-running.step.plan (sending_by c.args.key c.args.params c.args.request.now) opened.sending opened.stands opened.planned.planned in
+    let accepted = first_planned c.in_ok-running.running.core c.in_ok-running.step.plan (opened_by c.args.side.now c.args.key c.args.event.now) c.args.event.now opened.stands opened.planned.planned in
     rw c.in_ok-running.ensures.bundle (c.requires.may (plan_answer c.in_ok-running.step.plan) accepted)
 
 pub returns-in_err-answer-clause-refused : goal.returns-in_err-answer-clause-refused
 returns-in_err-answer-clause-refused g c =
     let opened = c.in_ok-running.ensures.opened in
-    let accepted = put_accepted c.in_ok-running.running.core c.in_ok-running.step.plan (sending_by c.args.key c.args.params c.args.request.now) opened.sending opened.stands opened.planned.planned in
+    let accepted = first_planned c.in_ok-running.running.core c.in_ok-running.step.plan (opened_by c.args.side.now c.args.key c.args.event.now) c.args.event.now opened.stands opened.planned.planned in
     let p = err_from_is_err_and c.from_residual-in_err-answer.result c.from_residual-in_err-answer.ensures.1 in
     let full = c.in_err-answer.ensures.full in
     rw (p.1, p.2) (inr (full.returned, full.full, (plan_answer c.in_ok-running.step.plan, accepted, subst IsSome c.in_ok-running.ensures.bundle full.some)))
@@ -24,13 +32,13 @@ returns-clause-started g c =
     let opened = c.in_ok-running.ensures.opened in
     let goes = c.in_ok-answer.ensures.goes_on in
     let next = c.carry_out.new.running.core in
-    let accepted = put_accepted c.in_ok-running.running.core c.in_ok-running.step.plan (sending_by c.args.key c.args.params c.args.request.now) opened.sending opened.stands opened.planned.planned in
+    let first = opened_by c.args.side.now c.args.key c.args.event.now in
+    let accepted = first_planned c.in_ok-running.running.core c.in_ok-running.step.plan first c.args.event.now opened.stands opened.planned.planned in
     record {
       answered = accepted ∙ ap Ok (sym c.in_ok-answer.ensures.answer);
-      sending = goes.sending ∙ opened.sending;
       stands =
-          subst (λ e. StandsAfter next (record { event = to_sender e; answer = c.in_ok-answer.answer } ∷ [])) opened.planned.event_is
-          (goes.stands [] opened.stands);
+          first_stands next first c.args.event.now c.in_ok-answer.answer c.in_ok-running.running.core opened.stands
+          (λ log stood. subst (λ e. StandsAfter next (extended log e c.in_ok-answer.answer)) opened.planned.event_is (goes.stands log stood));
       journal = rw (opened.journal, opened.planned.event_is) at goes.journal;
       trace = rw opened.trace at goes.trace;
     }
