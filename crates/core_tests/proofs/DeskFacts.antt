@@ -1,8 +1,5 @@
 -- A lane and its queue fit once more after what is done with them.
-use Rattle.std.proofs.Common.{◌≡◌, ℕ, ◌<◌, ◌==◌, Bool, true, false, cond, List, [], ◌∷◌, ◌++◌, Option, Some, None, IfSome, IfNone, Result, Ok, Err, IfOk, OnOk, IfErr, inl, inr, refl, sym, ap, ◌∙◌, subst, append_assoc, ⊎_elim}
-use Rattle.std.proofs.lemmas.Bool.{cases_eq, eq-eqb, ne_eqb}
-use Rattle.std.proofs.lemmas.List.{append-nil}
-use Rattle.cfdp_types.specs.declared.key.EntityId.{EntityId}
+use Rattle.std.proofs.Common.{◌≡◌, ℕ, ◌<◌, ◌==◌, Bool, true, false, cond, List, [], ◌∷◌, ◌++◌, Option, Some, None, IfSome, IfNone, Result, Ok, Err, IfOk, OnOk, IfErr, inl, inr, sym, ap, ◌∙◌, subst, append_assoc}
 use Rattle.cfdp_types.specs.declared.key.TxnKey.{TxnKey}
 use Rattle.indications.specs.declared.bundle.Bundle.{Bundle}
 use Rattle.indications.specs.declared.indication.Indication.{Indication}
@@ -35,7 +32,7 @@ fits_first lane number queue is whose which in_queue held = record {
 pub fits_then : (lane next : State) (number : ℕ) (old new : Queue) → Fits lane number old → new.user ≡ old.user → new.lanes ≡ old.lanes
     → next.user ≡ lane.user → next.lane ≡ lane.lane
     → ((bundles : List Bundle) → EndsInHeld old number bundles → Keeps lane bundles
-        → (more : List Bundle) × EndsInHeld new number more × Keeps next more)
+    → (more : List Bundle) × EndsInHeld new number more × Keeps next more)
     → Fits next number new
 fits_then lane next number old new fits user lanes same_user same_lane keeps = record {
   of_user = user ∙ fits.of_user ∙ sym same_user;

@@ -379,7 +379,11 @@ fn the_ends_of_a_lane(rt: HostRuntime) -> Result<(), Fail> {
         ",
     )?;
     let mut desk = sending(rt.alloc(), 1, 1)?;
-    play(&rt, &mut desk, "put 2 616263: nothing\ntake: 2 4; Transaction")?;
+    play(
+        &rt,
+        &mut desk,
+        "put 2 616263: nothing\ntake: 2 4; Transaction",
+    )?;
     reports(&rt, &mut desk)?;
     play(
         &rt,
