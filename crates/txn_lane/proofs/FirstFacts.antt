@@ -13,7 +13,7 @@ use Rattle.txn_core.specs.Transactions.{StandsAfter, StandsBehind}
 use Rattle.txn_core.specs.declared.transaction.TransactionCore.{TransactionCore}
 use Rattle.txn_lane.specs.LaneCode.{lane_state}
 use Rattle.txn_lane.specs.RunningCode.{log_of_first}
-use Rattle.txn_lane.specs.Stepping.{Passes}
+use Rattle.txn_lane.specs.Stepping.{IsFirst}
 use Rattle.lane_table.proofs.StepFacts.{if_none, if_some, not_foreign, of_pdu}
 use Rattle.txn_lane.proofs.TakenFacts.{Meets}
 
@@ -33,36 +33,34 @@ pub is_some_of : {A : Type 0} (o : Option A) (x : A) → o ≡ Some x → IsSome
 is_some_of None x is = absurd cc
 is_some_of (Some y) x is = refl
 
-begins_at : (state : State) (event : Event) (seq : ℕ) → IsSound state → Passes state event → IsSome (new_transaction state event)
-    → seq ≡ number_in state event → Begins state.side state event (key_at state.source seq)
-begins_at state event seq sound passes some number =
-    let found = some_of (new_transaction state event) some in
+begins_at : (state : State) (event : Event) (seq : ℕ) → IsSound state → IsFirst state event seq
+    → Begins state.side state event (key_at state.source seq)
+begins_at state event seq sound first =
+    let found = some_of (new_transaction state event) first.opens in
     let opened = (if_some (is_new state event) (opened_by state.side (key_at state.source (number_in state event)) event) found.0 found.1).1 in
-    let known = (if_none (is_unknown state event) _ _ passes.passed).0 in
+    let known = (if_none (is_unknown state event) _ _ first.passes.passed).0 in
     record {
       transaction = found.0;
       opens = found.1;
-      is = ap (λ n. opened_by state.side (key_at state.source n) event) number ∙ opened;
+      is = ap (λ n. opened_by state.side (key_at state.source n) event) first.number_is ∙ opened;
       of_key =
-          subst (λ n. IsOfKey event (key_at state.source n)) (sym number) (of_pdu state event passes.keyed (not_foreign state event known));
+          subst (λ n. IsOfKey event (key_at state.source n)) (sym first.number_is) (of_pdu state event first.passes.keyed (not_foreign state event known));
       meets = record {
         sound = sound;
-        keyed = passes.keyed;
-        passed = passes.passed;
+        keyed = first.passes.keyed;
+        passed = first.passes.passed;
         before = ap (log_before state) found.1;
-        key_is = ap (λ o. key_of (stepped_by state event o)) found.1 ∙ ap (λ n. Some (key_at state.source n)) (sym number);
+        key_is = ap (λ o. key_of (stepped_by state event o)) found.1 ∙ ap (λ n. Some (key_at state.source n)) (sym first.number_is);
       };
     }
 
 pub begins_by : (side : LaneSide) (user lane : ℕ) (source : EntityId) (last before : Option ℕ) (journal : List Event) (state : State) (event : Event) (seq : ℕ)
     → state ≡ lane_state side user lane source last before journal → IsSound (lane_state side user lane source last before journal)
-    → Passes state event → IsSome (new_transaction state event) → seq ≡ number_in state event
-    → Begins side state event (key_at source seq)
-begins_by side user lane source last before journal state event seq view sound passes some number =
+    → IsFirst state event seq → Begins side state event (key_at source seq)
+begins_by side user lane source last before journal state event seq view sound first =
     let at : State = lane_state side user lane source last before journal in
     subst (λ s. Begins side s event (key_at source seq)) (sym view)
-    (begins_at at event seq sound (subst (λ s. Passes s event) view passes) (subst (λ s. IsSome (new_transaction s event)) view some)
-    (number ∙ ap (λ s. number_in s event) view))
+    (begins_at at event seq sound (subst (λ s. IsFirst s event seq) view first))
 
 -- what the code's transaction stands at then
 pub stands_first : (c : TransactionCore) (opened : Option Transaction) (transaction : Transaction) (event : Event) (answer : Answer)

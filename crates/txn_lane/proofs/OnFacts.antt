@@ -12,7 +12,7 @@ use Rattle.txn_core.specs.Transactions.{StandsAfter}
 use Rattle.lane_table.specs.Logs.{Log}
 use Rattle.txn_lane.specs.LaneCode.{lane_state, journal_of, IsHeld}
 use Rattle.lane_table.specs.Steps.{new_transaction, stepped, stepped_by}
-use Rattle.txn_lane.specs.Stepping.{Passes}
+use Rattle.txn_lane.specs.Stepping.{IsLater}
 use Rattle.txn_lane.proofs.TakenFacts.{Meets, IsFound, found_by, of_last, meets_last, stands_same}
 
 -- the lane's transaction is the code's, and takes the event
@@ -24,13 +24,12 @@ pub goes_on_by : (side : LaneSide) (user lane : ℕ) (source : EntityId) (last b
     (state : State) (key : TxnKey) (what : What)
     → state ≡ lane_state side user lane source last before (journal_of held)
     → IsHeld (lane_state side user lane source last before (journal_of held)) held → held ≡ Some running
-    → Passes state (On key what) → new_transaction state (On key what) ≡ None
-    → GoesOn state key what running
-goes_on_by side user lane source last before held running state key what view holds is passes none =
+    → IsLater state (On key what) → GoesOn state key what running
+goes_on_by side user lane source last before held running state key what view holds is later =
     let now : IsHeld state (Some running) =
     subst (λ s. IsHeld s (Some running)) (sym view) (subst (IsHeld (lane_state side user lane source last before (journal_of held))) is holds) in
-    let found : IsFound running (log_of state) = found_by running (log_of state) now.stands (of_last state key what none passes.passed).runs in
-    record { found = found; meets = meets_last state key what running none now.sound passes.keyed passes.passed found }
+    let found : IsFound running (log_of state) = found_by running (log_of state) now.stands (of_last state key what later.opens_none later.passes.passed).runs in
+    record { found = found; meets = meets_last state key what running later.opens_none now.sound later.passes.keyed later.passes.passed found }
 
 -- where the event isn't taken
 pub held_same : (side : LaneSide) (user lane : ℕ) (source : EntityId) (last before : Option ℕ) (held : Option Running) (running next : Running)

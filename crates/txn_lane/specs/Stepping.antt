@@ -12,7 +12,7 @@ use Rattle.lane_table.specs.declared.refused.Refused.{Refused}
 use Rattle.txn_lane.specs.Handing.{bundle_for}
 use Rattle.lane_table.specs.Keeping.{Keeps, bundle_of}
 use Rattle.lane_table.specs.Lane.{State}
-use Rattle.lane_table.specs.Steps.{IsKeyed, plainly, refused_by_lane, refusal_at, stepped, IsDone}
+use Rattle.lane_table.specs.Steps.{IsKeyed, plainly, refused_by_lane, refusal_at, number_in, new_transaction, stepped, IsDone}
 
 -- the bundle that there is was offered once and taken, and without one nothing happened
 abbrev pub IsOffered : {A : Type 0} → (A → Bundle → A → Type 0) → A → A → List Bundle → Type 0
@@ -73,6 +73,17 @@ pub record IsLeft {O : Type 0} (user lane : O → ℕ) (returns : O → O → Ty
 pub record Passes (state : State) (event : Event) : Type 0 where
   pub keyed : IsKeyed event
   pub passed : refused_by_lane state event ≡ None
+
+-- an event that passes opens a transaction, and gives it this number
+pub record IsFirst (state : State) (event : Event) (number : ℕ) : Type 0 where
+  pub passes : Passes state event
+  pub opens : IsSome (new_transaction state event)
+  pub number_is : number ≡ number_in state event
+
+-- an event that passes opens none
+pub record IsLater (state : State) (event : Event) : Type 0 where
+  pub passes : Passes state event
+  pub opens_none : new_transaction state event ≡ None
 
 -- an event was not taken, and the lane is as it was
 pub record IsNotTaken {O : Type 0} (returns : O → O → Type 0) (state : State) (event : Event) (next : State) (old new : O) (why : Refusal) : Type 0 where

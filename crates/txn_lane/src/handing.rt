@@ -8,6 +8,14 @@ use indications::{Bundle, Indication, Indications, Outlet};
 use std::alloc::{AllocError, Global};
 use txn_events::Refusal;
 
+/// The lane of a user, with the memory that its steps take.
+#[derive(Clone, Copy, Debug)]
+pub(crate) struct LaneAddress {
+    pub(crate) alloc: Global,
+    pub(crate) user: usize,
+    pub(crate) lane: usize,
+}
+
 /// Copies of what a step tells.
 pub(crate) fn copies(alloc: Global, inds: &Indications) -> Result<Vec<Indication>, AllocError>
     ensures { IfOk result (λ copies. copies.items ≡ inds.now) }

@@ -1,6 +1,7 @@
+use crate::handing::LaneAddress;
 use crate::lane_refusals::{LaneView, is_above, opens_at, plainly, refused_by_key, refused_put};
 use crate::running::Running;
-use crate::stepping::{LaneAddress, advance, done, start};
+use crate::stepping::{advance, done, start};
 use cfdp_types::{EntityId, Image, Params, TxnKey};
 use indications::{Indication, Outlet};
 use lane_table::{Done, LaneSide, Numbers, Refused};
@@ -38,7 +39,7 @@ impl Lane {
     ghost use Rattle.std.specs.Prelude.{◌≡◌, ◌<◌, ◌++◌, is_some, IsSome, Some, None, Ok, List, IfOk, IfErr, OnOk, OnErr};
     ghost use Rattle.indications.specs.declared.bundle.Bundle.{Bundle};
     ghost use Rattle.lane_table.specs.Keeping.{bundle_of};
-    ghost use Rattle.txn_lane.specs.Stepping.{IsOutletOf, IsOffered, IsHanded, IsTaken, IsLeft, IsNotTaken, Passes};
+    ghost use Rattle.txn_lane.specs.Stepping.{IsOutletOf, IsOffered, IsHanded, IsTaken, IsLeft, IsNotTaken, IsFirst, IsLater, Passes};
     ghost use Rattle.lane_table.specs.Steps.{IsKeyed, IsDone, plainly, refused_by_lane, refused_number, refusal_at, stepped, next_number, number_in, new_transaction, image_of};
     ghost use Rattle.txn_core.specs.Transactions.{IsWhy};
     ghost use Rattle.txn_events.specs.declared.event.Event.TheVariants.{On};
@@ -239,9 +240,7 @@ impl Lane {
         event: &Event,
         outlet: &mut O,
     ) -> Result<Done, Refusal>
-        requires passes { Passes self.old event.now }
-        requires opens { IsSome (new_transaction self.old event.now) }
-        requires number { seq ≡ number_in self.old event.now }
+        requires first { IsFirst self.old event.now seq }
         requires outlet { IsOutletOf O.user O.lane O.stands self.old outlet.old }
         ensures sound { IsSound self.old }
         ensures taken { IfOk result (λ done. IsTaken self.old event.now self.new done) }
@@ -265,8 +264,7 @@ impl Lane {
         what: &What,
         outlet: &mut O,
     ) -> Result<Done, Refusal>
-        requires passes { Passes self.old (On key what.now) }
-        requires opens_none { new_transaction self.old (On key what.now) ≡ None }
+        requires later { IsLater self.old (On key what.now) }
         requires outlet { IsOutletOf O.user O.lane O.stands self.old outlet.old }
         ensures sound { IsSound self.old }
         ensures taken { IfOk result (λ done. IsTaken self.old (On key what.now) self.new done) }

@@ -2,6 +2,7 @@
 //! and hands the indications of each step to its user's queue.
 #![tactic(auto)]
 
+mod copying;
 mod handing;
 mod lane;
 mod lane_refusals;

@@ -1,10 +1,10 @@
 ghost use Rattle.std.specs.Prelude.{◌≡◌, ◌++◌, ◌+◌, ◌≤◌, vec_len, vec_capacity};
 
-use crate::handing::copies;
+use crate::copying::{Copies, copies_to_begin, copies_to_go_on};
+use crate::handing::LaneAddress;
 use cfdp_types::TxnKey;
-use indications::Indication;
+use indications::{Bundle, Indication};
 use lane_table::LaneSide;
-use std::alloc::Global;
 use txn_core::{TransactionCore, TransactionPlan};
 use txn_events::{Answer, Event, Refusal, What};
 
@@ -32,47 +32,62 @@ impl Running {
     ghost use Rattle.txn_events.specs.declared.event.Event.TheVariants.{On};
     ghost use Rattle.lane_table.specs.Logs.{Log, IsOfKey, opened_by, first_answer, answered_behind, extended};
     ghost use Rattle.txn_core.specs.Transactions.{StandsAfter, IsWhy, plan_answer};
+    ghost use Rattle.txn_lane.specs.Handing.{bundle_for};
     ghost use Rattle.txn_lane.specs.RunningCode.{IsStepOf, IsOpenedBy, IsUnmoved, MayCommit};
 
-    /// The transaction that an event opens, before its first event, and that event.
+    /// The transaction that an event opens, before its first event, and that event, with the bundle
+    /// of what it tells.
     pub(crate) fn open(
-        alloc: Global,
+        address: LaneAddress,
         side: &LaneSide,
         key: TxnKey,
         event: &Event,
-    ) -> Result<(Running, Step), Refusal>
+    ) -> Result<(Running, Step, Option<Bundle>), Refusal>
         requires opens { IsSome (opened_by side.now key event.now) }
         requires of_key { IsOfKey event.now key }
         ensures opened { IfOk result (λ opened. IsOpenedBy (opened_by side.now key event.now) event.now opened.0 opened.1) }
+        ensures bundle { IfOk result
+            (λ opened. opened.2 ≡ bundle_for address.user address.lane key (plan_answer opened.1.plan).inds) }
         ensures refused { IfErr result (λ why. IsWhy (first_answer (opened_by side.now key event.now) event.now) why) }
     {
-        let (core, plan) = TransactionCore::open(alloc, side, key, event)?;
-        let told = copies(alloc, &plan.answer().inds)?;
-        let journal = Vec::with_capacity(alloc, 1)?;
-        let trace = Vec::with_capacity(alloc, told.len())?;
-        let event = event.copy()?;
+        let (core, plan) = TransactionCore::open(address.alloc, side, key, event)?;
+        let (copies, journal, trace) = copies_to_begin(address, key, event, &plan.answer().inds)?;
+        let Copies {
+            event,
+            told,
+            bundle,
+        } = copies;
         let running = Running {
             core,
             journal,
             trace,
         };
-        let step = Step { event, plan, told };
-        Ok((running, step))
+        Ok((running, Step { event, plan, told }, bundle))
     }
 
-    /// Plans an event, and makes room for it.
-    pub(crate) fn plan(&mut self, alloc: Global, key: TxnKey, what: &What) -> Result<Step, Refusal>
+    /// Plans an event, with the bundle of what it tells, and makes room for it.
+    pub(crate) fn plan(
+        &mut self,
+        address: LaneAddress,
+        key: TxnKey,
+        what: &What,
+    ) -> Result<(Step, Option<Bundle>), Refusal>
         ensures same { IsUnmoved self.old self.new }
-        ensures planned { IfOk result (λ step. IsStepOf self.new (On key what.now) step) }
+        ensures planned { IfOk result (λ planned. IsStepOf self.new (On key what.now) planned.0) }
+        ensures bundle { IfOk result
+            (λ planned. planned.1 ≡ bundle_for address.user address.lane key (plan_answer planned.0.plan).inds) }
         ensures refused { (log : Log) → StandsAfter self.old.core log
             → IfErr result (λ why. IsWhy (answered_behind log (On key what.now)) why) }
     {
         let plan = self.core.plan(what)?;
-        let told = copies(alloc, &plan.answer().inds)?;
-        let event = Event::On(key, what.copy()?);
-        self.journal.reserve(1)?;
-        self.trace.reserve(told.len())?;
-        Ok(Step { event, plan, told })
+        let inds = &plan.answer().inds;
+        let copies = copies_to_go_on(address, key, what, inds, &mut self.journal, &mut self.trace)?;
+        let Copies {
+            event,
+            told,
+            bundle,
+        } = copies;
+        Ok((Step { event, plan, told }, bundle))
     }
 
     /// Carries out a step that was planned in the present state.

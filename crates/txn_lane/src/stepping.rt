@@ -4,17 +4,16 @@ ghost use Rattle.std.specs.Prelude.{◌≡◌, IsSome, Ok, IfOk, IfErr, OnOk, On
 ghost use Rattle.txn_events.specs.declared.answer.Answer.{Answer as AnswerValue};
 ghost use Rattle.txn_events.specs.declared.event.Event.TheVariants.{On};
 ghost use Rattle.lane_table.specs.Logs.{Log, IsOfKey, opened_by, first_answer, answered_behind};
-ghost use Rattle.txn_core.specs.Transactions.{StandsAfter, IsWhy, plan_answer};
+ghost use Rattle.txn_core.specs.Transactions.{StandsAfter, plan_answer};
 ghost use Rattle.txn_lane.specs.Handing.{bundle_for, MayHandOver, IsHandedOver};
-ghost use Rattle.txn_lane.specs.RunningCode.{IsStepOf, IsOpenedBy, IsStarted, IsGoing, IsUnmoved, GoesOn, IsAdvanced, MayCommit};
+ghost use Rattle.txn_lane.specs.RunningCode.{IsStarted, IsGoing, IsUnmoved, GoesOn, IsAdvanced, MayCommit};
 ghost use Rattle.txn_lane.specs.Stepping.{IsNotCarried, IsGivenBack};
 
-use crate::handing::{bundle_for, hand_over};
+use crate::handing::{LaneAddress, hand_over};
 use crate::running::{Running, Step};
 use cfdp_types::TxnKey;
 use indications::{Bundle, Outlet};
 use lane_table::{Done, LaneSide};
-use std::alloc::Global;
 use txn_events::{Answer, Event, Refusal, What};
 
 /// What a step gives, but for what its user is told.
@@ -30,52 +29,6 @@ pub(crate) fn done(key: TxnKey, answer: Answer) -> Done
         timers: answer.timers,
         deposit: answer.deposit,
     }
-}
-
-/// The lane of a user, with the memory that its steps take.
-#[derive(Clone, Copy, Debug)]
-pub(crate) struct LaneAddress {
-    pub(crate) alloc: Global,
-    pub(crate) user: usize,
-    pub(crate) lane: usize,
-}
-
-// Opens a transaction, with its first step and the bundle of what that tells.
-fn open(
-    address: LaneAddress,
-    side: &LaneSide,
-    key: TxnKey,
-    event: &Event,
-) -> Result<(Running, Step, Option<Bundle>), Refusal>
-    requires opens { IsSome (opened_by side.now key event.now) }
-    requires of_key { IsOfKey event.now key }
-    ensures opened { IfOk result (λ opened. IsOpenedBy (opened_by side.now key event.now) event.now opened.0 opened.1) }
-    ensures bundle { IfOk result
-        (λ opened. opened.2 ≡ bundle_for address.user address.lane key (plan_answer opened.1.plan).inds) }
-    ensures refused { IfErr result (λ why. IsWhy (first_answer (opened_by side.now key event.now) event.now) why) }
-{
-    let (running, step) = Running::open(address.alloc, side, key, event)?;
-    let bundle = bundle_for(address.user, address.lane, key, &step.plan.answer().inds)?;
-    Ok((running, step, bundle))
-}
-
-// Plans an event, with the bundle of what it tells.
-fn plan(
-    running: &mut Running,
-    address: LaneAddress,
-    key: TxnKey,
-    what: &What,
-) -> Result<(Step, Option<Bundle>), Refusal>
-    ensures same { IsUnmoved running.old running.new }
-    ensures planned { IfOk result (λ planned. IsStepOf running.new (On key what.now) planned.0) }
-    ensures bundle { IfOk result
-        (λ planned. planned.1 ≡ bundle_for address.user address.lane key (plan_answer planned.0.plan).inds) }
-    ensures refused { (log : Log) → StandsAfter running.old.core log
-        → IfErr result (λ why. IsWhy (answered_behind log (On key what.now)) why) }
-{
-    let step = running.plan(address.alloc, key, what)?;
-    let bundle = bundle_for(address.user, address.lane, key, &step.plan.answer().inds)?;
-    Ok((step, bundle))
 }
 
 // Offers the bundle of a step, if there is one, and then carries out the step.
@@ -116,7 +69,7 @@ pub(crate) fn start<O: Outlet>(
     ensures refused { IfErr result (λ why. IsNotCarried O.returns outlet.old outlet.new address.user address.lane key
         (first_answer (opened_by side.now key event.now) event.now) why) }
 {
-    let (mut running, step, bundle) = open(address, side, key, event)?;
+    let (mut running, step, bundle) = Running::open(address, side, key, event)?;
     let answer = carry_out(&mut running, step, bundle, outlet)?;
     Ok((running, answer))
 }
@@ -142,6 +95,6 @@ pub(crate) fn advance<O: Outlet>(
         (λ why. IsNotCarried O.returns outlet.old outlet.new address.user address.lane key
         (answered_behind log (On key what.now)) why) }
 {
-    let (step, bundle) = plan(running, address, key, what)?;
+    let (step, bundle) = running.plan(address, key, what)?;
     carry_out(running, step, bundle, outlet)
 }

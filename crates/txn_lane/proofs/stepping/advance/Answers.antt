@@ -14,13 +14,13 @@ returns-in_err-step-clause-refused g c log stood =
 pub carry_out-requires-clause-may_commit : goal.carry_out-requires-clause-may_commit
 carry_out-requires-clause-may_commit g c = record {
   planned = (On c.args.key c.args.what.now, c.in_ok-step.ensures.planned);
-  goes = still_going c.args.running.now c.plan.new.running c.in_ok-step.ensures.same c.requires.goes;
+  goes = still_going c.args.running.now c.plan.new.self c.in_ok-step.ensures.same c.requires.goes;
 }
 
 pub carry_out-requires-clause-may_offer : goal.carry_out-requires-clause-may_offer
 carry_out-requires-clause-may_offer g c =
     let goes = c.requires.goes in
-    let accepted = answered_planned c.plan.new.running.core c.in_ok-step.step.plan goes.log (On c.args.key c.args.what.now)
+    let accepted = answered_planned c.plan.new.self.core c.in_ok-step.step.plan goes.log (On c.args.key c.args.what.now)
     (c.in_ok-step.ensures.same.stands goes.log goes.stands) c.in_ok-step.ensures.planned.planned in
     rw c.in_ok-step.ensures.bundle (c.requires.may goes.log (plan_answer c.in_ok-step.step.plan) goes.stands accepted)
 
@@ -30,21 +30,21 @@ returns-clause-taken g c =
     IfOk-weaker c.carry_out.result _ _
     (λ given both. record {
       answered = λ log stood.
-          answered_planned c.plan.new.running.core c.in_ok-step.step.plan log event (c.in_ok-step.ensures.same.stands log stood) c.in_ok-step.ensures.planned.planned
+          answered_planned c.plan.new.self.core c.in_ok-step.step.plan log event (c.in_ok-step.ensures.same.stands log stood) c.in_ok-step.ensures.planned.planned
           ∙ ap Ok (sym both.0);
-      goes_on = goes_from c.args.running.now c.plan.new.running c.carry_out.new.running c.in_ok-step.step.event event given c.in_ok-step.ensures.same c.in_ok-step.ensures.planned.event_is both.1;
+      goes_on = goes_from c.args.running.now c.plan.new.self c.carry_out.new.running c.in_ok-step.step.event event given c.in_ok-step.ensures.same c.in_ok-step.ensures.planned.event_is both.1;
     })
     (both_ok c.carry_out.result _ _ c.carry_out.ensures.answer c.carry_out.ensures.goes_on)
 
 pub returns-clause-same : goal.returns-clause-same
 returns-clause-same g c =
     on_err _ _ c.carry_out.result c.carry_out.ensures.full
-    (λ why full. unmoved_as c.args.running.now c.plan.new.running c.carry_out.new.running c.in_ok-step.ensures.same full.same)
+    (λ why full. unmoved_as c.args.running.now c.plan.new.self c.carry_out.new.running c.in_ok-step.ensures.same full.same)
 
 pub returns-clause-refused : goal.returns-clause-refused
 returns-clause-refused g c log stood =
     let answer = plan_answer c.in_ok-step.step.plan in
-    let accepted = answered_planned c.plan.new.running.core c.in_ok-step.step.plan log (On c.args.key c.args.what.now)
+    let accepted = answered_planned c.plan.new.self.core c.in_ok-step.step.plan log (On c.args.key c.args.what.now)
     (c.in_ok-step.ensures.same.stands log stood) c.in_ok-step.ensures.planned.planned in
     IfErr-weaker c.carry_out.result _ _
     (λ why full. inr (full.returned, full.full, (answer, accepted, subst IsSome c.in_ok-step.ensures.bundle full.some))) c.carry_out.ensures.full

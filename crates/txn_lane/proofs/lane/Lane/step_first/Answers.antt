@@ -15,21 +15,21 @@ pub start-requires-clause-opens : goal.start-requires-clause-opens
 start-requires-clause-opens g c =
     let i = c.self.inside in
     let begins = begins_by i.side i.user i.lane i.source i.last i.before (journal_of i.running) c.args.self.now c.args.event.now c.args.seq
-    (sym c.self.view_is) c.self.invariant.sound c.requires.passes c.requires.opens c.requires.number in
+    (sym c.self.view_is) c.self.invariant.sound c.requires.first in
     is_some_of _ begins.transaction begins.is
 
 pub start-requires-clause-of_key : goal.start-requires-clause-of_key
 start-requires-clause-of_key g c =
     let i = c.self.inside in
     (begins_by i.side i.user i.lane i.source i.last i.before (journal_of i.running) c.args.self.now c.args.event.now c.args.seq
-    (sym c.self.view_is) c.self.invariant.sound c.requires.passes c.requires.opens c.requires.number).of_key
+    (sym c.self.view_is) c.self.invariant.sound c.requires.first).of_key
 
 pub start-requires-clause-may : goal.start-requires-clause-may
 start-requires-clause-may g c answer is =
     let i = c.self.inside in
     let key = key_at i.source c.args.seq in
     let begins = begins_by i.side i.user i.lane i.source i.last i.before (journal_of i.running) c.args.self.now c.args.event.now c.args.seq
-    (sym c.self.view_is) c.self.invariant.sound c.requires.passes c.requires.opens c.requires.number in
+    (sym c.self.view_is) c.self.invariant.sound c.requires.first in
     let says = ap (λ o. first_answer o c.args.event.now) begins.is in
     may_then c.args.self.now c.args.event.now key (log_by begins.transaction []) answer begins.meets (sym says ∙ is)
     c.requires.outlet.kept.0 (g.O.Outlet.stands c.args.outlet.now) c.requires.outlet.kept.2 c.requires.outlet.kept.1
@@ -42,7 +42,7 @@ returns-in_err-running-clause-left g c =
     let i = c.self.inside in
     let key = key_at i.source c.args.seq in
     let begins = begins_by i.side i.user i.lane i.source i.last i.before (journal_of i.running) c.args.self.now c.args.event.now c.args.seq
-    (sym c.self.view_is) c.self.invariant.sound c.requires.passes c.requires.opens c.requires.number in
+    (sym c.self.view_is) c.self.invariant.sound c.requires.first in
     let says = ap (λ o. first_answer o c.args.event.now) begins.is in
     rw (p.1, p.2) (record {
       same = search rules;
@@ -55,12 +55,12 @@ invariant_of-self g c =
     let i = c.self.inside in
     let key = key_at i.source c.args.seq in
     let begins = begins_by i.side i.user i.lane i.source i.last i.before (journal_of i.running) c.args.self.now c.args.event.now c.args.seq
-    (sym c.self.view_is) c.self.invariant.sound c.requires.passes c.requires.opens c.requires.number in
+    (sym c.self.view_is) c.self.invariant.sound c.requires.first in
     let says = ap (λ o. first_answer o c.args.event.now) begins.is in
     let answer = c.in_ok-running.answer in
     let done = c.in_ok-running.ensures.started in
     let next = next_first i.side i.user i.lane i.source i.last i.before (journal_of i.running) c.in_ok-running.running.journal.items c.args.self.now c.args.event.now c.args.seq begins.transaction
-    (sym c.self.view_is) begins.opens c.requires.number done.journal in
+    (sym c.self.view_is) begins.opens c.requires.first.number_is done.journal in
     subst (λ s. IsHeld s (Some c.in_ok-running.running)) (sym next)
     (held_then c.args.self.now c.args.event.now key (log_by begins.transaction []) answer begins.meets (sym says ∙ done.answered) c.in_ok-running.running
     (stands_first c.in_ok-running.running.core _ begins.transaction c.args.event.now answer begins.is done.stands)
@@ -71,12 +71,12 @@ returns-clause-taken g c =
     let i = c.self.inside in
     let key = key_at i.source c.args.seq in
     let begins = begins_by i.side i.user i.lane i.source i.last i.before (journal_of i.running) c.args.self.now c.args.event.now c.args.seq
-    (sym c.self.view_is) c.self.invariant.sound c.requires.passes c.requires.opens c.requires.number in
+    (sym c.self.view_is) c.self.invariant.sound c.requires.first in
     let says = ap (λ o. first_answer o c.args.event.now) begins.is in
     let answer = c.in_ok-running.answer in
     let is = sym says ∙ c.in_ok-running.ensures.started.answered in
     let next = next_first i.side i.user i.lane i.source i.last i.before (journal_of i.running) c.in_ok-running.running.journal.items c.args.self.now c.args.event.now c.args.seq begins.transaction
-    (sym c.self.view_is) begins.opens c.requires.number c.in_ok-running.ensures.started.journal in
+    (sym c.self.view_is) begins.opens c.requires.first.number_is c.in_ok-running.ensures.started.journal in
     let done = c.done.ensures in
     record {
       free = free_if c.args.self.now c.args.event.now key (log_by begins.transaction []) answer begins.meets is;
@@ -92,12 +92,12 @@ returns-clause-offered g c =
     let i = c.self.inside in
     let key = key_at i.source c.args.seq in
     let begins = begins_by i.side i.user i.lane i.source i.last i.before (journal_of i.running) c.args.self.now c.args.event.now c.args.seq
-    (sym c.self.view_is) c.self.invariant.sound c.requires.passes c.requires.opens c.requires.number in
+    (sym c.self.view_is) c.self.invariant.sound c.requires.first in
     let says = ap (λ o. first_answer o c.args.event.now) begins.is in
     let answer = c.in_ok-running.answer in
     let is = sym says ∙ c.in_ok-running.ensures.started.answered in
     let next = next_first i.side i.user i.lane i.source i.last i.before (journal_of i.running) c.in_ok-running.running.journal.items c.args.self.now c.args.event.now c.args.seq begins.transaction
-    (sym c.self.view_is) begins.opens c.requires.number c.in_ok-running.ensures.started.journal in
+    (sym c.self.view_is) begins.opens c.requires.first.number_is c.in_ok-running.ensures.started.journal in
     subst (λ s. IsOffered g.O.Outlet.takes c.args.outlet.now c.start.new.outlet (bundle_of s)) (sym next)
     (offered_then g.O.Outlet.takes c.args.outlet.now c.start.new.outlet c.args.self.now c.args.event.now key (log_by begins.transaction []) answer begins.meets is
     c.address.result.user c.address.result.lane c.address.ensures.user c.address.ensures.lane c.in_ok-running.ensures.offered)

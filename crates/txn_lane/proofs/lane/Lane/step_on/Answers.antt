@@ -14,7 +14,7 @@ pub advance-requires-clause-goes : goal.advance-requires-clause-goes
 advance-requires-clause-goes g c =
     let i = c.self.inside in
     let going = goes_on_by i.side i.user i.lane i.source i.last i.before i.running c.in-Some.running c.args.self.now c.args.key c.args.what.now
-    (sym c.self.view_is) c.self.invariant c.in-Some.is c.requires.passes c.requires.opens_none in
+    (sym c.self.view_is) c.self.invariant c.in-Some.is c.requires.later in
     record { log = going.found.log; stands = going.found.stood; runs = going.found.runs }
 
 pub advance-requires-clause-may : goal.advance-requires-clause-may
@@ -22,7 +22,7 @@ advance-requires-clause-may g c log answer stood is =
     let i = c.self.inside in
     let event = On c.args.key c.args.what.now in
     let going = goes_on_by i.side i.user i.lane i.source i.last i.before i.running c.in-Some.running c.args.self.now c.args.key c.args.what.now
-    (sym c.self.view_is) c.self.invariant c.in-Some.is c.requires.passes c.requires.opens_none in
+    (sym c.self.view_is) c.self.invariant c.in-Some.is c.requires.later in
     let same = answered_same c.in-Some.running.core going.found.log log event going.found.stood stood in
     may_then c.args.self.now event c.args.key going.found.log answer going.meets (same ∙ is)
     c.requires.outlet.kept.0 (g.O.Outlet.stands c.args.outlet.now) c.requires.outlet.kept.2 c.requires.outlet.kept.1
@@ -42,7 +42,7 @@ returns-in_err-answer-clause-left g c =
     let i = c.self.inside in
     let event = On c.args.key c.args.what.now in
     let going = goes_on_by i.side i.user i.lane i.source i.last i.before i.running c.in-Some.running c.args.self.now c.args.key c.args.what.now
-    (sym c.self.view_is) c.self.invariant c.in-Some.is c.requires.passes c.requires.opens_none in
+    (sym c.self.view_is) c.self.invariant c.in-Some.is c.requires.later in
     rw (p.1, p.2) (record {
       same = search rules;
       why_not = why_not g.O.Outlet.returns c.args.outlet.now c.advance.new.outlet c.args.self.now event c.args.key going.found.log c.address-address.result.user c.address-address.result.lane c.in_err-answer.field-0.0 going.meets
@@ -54,11 +54,11 @@ invariant_of-self-2 g c =
     let i = c.self.inside in
     let event = On c.args.key c.args.what.now in
     let going = goes_on_by i.side i.user i.lane i.source i.last i.before i.running c.in-Some.running c.args.self.now c.args.key c.args.what.now
-    (sym c.self.view_is) c.self.invariant c.in-Some.is c.requires.passes c.requires.opens_none in
+    (sym c.self.view_is) c.self.invariant c.in-Some.is c.requires.later in
     let answer = c.in_ok-answer.answer in
     let done = c.in_ok-answer.ensures.taken in
     let next = next_on i.side i.user i.lane i.source i.last i.before i.running c.in-Some.running c.advance.new.running c.args.self.now c.args.key c.args.what.now
-    (sym c.self.view_is) c.in-Some.is c.requires.opens_none done.goes_on.journal in
+    (sym c.self.view_is) c.in-Some.is c.requires.later.opens_none done.goes_on.journal in
     subst (λ s. IsHeld s (Some c.advance.new.running)) (sym next)
     (held_then c.args.self.now event c.args.key going.found.log answer going.meets (done.answered going.found.log going.found.stood)
     c.advance.new.running (done.goes_on.stands going.found.log going.found.stood) (done.goes_on.trace ∙ ap (λ l. l ++ answer.inds) going.found.traced))
@@ -68,11 +68,11 @@ returns-clause-taken g c =
     let i = c.self.inside in
     let event = On c.args.key c.args.what.now in
     let going = goes_on_by i.side i.user i.lane i.source i.last i.before i.running c.in-Some.running c.args.self.now c.args.key c.args.what.now
-    (sym c.self.view_is) c.self.invariant c.in-Some.is c.requires.passes c.requires.opens_none in
+    (sym c.self.view_is) c.self.invariant c.in-Some.is c.requires.later in
     let answer = c.in_ok-answer.answer in
     let is = c.in_ok-answer.ensures.taken.answered going.found.log going.found.stood in
     let next = next_on i.side i.user i.lane i.source i.last i.before i.running c.in-Some.running c.advance.new.running c.args.self.now c.args.key c.args.what.now
-    (sym c.self.view_is) c.in-Some.is c.requires.opens_none c.in_ok-answer.ensures.taken.goes_on.journal in
+    (sym c.self.view_is) c.in-Some.is c.requires.later.opens_none c.in_ok-answer.ensures.taken.goes_on.journal in
     let done = c.done.ensures in
     record {
       free = free_if c.args.self.now event c.args.key going.found.log answer going.meets is;
@@ -88,11 +88,11 @@ returns-clause-offered g c =
     let i = c.self.inside in
     let event = On c.args.key c.args.what.now in
     let going = goes_on_by i.side i.user i.lane i.source i.last i.before i.running c.in-Some.running c.args.self.now c.args.key c.args.what.now
-    (sym c.self.view_is) c.self.invariant c.in-Some.is c.requires.passes c.requires.opens_none in
+    (sym c.self.view_is) c.self.invariant c.in-Some.is c.requires.later in
     let answer = c.in_ok-answer.answer in
     let is = c.in_ok-answer.ensures.taken.answered going.found.log going.found.stood in
     let next = next_on i.side i.user i.lane i.source i.last i.before i.running c.in-Some.running c.advance.new.running c.args.self.now c.args.key c.args.what.now
-    (sym c.self.view_is) c.in-Some.is c.requires.opens_none c.in_ok-answer.ensures.taken.goes_on.journal in
+    (sym c.self.view_is) c.in-Some.is c.requires.later.opens_none c.in_ok-answer.ensures.taken.goes_on.journal in
     subst (λ s. IsOffered g.O.Outlet.takes c.args.outlet.now c.advance.new.outlet (bundle_of s)) (sym next)
     (offered_then g.O.Outlet.takes c.args.outlet.now c.advance.new.outlet c.args.self.now event c.args.key going.found.log answer going.meets is
     c.address-address.result.user c.address-address.result.lane c.address-address.ensures.user c.address-address.ensures.lane c.in_ok-answer.ensures.offered)

@@ -5,50 +5,12 @@ use Rattle.txn_core.specs.Transactions.{plan_answer}
 use Rattle.txn_lane.proofs.CarryFacts.{is_ok_of, first_planned}
 use Rattle.txn_lane.proofs.running.Running.open.Goals as goal
 
-pub returns-in_err-told-clause-refused : goal.returns-in_err-told-clause-refused
-returns-in_err-told-clause-refused c =
-    let p = err_from_is_err_and c.from_residual-in_err-told.result c.from_residual-in_err-told.ensures.1 in
+pub returns-in_err-copies-clause-refused : goal.returns-in_err-copies-clause-refused
+returns-in_err-copies-clause-refused c =
+    let p = err_from_is_err_and c.from_residual-in_err-copies.result c.from_residual-in_err-copies.ensures.1 in
     let opened = c.in_ok-core.ensures.opened in
     rw p.1 (inr (
       p.2,
       is_ok_of (first_answer (opened_by c.args.side.now c.args.key c.args.event.now) c.args.event.now) (plan_answer c.in_ok-core.plan)
           (first_planned c.in_ok-core.core c.in_ok-core.plan (opened_by c.args.side.now c.args.key c.args.event.now) c.args.event.now opened.stands opened.planned),
     ))
-
-pub returns-in_err-journal-clause-refused : goal.returns-in_err-journal-clause-refused
-returns-in_err-journal-clause-refused c =
-    let p = err_from_is_err_and c.from_residual-in_err-journal.result c.from_residual-in_err-journal.ensures.1 in
-    let opened = c.in_ok-core.ensures.opened in
-    rw p.1 (inr (
-      p.2,
-      is_ok_of (first_answer (opened_by c.args.side.now c.args.key c.args.event.now) c.args.event.now) (plan_answer c.in_ok-core.plan)
-          (first_planned c.in_ok-core.core c.in_ok-core.plan (opened_by c.args.side.now c.args.key c.args.event.now) c.args.event.now opened.stands opened.planned),
-    ))
-
-pub returns-in_err-trace-clause-refused : goal.returns-in_err-trace-clause-refused
-returns-in_err-trace-clause-refused c =
-    let p = err_from_is_err_and c.from_residual-in_err-trace.result c.from_residual-in_err-trace.ensures.1 in
-    let opened = c.in_ok-core.ensures.opened in
-    rw p.1 (inr (
-      p.2,
-      is_ok_of (first_answer (opened_by c.args.side.now c.args.key c.args.event.now) c.args.event.now) (plan_answer c.in_ok-core.plan)
-          (first_planned c.in_ok-core.core c.in_ok-core.plan (opened_by c.args.side.now c.args.key c.args.event.now) c.args.event.now opened.stands opened.planned),
-    ))
-
-pub returns-in_err-event-clause-refused : goal.returns-in_err-event-clause-refused
-returns-in_err-event-clause-refused c =
-    let p = err_from_is_err_and c.from_residual-in_err-event.result c.from_residual-in_err-event.ensures.1 in
-    let opened = c.in_ok-core.ensures.opened in
-    rw p.1 (inr (
-      p.2,
-      is_ok_of (first_answer (opened_by c.args.side.now c.args.key c.args.event.now) c.args.event.now) (plan_answer c.in_ok-core.plan)
-          (first_planned c.in_ok-core.core c.in_ok-core.plan (opened_by c.args.side.now c.args.key c.args.event.now) c.args.event.now opened.stands opened.planned),
-    ))
-
-pub returns-clause-opened : goal.returns-clause-opened
-returns-clause-opened c = record {
-  stands = c.in_ok-core.ensures.opened.stands;
-  journal = search rules;
-  trace = search rules;
-  planned = search rules;
-}

@@ -7,39 +7,9 @@ use Rattle.txn_core.proofs.PlanFacts.{answered_planned}
 use Rattle.txn_lane.proofs.CarryFacts.{is_ok_of}
 use Rattle.txn_lane.proofs.running.Running.plan.Goals as goal
 
-pub returns-in_err-told-clause-refused : goal.returns-in_err-told-clause-refused
-returns-in_err-told-clause-refused c log stood =
-    let p = err_from_is_err_and c.from_residual-in_err-told.result c.from_residual-in_err-told.ensures.1 in
-    let event = On c.args.key c.args.what.now in
-    rw p.1 (inr (
-      p.2,
-      is_ok_of (answered_behind log event) (plan_answer c.in_ok-plan.plan)
-          (answered_planned c.plan.new.self c.in_ok-plan.plan log event (c.in_ok-plan.ensures.same log stood) (c.in_ok-plan.ensures.planned c.args.key)),
-    ))
-
-pub returns-in_err-copy-clause-refused : goal.returns-in_err-copy-clause-refused
-returns-in_err-copy-clause-refused c log stood =
-    let p = err_from_is_err_and c.from_residual-in_err-copy.result c.from_residual-in_err-copy.ensures.1 in
-    let event = On c.args.key c.args.what.now in
-    rw p.1 (inr (
-      p.2,
-      is_ok_of (answered_behind log event) (plan_answer c.in_ok-plan.plan)
-          (answered_planned c.plan.new.self c.in_ok-plan.plan log event (c.in_ok-plan.ensures.same log stood) (c.in_ok-plan.ensures.planned c.args.key)),
-    ))
-
-pub returns-in_err-reserve-clause-refused : goal.returns-in_err-reserve-clause-refused
-returns-in_err-reserve-clause-refused c log stood =
-    let p = err_from_is_err_and c.from_residual-in_err-reserve.result c.from_residual-in_err-reserve.ensures.1 in
-    let event = On c.args.key c.args.what.now in
-    rw p.1 (inr (
-      p.2,
-      is_ok_of (answered_behind log event) (plan_answer c.in_ok-plan.plan)
-          (answered_planned c.plan.new.self c.in_ok-plan.plan log event (c.in_ok-plan.ensures.same log stood) (c.in_ok-plan.ensures.planned c.args.key)),
-    ))
-
-pub returns-in_err-reserve-2-clause-refused : goal.returns-in_err-reserve-2-clause-refused
-returns-in_err-reserve-2-clause-refused c log stood =
-    let p = err_from_is_err_and c.from_residual-in_err-reserve-2.result c.from_residual-in_err-reserve-2.ensures.1 in
+pub returns-in_err-copies-clause-refused : goal.returns-in_err-copies-clause-refused
+returns-in_err-copies-clause-refused c log stood =
+    let p = err_from_is_err_and c.from_residual-in_err-copies.result c.from_residual-in_err-copies.ensures.1 in
     let event = On c.args.key c.args.what.now in
     rw p.1 (inr (
       p.2,

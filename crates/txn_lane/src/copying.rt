@@ -1,0 +1,74 @@
+//! What a step needs beside its plan, all of it taken before anything changes: copies of its event and
+//! of what it tells, and room for them.
+ghost use Rattle.std.specs.Prelude.{◌≡◌, ◌<◌, ◌≤◌, ◌+◌, [], IfOk, OnOk, vec_len, vec_capacity};
+ghost use Rattle.txn_events.specs.declared.event.Event.TheVariants.{On};
+ghost use Rattle.txn_lane.specs.Handing.{bundle_for};
+
+use crate::handing::{LaneAddress, bundle_for, copies};
+use cfdp_types::TxnKey;
+use indications::{Bundle, Indication, Indications};
+use std::alloc::AllocError;
+use txn_events::{Event, What};
+
+/// Copies of an event and of what its end tells of it, with the bundle of that.
+#[derive(Debug, Drop)]
+pub(crate) struct Copies {
+    pub(crate) event: Event,
+    pub(crate) told: Vec<Indication>,
+    pub(crate) bundle: Option<Bundle>,
+}
+
+/// Those of an event that opens a transaction, with its journal and its trace, which have room for it.
+pub(crate) fn copies_to_begin(
+    address: LaneAddress,
+    key: TxnKey,
+    event: &Event,
+    inds: &Indications,
+) -> Result<(Copies, Vec<Event>, Vec<Indication>), AllocError>
+    ensures event { IfOk result (λ begun. begun.0.event ≡ event.now) }
+    ensures told { IfOk result (λ begun. begun.0.told.items ≡ inds.now) }
+    ensures bundle { IfOk result (λ begun. begun.0.bundle ≡ bundle_for address.user address.lane key inds.now) }
+    ensures empty { IfOk result (λ begun. (begun.1.items ≡ []) × (begun.2.items ≡ [])) }
+    ensures journal_room { IfOk result (λ begun. vec_len begun.1 < vec_capacity begun.1) }
+    ensures trace_room { IfOk result (λ begun. vec_len begun.2 + vec_len begun.0.told ≤ vec_capacity begun.2) }
+{
+    let told = copies(address.alloc, inds)?;
+    let bundle = bundle_for(address.user, address.lane, key, inds)?;
+    let journal = Vec::with_capacity(address.alloc, 1)?;
+    let trace = Vec::with_capacity(address.alloc, told.len())?;
+    let event = event.copy()?;
+    let copies = Copies {
+        event,
+        told,
+        bundle,
+    };
+    Ok((copies, journal, trace))
+}
+
+/// Those of an event of a transaction that goes on, for which room is made in the two lists.
+pub(crate) fn copies_to_go_on(
+    address: LaneAddress,
+    key: TxnKey,
+    what: &What,
+    inds: &Indications,
+    journal: &mut Vec<Event>,
+    trace: &mut Vec<Indication>,
+) -> Result<Copies, AllocError>
+    ensures same { (journal.new.items ≡ journal.old.items) × (trace.new.items ≡ trace.old.items) }
+    ensures event { IfOk result (λ copies. copies.event ≡ On key what.now) }
+    ensures told { IfOk result (λ copies. copies.told.items ≡ inds.now) }
+    ensures bundle { IfOk result (λ copies. copies.bundle ≡ bundle_for address.user address.lane key inds.now) }
+    ensures journal_room { OnOk result (vec_len journal.new < vec_capacity journal.new) }
+    ensures trace_room { IfOk result (λ copies. vec_len trace.new + vec_len copies.told ≤ vec_capacity trace.new) }
+{
+    let told = copies(address.alloc, inds)?;
+    let bundle = bundle_for(address.user, address.lane, key, inds)?;
+    journal.reserve(1)?;
+    trace.reserve(told.len())?;
+    let event = Event::On(key, what.copy()?);
+    Ok(Copies {
+        event,
+        told,
+        bundle,
+    })
+}
