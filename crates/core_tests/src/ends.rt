@@ -25,6 +25,9 @@ pub(crate) const SENT: TxnKey = TxnKey {
     seq: 4,
 };
 
+// What to say of a line that is none.
+const NO_ROW: &str = "the line is no event and its answer";
+
 /// One end of a transaction.
 #[derive(Drop)]
 pub(crate) enum End {
@@ -66,9 +69,9 @@ impl End {
     }
 
     // What an event is answered, as text.
-    fn step(&mut self, alloc: Global, event: &What) -> Result<String, AllocError> {
+    fn step(&mut self, alloc: Global, event: What) -> Result<String, AllocError> {
         let key = self.key();
-        match self.answer(event) {
+        match self.answer(&event) {
             Err(refusal) => refused(alloc, refusal),
             Ok(None) => String::from_str(alloc, "ended"),
             Ok(Some(answer)) => answer_text(alloc, key, &answer),
@@ -86,25 +89,22 @@ impl End {
         }
     }
 
-    // What an event is answered, or "image" with a stamp.
-    fn line(&mut self, alloc: Global, event: &str) -> Result<String, Fail> {
+    // What an event is answered, or "image" with a stamp; none where it is neither.
+    fn line(&mut self, alloc: Global, event: &str) -> Option<String> {
         match event.strip_prefix("image ") {
-            Some(stamp) => Ok(self.image(alloc, stamp.parse()?)?),
-            None => {
-                let event = event_of(alloc, event)?;
-                Ok(self.step(alloc, &event)?)
-            }
+            Some(stamp) => self.image(alloc, stamp.parse().ok()?).ok(),
+            None => self.step(alloc, event_of(alloc, event)?).ok(),
         }
     }
 }
 
 /// A line of a script: how often, which event, and the answer.
-pub(crate) fn row_of(line: &str) -> Result<(u32, &str, &str), Fail> {
-    let (event, answer) = line.split_once(": ").ok_or("an event is answered")?;
+pub(crate) fn row_of(line: &str) -> Option<(u32, &str, &str)> {
+    let (event, answer) = line.split_once(": ")?;
     let answer = if answer == "nothing" { "" } else { answer };
     match event.split_once(" times ") {
-        None => Ok((1, event, answer)),
-        Some((count, event)) => Ok((count.parse()?, event, answer)),
+        None => Some((1, event, answer)),
+        Some((count, event)) => Some((count.parse().ok()?, event, answer)),
     }
 }
 
@@ -130,9 +130,9 @@ fn play_line<R: AllocGlobal + Abort>(
     title: &str,
     line: &str,
 ) -> Result<(), Fail> {
-    let (count, event, answer) = row_of(line)?;
+    let (count, event, answer) = row_of(line).ok_or(NO_ROW)?;
     for _ in 0..count {
-        let answered = end.line(rt.alloc(), event)?;
+        let answered = end.line(rt.alloc(), event).ok_or(NO_ROW)?;
         assert_eq!(rt; answered.as_str(), answer, "{title}, at {event}");
     }
     Ok(())
@@ -141,15 +141,21 @@ fn play_line<R: AllocGlobal + Abort>(
 // Compares what an end's first event is answered, and plays what follows.
 fn play_from<R: AllocGlobal + Abort>(
     rt: &R,
-    begun: (End, Answer),
+    begun: (End, String),
     title: &str,
     answer: &str,
     script: &str,
 ) -> Result<(), Fail> {
     let (mut end, answered) = begun;
-    let text = answer_text(rt.alloc(), end.key(), &answered)?;
-    assert_eq!(rt; text.as_str(), answer, "{title}, at its beginning");
+    assert_eq!(rt; answered.as_str(), answer, "{title}, at its beginning");
     play(rt, &mut end, title, script)
+}
+
+// An end, and the text of what its first event was answered.
+fn told(alloc: Global, begun: (End, Answer)) -> Option<(End, String)> {
+    let (end, answer) = begun;
+    let text = answer_text(alloc, end.key(), &answer).ok()?;
+    Some((end, text))
 }
 
 /// The reception that a PDU opens, with what that is answered.
@@ -167,10 +173,10 @@ pub(crate) fn reception(
 }
 
 // The same, of a PDU in hex.
-fn received_from(alloc: Global, acts: (Acts, Acts), hex: &str) -> Result<(End, Answer), Fail> {
+fn received_from(alloc: Global, acts: (Acts, Acts), hex: &str) -> Option<(End, String)> {
     let params = params(acts.0, acts.1)?;
     let pdu = pdu_of(alloc, hex)?;
-    Ok(reception(alloc, &pdu, params)?)
+    told(alloc, reception(alloc, &pdu, params).ok()?)
 }
 
 /// Plays a reception: the first line is the PDU that opens it. Each fault cancels it.
@@ -189,11 +195,16 @@ pub(crate) fn receives_with<R: AllocGlobal + Abort>(
     acts: (Acts, Acts),
     script: &str,
 ) -> Result<(), Fail> {
-    let (first, rest) = script.trim().split_once('\n').ok_or("a line follows")?;
-    let (_, event, answer) = row_of(first)?;
-    let hex = event.strip_prefix("pdu ").ok_or("a PDU comes first")?;
-    let begun = received_from(rt.alloc(), acts, hex)?;
+    let (hex, answer, rest) = parts_of(script).ok_or("a PDU comes first, and a line follows")?;
+    let begun = received_from(rt.alloc(), acts, hex).ok_or("the PDU opens a reception")?;
     play_from(rt, begun, title, answer, rest)
+}
+
+// The PDU of a script's first line, what that is answered, and the lines behind it.
+fn parts_of(script: &str) -> Option<(&str, &str, &str)> {
+    let (first, rest) = script.trim().split_once('\n')?;
+    let (_, event, answer) = row_of(first)?;
+    Some((event.strip_prefix("pdu ")?, answer, rest))
 }
 
 /// The Put of a file.
@@ -213,10 +224,10 @@ pub(crate) fn sending(
 }
 
 // The same, of the Put of a file.
-fn sent_from(alloc: Global, class: Class, file: &[u8]) -> Result<(End, Answer), Fail> {
+fn sent_from(alloc: Global, class: Class, file: &[u8]) -> Option<(End, String)> {
     let params = params(&[], &[])?;
-    let request = request(alloc, class, file)?;
-    Ok(sending(alloc, &request, params)?)
+    let request = request(alloc, class, file).ok()?;
+    told(alloc, sending(alloc, &request, params).ok()?)
 }
 
 /// Plays what follows the Put of a file, which is answered by Transaction alone.
@@ -227,6 +238,6 @@ pub(crate) fn sends<R: AllocGlobal + Abort>(
     file: &[u8],
     script: &str,
 ) -> Result<(), Fail> {
-    let begun = sent_from(rt.alloc(), class, file)?;
+    let begun = sent_from(rt.alloc(), class, file).ok_or("the Put opens a transaction")?;
     play_from(rt, begun, title, "Transaction", script)
 }

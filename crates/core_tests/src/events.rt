@@ -3,15 +3,12 @@ use cfdp_types::TimerKind;
 use pdu_codec::decode;
 use pdu_values::Pdu;
 use std::alloc::Global;
-use std::test::*;
 use txn_events::What;
 
-const NO_EVENT: &str = "the row is no event";
-
-/// The event that a row writes: what happens, and after a space with what.
-pub(crate) fn event_of(alloc: Global, row: &str) -> Result<What, Fail> {
+/// The event that a row writes, if it writes one: what happens, and after a space with what.
+pub(crate) fn event_of(alloc: Global, row: &str) -> Option<What> {
     if let Some(hex) = row.strip_prefix("pdu ") {
-        return Ok(What::Pdu(pdu_of(alloc, hex)?));
+        return Some(What::Pdu(pdu_of(alloc, hex)?));
     }
     if let Some(timer) = row.strip_prefix("timer ") {
         return expired(timer);
@@ -19,13 +16,13 @@ pub(crate) fn event_of(alloc: Global, row: &str) -> Result<What, Fail> {
     if let Some(answer) = row.strip_prefix("stored ") {
         return stored(answer);
     }
-    Ok(asked(row).ok_or(NO_EVENT)?)
+    asked(row)
 }
 
 /// The PDU that stands there in hex.
-pub(crate) fn pdu_of(alloc: Global, hex: &str) -> Result<Pdu, Fail> {
-    let octets = hex::decode(alloc, hex)?;
-    Ok(decode(alloc, octets.as_slice())?)
+pub(crate) fn pdu_of(alloc: Global, hex: &str) -> Option<Pdu> {
+    let octets = hex::decode(alloc, hex).ok()?;
+    decode(alloc, octets.as_slice()).ok()
 }
 
 // What is asked with one word.
@@ -52,19 +49,19 @@ fn kind_of(word: &str) -> Option<TimerKind> {
 }
 
 // A timer's kind and stamp.
-fn expired(timer: &str) -> Result<What, Fail> {
-    let (kind, stamp) = timer.split_once(' ').ok_or(NO_EVENT)?;
-    let kind = kind_of(kind).ok_or(NO_EVENT)?;
-    Ok(What::Timer(kind, stamp.parse()?))
+fn expired(timer: &str) -> Option<What> {
+    let (kind, stamp) = timer.split_once(' ')?;
+    let kind = kind_of(kind)?;
+    Some(What::Timer(kind, stamp.parse().ok()?))
 }
 
 // A deposit's stamp, and whether the file is kept.
-fn stored(answer: &str) -> Result<What, Fail> {
-    let (stamp, kept) = answer.split_once(' ').ok_or(NO_EVENT)?;
+fn stored(answer: &str) -> Option<What> {
+    let (stamp, kept) = answer.split_once(' ')?;
     let kept = match kept {
-        "yes" => Some(true),
-        "no" => Some(false),
-        _ => None,
+        "yes" => true,
+        "no" => false,
+        _ => return None,
     };
-    Ok(What::Stored(stamp.parse()?, kept.ok_or(NO_EVENT)?))
+    Some(What::Stored(stamp.parse().ok()?, kept))
 }

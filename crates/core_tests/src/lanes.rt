@@ -2,7 +2,7 @@
 //! PDU, "put" with a class and a file, or a key and what happens to it. "take" is what the user takes,
 //! "image" asks for a file, and "last" says which transaction it is, how many events it took, and how much
 //! it told.
-ghost use Rattle.std.specs.Prelude.{IfOk, IfSome};
+ghost use Rattle.std.specs.Prelude.{IfSome};
 ghost use Rattle.core_tests.specs.Desks.{Fits};
 ghost use Rattle.lane_table.specs.Steps.{IsKeyed};
 
@@ -23,26 +23,27 @@ use user_queues::ListQueue;
 const NO_LINE: &str = "the line is none of a lane";
 
 // The third lane of user 0, for what comes from entity 1, with room for so many bundles.
-fn receiving(alloc: Global, capacity: usize) -> Result<Desk, Fail>
-    ensures { IfOk result (λ desk. Fits desk.lane desk.number desk.queue) }
+fn receiving(alloc: Global, capacity: usize) -> Option<Desk>
+    ensures { IfSome result (λ desk. Fits desk.lane desk.number desk.queue) }
 {
-    let queue = ListQueue::new(alloc, 0, 4, capacity)?;
-    let lane = Lane::receiving(alloc, 0, 2, EntityId(1), params(&[], &[])?);
-    Ok(new_desk(lane, 2, queue))
+    let params = params(&[], &[])?;
+    let queue = ListQueue::new(alloc, 0, 4, capacity).ok()?;
+    let lane = Lane::receiving(alloc, 0, 2, EntityId(1), params);
+    Some(new_desk(lane, 2, queue))
 }
 
 // The first lane of user 0 at entity 2, where two users have two lanes each, and numbers have one octet.
-fn sending(alloc: Global, capacity: usize, first: u64) -> Result<Desk, AllocError>
-    ensures { IfOk result (λ desk. Fits desk.lane desk.number desk.queue) }
+fn sending(alloc: Global, capacity: usize, first: u64) -> Option<Desk>
+    ensures { IfSome result (λ desk. Fits desk.lane desk.number desk.queue) }
 {
-    let queue = ListQueue::new(alloc, 0, 4, capacity)?;
+    let queue = ListQueue::new(alloc, 0, 4, capacity).ok()?;
     let numbers = Numbers {
         first,
         lanes: 2,
         users: 2,
     };
     let lane = Lane::sending(alloc, 0, 0, EntityId(2), numbers, 255);
-    Ok(new_desk(lane, 0, queue))
+    Some(new_desk(lane, 0, queue))
 }
 
 // What happens under a key; a PDU has to be of it.
@@ -59,15 +60,22 @@ fn on(key: TxnKey, what: What) -> Option<Event>
 }
 
 // A source and a number.
-fn key_of(source: &str, seq: &str) -> Result<TxnKey, Fail> {
-    let source = EntityId(source.parse()?);
-    let seq = seq.parse()?;
-    Ok(TxnKey { source, seq })
+fn key_of(source: &str, seq: &str) -> Option<TxnKey> {
+    let source = EntityId(source.parse().ok()?);
+    let seq = seq.parse().ok()?;
+    Some(TxnKey { source, seq })
+}
+
+// The key at the head of a line, and the rest.
+fn split_key(line: &str) -> Option<(TxnKey, &str)> {
+    let (source, rest) = line.split_once(' ')?;
+    let (seq, rest) = rest.split_once(' ')?;
+    Some((key_of(source, seq)?, rest))
 }
 
 // A PDU under its own key.
-fn received(alloc: Global, hex: &str) -> Result<Event, Fail>
-    ensures { IfOk result IsKeyed }
+fn received(alloc: Global, hex: &str) -> Option<Event>
+    ensures { IfSome result IsKeyed }
 {
     let pdu = pdu_of(alloc, hex)?;
     let header = pdu.header();
@@ -75,35 +83,34 @@ fn received(alloc: Global, hex: &str) -> Result<Event, Fail>
         source: header.source,
         seq: header.sequence,
     };
-    Ok(on(key, What::Pdu(pdu)).ok_or(NO_LINE)?)
+    on(key, What::Pdu(pdu))
 }
 
 // The Put of a file in hex, or of none.
-fn put(alloc: Global, class: &str, file: &str) -> Result<Event, Fail>
-    ensures { IfOk result IsKeyed }
+fn put(alloc: Global, class: &str, file: &str) -> Option<Event>
+    ensures { IfSome result IsKeyed }
 {
     let class = if class == "1" { Class::One } else { Class::Two };
     let hex = if file == "-" { "" } else { file };
-    let octets = hex::decode(alloc, hex)?;
-    let request = request(alloc, class, octets.as_slice())?;
-    Ok(Event::Put(request, params(&[], &[])?))
+    let params = params(&[], &[])?;
+    let octets = hex::decode(alloc, hex).ok()?;
+    let request = request(alloc, class, octets.as_slice()).ok()?;
+    Some(Event::Put(request, params))
 }
 
 // What the lane takes.
-fn event(alloc: Global, line: &str) -> Result<Event, Fail>
-    ensures { IfOk result IsKeyed }
+fn event(alloc: Global, line: &str) -> Option<Event>
+    ensures { IfSome result IsKeyed }
 {
     if let Some(hex) = line.strip_prefix("pdu ") {
         return received(alloc, hex);
     }
     if let Some(words) = line.strip_prefix("put ") {
-        let (class, file) = words.split_once(' ').ok_or(NO_LINE)?;
+        let (class, file) = words.split_once(' ')?;
         return put(alloc, class, file);
     }
-    let (source, rest) = line.split_once(' ').ok_or(NO_LINE)?;
-    let (seq, what) = rest.split_once(' ').ok_or(NO_LINE)?;
-    let key = key_of(source, seq)?;
-    Ok(on(key, event_of(alloc, what)?).ok_or(NO_LINE)?)
+    let (key, what) = split_key(line)?;
+    on(key, event_of(alloc, what)?)
 }
 
 // What a step gives.
@@ -131,6 +138,15 @@ fn stepped(alloc: Global, answer: Result<Done, Refused>) -> Result<String, Alloc
     }
 }
 
+// What an event gives.
+fn given(alloc: Global, desk: &mut Desk, event: Event) -> Result<String, AllocError>
+    requires keyed { IsKeyed event }
+    requires fits { Fits desk.old.lane desk.old.number desk.old.queue }
+    ensures { Fits desk.new.lane desk.new.number desk.new.queue }
+{
+    stepped(alloc, step(desk, &event))
+}
+
 // What the user takes.
 fn taken(alloc: Global, desk: &mut Desk) -> Result<String, AllocError>
     requires { Fits desk.old.lane desk.old.number desk.old.queue }
@@ -143,12 +159,11 @@ fn taken(alloc: Global, desk: &mut Desk) -> Result<String, AllocError>
 }
 
 // The file of a key and a stamp.
-fn image(alloc: Global, desk: &Desk, words: &str) -> Result<String, Fail> {
-    let (source, rest) = words.split_once(' ').ok_or(NO_LINE)?;
-    let (seq, stamp) = rest.split_once(' ').ok_or(NO_LINE)?;
-    match desk.lane.image(key_of(source, seq)?, stamp.parse()?) {
-        Err(why) => Ok(refused(alloc, why)?),
-        Ok(image) => Ok(image_text(alloc, &image)?),
+fn image(alloc: Global, desk: &Desk, words: &str) -> Option<String> {
+    let (key, stamp) = split_key(words)?;
+    match desk.lane.image(key, stamp.parse().ok()?) {
+        Err(why) => refused(alloc, why).ok(),
+        Ok(image) => image_text(alloc, &image).ok(),
     }
 }
 
@@ -166,22 +181,21 @@ fn last(alloc: Global, desk: &Desk) -> Result<String, AllocError> {
     Ok(text)
 }
 
-// What a line gives.
-fn line(alloc: Global, desk: &mut Desk, line: &str) -> Result<String, Fail>
+// What a line gives, if it is one.
+fn line(alloc: Global, desk: &mut Desk, line: &str) -> Option<String>
     requires { Fits desk.old.lane desk.old.number desk.old.queue }
     ensures { Fits desk.new.lane desk.new.number desk.new.queue }
 {
     if line == "take" {
-        return Ok(taken(alloc, desk)?);
+        return taken(alloc, desk).ok();
     }
     if line == "last" {
-        return Ok(last(alloc, desk)?);
+        return last(alloc, desk).ok();
     }
     if let Some(words) = line.strip_prefix("image ") {
         return image(alloc, desk, words);
     }
-    let event = event(alloc, line)?;
-    Ok(stepped(alloc, step(desk, &event))?)
+    given(alloc, desk, event(alloc, line)?).ok()
 }
 
 fn play<R: AllocGlobal + Abort>(rt: &R, desk: &mut Desk, script: &str) -> Result<(), Fail>
@@ -201,21 +215,30 @@ fn play_row<R: AllocGlobal + Abort>(rt: &R, desk: &mut Desk, row: &str) -> Resul
     requires { Fits desk.old.lane desk.old.number desk.old.queue }
     ensures { Fits desk.new.lane desk.new.number desk.new.queue }
 {
-    let (count, event, answer) = row_of(row)?;
+    let (count, event, answer) = row_of(row).ok_or(NO_LINE)?;
     for _ in 0..count {
-        let given = line(rt.alloc(), desk, event)?;
+        let given = line(rt.alloc(), desk, event).ok_or(NO_LINE)?;
         assert_eq!(rt; given.as_str(), answer, "at {event}");
     }
     Ok(())
 }
 
+// Plays a script at a lane, if it could be made.
+fn play_at<R: AllocGlobal + Abort>(rt: &R, desk: Option<Desk>, script: &str) -> Result<(), Fail>
+    requires { IfSome desk (λ desk. Fits desk.lane desk.number desk.queue) }
+{
+    match desk {
+        Some(mut desk) => play(rt, &mut desk, script),
+        None => Err(Fail::from("the lane and its queue take memory")),
+    }
+}
+
 // One transaction after the other; what a lane refuses of them, and of others.
 #[test]
 fn a_lane_that_receives(rt: HostRuntime) -> Result<(), Fail> {
-    let mut desk = receiving(rt.alloc(), 8)?;
-    play(
+    play_at(
         &rt,
-        &mut desk,
+        receiving(rt.alloc(), 8),
         "
         last: none
         put 1 616263: refused WrongState
@@ -265,10 +288,9 @@ fn a_lane_that_receives(rt: HostRuntime) -> Result<(), Fail> {
 // A PDU that meets a full queue changes nothing, and is taken once there is room.
 #[test]
 fn a_full_queue(rt: HostRuntime) -> Result<(), Fail> {
-    let mut desk = receiving(rt.alloc(), 1)?;
-    play(
+    play_at(
         &rt,
-        &mut desk,
+        receiving(rt.alloc(), 1),
         "
         pdu 24000a0001050207000000000001610162: arm inactivity 0 4000
         pdu 24000a0001050204000000000000000000: refused QueueFull
@@ -285,10 +307,9 @@ fn a_full_queue(rt: HostRuntime) -> Result<(), Fail> {
 // A reception of class 2 that is suspended, and whose file is not kept.
 #[test]
 fn a_suspended_reception(rt: HostRuntime) -> Result<(), Fail> {
-    let mut desk = receiving(rt.alloc(), 8)?;
-    play(
+    play_at(
         &rt,
-        &mut desk,
+        receiving(rt.alloc(), 8),
         "
         pdu 20000a0001050207000000000301610162: arm inactivity 0 4000
         pdu 20000a0001050204006162630000000003: 28000300010502064001; 280011000105020800000000000000030000000000000003; arm nak 1 2000; arm inactivity 1 4000
@@ -313,10 +334,9 @@ fn a_suspended_reception(rt: HostRuntime) -> Result<(), Fail> {
 // Two files, of which the first is acknowledged.
 #[test]
 fn a_lane_that_sends(rt: HostRuntime) -> Result<(), Fail> {
-    let mut desk = sending(rt.alloc(), 2, 1)?;
-    play(
+    play_at(
         &rt,
-        &mut desk,
+        sending(rt.alloc(), 2, 1),
         "
         2 4 pump: refused NoTransaction
         put 2 616263: nothing
@@ -351,24 +371,12 @@ fn a_lane_that_sends(rt: HostRuntime) -> Result<(), Fail> {
     )
 }
 
-// Reports, each of which is taken.
-fn reports<R: AllocGlobal + Abort>(rt: &R, desk: &mut Desk) -> Result<(), Fail>
-    requires { Fits desk.old.lane desk.old.number desk.old.queue }
-    ensures { Fits desk.new.lane desk.new.number desk.new.queue }
-{
-    for _ in 0..65_533 {
-        play(rt, desk, "2 4 report: nothing\ntake: 2 4; Report Active 0")?;
-    }
-    Ok(())
-}
-
-// The last number of one octet; after 65,534 events only Abandon is taken.
+// The last number of one octet.
 #[test]
-fn the_ends_of_a_lane(rt: HostRuntime) -> Result<(), Fail> {
-    let mut desk = sending(rt.alloc(), 1, 63)?;
-    play(
+fn the_last_number(rt: HostRuntime) -> Result<(), Fail> {
+    play_at(
         &rt,
-        &mut desk,
+        sending(rt.alloc(), 1, 63),
         "
         put 1 -: nothing
         take: 2 252; Transaction
@@ -377,18 +385,20 @@ fn the_ends_of_a_lane(rt: HostRuntime) -> Result<(), Fail> {
         put 1 -: refused SeqExhausted
         last: 252 2 2
         ",
-    )?;
-    let mut desk = sending(rt.alloc(), 1, 1)?;
-    play(
+    )
+}
+
+// After 65,534 events only Abandon is taken.
+#[test]
+fn a_full_journal(rt: HostRuntime) -> Result<(), Fail> {
+    play_at(
         &rt,
-        &mut desk,
-        "put 2 616263: nothing\ntake: 2 4; Transaction",
-    )?;
-    reports(&rt, &mut desk)?;
-    play(
-        &rt,
-        &mut desk,
+        sending(rt.alloc(), 65_533, 1),
         "
+        put 2 616263: nothing
+        take: 2 4; Transaction
+        65533 times 2 4 report: nothing
+        65533 times take: 2 4; Report Active 0
         2 4 pump: refused JournalFull
         2 4 report: refused JournalFull
         2 4 abandon: nothing

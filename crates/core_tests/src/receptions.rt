@@ -3,7 +3,7 @@ use crate::ends::{RECEIVED, receives, reception};
 use crate::events::pdu_of;
 use crate::setting::params;
 use receiver_core::ReceiverCore;
-use std::alloc::AllocError;
+use std::alloc::{AllocError, Global};
 use std::test::*;
 use txn_events::Refusal;
 
@@ -238,18 +238,23 @@ fn write_nak(script: &mut String) -> Result<(), AllocError> {
 
 // Metadata of a file that is too large opens nothing.
 #[test]
-fn too_large_a_file(rt: HostRuntime) -> Result<(), Fail> {
+fn too_large_a_file(rt: HostRuntime) {
+    let refused = is_too_large(rt.alloc(), "24000a0001050207000040000101610162");
+    assert!(rt; refused == Some(true));
+}
+
+// Whether a PDU is refused, since its file is too large.
+fn is_too_large(alloc: Global, hex: &str) -> Option<bool> {
     let params = params(&[], &[])?;
-    let pdu = pdu_of(rt.alloc(), "24000a0001050207000040000101610162")?;
-    let opened = reception(rt.alloc(), &pdu, params);
-    assert!(rt; matches!(opened, Err(Refusal::TooLarge)));
-    Ok(())
+    let pdu = pdu_of(alloc, hex)?;
+    let opened = reception(alloc, &pdu, params);
+    Some(matches!(opened, Err(Refusal::TooLarge)))
 }
 
 // Metadata, File Data and EOF of the key alone open a reception: not of another sequence number or source,
 // no Prompt, and no ACK.
 #[test]
-fn what_opens(rt: HostRuntime) -> Result<(), Fail> {
+fn what_opens(rt: HostRuntime) {
     for (hex, expected) in [
         ("24000a0001050207000000000301610162", true),
         ("3400070001050200000000616263", true),
@@ -259,12 +264,12 @@ fn what_opens(rt: HostRuntime) -> Result<(), Fail> {
         ("200002000105020900", false),
         ("20000300010502065102", false),
     ] {
-        let pdu = pdu_of(rt.alloc(), hex)?;
-        assert_eq!(rt;
-            ReceiverCore::may_open(RECEIVED, &pdu),
-            expected,
-            "at {hex}"
-        );
+        assert!(rt; opens(rt.alloc(), hex) == Some(expected), "at {hex}");
     }
-    Ok(())
+}
+
+// Whether a PDU opens the reception.
+fn opens(alloc: Global, hex: &str) -> Option<bool> {
+    let pdu = pdu_of(alloc, hex)?;
+    Some(ReceiverCore::may_open(RECEIVED, &pdu))
 }

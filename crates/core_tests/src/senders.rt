@@ -1,7 +1,7 @@
 //! Senders: what follows the Put of a file.
 use crate::ends::{request, sending, sends};
 use crate::setting::params;
-use cfdp_types::{Class, Params, PutRequest};
+use cfdp_types::Class;
 use std::alloc::Global;
 use std::test::*;
 use txn_events::Refusal;
@@ -127,14 +127,15 @@ fn the_greatest_file(rt: HostRuntime) -> Result<(), Fail> {
 
 #[test]
 fn too_large_a_file(rt: HostRuntime) -> Result<(), Fail> {
-    let params = params(&[], &[])?;
     let file = vec![in rt.alloc(); 0; 4_194_305]?;
-    let request = request(rt.alloc(), Class::One, file.as_slice())?;
-    assert!(rt; is_too_large(rt.alloc(), &request, params));
+    assert!(rt; is_too_large(rt.alloc(), file.as_slice()) == Some(true));
     Ok(())
 }
 
-// Whether a Put is refused, since its file is too large.
-fn is_too_large(alloc: Global, request: &PutRequest, params: Params) -> bool {
-    matches!(sending(alloc, request, params), Err(Refusal::TooLarge))
+// Whether the Put of a file is refused, since that is too large.
+fn is_too_large(alloc: Global, file: &[u8]) -> Option<bool> {
+    let params = params(&[], &[])?;
+    let request = request(alloc, Class::One, file).ok()?;
+    let opened = sending(alloc, &request, params);
+    Some(matches!(opened, Err(Refusal::TooLarge)))
 }

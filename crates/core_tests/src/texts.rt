@@ -31,19 +31,38 @@ pub(crate) fn answer_text(
     answer: &Answer,
 ) -> Result<String, AllocError> {
     let mut text = String::new(alloc);
-    for pdu in answer.pdus.as_slice() {
-        separate(&mut text)?;
-        push_pdu(alloc, &mut text, pdu)?;
-    }
-    push_indications(alloc, &mut text, answer.inds.as_slice())?;
-    push_timers(&mut text, key, answer.timers.as_slice())?;
-    if let Some(deposit) = answer.deposit {
-        separate(&mut text)?;
-        let stamp = deposit.stamp;
-        write!(text, "deposit {stamp}")?;
-        push_owner(&mut text, key, deposit.key)?;
-    }
+    push_answer(alloc, &mut text, key, answer)?;
     Ok(text)
+}
+
+fn push_answer(
+    alloc: Global,
+    text: &mut String,
+    key: TxnKey,
+    answer: &Answer,
+) -> Result<(), AllocError> {
+    push_pdus(alloc, text, answer.pdus.as_slice())?;
+    push_indications(alloc, text, answer.inds.as_slice())?;
+    push_timers(text, key, answer.timers.as_slice())?;
+    match answer.deposit {
+        Some(deposit) => push_deposit(text, key, deposit),
+        None => Ok(()),
+    }
+}
+
+fn push_pdus(alloc: Global, text: &mut String, pdus: &[Pdu]) -> Result<(), AllocError> {
+    for pdu in pdus {
+        separate(text)?;
+        push_pdu(alloc, text, pdu)?;
+    }
+    Ok(())
+}
+
+fn push_deposit(text: &mut String, key: TxnKey, deposit: Deposit) -> Result<(), AllocError> {
+    separate(text)?;
+    let stamp = deposit.stamp;
+    write!(text, "deposit {stamp}")?;
+    push_owner(text, key, deposit.key)
 }
 
 /// The text of a bundle: the key of its transaction, and what it tells.
@@ -106,8 +125,8 @@ fn push_indication(alloc: Global, text: &mut String, told: &Indication) -> Resul
             delivery,
             status,
         } => {
-            push_condition(text, "Finished", *condition)?;
-            write!(text, " {delivery:?} {status:?}")
+            let code = condition.code();
+            write!(text, "Finished {code} {delivery:?} {status:?}")
         }
         Indication::MetadataRecv {
             source,
@@ -118,8 +137,7 @@ fn push_indication(alloc: Global, text: &mut String, told: &Indication) -> Resul
         } => {
             let source = source.0;
             write!(text, "Metadata-Recv {source} {size}")?;
-            push_octets(alloc, text, source_name)?;
-            push_octets(alloc, text, destination_name)?;
+            push_names(alloc, text, source_name, destination_name)?;
             push_all_octets(alloc, text, messages.as_slice())
         }
         Indication::FileSegmentRecv { offset, length } => {
@@ -131,23 +149,37 @@ fn push_indication(alloc: Global, text: &mut String, told: &Indication) -> Resul
         Indication::Fault {
             condition,
             progress,
-        } => {
-            push_condition(text, "Fault", *condition)?;
-            write!(text, " {progress}")
-        }
+        } => push_stopped(text, "Fault", *condition, *progress),
         Indication::Abandoned {
             condition,
             progress,
-        } => {
-            push_condition(text, "Abandoned", *condition)?;
-            write!(text, " {progress}")
-        }
+        } => push_stopped(text, "Abandoned", *condition, *progress),
     }
 }
 
 fn push_condition(text: &mut String, name: &str, condition: Condition) -> Result<(), AllocError> {
     let code = condition.code();
     write!(text, "{name} {code}")
+}
+
+fn push_stopped(
+    text: &mut String,
+    name: &str,
+    condition: Condition,
+    progress: u32,
+) -> Result<(), AllocError> {
+    let code = condition.code();
+    write!(text, "{name} {code} {progress}")
+}
+
+fn push_names(
+    alloc: Global,
+    text: &mut String,
+    source: &Octets,
+    destination: &Octets,
+) -> Result<(), AllocError> {
+    push_octets(alloc, text, source)?;
+    push_octets(alloc, text, destination)
 }
 
 fn push_all_octets(alloc: Global, text: &mut String, all: &[Octets]) -> Result<(), AllocError> {
