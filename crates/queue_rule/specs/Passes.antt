@@ -1,6 +1,6 @@
 -- The passes of a queue that are an outlet's and a port's.
 use Rattle.std.specs.Prelude.{◌≡◌}
-use Rattle.crossbeam_queue.specs.Passes.{Pass, view, IsPassOf, ruled_capacity}
+use Rattle.crossbeam_queue.specs.Passes.{Pass, view, IsPassOf, IsSamePass, ruled_capacity}
 use Rattle.crossbeam_queue.specs.declared.array_queue.Slotted.{Slotted}
 use Rattle.crossbeam_queue.specs.declared.array_queue.Doing.{Doing}
 use Rattle.std.specs.Prelude.{Option}
@@ -21,3 +21,13 @@ module _ {Q A : Type 0} where
     pub of_queue : IsPassOf queue pass
     pub port : view pass ≡ Port (port_in (view pass))
     pub room : (port_in (view pass)).room ≡ ruled_capacity queue
+
+  -- the same pass is a lane's outlet of the queue still
+  pub record StaysOutlet (queue : Slotted (Option Bundle) (Doing Bundle View) Q A) (old new : Pass Bundle View) : Type 0 where
+    pub outlet : IsOutletOf queue new
+    pub same : IsSamePass old new
+
+  -- the same pass is the port of the queue still
+  pub record StaysPort (queue : Slotted (Option Bundle) (Doing Bundle View) Q A) (old new : Pass Bundle View) : Type 0 where
+    pub port : IsPortOf queue new
+    pub same : IsSamePass old new

@@ -60,6 +60,11 @@ joined view other = view
 abbrev pub IsSomeLaneList : ℕ → ℕ → List Bundle → Type 0
 IsSomeLaneList user lane bundles = (source : EntityId) × IsLaneList user lane source bundles
 
+-- a bundle is of an outlet's lane, and goes on with what the lane sent
+pub record MaySend (outlet : OutletView) (bundle : Bundle) : Type 0 where
+  pub of_lane : bundle.lane ≡ outlet.lane
+  pub goes_on : IsSomeLaneList outlet.user outlet.lane (outlet.sent ++ bundle ∷ [])
+
 -- what was taken of each lane is a lane list
 abbrev pub IsTakenInOrder : PortView → Type 0
 IsTakenInOrder port = (lane : ℕ) → IsSomeLaneList port.user lane (of_lane lane port.taken)

@@ -1,10 +1,10 @@
 //! What those that share a queue do, each in one step.
-ghost use Rattle.std.specs.Prelude.{◌≡◌, ◌<◌, [], IfErr, IfOk, OnOk, OnErr, IfSome, IfNone, ◌++◌, ◌∷◌};
-ghost use Rattle.crossbeam_queue.specs.Passes.{view, IsPassOf, IsSamePass, ruled_capacity};
-ghost use Rattle.queue_rule.specs.Passes.{IsOutletOf, IsPortOf};
+ghost use Rattle.std.specs.Prelude.{◌≡◌, ◌<◌, [], IfErr, IfOk, OnOk, OnErr, IfSome, IfNone};
+ghost use Rattle.crossbeam_queue.specs.Passes.{view, IsPassOf, ruled_capacity};
+ghost use Rattle.queue_rule.specs.Passes.{IsOutletOf, IsPortOf, StaysOutlet, StaysPort};
 ghost use Rattle.queue_rule.specs.declared.view.View.TheVariants.{Origin, Outlet};
 ghost use Rattle.queue_rule.specs.Views.{outlet_in, port_in, with_sent, with_taken, with_lane, with_known, new_port, next_outlet};
-ghost use Rattle.queue_rule.specs.Views.{IsSomeLaneList, IsTakenInOrder, IsWholeWith};
+ghost use Rattle.queue_rule.specs.Views.{MaySend, IsTakenInOrder, IsWholeWith};
 
 use crate::rule::{Fair, GivesBack, NextLane, OfUser, QueueOfUser, Sends, Takes};
 use crate::view::View;
@@ -29,11 +29,8 @@ pub fn send<R: Wait>(
     bundle: Bundle,
 ) -> Result<(), Bundle>
     requires pass { IsOutletOf queue.now pass.old }
-    requires of_lane { bundle.lane ≡ (outlet_in (view pass.old)).lane }
-    requires goes_on { IsSomeLaneList (outlet_in (view pass.old)).user (outlet_in (view pass.old)).lane
-        ((outlet_in (view pass.old)).sent ++ bundle ∷ []) }
-    ensures pass { IsOutletOf queue.now pass.new }
-    ensures same_pass { IsSamePass pass.old pass.new }
+    requires may { MaySend (outlet_in (view pass.old)) bundle }
+    ensures stays { StaysOutlet queue.now pass.old pass.new }
     ensures sent { OnOk result (outlet_in (view pass.new) ≡ with_sent (outlet_in (view pass.old)) bundle) }
     ensures back { IfErr result (λ back. back ≡ bundle) }
     ensures kept { OnErr result (outlet_in (view pass.new) ≡ outlet_in (view pass.old)) }
@@ -44,8 +41,7 @@ pub fn send<R: Wait>(
 /// Takes the bundle at the front; none only where the queue was empty.
 pub fn take<R: Wait>(rt: &R, queue: &SharedQueue, pass: &mut QueuePass) -> Option<Bundle>
     requires pass { IsPortOf queue.now pass.old }
-    ensures pass { IsPortOf queue.now pass.new }
-    ensures same_pass { IsSamePass pass.old pass.new }
+    ensures stays { StaysPort queue.now pass.old pass.new }
     ensures taken { IfSome result (λ bundle. port_in (view pass.new) ≡ with_taken (port_in (view pass.old)) bundle) }
     ensures none { IfNone result (port_in (view pass.new) ≡ port_in (view pass.old)) }
     ensures whole { IfNone result (IsWholeWith (port_in (view pass.new)) []) }
@@ -85,8 +81,7 @@ fn named_port<U: QueueOfUser>(queue: &SharedQueue, first: &mut QueuePass, user: 
 /// Splits the outlet of the next lane off a port.
 pub fn next_lane(queue: &SharedQueue, pass: &mut QueuePass) -> QueuePass
     requires port { IsPortOf queue.now pass.old }
-    ensures port { IsPortOf queue.now pass.new }
-    ensures same_pass { IsSamePass pass.old pass.new }
+    ensures stays { StaysPort queue.now pass.old pass.new }
     ensures lane { port_in (view pass.new) ≡ with_lane (port_in (view pass.old)) }
     ensures outlet { IsOutletOf queue.now result }
     ensures new { outlet_in (view result) ≡ next_outlet (port_in (view pass.old)) }
@@ -98,8 +93,7 @@ pub fn next_lane(queue: &SharedQueue, pass: &mut QueuePass) -> QueuePass
 pub fn admit(queue: &SharedQueue, pass: &mut QueuePass, outlet: QueuePass)
     requires port { IsPortOf queue.now pass.old }
     requires outlet { IsPassOf queue.now outlet × (view outlet ≡ Outlet (outlet_in (view outlet))) }
-    ensures port { IsPortOf queue.now pass.new }
-    ensures same_pass { IsSamePass pass.old pass.new }
+    ensures stays { StaysPort queue.now pass.old pass.new }
     ensures known { port_in (view pass.new) ≡ with_known (port_in (view pass.old)) (outlet_in (view outlet)) }
 {
     queue.absorb::<GivesBack>(pass, outlet);

@@ -24,7 +24,7 @@ loop-lane-preserved g c =
       outlets = one_outlet_more c.loop-lane.pass.table_id c.next_lane-outlet.new.pass.table_id c.args.user c.loop-lane.lane c.args.capacity
           (port_in (view c.loop-lane.pass)) c.new-in-loop-lane.result c.loop-lane.outlets.items c.push.new.self.items
           c.loop-lane.invariant.port (ap (λ e. e.knows) end ∙ made.new)
-          (ap (λ e. e.queue) end ∙ (outlet.of_queue.0 ∙ sym port.of_queue.0)) made.same_pass.0
+          (ap (λ e. e.queue) end ∙ (outlet.of_queue.0 ∙ sym port.of_queue.0)) made.stays.same.0
           c.loop-lane.invariant.outlets c.in_ok-push.ensures.items;
       admitted = one_mark_more c.loop-lane.admitted.items c.push-in-loop-lane.new.self.items (port_in (view c.loop-lane.pass))
           (port_in (view c.next_lane-outlet.new.pass)) c.loop-lane.invariant.admitted made.lane c.in_ok-push-2.ensures.items;
