@@ -1,4 +1,4 @@
-use Rattle.std.proofs.Common.{inr, rules}
+use Rattle.std.proofs.Common.{inr}
 use Rattle.std.proofs.lemmas.Result.{err_from_is_err_and}
 use Rattle.lane_table.specs.Logs.{opened_by, first_answer}
 use Rattle.txn_core.specs.Transactions.{plan_answer}
