@@ -69,9 +69,9 @@ impl End {
     }
 
     // What an event is answered, as text.
-    fn step(&mut self, alloc: Global, event: What) -> Result<String, AllocError> {
+    fn step(&mut self, alloc: Global, event: &What) -> Result<String, AllocError> {
         let key = self.key();
-        match self.answer(&event) {
+        match self.answer(event) {
             Err(refusal) => refused(alloc, refusal),
             Ok(None) => String::from_str(alloc, "ended"),
             Ok(Some(answer)) => answer_text(alloc, key, &answer),
@@ -93,7 +93,10 @@ impl End {
     fn line(&mut self, alloc: Global, event: &str) -> Option<String> {
         match event.strip_prefix("image ") {
             Some(stamp) => self.image(alloc, stamp.parse().ok()?).ok(),
-            None => self.step(alloc, event_of(alloc, event)?).ok(),
+            None => {
+                let event = event_of(alloc, event)?;
+                self.step(alloc, &event).ok()
+            }
         }
     }
 }
