@@ -11,7 +11,7 @@ use std::alloc::AllocError;
 use txn_events::{Event, What};
 
 /// Copies of an event and of what its end tells of it, with the bundle of that.
-#[derive(Debug, Drop)]
+#[derive(Drop)]
 pub(crate) struct Copies {
     pub(crate) event: Event,
     pub(crate) told: Vec<Indication>,

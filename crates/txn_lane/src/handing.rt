@@ -9,7 +9,7 @@ use std::alloc::{AllocError, Global};
 use txn_events::Refusal;
 
 /// The lane of a user, with the memory that its steps take.
-#[derive(Clone, Copy, Debug)]
+#[derive(Clone, Copy)]
 pub(crate) struct LaneAddress {
     pub(crate) alloc: Global,
     pub(crate) user: usize,

@@ -19,7 +19,7 @@ pub(crate) struct Running {
 }
 
 /// An event that its end takes, with all that is needed to carry it out.
-#[derive(Debug, Drop)]
+#[derive(Drop)]
 pub(crate) struct Step {
     pub(crate) event: Event,
     pub(crate) plan: TransactionPlan,
