@@ -7,8 +7,8 @@ use Rattle.cfdp_types.specs.declared.key.EntityId.{EntityId}
 use Rattle.indications.specs.declared.bundle.Bundle.{Bundle}
 use Rattle.indications.specs.declared.indication.Indication.{Indication}
 use Rattle.indications.specs.declared.indication.Indication.TheVariants.{Abandoned}
-use Rattle.indications.specs.LaneLists.{number_of, told_of, has_number, IsBegunGroup, IsWordGroup, IsLaneList}
-use Rattle.indications.proofs.LaneLemmas.{told_of-more, told_of-other, told_of-none, has_number-append, has_number-below, IsLaneList-nil, IsLaneList-more}
+use Rattle.indications.specs.LaneLists.{number_of, told_of, of_lane, has_number, IsBegunGroup, IsWordGroup, IsLaneList}
+use Rattle.indications.proofs.LaneLemmas.{of_lane-more, of_lane-other, told_of-more, told_of-other, told_of-none, has_number-append, has_number-below, IsLaneList-nil, IsLaneList-more}
 
 -- all bundles so far have numbers up to this one, and their transactions are over
 pub record AreEnded (user lane : ℕ) (source : EntityId) (last : ℕ) (bundles : List Bundle) : Type 0 where
@@ -83,3 +83,33 @@ may_go_on user lane source last bundles bundle ended of_user of_lane key told =
     (subst (λ (l : ℕ). IsLaneList user l bundle.key.source all) (sym of_lane)
     (subst (λ (s : EntityId). IsLaneList user lane s all) (sym (ap (λ k. k.source) key))
     (next_list user lane source last bundles bundle ended of_user of_lane key told)))
+
+-- a greater number may be the last
+pub ended_by : (user lane : ℕ) (source : EntityId) (last later : ℕ) (bundles : List Bundle) → last ≤ later
+    → AreEnded user lane source last bundles → AreEnded user lane source later bundles
+ended_by user lane source last later bundles le ended = record {
+  list = ended.list;
+  below = All-weaker (λ (other : Bundle). number_of other ≤ last) (λ (other : Bundle). number_of other ≤ later)
+      (λ (other : Bundle) (below : number_of other ≤ last). omega (arith, le, below)) bundles ended.below;
+  words = ended.words;
+}
+
+-- so it is of each lane's part
+abbrev pub AllEnded : ℕ → EntityId → ℕ → List Bundle → Type 0
+AllEnded user source last bundles = (lane : ℕ) → AreEnded user lane source last (of_lane lane bundles)
+
+pub none_all_ended : (user : ℕ) (source : EntityId) → AllEnded user source 0 []
+none_all_ended user source lane = none_ended user lane source
+
+pub next_all_ended : (user lane : ℕ) (source : EntityId) (last : ℕ) (bundles : List Bundle) (bundle : Bundle)
+    → AllEnded user source last bundles → bundle.user ≡ user → bundle.lane ≡ lane
+    → bundle.key ≡ record { source = source; seq = last + 1 } → bundle.inds ≡ Abandoned 0 0 ∷ []
+    → AllEnded user source (last + 1) (bundles ++ bundle ∷ [])
+next_all_ended user lane source last bundles bundle ended of_user is key told other = ⊎_elim
+    (λ (this : bundle.lane ≡ other).
+    subst (AreEnded user other source (last + 1)) (sym (of_lane-more other bundles bundle this))
+    (next_ended user other source last (of_lane other bundles) bundle (ended other) of_user this key told))
+    (λ (apart : bundle.lane ≡ other → ⊥).
+    subst (AreEnded user other source (last + 1)) (sym (of_lane-other other bundles bundle apart))
+    (ended_by user other source last (last + 1) (of_lane other bundles) (omega arith) (ended other)))
+    (cases_eq bundle.lane other)

@@ -1,6 +1,7 @@
 -- How the ends of a queue are opened, lane by lane.
-use Rattle.std.proofs.Common.{◌≡◌, ◌⊎◌, ℕ, ◌+◌, zero, suc, List, [], ◌∷◌, ◌++◌, length, length-append, Some, None, refl, ap, sym, ◌∙◌, subst, inl, inr, ⊎_elim, add-one, arith}
+use Rattle.std.proofs.Common.{◌≡◌, ◌⊎◌, ℕ, ◌+◌, All, zero, suc, List, [], ◌∷◌, ◌++◌, length, length-append, Some, None, refl, ap, sym, ◌∙◌, subst, inl, inr, ⊎_elim, add-one, arith}
 use Rattle.std.specs.Prelude.{slice_get}
+use Rattle.std.proofs.lemmas.List.Elements.{All-nil, All-push}
 use Rattle.atomic_table.specs.Seated.{TableId}
 use Rattle.queue_rule.specs.declared.view.OutletView.{OutletView}
 use Rattle.queue_rule.specs.declared.view.PortView.{PortView}
@@ -85,3 +86,10 @@ two_outlets queue room all one [] first second is last before =
 two_outlets queue room all one (x ∷ xs) first second is last before =
     let long : length all ≡ 2 = ap length is in
     absurd (omega (arith, long, ap length last, ap length before, length-append one (second ∷ []), length-append xs (first ∷ [])))
+
+-- the outlets of a queue that was just opened sent nothing
+pub fresh_lanes : (queue : TableId) (room lanes : ℕ) → All (λ (o : OutletEnd). IsFreshLane o o.knows.lane) (fresh_outlets queue 0 room lanes)
+fresh_lanes queue room zero = All-nil (λ (o : OutletEnd). IsFreshLane o o.knows.lane)
+fresh_lanes queue room (suc lanes) =
+    All-push (λ (o : OutletEnd). IsFreshLane o o.knows.lane) (fresh_outlets queue 0 room lanes) (fresh_outlet queue 0 room lanes)
+    (fresh_lanes queue room lanes) (refl, refl, refl)

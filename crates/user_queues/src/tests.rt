@@ -8,6 +8,8 @@ use indications::{Bundle, Indication, Indications, Outlet};
 use std::alloc::{AllocError, Global};
 use std::test::*;
 
+mod both_queues;
+mod bundles;
 mod shared;
 
 const USER: usize = 3;

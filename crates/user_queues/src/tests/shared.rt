@@ -1,17 +1,19 @@
-//! Two threads put bundles into a queue, and a third takes them.
-ghost use Rattle.std.specs.Prelude.{◌≡◌, ◌<◌, ◌++◌, ◌∷◌, [], IfOk, IfSome, IsTrue};
+//! Threads put bundles into a queue, and another takes them.
+ghost use Rattle.std.specs.Prelude.{◌≡◌, ◌<◌, ◌++◌, ◌∷◌, [], All, IfOk, IfSome, IsTrue};
 ghost use Rattle.indications.specs.LaneLists.{IsLaneList};
-ghost use Rattle.indications.specs.declared.indication.Indication.TheVariants.{Abandoned};
 ghost use Rattle.queue_rule.specs.Views.{with_sent};
+ghost use Rattle.user_queues.specs.Opened.{IsOpenedFor};
 ghost use Rattle.user_queues.specs.Shared.{IsFreshLane};
 
+use crate::tests::bundles::bundle_of;
 use crate::{LaneOutlet, UserPort, UserQueue, open};
-use cfdp_types::{Condition, EntityId, TxnKey};
-use indications::{Bundle, Indication, Indications, Outlet};
+use indications::{Bundle, Outlet};
 use std::alloc::{AllocError, Global};
 use std::sync::Wait;
+use std::sync::atomic::{AtomicBool, Ordering};
 use std::test::*;
 use std::thread;
+use std::thread::Threads;
 
 // How many bundles each lane sends.
 const COUNT: u64 = 100;
@@ -19,30 +21,8 @@ const COUNT: u64 = 100;
 // How often each end tries.
 const TURNS: u32 = 1_000_000;
 
-// A transaction that is over at once.
-fn bundle_of(alloc: Global, lane: usize, seq: u64) -> Result<Bundle, AllocError>
-    ensures { IfOk result (λ bundle. (bundle.user ≡ 0) × (bundle.lane ≡ lane) × (bundle.key ≡ record { source = record { 0 = 1 }; seq = seq })
-        × (bundle.inds ≡ Abandoned 0 0 ∷ [])) }
-{
-    let mut inds = Indications::new(alloc);
-    inds.push(Indication::Abandoned {
-        condition: Condition::NO_ERROR,
-        progress: 0,
-    })?;
-    let key = TxnKey {
-        source: EntityId(1),
-        seq,
-    };
-    Ok(Bundle {
-        user: 0,
-        lane,
-        key,
-        inds,
-    })
-}
-
-// Offers the bundle again and again; whether it was taken.
-fn offer<R: Wait + Copy>(outlet: &mut LaneOutlet<R>, bundle: Bundle) -> bool
+// Offers the bundle again and again, and tells where the queue was full; whether it was taken.
+fn offer<R: Wait + Copy>(outlet: &mut LaneOutlet<R>, bundle: Bundle, was_full: &AtomicBool) -> bool
     requires of_user { bundle.user ≡ outlet.old.knows.user }
     requires of_lane { bundle.lane ≡ outlet.old.knows.lane }
     requires goes_on { IsLaneList bundle.user bundle.lane bundle.key.source (outlet.old.knows.sent ++ bundle ∷ []) }
@@ -54,6 +34,7 @@ fn offer<R: Wait + Copy>(outlet: &mut LaneOutlet<R>, bundle: Bundle) -> bool
             Ok(()) => return true,
             Err(back) => bundle = back,
         }
+        was_full.store(true, Ordering::SeqCst);
         thread::yield_now();
     }
     false
@@ -64,48 +45,77 @@ fn produce<R: Wait + Copy>(
     alloc: Global,
     outlet: &mut LaneOutlet<R>,
     lane: usize,
+    was_full: &AtomicBool,
 ) -> Result<bool, AllocError>
     requires { IsFreshLane outlet.old lane }
 {
     for seq in 0..COUNT {
         let bundle = bundle_of(alloc, lane, seq + 1)?;
-        if !offer(outlet, bundle) {
+        if !offer(outlet, bundle, was_full) {
             return Ok(false);
         }
     }
     Ok(true)
 }
 
-// Whether all bundles of both lanes come, those of each lane in order.
-fn consume<R: Wait>(rt: &R, port: &mut UserPort) -> bool {
-    let mut last = [0; 2];
+// Whether a bundle is the next of its lane, whose last one it is from then on.
+fn comes_next(last: &mut [u64], bundle: &Bundle) -> bool {
+    let Some(last) = last.get_mut(bundle.lane) else {
+        return false;
+    };
+    if bundle.key.seq.checked_sub(1) != Some(*last) {
+        return false;
+    }
+    *last = bundle.key.seq;
+    true
+}
+
+// Whether all bundles of each lane come, those of a lane in order. The number of the last of each is kept.
+fn consume<R: Wait>(rt: &R, port: &mut UserPort, last: &mut [u64]) -> bool {
     for _ in 0..TURNS {
         match port.take(rt) {
             None => thread::yield_now(),
             Some(bundle) => {
-                if bundle.lane >= 2 || bundle.key.seq.checked_sub(1) != Some(last[bundle.lane]) {
+                if !comes_next(last, &bundle) {
                     return false;
                 }
-                last[bundle.lane] = bundle.key.seq;
             }
         }
-        if last == [COUNT; 2] {
+        if last.iter().all(|seq| *seq == COUNT) {
             return true;
         }
     }
     false
 }
 
-// The ends of a queue of two lanes.
-fn ends_of_two<R: Wait + Copy>(
+// The ends of the queue of the only user, with room for so many bundles.
+fn ends<R: Wait + Copy>(
     rt: R,
     alloc: Global,
+    lanes: usize,
+    capacity: usize,
+) -> Result<Option<UserQueue<R>>, AllocError>
+    requires { 0 < capacity }
+    ensures { IfOk result (λ ends. IfSome ends (λ e. IsOpenedFor 0 lanes capacity e.port e.outlets.items)) }
+{
+    let mut queues = open(rt, alloc, &[lanes], capacity)?;
+    let Some(only) = queues.users.pop() else {
+        return Ok(None);
+    };
+    Ok(Some(only))
+}
+
+/// The ends of a queue of two lanes, with room for so many bundles.
+pub(crate) fn ends_of_two<R: Wait + Copy>(
+    rt: R,
+    alloc: Global,
+    capacity: usize,
 ) -> Result<Option<(UserPort, LaneOutlet<R>, LaneOutlet<R>)>, AllocError>
+    requires { 0 < capacity }
     ensures { IfOk result (λ ends. IfSome ends
         (λ e. (IsFreshLane e.1 0 × IsFreshLane e.2 1) × (e.1.queue ≡ e.0.queue) × (e.2.queue ≡ e.0.queue))) }
 {
-    let mut queues = open(rt, alloc, &[2], 4)?;
-    let Some(UserQueue { port, mut outlets }) = queues.users.pop() else {
+    let Some(UserQueue { port, mut outlets }) = ends(rt, alloc, 2, capacity)? else {
         return Ok(None);
     };
     let Some(second) = outlets.pop() else {
@@ -120,13 +130,14 @@ fn ends_of_two<R: Wait + Copy>(
 #[test]
 fn two_producers(rt: HostRuntime) -> Result<(), Fail> {
     let alloc = rt.alloc();
-    let Some((mut port, mut first, mut second)) = ends_of_two(rt, alloc)? else {
+    let Some((mut port, mut first, mut second)) = ends_of_two(rt, alloc, 4)? else {
         panic!(rt; "no ends");
     };
     assert_eq!(rt;
         (port.user(), first.lane(), second.user(), second.lane()),
         (0, 0, 0, 1)
     );
+    let was_full = AtomicBool::new(false);
     let ((one, two), all) = thread::join(
         &rt,
         || -> (Result<bool, AllocError>, Result<bool, AllocError>)
@@ -136,13 +147,13 @@ fn two_producers(rt: HostRuntime) -> Result<(), Fail> {
                 &rt,
                 || -> Result<bool, AllocError>
                     requires { IsFreshLane first 0 }
-                { produce(alloc, &mut first, 0) },
+                { produce(alloc, &mut first, 0, &was_full) },
                 || -> Result<bool, AllocError>
                     requires { IsFreshLane second 1 }
-                { produce(alloc, &mut second, 1) },
+                { produce(alloc, &mut second, 1, &was_full) },
             )
         },
-        || consume(&rt, &mut port),
+        || consume(&rt, &mut port, &mut [0; 2]),
     );
     assert!(rt; one? && two? && all);
     Ok(())
@@ -150,7 +161,7 @@ fn two_producers(rt: HostRuntime) -> Result<(), Fail> {
 
 #[test]
 fn given_back(rt: HostRuntime) -> Result<(), Fail> {
-    let Some((mut port, first, second)) = ends_of_two(rt, rt.alloc())? else {
+    let Some((mut port, first, second)) = ends_of_two(rt, rt.alloc(), 4)? else {
         panic!(rt; "no ends");
     };
     port.admit(second);
@@ -158,5 +169,68 @@ fn given_back(rt: HostRuntime) -> Result<(), Fail> {
     port.admit(first);
     assert!(rt; port.is_complete());
     assert!(rt; port.take(&rt).is_none());
+    Ok(())
+}
+
+// All lanes send, each in a thread of its own; whether all bundles were taken.
+fn produce_all<R: Threads + Wait + Copy + Send + Sync>(
+    rt: &R,
+    alloc: Global,
+    outlets: Vec<LaneOutlet<R>>,
+    was_full: &AtomicBool,
+) -> Result<bool, AllocError>
+    requires { All (λ outlet. IsFreshLane outlet outlet.knows.lane) outlets.items }
+{
+    let sent = thread::map_vec(
+        rt,
+        outlets,
+        &|outlet: LaneOutlet<R>| -> Result<bool, AllocError>
+            requires { IsFreshLane outlet outlet.knows.lane }
+        {
+            let mut outlet = outlet;
+            let lane = outlet.lane();
+            produce(alloc, &mut outlet, lane, was_full)
+        },
+    )?;
+    for sent in sent {
+        if !sent? {
+            return Ok(false);
+        }
+    }
+    Ok(true)
+}
+
+// Waits until some lane met a full queue; whether one did.
+fn waits_until(was_full: &AtomicBool) -> bool {
+    for _ in 0..TURNS {
+        if was_full.load(Ordering::SeqCst) {
+            return true;
+        }
+        thread::yield_now();
+    }
+    false
+}
+
+// Nothing is taken before some lane met a full queue.
+#[test]
+fn four_producers(rt: HostRuntime) -> Result<(), Fail> {
+    let alloc = rt.alloc();
+    let Some(UserQueue { mut port, outlets }) = ends(rt, alloc, 4, 4)? else {
+        panic!(rt; "no ends");
+    };
+    assert_eq!(rt; outlets.len(), 4);
+    let was_full = AtomicBool::new(false);
+    let (sent, came) = thread::join(
+        &rt,
+        || -> Result<bool, AllocError>
+            requires { All (λ outlet. IsFreshLane outlet outlet.knows.lane) outlets.items }
+        { produce_all(&rt, alloc, outlets, &was_full) },
+        || waits_until(&was_full) && consume(&rt, &mut port, &mut [0; 4]),
+    );
+    assert!(rt; sent?, "each bundle was taken");
+    assert!(rt;
+        came,
+        "a lane met a full queue, and all bundles came in order"
+    );
     Ok(())
 }
