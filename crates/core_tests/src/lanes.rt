@@ -2,8 +2,9 @@
 //! PDU, "put" with a class and a file, or a key and what happens to it. "take" is what the user takes,
 //! "image" asks for a file, and "last" says which transaction it is, how many events it took, and how much
 //! it told.
-ghost use Rattle.std.specs.Prelude.{IfSome};
+ghost use Rattle.std.specs.Prelude.{◌≡◌, IfSome};
 ghost use Rattle.core_tests.specs.Desks.{Fits};
+ghost use Rattle.lane_table.specs.Lane.{idle};
 ghost use Rattle.lane_table.specs.Steps.{IsKeyed};
 
 use crate::desk::{Desk, new_desk, step, take};
@@ -12,7 +13,7 @@ use crate::events::{event_of, pdu_of};
 use crate::setting::params;
 use crate::texts::{answer_text, bundle_text, image_text, refused, refused_by_lane};
 use cfdp_types::{Class, EntityId, TxnKey};
-use indications::Indications;
+use indications::{Bundle, Indications};
 use std::alloc::{AllocError, Global};
 use std::process::Abort;
 use std::test::*;
@@ -22,28 +23,41 @@ use user_queues::ListQueue;
 
 const NO_LINE: &str = "the line is none of a lane";
 
-// The third lane of user 0, for what comes from entity 1, with room for so many bundles.
-fn receiving(alloc: Global, capacity: usize) -> Option<Desk>
-    ensures { IfSome result (λ desk. Fits desk.lane desk.number desk.queue) }
+/// The third lane of user 0, for what comes from entity 1.
+pub(crate) fn receiving_lane(alloc: Global) -> Option<Lane>
+    ensures { IfSome result (λ lane. lane ≡ idle lane.side 0 2 lane.source) }
 {
     let params = params(&[], &[])?;
-    let queue = ListQueue::new(alloc, 0, 4, capacity).ok()?;
-    let lane = Lane::receiving(alloc, 0, 2, EntityId(1), params);
-    Some(new_desk(lane, 2, queue))
+    Some(Lane::receiving(alloc, 0, 2, EntityId(1), params))
 }
 
-// The first lane of user 0 at entity 2, where two users have two lanes each, and numbers have one octet.
-fn sending(alloc: Global, capacity: usize, first: u64) -> Option<Desk>
-    ensures { IfSome result (λ desk. Fits desk.lane desk.number desk.queue) }
+/// The first lane of user 0 at entity 2, where two users have two lanes each, and numbers have one octet.
+pub(crate) fn sending_lane(alloc: Global, first: u64) -> Lane
+    ensures { result ≡ idle result.side 0 0 result.source }
 {
-    let queue = ListQueue::new(alloc, 0, 4, capacity).ok()?;
     let numbers = Numbers {
         first,
         lanes: 2,
         users: 2,
     };
-    let lane = Lane::sending(alloc, 0, 0, EntityId(2), numbers, 255);
-    Some(new_desk(lane, 0, queue))
+    Lane::sending(alloc, 0, 0, EntityId(2), numbers, 255)
+}
+
+// A lane that receives, with room for so many bundles.
+fn receiving(alloc: Global, capacity: usize) -> Option<Desk>
+    ensures { IfSome result (λ desk. Fits desk.lane desk.number desk.queue) }
+{
+    let lane = receiving_lane(alloc)?;
+    let queue = ListQueue::new(alloc, 0, 4, capacity).ok()?;
+    Some(new_desk(lane, 2, queue))
+}
+
+// A lane that sends, with room for so many bundles.
+fn sending(alloc: Global, capacity: usize, first: u64) -> Option<Desk>
+    ensures { IfSome result (λ desk. Fits desk.lane desk.number desk.queue) }
+{
+    let queue = ListQueue::new(alloc, 0, 4, capacity).ok()?;
+    Some(new_desk(sending_lane(alloc, first), 0, queue))
 }
 
 // What happens under a key; a PDU has to be of it.
@@ -98,8 +112,8 @@ fn put(alloc: Global, class: &str, file: &str) -> Option<Event>
     Some(Event::Put(request, params))
 }
 
-// What the lane takes.
-fn event(alloc: Global, line: &str) -> Option<Event>
+/// What the lane takes.
+pub(crate) fn event(alloc: Global, line: &str) -> Option<Event>
     ensures { IfSome result IsKeyed }
 {
     if let Some(hex) = line.strip_prefix("pdu ") {
@@ -113,7 +127,7 @@ fn event(alloc: Global, line: &str) -> Option<Event>
     on(key, event_of(alloc, what)?)
 }
 
-// What a step gives.
+// What is given where the event is taken.
 fn done_text(alloc: Global, done: Done) -> Result<String, AllocError> {
     let Done {
         key,
@@ -131,7 +145,8 @@ fn done_text(alloc: Global, done: Done) -> Result<String, AllocError> {
     answer_text(alloc, key, &answer)
 }
 
-fn stepped(alloc: Global, answer: Result<Done, Refused>) -> Result<String, AllocError> {
+/// What a step gives, or why the event is not taken.
+pub(crate) fn stepped(alloc: Global, answer: Result<Done, Refused>) -> Result<String, AllocError> {
     match answer {
         Ok(done) => done_text(alloc, done),
         Err(refused) => refused_by_lane(alloc, &refused),
@@ -152,7 +167,12 @@ fn taken(alloc: Global, desk: &mut Desk) -> Result<String, AllocError>
     requires { Fits desk.old.lane desk.old.number desk.old.queue }
     ensures { Fits desk.new.lane desk.new.number desk.new.queue }
 {
-    match take(desk) {
+    taken_text(alloc, take(desk))
+}
+
+/// The text of what is taken.
+pub(crate) fn taken_text(alloc: Global, taken: Option<Bundle>) -> Result<String, AllocError> {
+    match taken {
         None => String::from_str(alloc, "none"),
         Some(bundle) => bundle_text(alloc, &bundle),
     }
@@ -167,11 +187,12 @@ fn image(alloc: Global, desk: &Desk, words: &str) -> Option<String> {
     }
 }
 
-fn last(alloc: Global, desk: &Desk) -> Result<String, AllocError> {
-    let entries = desk.lane.journal().len();
-    let told = desk.lane.trace().len();
+/// Which transaction a lane runs or ran last, how many events it took, and how much it told.
+pub(crate) fn last(alloc: Global, lane: &Lane) -> Result<String, AllocError> {
+    let entries = lane.journal().len();
+    let told = lane.trace().len();
     let mut text = String::new(alloc);
-    match desk.lane.key() {
+    match lane.key() {
         None => write!(text, "none")?,
         Some(key) => {
             let seq = key.seq;
@@ -190,7 +211,7 @@ fn line(alloc: Global, desk: &mut Desk, line: &str) -> Option<String>
         return taken(alloc, desk).ok();
     }
     if line == "last" {
-        return last(alloc, desk).ok();
+        return last(alloc, &desk.lane).ok();
     }
     if let Some(words) = line.strip_prefix("image ") {
         return image(alloc, desk, words);

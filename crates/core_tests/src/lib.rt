@@ -3,6 +3,8 @@
 #![tactic(auto)]
 
 #[cfg(test)]
+mod both_queues;
+#[cfg(test)]
 mod desk;
 #[cfg(test)]
 mod ends;
@@ -18,5 +20,7 @@ mod receptions;
 mod senders;
 #[cfg(test)]
 mod setting;
+#[cfg(test)]
+mod shared_desk;
 #[cfg(test)]
 mod texts;
