@@ -1,0 +1,151 @@
+-- Which lane is told of what happens to an entity, and what it is told; or why none is.
+use Rattle.std.specs.Prelude.{ℕ, Bool, true, false, not, ◌==◌, ◌&&◌, if◌then◌else◌, find, Option, Some, None, Result, Ok, Err}
+use Rattle.cfdp_types.specs.declared.key.TxnKey.{TxnKey}
+use Rattle.cfdp_types.specs.declared.key.EntityId.{EntityId}
+use Rattle.cfdp_types.specs.Params.{ParamsValue}
+use Rattle.cfdp_types.specs.Put.{PutValue}
+use Rattle.pdu_values.specs.declared.pdu.Direction.{Direction}
+use Rattle.pdu_values.specs.declared.pdu.Direction.TheVariants.{TowardReceiver, TowardSender}
+use Rattle.pdu_values.specs.declared.pdu.Body.{Body}
+use Rattle.pdu_values.specs.declared.pdu.Header.{Header}
+use Rattle.pdu_values.specs.Pdu.{PduValue, is_toward_sender}
+use Rattle.pdu_reading.specs.declared.fault.DecodeFault.{DecodeFault}
+use Rattle.pdu_reading.specs.Reading.{reading}
+use Rattle.txn_events.specs.declared.event.Event.{Event}
+use Rattle.txn_events.specs.declared.event.Event.TheVariants.{Put, On}
+use Rattle.txn_events.specs.declared.event.What.{What}
+use Rattle.txn_events.specs.declared.event.What.TheVariants as what
+use Rattle.config_reading.specs.Values.{ConfigValue, PeerValue, has_id}
+use Rattle.entity_routing.specs.declared.place.Place.{Place}
+use Rattle.entity_routing.specs.declared.refusal.RouteRefusal.{RouteRefusal}
+use Rattle.entity_routing.specs.declared.refusal.RouteRefusal.TheVariants as refusals
+use Rattle.entity_routing.specs.declared.world_event.Request.{Request}
+use Rattle.entity_routing.specs.declared.world_event.Request.TheVariants as requests
+use Rattle.entity_routing.specs.declared.world_event.WorldEvent.{WorldEvent}
+use Rattle.entity_routing.specs.declared.world_event.WorldEvent.TheVariants as events
+use Rattle.entity_routing.specs.Places.{is_local, place_of}
+
+-- a lane, and the event that it is told
+pub record Routed : Type 0 where
+  pub place : Place
+  pub event : Event
+
+-- ---- places
+
+-- a place, or that there is no route
+abbrev pub or_no_route : Option Place → Result Place RouteRefusal
+or_no_route None = Err refusals.NoRoute
+or_no_route (Some place) = Ok place
+
+-- the lane that a transaction belongs to
+abbrev pub key_place : ConfigValue → TxnKey → Result Place RouteRefusal
+key_place config key = or_no_route (place_of config key)
+
+-- a place, unless it is another user's
+abbrev pub if_own : ℕ → Result Place RouteRefusal → Result Place RouteRefusal
+if_own user (Err why) = Err why
+if_own user (Ok place) = if place.user == user then Ok place else Err refusals.NotYours
+
+-- the lane of a user's own transaction
+abbrev pub own_place : ConfigValue → ℕ → TxnKey → Result Place RouteRefusal
+own_place config user key = if_own user (key_place config key)
+
+-- ---- PDUs
+
+-- the transaction that a PDU is of
+abbrev pub key_of_header : Header → TxnKey
+key_of_header header = record { source = header.source; seq = header.sequence }
+
+-- a direction is toward the sender
+abbrev pub goes_back : Direction → Bool
+goes_back TowardReceiver = false
+goes_back TowardSender = true
+
+-- a direction is the one of the kind of body
+abbrev pub is_direction_of : Body → Direction → Bool
+is_direction_of body TowardReceiver = not (is_toward_sender body)
+is_direction_of body TowardSender = is_toward_sender body
+
+-- a PDU is for the entity: by its destination, or, toward the sender, by its source
+abbrev pub is_for_us : ConfigValue → Header → Bool
+is_for_us config header = is_local config (if goes_back header.direction then header.source else header.destination)
+
+-- where a PDU that is for the entity goes; toward the receiver the entity itself is no source
+abbrev pub header_place : ConfigValue → Header → Result Place RouteRefusal
+header_place config header =
+    if not (goes_back header.direction) && is_local config header.source then Err refusals.NoRoute
+    else key_place config (key_of_header header)
+
+-- the lane that a PDU goes to
+abbrev pub pdu_place : ConfigValue → PduValue → Result Place RouteRefusal
+pdu_place config pdu =
+    if not (is_for_us config pdu.header) then Err refusals.NotForUs
+    else (if not (is_direction_of pdu.body pdu.header.direction) then Err refusals.WrongDirection
+    else header_place config pdu.header)
+
+-- ---- files to be sent
+
+-- what the transactions with a remote entity go by
+abbrev pub put_params : ConfigValue → EntityId → Result ParamsValue RouteRefusal
+put_params config destination = params_in (find (has_id destination) config.peers)
+  where
+    params_in : Option PeerValue → Result ParamsValue RouteRefusal
+    params_in None = Err refusals.UnknownRemote
+    params_in (Some peer) = Ok peer.remote.params
+
+-- ---- the whole
+
+-- something happens to a transaction, at a place if there is one
+abbrev pub routed_on : TxnKey → What → Result Place RouteRefusal → Result Routed RouteRefusal
+routed_on key happens (Err why) = Err why
+routed_on key happens (Ok place) = Ok (record { place = place; event = On key happens })
+
+-- a file is to be sent from a place, by parameters if there are some
+abbrev pub routed_put : Place → PutValue → Result ParamsValue RouteRefusal → Result Routed RouteRefusal
+routed_put place put (Err why) = Err why
+routed_put place put (Ok params) = Ok (record { place = place; event = Put put params })
+
+-- a PDU comes
+abbrev pub routed_pdu : ConfigValue → PduValue → Result Routed RouteRefusal
+routed_pdu config pdu = routed_on (key_of_header pdu.header) (what.Pdu pdu) (pdu_place config pdu)
+
+-- the PDU that octets are read as comes, if they are read
+abbrev pub routed_reading : ConfigValue → Result PduValue DecodeFault → Result Routed RouteRefusal
+routed_reading config (Err fault) = Err (refusals.DecodeFault fault)
+routed_reading config (Ok pdu) = routed_pdu config pdu
+
+-- a user asks for something to happen to a transaction
+abbrev pub routed_own : ConfigValue → ℕ → TxnKey → What → Result Routed RouteRefusal
+routed_own config user key happens = routed_on key happens (own_place config user key)
+
+-- a user asks
+abbrev pub routed_request : ConfigValue → ℕ → Request → Result Routed RouteRefusal
+routed_request config user (requests.Put lane put) = routed_put (record { user = user; lane = lane }) put (put_params config put.destination)
+routed_request config user (requests.Cancel key) = routed_own config user key what.Cancel
+routed_request config user (requests.Suspend key) = routed_own config user key what.Suspend
+routed_request config user (requests.Resume key) = routed_own config user key what.Resume
+routed_request config user (requests.Report key) = routed_own config user key what.Report
+routed_request config user (requests.Abandon key) = routed_own config user key what.Abandon
+
+-- something happens inside the entity to a transaction
+abbrev pub routed_key : ConfigValue → TxnKey → What → Result Routed RouteRefusal
+routed_key config key happens = routed_on key happens (key_place config key)
+
+-- the lane that is told of what happens, and what it is told
+abbrev pub route : ConfigValue → WorldEvent → Result Routed RouteRefusal
+route config (events.Request user request) = routed_request config user request
+route config (events.Deliver octets) = routed_reading config (reading octets.items)
+route config (events.Pump key) = routed_key config key what.Pump
+route config (events.Timer key kind stamp) = routed_key config key (what.Timer kind stamp)
+route config (events.Stored key stamp keeps) = routed_key config key (what.Stored stamp keeps)
+
+-- ---- what a caller takes from an event to tell it
+
+-- what a request asks to happen, and to which transaction; a Put opens one
+abbrev pub told_by_request : Request → Option (TxnKey × What)
+told_by_request (requests.Put lane put) = None
+told_by_request (requests.Cancel key) = Some (key, what.Cancel)
+told_by_request (requests.Suspend key) = Some (key, what.Suspend)
+told_by_request (requests.Resume key) = Some (key, what.Resume)
+told_by_request (requests.Report key) = Some (key, what.Report)
+told_by_request (requests.Abandon key) = Some (key, what.Abandon)
