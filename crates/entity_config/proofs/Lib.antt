@@ -1,2 +1,4 @@
 pub mod Lists
 pub mod Kept
+mod Sources
+pub mod Limits

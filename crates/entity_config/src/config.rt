@@ -1,4 +1,7 @@
-ghost use Rattle.std.specs.Prelude.{◌≡◌, ◌==◌, find, option_copied};
+ghost use Rattle.std.specs.Prelude.{◌≡◌, ◌==◌, find, length, option_copied, option_map, position, slice_get};
+ghost use Rattle.std.specs.List.{filter};
+ghost use Rattle.config_reading.specs.Shown.{peer_shown};
+ghost use Rattle.config_reading.specs.Values.{goes_to, has_id, route_of};
 
 use crate::change::{Limited, change_handler, change_limit};
 use crate::reference::reference_params;
@@ -51,7 +54,10 @@ impl Config {
     ghost use Rattle.entity_config.specs.declared.setting.Setting.TheVariants as setting;
     ghost use Rattle.entity_config.specs.Settings.{limit_set, with_setting};
     ghost use Rattle.config_reading.specs.Shown.{parts_shown, peer_shown};
-    ghost use Rattle.config_reading.specs.Values.{is_config, is_entity, has_id};
+    ghost use Rattle.config_reading.specs.Values.{is_config, is_entity, goes_to, has_id, route_of};
+    ghost use Rattle.std.specs.List.{filter};
+    ghost use Rattle.std.specs.Prelude.{◌≤◌, ◌<◌, IfSome};
+    ghost use Rattle.cfdp_types.specs.declared.limits.TheConstants.{REMOTES};
 
     /// The configuration that worked examples and scripts run with: entity 2 with the users alice and bob,
     /// and entity 1, whose files go to alice.
@@ -93,6 +99,7 @@ impl Config {
     pub fn entity(&self) -> EntitySettings
         ensures entity { result ≡ self.now.entity }
         ensures range { IsTrue (is_entity result) }
+        ensures kept { IsTrue (is_config self.now) }
     {
         self.entity
     }
@@ -158,6 +165,30 @@ impl Config {
     {
         let peer = self.peers.get(place)?;
         Some(peer.remote)
+    }
+
+    /// The number of remote entities whose files go to a user.
+    pub fn sources(&self, user: usize) -> usize
+        ensures number { result ≡ length (filter (λ peer. goes_to user (route_of peer)) self.now.peers) }
+        ensures range { result ≤ REMOTES }
+    {
+        sources_among(&self.peers, user)
+    }
+
+    /// The place of a remote entity among those whose files go to a user, in the order of the configuration.
+    pub fn source_place(&self, user: usize, id: EntityId) -> Option<usize>
+        ensures place { result ≡ position (has_id id) (filter (λ peer. goes_to user (route_of peer)) self.now.peers) }
+        ensures range { IfSome result (λ place. place < REMOTES) }
+    {
+        source_place_among(&self.peers, user, id)
+    }
+
+    /// The remote entity at a place among those whose files go to a user, in the order of the configuration.
+    pub fn source_at(&self, user: usize, place: usize) -> Option<Remote>
+        ensures { result ≡ option_map (λ peer. peer.remote)
+            (slice_get (filter (λ peer. goes_to user (route_of peer)) self.now.peers) place) }
+    {
+        source_among(&self.peers, user, place)
     }
 
     /// Changes one setting; a limit or a handler changes for every remote entity. A number out of the
@@ -239,4 +270,49 @@ fn peer_of(peers: &[Peer], id: EntityId) -> Option<&Peer>
     ensures { option_copied result ≡ find (λ peer. peer.remote.id.0 == id.0) peers.now }
 {
     peers.iter().find(|peer| peer.remote.id == id)
+}
+
+// Whether the files of a remote entity go to a user.
+fn is_source(peer: &Peer, user: usize) -> bool
+    ensures { result ≡ goes_to user (route_of (peer_shown peer.now)) }
+{
+    match peer.remote.user {
+        None => false,
+        Some(other) => other == user,
+    }
+}
+
+// How many of some remote entities are sources of a user.
+fn sources_among(peers: &[Peer], user: usize) -> usize
+    ensures { result ≡ length (filter (λ peer. goes_to user (route_of (peer_shown peer))) peers.now) }
+{
+    peers.iter().filter(|peer| is_source(peer, user)).count()
+}
+
+// The place of the first with an ID among the sources of a user.
+fn source_place_among(peers: &[Peer], user: usize, id: EntityId) -> Option<usize>
+    ensures { result ≡ position (λ peer. has_id id (peer_shown peer))
+        (filter (λ peer. goes_to user (route_of (peer_shown peer))) peers.now) }
+{
+    peers
+        .iter()
+        .filter(|peer| is_source(peer, user))
+        .position(|peer| peer.remote.id == id)
+}
+
+// The one at a place among the sources of a user.
+fn source_among(peers: &[Peer], user: usize, place: usize) -> Option<Remote>
+    ensures { result ≡ option_map (λ peer. peer.remote)
+        (slice_get (filter (λ peer. goes_to user (route_of (peer_shown peer))) peers.now) place) }
+{
+    let mut left = place;
+    for peer in peers {
+        if is_source(peer, user) {
+            if left == 0 {
+                return Some(peer.remote);
+            }
+            left -= 1;
+        }
+    }
+    None
 }
