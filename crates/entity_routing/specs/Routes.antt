@@ -70,18 +70,17 @@ is_direction_of body TowardSender = is_toward_sender body
 abbrev pub is_for_us : ConfigValue → Header → Bool
 is_for_us config header = is_local config (if goes_back header.direction then header.source else header.destination)
 
--- where a PDU that is for the entity goes; toward the receiver the entity itself is no source
-abbrev pub header_place : ConfigValue → Header → Result Place RouteRefusal
-header_place config header =
-    if not (goes_back header.direction) && is_local config header.source then Err refusals.NoRoute
-    else key_place config (key_of_header header)
+-- a PDU says that it comes from the entity itself, which is no source of what is received
+abbrev pub is_from_itself : ConfigValue → Header → Bool
+is_from_itself config header = not (goes_back header.direction) && is_local config header.source
 
 -- the lane that a PDU goes to
 abbrev pub pdu_place : ConfigValue → PduValue → Result Place RouteRefusal
 pdu_place config pdu =
     if not (is_for_us config pdu.header) then Err refusals.NotForUs
     else (if not (is_direction_of pdu.body pdu.header.direction) then Err refusals.WrongDirection
-    else header_place config pdu.header)
+    else (if is_from_itself config pdu.header then Err refusals.NoRoute
+    else key_place config (key_of_header pdu.header)))
 
 -- ---- files to be sent
 
@@ -149,3 +148,11 @@ told_by_request (requests.Suspend key) = Some (key, what.Suspend)
 told_by_request (requests.Resume key) = Some (key, what.Resume)
 told_by_request (requests.Report key) = Some (key, what.Report)
 told_by_request (requests.Abandon key) = Some (key, what.Abandon)
+
+-- what happens inside the entity, and to which transaction
+abbrev pub told_by_event : WorldEvent → Option (TxnKey × What)
+told_by_event (events.Request user request) = None
+told_by_event (events.Deliver octets) = None
+told_by_event (events.Pump key) = Some (key, what.Pump)
+told_by_event (events.Timer key kind stamp) = Some (key, what.Timer kind stamp)
+told_by_event (events.Stored key stamp keeps) = Some (key, what.Stored stamp keeps)

@@ -3,8 +3,12 @@
 
 mod place;
 mod refusal;
+mod routing;
 mod world_event;
 
 pub use place::Place;
 pub use refusal::RouteRefusal;
+pub use routing::{
+    key_of_pdu, lanes_of, params_of_put, place_of_key, place_of_own, place_of_pdu, source_of_lane,
+};
 pub use world_event::{Request, WorldEvent};
