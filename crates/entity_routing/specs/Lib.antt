@@ -1,3 +1,4 @@
 pub mod Refusal
 pub mod Places
 pub mod Routes
+pub mod RouteLaws

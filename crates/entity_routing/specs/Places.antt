@@ -31,13 +31,14 @@ sources_of config user = filter (is_source_of user) config.peers
 abbrev pub receiving_lane : ConfigValue → ℕ → ℕ → ℕ
 receiving_lane config place seq = config.entity.put_lanes + place * config.entity.receive_lanes + seq % config.entity.receive_lanes
 
+-- the user that the files of a remote entity go to, if there is one
+abbrev pub user_of_peer : Option PeerValue → Option ℕ
+user_of_peer None = None
+user_of_peer (Some peer) = peer.remote.user
+
 -- the user that a source's files go to, if there is one
 abbrev pub user_of_source : ConfigValue → EntityId → Option ℕ
-user_of_source config source = user_of (find (has_id source) config.peers)
-  where
-    user_of : Option PeerValue → Option ℕ
-    user_of None = None
-    user_of (Some peer) = peer.remote.user
+user_of_source config source = user_of_peer (find (has_id source) config.peers)
 
 -- where the transactions go that a source sends to a user
 abbrev pub place_of_user : ConfigValue → TxnKey → Option ℕ → Option Place

@@ -84,13 +84,14 @@ pdu_place config pdu =
 
 -- ---- files to be sent
 
--- what the transactions with a remote entity go by
+-- what the transactions with a remote entity go by, if there is one
+abbrev pub params_of_peer : Option PeerValue → Result ParamsValue RouteRefusal
+params_of_peer None = Err refusals.UnknownRemote
+params_of_peer (Some peer) = Ok peer.remote.params
+
+-- what the transactions with a destination go by
 abbrev pub put_params : ConfigValue → EntityId → Result ParamsValue RouteRefusal
-put_params config destination = params_in (find (has_id destination) config.peers)
-  where
-    params_in : Option PeerValue → Result ParamsValue RouteRefusal
-    params_in None = Err refusals.UnknownRemote
-    params_in (Some peer) = Ok peer.remote.params
+put_params config destination = params_of_peer (find (has_id destination) config.peers)
 
 -- ---- the whole
 

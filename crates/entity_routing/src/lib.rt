@@ -1,6 +1,7 @@
 //! Where what happens to an entity goes: which lane of which user is told of it, or why none is.
 #![tactic(auto)]
 
+pub mod laws;
 mod place;
 mod refusal;
 mod routing;
