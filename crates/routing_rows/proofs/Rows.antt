@@ -105,8 +105,15 @@ sent_to_receiver = refl
 abbrev narrow : ConfigValue
 narrow = record one_user { entity = record one_user.entity { put_lanes = 1; receive_lanes = 3 } }
 
-narrow_places : map (place_of narrow) (key 3 5 ∷ key 1 5 ∷ key 2 6 ∷ []) ≡ at 0 6 ∷ at 0 3 ∷ at 0 0 ∷ []
+narrow_places : map (place_of narrow) (key 3 5 ∷ key 1 5 ∷ key 2 6 ∷ key 2 7 ∷ []) ≡ at 0 6 ∷ at 0 3 ∷ at 0 0 ∷ at 1 0 ∷ []
 narrow_places = refl
+
+narrow_lanes : map (lanes_of narrow) (0 ∷ 1 ∷ []) ≡ 7 ∷ 4 ∷ []
+narrow_lanes = refl
+
+narrow_sources : map (source_of_lane narrow 0) (0 ∷ 1 ∷ 3 ∷ 4 ∷ 6 ∷ 7 ∷ [])
+    ≡ None ∷ Some (peer 1 (Some 0)) ∷ Some (peer 1 (Some 0)) ∷ Some (peer 3 (Some 0)) ∷ Some (peer 3 (Some 0)) ∷ None ∷ []
+narrow_sources = refl
 
 -- ---- requests
 
