@@ -155,7 +155,7 @@ impl Lane {
     }
 
     // The number of the next Put, or why it gets none.
-    fn next_number(&self) -> Result<u64, Refusal>
+    pub(crate) fn next_number(&self) -> Result<u64, Refusal>
         ensures held { IfOk result (λ number. number ≡ next_number self.now) }
         ensures free { OnOk result (refused_number self.now.side (next_number self.now) ≡ None) }
         ensures refused { IfErr result (λ why. refused_number self.now.side (next_number self.now) ≡ Some why) }

@@ -6,6 +6,7 @@ mod copying;
 mod handing;
 mod lane;
 mod lane_refusals;
+mod put;
 mod running;
 mod stepping;
 
