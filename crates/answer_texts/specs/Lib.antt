@@ -1,0 +1,2 @@
+pub mod ToldTexts
+pub mod AnswerTexts

@@ -1,0 +1,9 @@
+//! What is printed of an entity's answers: lines for what its users are told, and for events that were taken or
+//! refused.
+#![tactic(auto)]
+
+mod answers;
+mod told;
+
+pub use answers::{push_decode_fault, push_done, push_refusal, push_refused};
+pub use told::push_bundle;

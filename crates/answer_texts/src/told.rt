@@ -1,0 +1,199 @@
+//! The texts of what a user is told. Each function adds to a text; after an `Err` the text is no answer.
+ghost use Rattle.std.specs.Prelude.{◌≡◌, ◌++◌, IfOk, OnOk, string_bytes, codes};
+ghost use Rattle.answer_texts.specs.ToldTexts.{bundle_text, line_head, key_text, indication_text, finished_text, metadata_text, segment_text, report_text, fault_text, number_text, messages_text, hex_word, delivery_name, status_name, phase_name};
+
+use cfdp_types::{Condition, Delivery, EntityId, FileStatus, Messages, Octets, TxnKey};
+use indications::{Bundle, Indication, Phase};
+use std::alloc::{AllocError, Global};
+
+/// Adds a line for each indication of a bundle, which is for the user with this name.
+pub fn push_bundle(
+    alloc: Global,
+    text: &mut String,
+    name: &str,
+    bundle: &Bundle,
+) -> Result<(), AllocError>
+    ensures { OnOk result (string_bytes text.new
+        ≡ string_bytes text.old ++ bundle_text name.now bundle.now) }
+{
+    for indication in bundle.inds.as_slice() {
+        push_head(text, name, bundle)?;
+        push_indication(alloc, text, indication)?;
+        text.push_str("\n")?;
+    }
+    Ok(())
+}
+
+fn push_head(text: &mut String, name: &str, bundle: &Bundle) -> Result<(), AllocError>
+    ensures { OnOk result (string_bytes text.new ≡ string_bytes text.old ++ line_head name.now bundle.now) }
+{
+    let source = bundle.key.source.0;
+    let seq = bundle.key.seq;
+    write!(text, "{name} {source} {seq} ")
+}
+
+fn push_indication(alloc: Global, text: &mut String, said: &Indication) -> Result<(), AllocError>
+    ensures { OnOk result (string_bytes text.new
+        ≡ string_bytes text.old ++ indication_text said.now) }
+{
+    match said {
+        Indication::Transaction => text.push_str("Transaction"),
+        Indication::EofSent => text.push_str("EOF-Sent"),
+        Indication::EofRecv => text.push_str("EOF-Recv"),
+        Indication::TransactionFinished {
+            condition,
+            delivery,
+            status,
+        } => push_finished(text, *condition, *delivery, *status),
+        Indication::MetadataRecv {
+            source,
+            size,
+            source_name,
+            destination_name,
+            messages,
+        } => {
+            push_metadata(alloc, text, *source, *size, source_name, destination_name)?;
+            push_messages(alloc, text, messages)
+        }
+        Indication::FileSegmentRecv { offset, length } => push_segment(text, *offset, *length),
+        Indication::Suspended { condition } => push_suspended(text, *condition),
+        Indication::Resumed { progress } => push_number(text, "Resumed", *progress),
+        Indication::Report { phase, progress } => push_report(text, *phase, *progress),
+        Indication::Fault {
+            condition,
+            progress,
+        } => { push_fault(text, "Fault", *condition, *progress) }
+        Indication::Abandoned {
+            condition,
+            progress,
+        } => { push_fault(text, "Abandoned", *condition, *progress) }
+    }
+}
+
+fn push_finished(
+    text: &mut String,
+    condition: Condition,
+    delivery: Delivery,
+    status: FileStatus,
+) -> Result<(), AllocError>
+    ensures { OnOk result (string_bytes text.new
+        ≡ string_bytes text.old ++ finished_text condition delivery status) }
+{
+    let code = condition.code();
+    let delivery = delivery_name(delivery);
+    let status = status_name(status);
+    write!(text, "Transaction-Finished {code} {delivery} {status}")
+}
+
+fn push_metadata(
+    alloc: Global,
+    text: &mut String,
+    source: EntityId,
+    size: u32,
+    source_name: &Octets,
+    destination_name: &Octets,
+) -> Result<(), AllocError>
+    ensures { OnOk result (string_bytes text.new
+        ≡ string_bytes text.old ++ metadata_text source size source_name.now destination_name.now) }
+{
+    let source = source.0;
+    let from = hex_word(alloc, source_name)?;
+    let to = hex_word(alloc, destination_name)?;
+    write!(text, "Metadata-Recv {source} {size} {from} {to}")
+}
+
+fn push_segment(text: &mut String, offset: u32, octets: u32) -> Result<(), AllocError>
+    ensures { OnOk result (string_bytes text.new
+        ≡ string_bytes text.old ++ segment_text offset octets) }
+{
+    write!(text, "File-Segment-Recv {offset} {octets}")
+}
+
+fn push_suspended(text: &mut String, condition: Condition) -> Result<(), AllocError>
+    ensures { OnOk result (string_bytes text.new
+        ≡ string_bytes text.old ++ number_text (codes "Suspended") condition) }
+{
+    push_number(text, "Suspended", u32::from(condition.code()))
+}
+
+fn push_report(text: &mut String, phase: Phase, progress: u32) -> Result<(), AllocError>
+    ensures { OnOk result (string_bytes text.new
+        ≡ string_bytes text.old ++ report_text phase progress) }
+{
+    let phase = phase_name(phase);
+    write!(text, "Report {phase} {progress}")
+}
+
+fn push_fault(
+    text: &mut String,
+    name: &str,
+    condition: Condition,
+    progress: u32,
+) -> Result<(), AllocError>
+    ensures { OnOk result (string_bytes text.new
+        ≡ string_bytes text.old ++ fault_text name.now condition progress) }
+{
+    let code = condition.code();
+    write!(text, "{name} {code} {progress}")
+}
+
+fn push_number(text: &mut String, name: &str, number: u32) -> Result<(), AllocError>
+    ensures { OnOk result (string_bytes text.new
+        ≡ string_bytes text.old ++ number_text name.now number) }
+{
+    write!(text, "{name} {number}")
+}
+
+fn push_messages(alloc: Global, text: &mut String, messages: &Messages) -> Result<(), AllocError>
+    ensures { OnOk result (string_bytes text.new
+        ≡ string_bytes text.old ++ messages_text messages.now) }
+{
+    for message in messages.as_slice() {
+        let word = hex_word(alloc, message)?;
+        write!(text, " {word}")?;
+    }
+    Ok(())
+}
+
+// Octets in hex, or a dash for none.
+fn hex_word(alloc: Global, octets: &Octets) -> Result<String, AllocError>
+    ensures { IfOk result (λ word. string_bytes word ≡ hex_word octets.now) }
+{
+    let octets = octets.as_slice();
+    if octets.is_empty() {
+        String::from_str(alloc, "-")
+    } else {
+        hex::encode(alloc, octets)
+    }
+}
+
+fn delivery_name(delivery: Delivery) -> &'static str
+    ensures { result.now ≡ delivery_name delivery }
+{
+    match delivery {
+        Delivery::Complete => "complete",
+        Delivery::Incomplete => "incomplete",
+    }
+}
+
+fn status_name(status: FileStatus) -> &'static str
+    ensures { result.now ≡ status_name status }
+{
+    match status {
+        FileStatus::Discarded => "discarded",
+        FileStatus::Rejected => "rejected",
+        FileStatus::Retained => "retained",
+        FileStatus::Unreported => "unreported",
+    }
+}
+
+fn phase_name(phase: Phase) -> &'static str
+    ensures { result.now ≡ phase_name phase }
+{
+    match phase {
+        Phase::Active => "active",
+        Phase::Suspended => "suspended",
+        Phase::Storing => "storing",
+        Phase::Closing => "closing",
+    }
+}

@@ -1,0 +1,10 @@
+use Rattle.std.proofs.Common.{sym, ◌∙◌, subst}
+use Rattle.entity_routing.specs.RouteLaws.{IsWithin}
+use Rattle.cfdp_entity.specs.Worlds.{WorldValue}
+use Rattle.cfdp_entity.proofs.WorldFacts.{within_key}
+use Rattle.cfdp_entity.proofs.world.World.inside.Goals as goal
+
+pub tell-requires-clause-within : goal.tell-requires-clause-within
+tell-requires-clause-within c =
+    subst (λ (w : WorldValue). IsWithin w.config c.in_ok-place.place) c.self.view_is
+    (within_key c.self.inside.config c.args.key c.in_ok-place.place c.self.invariant (sym c.place_of_key.ensures ∙ c.in_ok-place.was))

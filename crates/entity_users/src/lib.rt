@@ -1,0 +1,10 @@
+//! The users of an entity of one thread: the queue by which each is told, and each user's lanes.
+#![tactic(auto)]
+
+mod stepping;
+mod user_part;
+mod users;
+
+pub use stepping::step_lane;
+pub use user_part::UserPart;
+pub use users::Users;

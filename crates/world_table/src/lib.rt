@@ -1,0 +1,5 @@
+//! What an entity of one thread means: what happens in it, where its lanes stand then, what its users are told, and what
+//! holds of every run.
+#![tactic(auto)]
+
+pub mod laws;
