@@ -57,6 +57,7 @@ impl World {
     pub fn open(alloc: Global, config: Config) -> Result<World, AllocError>
         ensures config { IfOk result (λ world. world.config ≡ config) }
         ensures stands { IfOk result (λ world. StandsAfter world []) }
+        ensures still { IfOk result IsWorld }
     {
         let users = users_for(alloc, &config)?;
         Ok(World {

@@ -15,7 +15,9 @@ use txn_lane::Lane;
 use user_queues::ListQueue;
 
 const NO_LANE: &str = "a lane takes memory";
+
 const NO_LINE: &str = "the line is none of a lane";
+
 const NO_OUTLET: &str = "the lane has no outlet";
 
 // A lane beside each kind of queue.

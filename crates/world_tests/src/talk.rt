@@ -90,7 +90,11 @@ pub(crate) fn cancel(talk: &mut Talk, user: usize, key: TxnKey)
     ensures { IsWorld talk.new.world }
 {
     if user < talk.world.users() {
-        tell(talk, false, &WorldEvent::Request(user, Request::Cancel(key)));
+        tell(
+            talk,
+            false,
+            &WorldEvent::Request(user, Request::Cancel(key)),
+        );
     }
 }
 
