@@ -35,9 +35,11 @@ fn received(talk: &mut Talk)
     deliver(talk, "3400070001050200000000616263");
     deliver(talk, "24000a0001050204006162630000000003");
     stored(talk, key(1, 5), 2);
-    for _ in 0..5 {
-        take(talk, 0, "alice");
-    }
+    take(talk, 0, "alice");
+    take(talk, 0, "alice");
+    take(talk, 0, "alice");
+    take(talk, 0, "alice");
+    take(talk, 0, "alice");
     take(talk, 1, "bob");
 }
 

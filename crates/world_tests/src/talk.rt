@@ -21,9 +21,11 @@ pub(crate) struct Talk {
 pub(crate) fn open(alloc: Global, config: Config) -> Option<Talk>
     ensures { IfSome result (λ talk. IsWorld talk.world) }
 {
-    let world = World::open(alloc, config).ok()?;
     let text = String::new(alloc);
-    Some(Talk { alloc, world, text })
+    match World::open(alloc, config) {
+        Ok(world) => Some(Talk { alloc, world, text }),
+        Err(_) => None,
+    }
 }
 
 /// A transaction's key.
