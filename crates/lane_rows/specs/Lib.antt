@@ -1,2 +1,3 @@
 pub mod ReceivingLaneRows
 pub mod SendingLaneRows
+pub mod LaneKeepingRows

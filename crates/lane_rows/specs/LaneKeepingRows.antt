@@ -1,0 +1,136 @@
+-- What lanes take over a run and what they send, and the numbers of sending lanes, computed.
+use Rattle.std.proofs.Common.{◌≡◌, ℕ, List, [], ◌∷◌, Some, ap, arith, refl}
+use Rattle.cfdp_types.specs.Reference.{reference}
+use Rattle.cfdp_types.specs.declared.key.EntityId.{EntityId}
+use Rattle.cfdp_types.specs.declared.names.Class.TheVariants.{One, Two}
+use Rattle.cfdp_types.specs.declared.names.Delivery.TheVariants.{Incomplete}
+use Rattle.cfdp_types.specs.declared.names.FileStatus.TheVariants.{Discarded, Unreported}
+use Rattle.gap_list.specs.Runs.{runs_of, runs_from}
+use Rattle.indications.specs.declared.bundle.Bundle.{Bundle}
+use Rattle.indications.specs.declared.indication.Indication.{Indication}
+use Rattle.indications.specs.declared.indication.Indication.TheVariants as told
+use Rattle.indications.specs.LaneLists.{IsLaneList, told_of}
+use Rattle.receiver_table.specs.Reception as receiver
+use Rattle.sender_table.specs.Sending as sender
+use Rattle.txn_events.specs.Examples.{header, put_value}
+use Rattle.pdu_values.specs.declared.pdu.Body.TheVariants as body
+use Rattle.pdu_values.specs.declared.bodies.Prompt.TheVariants as prompt
+use Rattle.txn_events.specs.declared.event.Event.{Event}
+use Rattle.txn_events.specs.declared.event.Event.TheVariants.{Put, On}
+use Rattle.txn_events.specs.declared.event.What.{What}
+use Rattle.txn_events.specs.declared.event.What.TheVariants as what
+use Rattle.lane_table.specs.declared.lane_side.LaneSide.TheVariants.{Sending, Receiving}
+use Rattle.lane_table.specs.declared.lane_side.Numbers.{Numbers}
+use Rattle.lane_table.specs.Lane.{State, idle, number_at, number_after, IsNumberOf, IsNumbered}
+use Rattle.lane_table.specs.Steps.{IsKeyed, stepped}
+use Rattle.lane_table.specs.Keeping.{Keeps, bundle_of, sent_after, events_of, AreTaken}
+use Rattle.lane_table.proofs.RunFacts.{sends_lane_lists}
+use Rattle.lane_table.proofs.StepFacts.{idle_keeps}
+use Rattle.lane_rows.specs.ReceivingLaneRows as receiving
+use Rattle.lane_rows.specs.SendingLaneRows as sending
+
+-- ---- the key of an event
+
+-- the key of a PDU is the PDU's own
+pub keyed_pdu : IsKeyed (receiving.metadata Two 5)
+keyed_pdu = (refl, refl)
+
+-- a PDU of number 5 under the key of another number, and under that of another source
+abbrev pub prompt_of_five : What
+prompt_of_five = what.Pdu (record { header = header Two; body = body.Prompt prompt.Nak })
+
+five_six : (five six : ℕ) → five ≡ six → five ≡ 5 → six ≡ 6 → ⊥
+five_six five six e five_is six_is = omega (arith, e, five_is, six_is)
+
+pub other_number : IsKeyed (On (receiving.key 6) prompt_of_five) → ⊥
+other_number keyed = five_six 5 6 keyed.1 refl refl
+
+one_two : (one two : ℕ) → one ≡ two → one ≡ 1 → two ≡ 2 → ⊥
+one_two one two e one_is two_is = omega (arith, e, one_is, two_is)
+
+pub other_source : IsKeyed (On (sending.key 5) prompt_of_five) → ⊥
+other_source keyed = no_one keyed.0
+  where
+    no_one : (receiving.key 5).source ≡ (sending.key 5).source → ⊥
+    no_one e = one_two 1 2 (ap (λ (id : EntityId). id.0) e) refl refl
+
+-- nothing else can have another
+pub keyed_report : IsKeyed (On (receiving.key 6) what.Report)
+keyed_report = tt
+
+pub keyed_put : IsKeyed (sending.put One)
+keyed_put = tt
+
+-- ---- numbers
+
+-- three lanes of each of five users, which count from one
+abbrev pub numbers : Numbers
+numbers = record { first = 1; lanes = 3; users = 5 }
+
+pub first_number : number_at numbers 4 2 1 ≡ 29
+first_number = refl
+
+pub second_number : number_after numbers 4 2 (Some 29) ≡ 44
+second_number = refl
+
+-- they give back user and lane
+pub gives_back : IsNumberOf numbers 4 2 44
+gives_back = record { of_user = refl; of_lane = refl }
+
+-- no number, where there is no lane or no user
+pub numbered : IsNumbered (Sending (record { first = 1; lanes = 3; users = 5 }) 255)
+numbered = (omega (arith), omega (arith))
+
+pub no_lanes : IsNumbered (Sending (record { first = 1; lanes = 0; users = 5 }) 255) → ⊥
+no_lanes is = let none = is.0 in omega (arith, none)
+
+pub no_users : IsNumbered (Sending (record { first = 1; lanes = 3; users = 0 }) 255) → ⊥
+no_users is = let none = is.1 in omega (arith, none)
+
+pub receiving_numbered : IsNumbered (Receiving reference)
+receiving_numbered = tt
+
+-- ---- runs
+
+-- a lane that takes nothing sends nothing
+pub nothing_taken : AreTaken receiving.fresh []
+nothing_taken = tt
+
+pub nothing_sent : sent_after receiving.fresh [] ≡ []
+nothing_sent = refl
+
+-- and keeps that of no bundle
+pub nothing_kept : Keeps receiving.fresh []
+nothing_kept = idle_keeps (Receiving reference) 0 2 (record { 0 = 1 })
+
+-- a Put, which is cancelled, and another one
+abbrev pub puts : List Event
+puts = sending.put One ∷ sending.on 4 what.Cancel ∷ sending.put One ∷ []
+
+pub puts_taken : AreTaken sending.fresh puts
+unfolding sender.initial sender.step sender.state_of runs_of runs_from
+puts_taken = (tt, refl, (tt, refl, (tt, refl, tt)))
+
+-- a bundle of the lane
+abbrev pub bundle : ℕ → List Indication → Bundle
+bundle number inds = record { user = 0; lane = 0; key = sending.key number; inds = inds }
+
+pub put_bundle : bundle_of (stepped sending.fresh (sending.put One)) ≡ bundle 4 (told.Transaction ∷ []) ∷ []
+unfolding sender.initial sender.step sender.state_of runs_of runs_from
+put_bundle = refl
+
+pub puts_sent : sent_after sending.fresh puts
+    ≡ bundle 4 (told.Transaction ∷ []) ∷ bundle 4 (told.TransactionFinished 15 Incomplete Unreported ∷ []) ∷ bundle 8 (told.Transaction ∷ []) ∷ []
+unfolding sender.initial sender.step sender.state_of runs_of runs_from
+puts_sent = refl
+
+-- the events of each transaction
+pub first_events : events_of 4 sending.fresh puts ≡ sending.put One ∷ sending.on 4 what.Cancel ∷ []
+first_events = refl
+
+pub second_events : events_of 8 sending.fresh puts ≡ sending.put One ∷ []
+second_events = refl
+
+-- so what it sends is a lane list
+pub puts_list : IsLaneList 0 0 (record { 0 = 2 }) (sent_after sending.fresh puts)
+puts_list = sends_lane_lists sending.fresh.side 0 0 (record { 0 = 2 }) puts (omega (arith), omega (arith)) puts_taken
