@@ -1,0 +1,4 @@
+pub mod Numbers
+pub mod WordFacts
+pub mod SettingFacts
+pub mod Rows

@@ -1,0 +1,120 @@
+-- Worked rows: what lines say.
+use Rattle.std.proofs.Common.{◌≡◌, true, false, [], ◌∷◌, ◌++◌, map, replicate, Some, None, codes, refl}
+use Rattle.hex.specs.Hex.{decode_pairs}
+use Rattle.cfdp_types.specs.declared.key.TxnKey.{TxnKey}
+use Rattle.cfdp_types.specs.declared.names.Class.TheVariants.{One, Two}
+use Rattle.cfdp_types.specs.declared.names.Handler.TheVariants as handler
+use Rattle.cfdp_types.specs.declared.names.Role.TheVariants.{Send, RecvOne, RecvTwo}
+use Rattle.cfdp_types.specs.declared.names.TimerKind.TheVariants.{Ack, Nak, Check, Inactivity}
+use Rattle.entity_config.specs.declared.setting.Setting.TheVariants as setting
+use Rattle.entity_routing.specs.declared.world_event.Request.TheVariants as requests
+use Rattle.script_lines.specs.declared.command.Command.TheVariants as command
+use Rattle.script_lines.specs.Commands.{command_of}
+
+-- ---- lines
+
+bad_lines : map command_of (codes " " ∷ codes " # remark" ∷ codes "\r" ∷ codes "pdu" ∷ codes "pdu " ∷ codes "pdu 0"
+    ∷ codes "pdu 0g" ∷ codes "pdu 00\r" ∷ codes "pdu 00 " ∷ codes "pdu  00" ∷ codes "pdu 00 00" ∷ codes " pdu 00"
+    ∷ codes "PDU 00" ∷ codes "pdu00" ∷ codes "take" ∷ codes "take " ∷ codes "take carol" ∷ codes "take Alice"
+    ∷ codes "take alice " ∷ codes "take alice bob" ∷ codes "take 0" ∷ codes "put alice" ∷ codes "sit alice" ∷ [])
+    ≡ replicate 23 None
+unfolding decode_pairs
+bad_lines = refl
+
+bad_answers_of_the_store : map command_of (codes "stored 1 2 3" ∷ codes "stored 1 2 3 maybe"
+    ∷ codes "stored 1 2 3 yes no" ∷ codes "stored 1 2 3 yes " ∷ codes "stored  1 2 3 yes"
+    ∷ codes "stored +1 2 3 yes" ∷ codes "stored 1 -2 3 yes" ∷ codes "stored 1 2 0x3 yes"
+    ∷ codes "stored 18446744073709551616 2 3 yes" ∷ codes "stored 1 18446744073709551616 3 yes"
+    ∷ codes "stored 1 99999999999999999999999 3 yes" ∷ codes "stored 1 2 4294967296 yes" ∷ [])
+    ≡ replicate 12 None
+bad_answers_of_the_store = refl
+
+remarks : map command_of ([] ∷ codes "#" ∷ codes "# pdu 00" ∷ codes "#\r" ∷ []) ≡ replicate 4 (Some command.Nothing)
+remarks = refl
+
+deliveries : map command_of (codes "pdu 00" ∷ codes "pdu 0aFfaF" ∷ [])
+    ≡ Some (command.Deliver (0x00 ∷ [])) ∷ Some (command.Deliver (0x0A ∷ 0xFF ∷ 0xAF ∷ [])) ∷ []
+unfolding decode_pairs
+deliveries = refl
+
+answers_of_the_store : map command_of (codes "stored 1 2 3 yes" ∷ codes "stored 0 000 0000000000000000000000003 no"
+    ∷ codes "stored 18446744073709551615 18446744073709551615 4294967295 no" ∷ [])
+    ≡ Some (command.Stored (record { source = record { 0 = 1 }; seq = 2 }) 3 true)
+    ∷ Some (command.Stored (record { source = record { 0 = 0 }; seq = 0 }) 3 false)
+    ∷ Some (command.Stored (record { source = record { 0 = 18446744073709551615 }; seq = 18446744073709551615 })
+    4294967295 false)
+    ∷ []
+answers_of_the_store = refl
+
+takes : map command_of (codes "take alice" ∷ codes "take bob" ∷ []) ≡ Some (command.Take 0) ∷ Some (command.Take 1) ∷ []
+takes = refl
+
+-- ---- settings
+
+numbers_set : map command_of (codes "set capacity 1" ∷ codes "set first 63" ∷ codes "set ack_limit 3" ∷ codes "set nak_limit 4"
+    ∷ codes "set check_limit 18446744073709551615" ∷ [])
+    ≡ map (λ s. Some (command.Set s)) (setting.Capacity 1 ∷ setting.First 63 ∷ setting.AckLimit 3 ∷ setting.NakLimit 4
+    ∷ setting.CheckLimit 18446744073709551615 ∷ [])
+numbers_set = refl
+
+handlers_set : map command_of (codes "set recv1 10 ignore" ∷ codes "set recv2 7 suspend" ∷ codes "set send 15 abandon" ∷ codes "set send 0 cancel" ∷ [])
+    ≡ map (λ s. Some (command.Set s)) (setting.Handler RecvOne 10 handler.Ignore ∷ setting.Handler RecvTwo 7 handler.Suspend
+    ∷ setting.Handler Send 15 handler.Abandon ∷ setting.Handler Send 0 handler.Cancel ∷ [])
+handlers_set = refl
+
+bad_settings : map command_of (codes "set" ∷ codes "set capacity" ∷ codes "set capacity -1" ∷ codes "set capacity 1 " ∷ codes "set users 2"
+    ∷ codes "set recv1 16 ignore" ∷ codes "set recv3 10 ignore" ∷ codes "set recv1 10 drop" ∷ codes "set recv1 10 ignore 1" ∷ [])
+    ≡ replicate 9 None
+bad_settings = refl
+
+-- ---- requests
+
+-- the transaction of the rows
+key : TxnKey
+key = record { source = record { 0 = 2 }; seq = 4 }
+
+asked : map command_of (codes "cancel alice 2 4" ∷ codes "suspend bob 2 4" ∷ codes "resume alice 2 4" ∷ codes "report alice 2 4" ∷ codes "abandon alice 2 4" ∷ [])
+    ≡ Some (command.Request 0 (requests.Cancel key)) ∷ Some (command.Request 1 (requests.Suspend key)) ∷ Some (command.Request 0 (requests.Resume key))
+    ∷ Some (command.Request 0 (requests.Report key)) ∷ Some (command.Request 0 (requests.Abandon key)) ∷ []
+unfolding key
+asked = refl
+
+puts : map command_of (codes "put alice 0 1 1 a b 616263" ∷ codes "put bob 1 2 18446744073709551615 x y -" ∷ [])
+    ≡ Some (command.Request 0 (requests.Put 0 (record {
+      destination = record { 0 = 1 };
+      class = One;
+      source_name = codes "a";
+      destination_name = codes "b";
+      messages = [];
+      file = codes "abc";
+    })))
+    ∷ Some (command.Request 1 (requests.Put 1 (record {
+      destination = record { 0 = 18446744073709551615 };
+      class = Two;
+      source_name = codes "x";
+      destination_name = codes "y";
+      messages = [];
+      file = [];
+    })))
+    ∷ []
+unfolding decode_pairs
+puts = refl
+
+bad_requests : map command_of (codes "cancel" ∷ codes "cancel alice 2" ∷ codes "cancel carol 2 4" ∷ codes "cancel alice 2 4 5" ∷ codes "put alice 2 1 1 a b -"
+    ∷ codes "put alice 0 3 1 a b -" ∷ codes "put alice 0 1 1  b -" ∷ codes "put alice 0 1 1 a b" ∷ codes "put alice 0 1 1 a b - -" ∷ codes "put alice 0 1 1 a b 6"
+    ∷ (codes "put alice 0 1 1 " ++ 128 ∷ codes " b -") ∷ [])
+    ≡ replicate 11 None
+unfolding decode_pairs
+bad_requests = refl
+
+-- ---- what happens inside the entity
+
+inside : map command_of (codes "pump 2 4" ∷ codes "timer 2 4 ack 3" ∷ codes "timer 2 4 nak 3" ∷ codes "timer 2 4 check 3" ∷ codes "timer 2 4 inactivity 4294967295" ∷ [])
+    ≡ Some (command.Pump key) ∷ Some (command.Timer key Ack 3) ∷ Some (command.Timer key Nak 3) ∷ Some (command.Timer key Check 3)
+    ∷ Some (command.Timer key Inactivity 4294967295) ∷ []
+unfolding key
+inside = refl
+
+bad_inside : map command_of (codes "pump 2" ∷ codes "pump 2 4 5" ∷ codes "timer 2 4 ack" ∷ codes "timer 2 4 sleep 3" ∷ codes "timer 2 4 ack 4294967296" ∷ [])
+    ≡ replicate 5 None
+bad_inside = refl

@@ -1,0 +1,256 @@
+-- What a line of a script says.
+use Rattle.std.specs.Prelude.{ℕ, ◌-◌, ◌^◌, ◌==◌, Bool, true, false, nat_lt, if◌then◌else◌, List, [], ◌∷◌, length, Option, Some, None, is_some, codes, option_and_then}
+use Rattle.std.specs.Option.{option_map}
+use Rattle.std.specs.Result.{result_ok}
+use Rattle.std.specs.List.{list_all}
+use Rattle.std.specs.Str.{bytes_eq}
+use Rattle.hex.specs.Hex.{decode_of}
+use Rattle.cfdp_types.specs.Put.{PutValue, put_fault}
+use Rattle.cfdp_types.specs.declared.key.TxnKey.{TxnKey}
+use Rattle.cfdp_types.specs.declared.names.Class.{Class}
+use Rattle.cfdp_types.specs.declared.names.Class.TheVariants.{One, Two}
+use Rattle.cfdp_types.specs.declared.names.Handler.{Handler}
+use Rattle.cfdp_types.specs.declared.names.Handler.TheVariants as handler
+use Rattle.cfdp_types.specs.declared.names.Role.{Role}
+use Rattle.cfdp_types.specs.declared.names.Role.TheVariants.{Send, RecvOne, RecvTwo}
+use Rattle.cfdp_types.specs.declared.names.TimerKind.{TimerKind}
+use Rattle.cfdp_types.specs.declared.names.TimerKind.TheVariants.{Ack, Nak, Check, Inactivity}
+use Rattle.entity_config.specs.declared.setting.Setting.TheVariants as setting
+use Rattle.entity_routing.specs.declared.world_event.Request.{Request}
+use Rattle.entity_routing.specs.declared.world_event.Request.TheVariants as requests
+use Rattle.script_lines.specs.declared.command.Command.{Command}
+use Rattle.script_lines.specs.declared.command.Command.TheVariants as command
+use Rattle.script_lines.specs.Words.{words_of, decimal_of}
+
+infixl 10 ◌>>=◌
+abbrev pub ◌>>=◌ : {A B : Type 0} → Option A → (A → Option B) → Option B
+o >>= f = option_and_then f o
+
+-- ---- words
+
+-- a number of 64 bits, and one of 32
+abbrev pub number_of : List ℕ → Option ℕ
+number_of word = decimal_of (2 ^ 64 - 1) word
+
+abbrev pub stamp_of : List ℕ → Option ℕ
+stamp_of word = decimal_of (2 ^ 32 - 1) word
+
+-- a transaction, by its two numbers
+abbrev pub key_from : List ℕ → List ℕ → Option TxnKey
+key_from source seq = do
+  source_number ← number_of source
+  seq_number ← number_of seq
+  Some (record { source = record { 0 = source_number }; seq = seq_number })
+
+-- a user's number, and one of the user's two sending lanes
+abbrev pub user_of : List ℕ → Option ℕ
+user_of word =
+    if bytes_eq word (codes "alice") then Some 0
+    else if bytes_eq word (codes "bob") then Some 1
+    else None
+
+abbrev pub lane_of : List ℕ → Option ℕ
+lane_of word = decimal_of 1 word
+
+-- the octets that a word writes in hex digits of either case, one octet or more
+abbrev pub octets_of : List ℕ → Option (List ℕ)
+octets_of word = if length word == 0 then None else result_ok (decode_of word)
+
+-- those of a file: a dash writes none
+abbrev pub file_of : List ℕ → Option (List ℕ)
+file_of word = if bytes_eq word (codes "-") then Some [] else octets_of word
+
+-- a word of ASCII
+abbrev pub name_of : List ℕ → Option (List ℕ)
+name_of word = if list_all (λ octet. nat_lt octet 128) word then Some word else None
+
+abbrev pub answer_of : List ℕ → Option Bool
+answer_of word =
+    if bytes_eq word (codes "yes") then Some true
+    else if bytes_eq word (codes "no") then Some false
+    else None
+
+abbrev pub class_of : List ℕ → Option Class
+class_of word =
+    if bytes_eq word (codes "1") then Some One
+    else if bytes_eq word (codes "2") then Some Two
+    else None
+
+abbrev pub kind_of : List ℕ → Option TimerKind
+kind_of word =
+    if bytes_eq word (codes "ack") then Some Ack
+    else if bytes_eq word (codes "nak") then Some Nak
+    else if bytes_eq word (codes "check") then Some Check
+    else if bytes_eq word (codes "inactivity") then Some Inactivity
+    else None
+
+abbrev pub role_of : List ℕ → Option Role
+role_of word =
+    if bytes_eq word (codes "send") then Some Send
+    else if bytes_eq word (codes "recv1") then Some RecvOne
+    else if bytes_eq word (codes "recv2") then Some RecvTwo
+    else None
+
+abbrev pub handler_of : List ℕ → Option Handler
+handler_of word =
+    if bytes_eq word (codes "cancel") then Some handler.Cancel
+    else if bytes_eq word (codes "suspend") then Some handler.Suspend
+    else if bytes_eq word (codes "ignore") then Some handler.Ignore
+    else if bytes_eq word (codes "abandon") then Some handler.Abandon
+    else None
+
+-- ---- lines
+
+-- set NAME N, by its two words
+abbrev pub set_number : List ℕ → ℕ → Option Command
+set_number name n =
+    if bytes_eq name (codes "capacity") then Some (command.Set (setting.Capacity n))
+    else if bytes_eq name (codes "first") then Some (command.Set (setting.First n))
+    else if bytes_eq name (codes "ack_limit") then Some (command.Set (setting.AckLimit n))
+    else if bytes_eq name (codes "nak_limit") then Some (command.Set (setting.NakLimit n))
+    else if bytes_eq name (codes "check_limit") then Some (command.Set (setting.CheckLimit n))
+    else None
+
+-- set ROLE CONDITION HANDLER, by its three words
+abbrev pub set_handler : List ℕ → List ℕ → List ℕ → Option Command
+set_handler role condition handler = do
+  of_role ← role_of role
+  code ← decimal_of 15 condition
+  does ← handler_of handler
+  Some (command.Set (setting.Handler of_role code does))
+
+-- by what stands behind two words
+abbrev pub set_with : List ℕ → List ℕ → List (List ℕ) → Option Command
+set_with name n [] = option_and_then (set_number name) (number_of n)
+set_with role condition (handler ∷ []) = set_handler role condition handler
+set_with name n operands = None
+
+abbrev pub set_of : List (List ℕ) → Option Command
+set_of (name ∷ n ∷ operands) = set_with name n operands
+set_of operands = None
+
+-- pdu HEX
+abbrev pub deliver_of : List (List ℕ) → Option Command
+deliver_of (octets ∷ []) = option_map command.Deliver (octets_of octets)
+deliver_of operands = None
+
+-- what the first word asks for, of a transaction
+abbrev pub request_for : List ℕ → TxnKey → Option Request
+request_for kind key =
+    if bytes_eq kind (codes "cancel") then Some (requests.Cancel key)
+    else if bytes_eq kind (codes "suspend") then Some (requests.Suspend key)
+    else if bytes_eq kind (codes "resume") then Some (requests.Resume key)
+    else if bytes_eq kind (codes "report") then Some (requests.Report key)
+    else if bytes_eq kind (codes "abandon") then Some (requests.Abandon key)
+    else None
+
+-- a request of a user, by its four words
+abbrev pub asked_from : List ℕ → List ℕ → List ℕ → List ℕ → Option Command
+asked_from kind user source seq = do
+  of_user ← user_of user
+  key ← key_from source seq
+  request ← request_for kind key
+  Some (command.Request of_user request)
+
+-- cancel USER SOURCE SEQ, and the like
+abbrev pub asked_of : List ℕ → List (List ℕ) → Option Command
+asked_of kind (user ∷ source ∷ seq ∷ []) = asked_from kind user source seq
+asked_of kind operands = None
+
+-- pump SOURCE SEQ
+abbrev pub pump_of : List (List ℕ) → Option Command
+pump_of (source ∷ seq ∷ []) = option_map command.Pump (key_from source seq)
+pump_of operands = None
+
+-- timer SOURCE SEQ KIND STAMP
+abbrev pub timer_from : List ℕ → List ℕ → List ℕ → List ℕ → Option Command
+timer_from source seq kind stamp = do
+  key ← key_from source seq
+  of_kind ← kind_of kind
+  number ← stamp_of stamp
+  Some (command.Timer key of_kind number)
+
+abbrev pub timer_of : List (List ℕ) → Option Command
+timer_of (source ∷ seq ∷ kind ∷ stamp ∷ []) = timer_from source seq kind stamp
+timer_of operands = None
+
+-- stored SOURCE SEQ STAMP yes or no
+abbrev pub stored_from : List ℕ → List ℕ → List ℕ → List ℕ → Option Command
+stored_from source seq stamp answer = do
+  key ← key_from source seq
+  number ← stamp_of stamp
+  kept ← answer_of answer
+  Some (command.Stored key number kept)
+
+abbrev pub stored_of : List (List ℕ) → Option Command
+stored_of (source ∷ seq ∷ stamp ∷ answer ∷ []) = stored_from source seq stamp answer
+stored_of operands = None
+
+-- take USER
+abbrev pub take_of : List (List ℕ) → Option Command
+take_of (user ∷ []) = option_map command.Take (user_of user)
+take_of operands = None
+
+-- a Put without messages, where its names are some and not too long
+abbrev pub put_made : ℕ → Class → List ℕ → List ℕ → List ℕ → Option PutValue
+put_made destination class source_name destination_name file =
+    if is_some (put_fault source_name destination_name []) then None
+    else Some (record {
+      destination = record { 0 = destination };
+      class = class;
+      source_name = source_name;
+      destination_name = destination_name;
+      messages = [];
+      file = file;
+    })
+
+-- of what is to be sent: CLASS DEST SRC DST FILE
+abbrev pub put_from : List ℕ → List ℕ → List ℕ → List ℕ → List ℕ → Option PutValue
+put_from class destination source_name destination_name file = do
+  of_class ← class_of class
+  to ← number_of destination
+  from_name ← name_of source_name
+  to_name ← name_of destination_name
+  octets ← file_of file
+  put_made to of_class from_name to_name octets
+
+abbrev pub put_words : List (List ℕ) → Option PutValue
+put_words (class ∷ destination ∷ source_name ∷ destination_name ∷ file ∷ []) = put_from class destination source_name destination_name file
+put_words operands = None
+
+-- a Put of a user's lane
+abbrev pub put_at : List ℕ → List ℕ → List (List ℕ) → Option Command
+put_at user lane operands = do
+  of_user ← user_of user
+  of_lane ← lane_of lane
+  put ← put_words operands
+  Some (command.Request of_user (requests.Put of_lane put))
+
+-- put USER LANE CLASS DEST SRC DST FILE
+abbrev pub put_of : List (List ℕ) → Option Command
+put_of (user ∷ lane ∷ operands) = put_at user lane operands
+put_of operands = None
+
+-- by the first word
+abbrev pub command_by : List ℕ → List (List ℕ) → Option Command
+command_by kind operands =
+    if bytes_eq kind (codes "set") then set_of operands
+    else if bytes_eq kind (codes "pdu") then deliver_of operands
+    else if bytes_eq kind (codes "put") then put_of operands
+    else if bytes_eq kind (codes "pump") then pump_of operands
+    else if bytes_eq kind (codes "timer") then timer_of operands
+    else if bytes_eq kind (codes "stored") then stored_of operands
+    else if bytes_eq kind (codes "take") then take_of operands
+    else asked_of kind operands
+
+abbrev pub command_of_words : List (List ℕ) → Option Command
+command_of_words [] = None
+command_of_words (kind ∷ operands) = command_by kind operands
+
+-- what a line says, or nothing where it is a bad line; an empty line and one that begins with `#`
+-- are remarks
+abbrev pub command_of : List ℕ → Option Command
+command_of [] = Some command.Nothing
+command_of (octet ∷ octets) =
+    if octet == 35 then Some command.Nothing
+    else command_of_words (words_of (octet ∷ octets))

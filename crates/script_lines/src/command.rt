@@ -1,0 +1,166 @@
+//! What a line of a script says.
+ghost use Rattle.std.specs.Prelude.{◌≡◌, IfOk};
+ghost use Rattle.std.specs.Option.{option_copied};
+ghost use Rattle.script_lines.specs.Commands.{command_of, command_by, deliver_of, asked_of, asked_from, request_for, pump_of, timer_of, timer_from, stored_of, stored_from, take_of};
+ghost use Rattle.script_lines.specs.Words.{words_left};
+
+use crate::operands::{answer_of, key_from, kind_of, octets_of, stamp_of, user_of};
+use crate::put::put;
+use crate::setting::set;
+use crate::words::{Rest, last_word, next_word, split_word};
+use cfdp_types::{Octets, TimerKind, TxnKey};
+use entity_config::Setting;
+use entity_routing::Request;
+use std::alloc::{AllocError, Global};
+
+/// What a line of a script says.
+#[derive(Debug, Drop)]
+pub enum Command {
+    /// A setting of the configuration.
+    Set(Setting),
+    /// A datagram comes.
+    Deliver(Octets),
+    /// A user asks for something.
+    Request(usize, Request),
+    /// The next PDU of a transaction is to be sent.
+    Pump(TxnKey),
+    /// A transaction's timer that was armed with this stamp expires.
+    Timer(TxnKey, TimerKind, u32),
+    /// The file store answers a transaction's deposit with this stamp: whether it keeps the file.
+    Stored(TxnKey, u32, bool),
+    /// A user takes the bundle at the front.
+    Take(usize),
+    /// The line is a remark.
+    Nothing,
+}
+
+/// What a line says, or nothing where it is a bad line.
+pub fn command_of(alloc: Global, line: &[u8]) -> Result<Option<Command>, AllocError>
+    ensures { IfOk result (λ command. command ≡ command_of line.now) }
+{
+    if line.is_empty() || line[0] == b'#' {
+        return Ok(Some(Command::Nothing));
+    }
+    let (kind, operands) = split_word(line);
+    by_kind(alloc, kind, operands)
+}
+
+fn by_kind(alloc: Global, kind: &[u8], operands: Rest<'_>) -> Result<Option<Command>, AllocError>
+    ensures { IfOk result
+        (λ command. command ≡ command_by kind.now (words_left (option_copied operands.entry))) }
+{
+    if kind == b"set".as_slice() {
+        Ok(set(operands))
+    } else if kind == b"pdu".as_slice() {
+        deliver(alloc, operands)
+    } else if kind == b"put".as_slice() {
+        put(alloc, operands)
+    } else if kind == b"pump".as_slice() {
+        Ok(pump(operands))
+    } else if kind == b"timer".as_slice() {
+        Ok(timer(operands))
+    } else if kind == b"stored".as_slice() {
+        Ok(stored(operands))
+    } else if kind == b"take".as_slice() {
+        Ok(take(operands))
+    } else {
+        Ok(asked(kind, operands))
+    }
+}
+
+fn deliver(alloc: Global, operands: Rest<'_>) -> Result<Option<Command>, AllocError>
+    ensures { IfOk result
+        (λ command. command ≡ deliver_of (words_left (option_copied operands.entry))) }
+{
+    let Some(word) = last_word(operands) else {
+        return Ok(None);
+    };
+    Ok(octets_of(alloc, word)?.map(Command::Deliver))
+}
+
+fn asked(kind: &[u8], operands: Rest<'_>) -> Option<Command>
+    ensures { result ≡ asked_of kind.now (words_left (option_copied operands.entry)) }
+{
+    let (user, operands) = next_word(operands)?;
+    let (source, operands) = next_word(operands)?;
+    asked_from(kind, user, source, last_word(operands)?)
+}
+
+fn asked_from(kind: &[u8], user: &[u8], source: &[u8], seq: &[u8]) -> Option<Command>
+    ensures { result ≡ asked_from kind.now user.now source.now seq.now }
+{
+    let user = user_of(user)?;
+    let key = key_from(source, seq)?;
+    let request = request_for(kind, key)?;
+    Some(Command::Request(user, request))
+}
+
+// What the first word asks for, of a transaction.
+fn request_for(kind: &[u8], key: TxnKey) -> Option<Request>
+    ensures { result ≡ request_for kind.now key }
+{
+    if kind == b"cancel".as_slice() {
+        Some(Request::Cancel(key))
+    } else if kind == b"suspend".as_slice() {
+        Some(Request::Suspend(key))
+    } else if kind == b"resume".as_slice() {
+        Some(Request::Resume(key))
+    } else if kind == b"report".as_slice() {
+        Some(Request::Report(key))
+    } else if kind == b"abandon".as_slice() {
+        Some(Request::Abandon(key))
+    } else {
+        None
+    }
+}
+
+fn pump(operands: Rest<'_>) -> Option<Command>
+    ensures { result ≡ pump_of (words_left (option_copied operands.entry)) }
+{
+    let (source, operands) = next_word(operands)?;
+    let key = key_from(source, last_word(operands)?)?;
+    Some(Command::Pump(key))
+}
+
+fn timer(operands: Rest<'_>) -> Option<Command>
+    ensures { result ≡ timer_of (words_left (option_copied operands.entry)) }
+{
+    let (source, operands) = next_word(operands)?;
+    let (seq, operands) = next_word(operands)?;
+    let (kind, operands) = next_word(operands)?;
+    timer_from(source, seq, kind, last_word(operands)?)
+}
+
+fn timer_from(source: &[u8], seq: &[u8], kind: &[u8], stamp: &[u8]) -> Option<Command>
+    ensures { result ≡ timer_from source.now seq.now kind.now stamp.now }
+{
+    let key = key_from(source, seq)?;
+    let kind = kind_of(kind)?;
+    let stamp = stamp_of(stamp)?;
+    Some(Command::Timer(key, kind, stamp))
+}
+
+fn stored(operands: Rest<'_>) -> Option<Command>
+    ensures { result ≡ stored_of (words_left (option_copied operands.entry)) }
+{
+    let (source, operands) = next_word(operands)?;
+    let (seq, operands) = next_word(operands)?;
+    let (stamp, operands) = next_word(operands)?;
+    stored_from(source, seq, stamp, last_word(operands)?)
+}
+
+fn stored_from(source: &[u8], seq: &[u8], stamp: &[u8], answer: &[u8]) -> Option<Command>
+    ensures { result ≡ stored_from source.now seq.now stamp.now answer.now }
+{
+    let key = key_from(source, seq)?;
+    let stamp = stamp_of(stamp)?;
+    let kept = answer_of(answer)?;
+    Some(Command::Stored(key, stamp, kept))
+}
+
+fn take(operands: Rest<'_>) -> Option<Command>
+    ensures { result ≡ take_of (words_left (option_copied operands.entry)) }
+{
+    let user = user_of(last_word(operands)?)?;
+    Some(Command::Take(user))
+}

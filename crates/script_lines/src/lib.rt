@@ -1,0 +1,10 @@
+//! What the lines of a script say.
+#![tactic(auto)]
+
+mod command;
+mod operands;
+mod put;
+mod setting;
+mod words;
+
+pub use command::{Command, command_of};

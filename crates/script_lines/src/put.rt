@@ -1,0 +1,136 @@
+//! Lines that put a file.
+ghost use Rattle.std.specs.Prelude.{◌≡◌, IfOk};
+ghost use Rattle.std.specs.Option.{option_copied};
+ghost use Rattle.script_lines.specs.Commands.{put_of, put_at, put_words, put_from, put_made};
+ghost use Rattle.script_lines.specs.Words.{words_left};
+
+use crate::command::Command;
+use crate::operands::{class_of, file_of, lane_of, name_of, number_of, user_of};
+use crate::words::{Rest, last_word, next_word};
+use cfdp_types::{Class, EntityId, Octets, PutFault, PutRequest};
+use entity_routing::Request;
+use std::alloc::{AllocError, Global};
+
+/// A Put, by what stands behind the first word.
+pub(crate) fn put(alloc: Global, operands: Rest<'_>) -> Result<Option<Command>, AllocError>
+    ensures { IfOk result (λ command. command ≡ put_of (words_left (option_copied operands.entry))) }
+{
+    let Some((user, operands)) = next_word(operands) else {
+        return Ok(None);
+    };
+    let Some((lane, operands)) = next_word(operands) else {
+        return Ok(None);
+    };
+    put_at(alloc, user, lane, operands)
+}
+
+fn put_at(
+    alloc: Global,
+    user: &[u8],
+    lane: &[u8],
+    operands: Rest<'_>,
+) -> Result<Option<Command>, AllocError>
+    ensures { IfOk result
+        (λ command. command ≡ put_at user.now lane.now (words_left (option_copied operands.entry))) }
+{
+    let Some(user) = user_of(user) else {
+        return Ok(None);
+    };
+    let Some(lane) = lane_of(lane) else {
+        return Ok(None);
+    };
+    match put_words(alloc, operands)? {
+        Some(request) => Ok(Some(Command::Request(user, Request::Put(lane, request)))),
+        None => Ok(None),
+    }
+}
+
+fn put_words(alloc: Global, operands: Rest<'_>) -> Result<Option<PutRequest>, AllocError>
+    ensures { IfOk result (λ put. put ≡ put_words (words_left (option_copied operands.entry))) }
+{
+    let Some((class, operands)) = next_word(operands) else {
+        return Ok(None);
+    };
+    let Some((destination, operands)) = next_word(operands) else {
+        return Ok(None);
+    };
+    let Some((source_name, operands)) = next_word(operands) else {
+        return Ok(None);
+    };
+    let Some((destination_name, operands)) = next_word(operands) else {
+        return Ok(None);
+    };
+    let Some(file) = last_word(operands) else {
+        return Ok(None);
+    };
+    put_from(
+        alloc,
+        class,
+        destination,
+        source_name,
+        destination_name,
+        file,
+    )
+}
+
+fn put_from(
+    alloc: Global,
+    class: &[u8],
+    destination: &[u8],
+    source_name: &[u8],
+    destination_name: &[u8],
+    file: &[u8],
+) -> Result<Option<PutRequest>, AllocError>
+    ensures { IfOk result
+        (λ put. put ≡ put_from class.now destination.now source_name.now destination_name.now file.now) }
+{
+    let Some(class) = class_of(class) else {
+        return Ok(None);
+    };
+    let Some(destination) = number_of(destination) else {
+        return Ok(None);
+    };
+    let Some(source_name) = name_of(source_name) else {
+        return Ok(None);
+    };
+    let Some(destination_name) = name_of(destination_name) else {
+        return Ok(None);
+    };
+    match file_of(alloc, file)? {
+        Some(file) => put_made(
+            alloc,
+            destination,
+            class,
+            source_name,
+            destination_name,
+            &file,
+        ),
+        None => Ok(None),
+    }
+}
+
+fn put_made(
+    alloc: Global,
+    destination: u64,
+    class: Class,
+    source_name: &[u8],
+    destination_name: &[u8],
+    file: &Octets,
+) -> Result<Option<PutRequest>, AllocError>
+    ensures { IfOk result (λ put. put ≡ put_made destination class source_name.now destination_name.now file.now) }
+{
+    let to = EntityId(destination);
+    match PutRequest::new(
+        alloc,
+        to,
+        class,
+        source_name,
+        destination_name,
+        &[],
+        file.as_slice(),
+    ) {
+        Ok(request) => Ok(Some(request)),
+        Err(PutFault::NoMemory) => Err(AllocError),
+        Err(_) => Ok(None),
+    }
+}
