@@ -1,5 +1,3 @@
 pub mod QueueFacts
 pub mod OpeningFacts
-pub mod EndedLists
 pub mod MarkFacts
-pub mod Turns

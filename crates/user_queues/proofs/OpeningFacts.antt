@@ -1,45 +1,40 @@
 -- How the ends of a queue are opened, lane by lane.
-use Rattle.std.proofs.Common.{◌≡◌, ◌⊎◌, ℕ, ◌+◌, All, zero, suc, List, [], ◌∷◌, ◌++◌, length, length-append, Some, None, refl, ap, sym, ◌∙◌, subst, inl, inr, ⊎_elim, add-one, arith}
+use Rattle.std.proofs.Common.{◌≡◌, ◌⊎◌, ℕ, ◌+◌, zero, suc, List, [], ◌∷◌, ◌++◌, length, length-append, Some, None, refl, ap, sym, ◌∙◌, subst, inl, inr, ⊎_elim, add-one, arith}
 use Rattle.std.specs.Prelude.{slice_get}
-use Rattle.std.proofs.lemmas.List.Elements.{All-nil, All-push}
 use Rattle.atomic_table.specs.Seated.{TableId}
-use Rattle.queue_rule.specs.declared.view.OutletView.{OutletView}
 use Rattle.queue_rule.specs.declared.view.PortView.{PortView}
 use Rattle.queue_rule.specs.Views.{with_lane, next_outlet}
-use Rattle.user_queues.specs.Shared.{OutletEnd, IsFreshLane}
-use Rattle.user_queues.specs.Opened.{unknown, fresh_port, fresh_outlet, fresh_outlets}
+use Rattle.user_queues.specs.Shared.{OutletEnd, PortEnd}
+use Rattle.user_queues.specs.Opened.{unknown, fresh_port, fresh_outlet, fresh_outlets, IsNextLane}
 
 length-unknown : (lanes : ℕ) → length (unknown lanes) ≡ lanes
 length-unknown zero = refl
 length-unknown (suc lanes) = omega (arith, length-append (unknown lanes) (None ∷ []), length-unknown lanes)
 
-pub is_next : (user lanes room : ℕ) (port : PortView) (outlet : OutletView) → port ≡ fresh_port user lanes room → outlet ≡ next_outlet port
-    → lanes ≡ outlet.lane
-is_next user lanes room port outlet is made =
-    sym (ap (λ (o : OutletView). o.lane) made ∙ ap (λ (p : PortView). length p.known) is ∙ length-unknown lanes)
+pub is_next : (user lanes room : ℕ) (port : PortView) → port ≡ fresh_port user lanes room → lanes ≡ length port.known
+is_next user lanes room port is = sym (ap (λ (p : PortView). length p.known) is ∙ length-unknown lanes)
 
-pub one_lane_more : (user lanes room : ℕ) (port next : PortView) → port ≡ fresh_port user lanes room → next ≡ with_lane port
-    → next ≡ fresh_port user (lanes + 1) room
-one_lane_more user lanes room port next is made =
-    made ∙ ap with_lane is ∙ ap (λ (n : ℕ). fresh_port user n room) (sym (add-one lanes))
+pub one_lane_more : (user lanes room : ℕ) (old new : PortEnd) (outlet : OutletEnd) → old.knows ≡ fresh_port user lanes room
+    → IsNextLane old new outlet → new.knows ≡ fresh_port user (lanes + 1) room
+one_lane_more user lanes room old new outlet is next =
+    ap (λ (p : PortEnd). p.knows) next.of_port ∙ ap with_lane is ∙ ap (λ (n : ℕ). fresh_port user n room) (sym (add-one lanes))
 
-outlet_is : (queue : TableId) (user lanes room : ℕ) (port : PortView) (outlet : OutletView) → port ≡ fresh_port user lanes room
-    → outlet ≡ next_outlet port → outlet ≡ (fresh_outlet queue user room lanes).knows
+outlet_is : (queue : TableId) (user lanes room : ℕ) (port : PortView) (outlet : OutletEnd) → port ≡ fresh_port user lanes room
+    → outlet ≡ record { queue = queue; knows = next_outlet port } → outlet ≡ fresh_outlet queue user room lanes
 outlet_is queue user lanes room port outlet is made =
-    made ∙ ap next_outlet is
-    ∙ ap (λ (n : ℕ). (fresh_outlet queue user room n).knows) (length-unknown lanes)
+    made ∙ ap (λ (p : PortView). record { queue = queue; knows = next_outlet p }) is
+    ∙ ap (fresh_outlet queue user room) (length-unknown lanes)
 
-pub one_outlet_more : (old new : TableId) (user lanes room : ℕ) (port : PortView) (outlet : OutletEnd) (outlets more : List OutletEnd)
-    → port ≡ fresh_port user lanes room → outlet.knows ≡ next_outlet port → outlet.queue ≡ new → new ≡ old
-    → outlets ≡ fresh_outlets old user room lanes → more ≡ outlets ++ outlet ∷ []
-    → more ≡ fresh_outlets new user room (lanes + 1)
-one_outlet_more old new user lanes room port outlet outlets more is made of same were pushed =
-    let knows : outlet.knows ≡ (fresh_outlet new user room lanes).knows = outlet_is new user lanes room port outlet.knows is made in
-    let one : outlet ≡ fresh_outlet new user room lanes = λ i. record { queue = of i; knows = knows i } in
+pub one_outlet_more : (user lanes room : ℕ) (old new : PortEnd) (outlet : OutletEnd) (outlets more : List OutletEnd)
+    → old.knows ≡ fresh_port user lanes room → IsNextLane old new outlet → outlets ≡ fresh_outlets old.queue user room lanes
+    → more ≡ outlets ++ outlet ∷ [] → more ≡ fresh_outlets new.queue user room (lanes + 1)
+one_outlet_more user lanes room old new outlet outlets more is next were pushed =
     pushed
-    ∙ ap (λ (l : List OutletEnd). l ++ outlet ∷ []) (were ∙ ap (λ (q : TableId). fresh_outlets q user room lanes) (sym same))
-    ∙ ap (λ (o : OutletEnd). fresh_outlets new user room lanes ++ o ∷ []) one
-    ∙ ap (λ (n : ℕ). fresh_outlets new user room n) (sym (add-one lanes))
+    ∙ ap (λ (l : List OutletEnd). l ++ outlet ∷ []) were
+    ∙ ap (λ (o : OutletEnd). fresh_outlets old.queue user room lanes ++ o ∷ [])
+    (outlet_is old.queue user lanes room old.knows outlet is next.of_lane)
+    ∙ ap (λ (n : ℕ). fresh_outlets old.queue user room n) (sym (add-one lanes))
+    ∙ ap (λ (p : PortEnd). fresh_outlets p.queue user room (lanes + 1)) (sym next.of_port)
 
 get_more : {A : Type 0} (items : List A) (x : A) (k : ℕ) (y : A) → slice_get (items ++ x ∷ []) k ≡ Some y
     → (slice_get items k ≡ Some y) ⊎ ((length items ≡ k) × (x ≡ y))
@@ -66,30 +61,3 @@ each_with_one_more {A} F items more x count long made each last k y is = ⊎_eli
 pub only_one : {A : Type 0} (all rest : List A) (x : A) → length all ≡ 1 → all ≡ rest ++ x ∷ [] → slice_get all 0 ≡ Some x
 only_one {A} all [] x one made = subst (λ (l : List A). slice_get l 0 ≡ Some x) (sym made) refl
 only_one {A} all (y ∷ rest) x one made = absurd (omega (arith, one, ap length made, length-append rest (x ∷ [])))
-
--- the two outlets of two lanes, the last one first
-pub two_outlets : (queue : TableId) (room : ℕ) (all one none : List OutletEnd) (first second : OutletEnd) → all ≡ fresh_outlets queue 0 room 2
-    → all ≡ one ++ second ∷ [] → one ≡ none ++ first ∷ []
-    → (IsFreshLane first 0 × IsFreshLane second 1) × (first.queue ≡ queue) × (second.queue ≡ queue)
-two_outlets queue room all one [] first second is last before =
-    let both : first ∷ second ∷ [] ≡ fresh_outlet queue 0 room 0 ∷ fresh_outlet queue 0 room 1 ∷ [] =
-    ap (λ (l : List OutletEnd). l ++ second ∷ []) (sym before) ∙ sym last ∙ is in
-    let one_is : first ≡ fresh_outlet queue 0 room 0 = cc in
-    let two_is : second ≡ fresh_outlet queue 0 room 1 = cc in (
-      (
-        (ap (λ (o : OutletEnd). o.knows.user) one_is, ap (λ (o : OutletEnd). o.knows.lane) one_is, ap (λ (o : OutletEnd). o.knows.sent) one_is),
-        (ap (λ (o : OutletEnd). o.knows.user) two_is, ap (λ (o : OutletEnd). o.knows.lane) two_is, ap (λ (o : OutletEnd). o.knows.sent) two_is),
-      ),
-      ap (λ (o : OutletEnd). o.queue) one_is,
-      ap (λ (o : OutletEnd). o.queue) two_is,
-    )
-two_outlets queue room all one (x ∷ xs) first second is last before =
-    let long : length all ≡ 2 = ap length is in
-    absurd (omega (arith, long, ap length last, ap length before, length-append one (second ∷ []), length-append xs (first ∷ [])))
-
--- the outlets of a queue that was just opened sent nothing
-pub fresh_lanes : (queue : TableId) (room lanes : ℕ) → All (λ (o : OutletEnd). IsFreshLane o o.knows.lane) (fresh_outlets queue 0 room lanes)
-fresh_lanes queue room zero = All-nil (λ (o : OutletEnd). IsFreshLane o o.knows.lane)
-fresh_lanes queue room (suc lanes) =
-    All-push (λ (o : OutletEnd). IsFreshLane o o.knows.lane) (fresh_outlets queue 0 room lanes) (fresh_outlet queue 0 room lanes)
-    (fresh_lanes queue room lanes) (refl, refl, refl)

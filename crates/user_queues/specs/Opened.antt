@@ -3,6 +3,7 @@ use Rattle.std.specs.Prelude.{◌≡◌, ℕ, zero, suc, List, [], ◌∷◌, �
 use Rattle.atomic_table.specs.Seated.{TableId}
 use Rattle.indications.specs.declared.bundle.Bundle.{Bundle}
 use Rattle.queue_rule.specs.declared.view.PortView.{PortView}
+use Rattle.queue_rule.specs.Views.{with_lane, next_outlet}
 use Rattle.user_queues.specs.Shared.{OutletEnd, PortEnd}
 
 -- nothing is known of so many lanes
@@ -28,3 +29,8 @@ fresh_outlets queue user room (suc lanes) = fresh_outlets queue user room lanes 
 pub record IsOpenedFor (user lanes room : ℕ) (port : PortEnd) (outlets : List OutletEnd) : Type 0 where
   pub of_port : port.knows ≡ fresh_port user lanes room
   pub of_lanes : outlets ≡ fresh_outlets port.queue user room lanes
+
+-- the port's user has one lane more, with an outlet of the same queue
+pub record IsNextLane (old new : PortEnd) (outlet : OutletEnd) : Type 0 where
+  pub of_port : new ≡ record { queue = old.queue; knows = with_lane old.knows }
+  pub of_lane : outlet ≡ record { queue = old.queue; knows = next_outlet old.knows }

@@ -1,5 +1,5 @@
 -- The ends of a queue that threads share: which queue it is, and what the end knows of it.
-use Rattle.std.specs.Prelude.{◌≡◌, ℕ, Bool, List, [], map, Option, is_some}
+use Rattle.std.specs.Prelude.{Bool, List, map, Option, is_some}
 use Rattle.atomic_table.specs.Seated.{TableId}
 use Rattle.crossbeam_queue.specs.Passes.{Pass, view}
 use Rattle.indications.specs.declared.bundle.Bundle.{Bundle}
@@ -32,7 +32,3 @@ is_admitted known = is_some known
 -- of which lanes
 abbrev pub admitted_in : PortView → List Bool
 admitted_in port = map is_admitted port.known
-
--- the outlet is of this lane of the first user, and sent nothing yet
-abbrev pub IsFreshLane : OutletEnd → ℕ → Type 0
-IsFreshLane outlet lane = (outlet.knows.user ≡ 0) × (outlet.knows.lane ≡ lane) × (outlet.knows.sent ≡ [])

@@ -13,6 +13,3 @@ pub use list_outlet::ListOutlet;
 pub use list_queue::ListQueue;
 pub use queues::{Queues, UserQueue, open};
 pub use user_port::UserPort;
-
-#[cfg(test)]
-mod tests;

@@ -4,9 +4,8 @@ ghost use Rattle.user_queues.specs.Opened.{IsOpenedFor};
 
 use crate::lane_outlet::LaneOutlet;
 use crate::user_port::UserPort;
-use queue_rule::{next_lane, open_port};
 use std::alloc::{AllocError, Global};
-use std::sync::{Arc, Wait};
+use std::sync::Wait;
 
 /// The ends of a user's queue, which threads share.
 #[derive(Drop)]
@@ -52,17 +51,10 @@ fn open_user<R: Wait + Copy>(
     requires { 0 < capacity }
     ensures { IfOk result (λ ends. IsOpenedFor user lanes capacity ends.port ends.outlets.items) }
 {
-    let (queue, mut first) = queue_rule::open(alloc, capacity)?;
-    let mut pass = open_port(&queue, &mut first, user);
-    let queue = Arc::new(alloc, queue)?;
+    let mut port = UserPort::open(alloc, user, capacity)?;
     let mut outlets = Vec::with_capacity(alloc, lanes)?;
-    let mut admitted = Vec::with_capacity(alloc, lanes)?;
     for lane in 0..lanes {
-        let outlet = next_lane(&queue, &mut pass);
-        let shared = Arc::try_clone(&queue)?;
-        outlets.push(LaneOutlet::new(rt, shared, outlet, user, lane))?;
-        admitted.push(false)?;
+        outlets.push(port.next_lane(rt, lane)?)?;
     }
-    let port = UserPort::new(queue, pass, user, admitted);
     Ok(UserQueue { port, outlets })
 }

@@ -3,8 +3,8 @@ ghost use Rattle.std.specs.List.{list_all};
 
 use crate::lane_outlet::LaneOutlet;
 use indications::Bundle;
-use queue_rule::{QueuePass, SharedQueue, admit, take};
-use std::alloc::Global;
+use queue_rule::{QueuePass, SharedQueue, admit, next_lane, open_port, take};
+use std::alloc::{AllocError, Global};
 use std::marker::Model;
 use std::sync::{Arc, Wait};
 
@@ -34,30 +34,42 @@ impl Model for UserPort {
 }
 
 impl UserPort {
-    ghost use Rattle.std.specs.Prelude.{◌≡◌, [], IfSome, IfNone};
-    ghost use Rattle.std.specs.Arc.{arc_value};
-    ghost use Rattle.queue_rule.specs.Passes.{IsPortOf};
+    ghost use Rattle.std.specs.Prelude.{◌≡◌, ◌<◌, [], length, IfOk, IfSome, IfNone};
     ghost use Rattle.std.specs.List.{list_all};
-    ghost use Rattle.user_queues.specs.Shared.{port_end, admitted_in, is_admitted};
-    ghost use Rattle.queue_rule.specs.Views.{with_taken, with_known, IsTakenInOrder, IsWholeWith};
+    ghost use Rattle.user_queues.specs.Opened.{IsNextLane};
+    ghost use Rattle.user_queues.specs.Shared.{is_admitted};
+    ghost use Rattle.queue_rule.specs.Views.{new_port, with_taken, with_known, IsTakenInOrder, IsWholeWith};
 
-    pub(crate) fn new(
-        queue: Arc<SharedQueue, Global>,
-        pass: QueuePass,
-        user: usize,
-        admitted: Vec<bool>,
-    ) -> UserPort
-        requires pass { IsPortOf (arc_value queue) pass }
-        requires user { user ≡ (port_end pass).knows.user }
-        requires admitted { admitted.items ≡ admitted_in (port_end pass).knows }
-        ensures { result ≡ port_end pass }
+    /// The port of a queue of a user's own, with room for so many bundles. The user has no lanes yet.
+    pub(crate) fn open(alloc: Global, user: usize, room: usize) -> Result<UserPort, AllocError>
+        requires { 0 < room }
+        ensures { IfOk result (λ port. port.knows ≡ new_port user room) }
     {
-        UserPort {
+        let (queue, mut first) = queue_rule::open(alloc, room)?;
+        let pass = open_port(&queue, &mut first, user);
+        let queue = Arc::new(alloc, queue)?;
+        let admitted = Vec::new(alloc);
+        Ok(UserPort {
             queue,
             pass,
             user,
             admitted,
-        }
+        })
+    }
+
+    /// The outlet of the user's next lane, which has this number.
+    pub(crate) fn next_lane<R: Copy>(
+        &mut self,
+        rt: R,
+        lane: usize,
+    ) -> Result<LaneOutlet<R>, AllocError>
+        requires { lane ≡ length self.old.knows.known }
+        ensures { IfOk result (λ outlet. IsNextLane self.old self.new outlet) }
+    {
+        let queue = Arc::try_clone(&self.queue)?;
+        self.admitted.push(false)?;
+        let pass = next_lane(&self.queue, &mut self.pass);
+        Ok(LaneOutlet::new(rt, queue, pass, self.user, lane))
     }
 
     /// The number of the user.

@@ -1,5 +1,5 @@
 -- Lane lists of transactions that are over at once, with rising numbers.
-use Rattle.std.proofs.Common.{◌≡◌, ℕ, ◌+◌, ◌≤◌, Bool, true, false, All, List, [], ◌∷◌, ◌++◌, ◌||◌, refl, ap, sym, ◌∙◌, subst, ⊎_elim, arith}
+use Rattle.std.proofs.Common.{◌≡◌, ℕ, ◌+◌, ◌≤◌, Bool, true, false, List, [], ◌∷◌, ◌++◌, ◌||◌, refl, ap, sym, ◌∙◌, subst, ⊎_elim, arith}
 use Rattle.std.proofs.lemmas.Bool.{cases_eq, ne_eqb, false≢true}
 use Rattle.std.proofs.lemmas.List.Elements.{All-nil, All-push, All-weaker}
 use Rattle.std.proofs.Math.Bool.{or-false}
@@ -8,13 +8,8 @@ use Rattle.indications.specs.declared.bundle.Bundle.{Bundle}
 use Rattle.indications.specs.declared.indication.Indication.{Indication}
 use Rattle.indications.specs.declared.indication.Indication.TheVariants.{Abandoned}
 use Rattle.indications.specs.LaneLists.{number_of, told_of, of_lane, has_number, IsBegunGroup, IsWordGroup, IsLaneList}
+use Rattle.queue_tests.specs.Ended.{AreEnded, AllEnded}
 use Rattle.indications.proofs.LaneLemmas.{of_lane-more, of_lane-other, told_of-more, told_of-other, told_of-none, has_number-append, has_number-below, IsLaneList-nil, IsLaneList-more}
-
--- all bundles so far have numbers up to this one, and their transactions are over
-pub record AreEnded (user lane : ℕ) (source : EntityId) (last : ℕ) (bundles : List Bundle) : Type 0 where
-  pub list : IsLaneList user lane source bundles
-  pub below : All (λ bundle. number_of bundle ≤ last) bundles
-  pub words : (number : ℕ) → has_number number bundles ≡ true → IsWordGroup (told_of number bundles)
 
 pub none_ended : (user lane : ℕ) (source : EntityId) → AreEnded user lane source 0 []
 none_ended user lane source = record {
@@ -95,9 +90,6 @@ ended_by user lane source last later bundles le ended = record {
 }
 
 -- so it is of each lane's part
-abbrev pub AllEnded : ℕ → EntityId → ℕ → List Bundle → Type 0
-AllEnded user source last bundles = (lane : ℕ) → AreEnded user lane source last (of_lane lane bundles)
-
 pub none_all_ended : (user : ℕ) (source : EntityId) → AllEnded user source 0 []
 none_all_ended user source lane = none_ended user lane source
 

@@ -1,6 +1,6 @@
 use Rattle.std.proofs.Common.{◌≡◌}
-use Rattle.user_queues.proofs.EndedLists.{AreEnded}
-use Rattle.user_queues.proofs.tests.shared.produce.Given as goal
+use Rattle.queue_tests.specs.Ended.{AreEnded}
+use Rattle.queue_tests.proofs.shared.produce.Given as goal
 
 abbrev pub invariant-loop-seq : goal.invariant-loop-seq
 invariant-loop-seq g l = record {

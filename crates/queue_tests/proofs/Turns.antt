@@ -1,26 +1,15 @@
 -- What both kinds of queue keep, turn by turn: all that was sent are transactions that are over at once.
 use Rattle.std.proofs.Common.{◌≡◌, ℕ, ◌+◌, Bool, true, false, not, IsTrue, List, [], ◌∷◌, ◌++◌, Option, Some, None, IfSome, IfNone, refl, ap, sym, ◌∙◌, subst, append_assoc, arith}
 use Rattle.indications.specs.declared.bundle.Bundle.{Bundle}
-use Rattle.indications.specs.declared.indication.Indication.TheVariants.{Abandoned}
 use Rattle.indications.specs.LaneLists.{of_lane, IsLaneList}
 use Rattle.queue_rule.specs.declared.view.OutletView.{OutletView}
 use Rattle.queue_rule.specs.Views.{with_sent}
 use Rattle.user_queues.specs.Queue.{Queue, EndsInHeld, with_last, with_front, all_put}
 use Rattle.user_queues.specs.Shared.{OutletEnd}
 use Rattle.user_queues.proofs.QueueFacts.{ends_in_held, all_put-taken}
-use Rattle.user_queues.proofs.EndedLists.{AreEnded, AllEnded, may_go_on, next_ended, ended_by, next_all_ended}
-
--- the bundle is the only one of the transaction with this number
-abbrev pub IsOver : Bundle → ℕ → ℕ → Type 0
-IsOver bundle lane number =
-    (bundle.user ≡ 0) × (bundle.lane ≡ lane) × (bundle.key ≡ record { source = record { 0 = 1 }; seq = number })
-    × (bundle.inds ≡ Abandoned 0 0 ∷ [])
-
--- an outlet is of this lane of the first user, and what it sent has numbers up to this one
-pub record SendsOver (outlet : OutletEnd) (lane last : ℕ) : Type 0 where
-  pub of_user : outlet.knows.user ≡ 0
-  pub of_lane : outlet.knows.lane ≡ lane
-  pub ended : AreEnded 0 lane (record { 0 = 1 }) last outlet.knows.sent
+use Rattle.queue_tests.specs.Ended.{AreEnded, AllEnded}
+use Rattle.queue_tests.specs.Senders.{IsOver, SendsOver, HoldsOver}
+use Rattle.queue_tests.proofs.EndedLists.{may_go_on, next_ended, ended_by, next_all_ended}
 
 pub may_send : (outlet : OutletEnd) (lane last : ℕ) (bundle : Bundle) → SendsOver outlet lane last → IsOver bundle lane (last + 1)
     → IsLaneList bundle.user bundle.lane bundle.key.source (outlet.knows.sent ++ bundle ∷ [])
@@ -52,12 +41,6 @@ sends_next old new lane last bundle false sends over more same =
       of_lane = ap (λ (o : OutletView). o.lane) is ∙ later.of_lane;
       ended = subst (AreEnded 0 lane (record { 0 = 1 }) (last + 1)) (sym (ap (λ (o : OutletView). o.sent) is)) later.ended;
     }
-
--- a queue of two lanes of the first user, into which bundles with numbers up to this one went
-pub record HoldsOver (queue : Queue) (last : ℕ) : Type 0 where
-  pub of_user : queue.user ≡ 0
-  pub lanes : queue.lanes ≡ 2
-  pub ended : (taken : List Bundle) × AllEnded 0 (record { 0 = 1 }) last (all_put taken queue)
 
 pub may_put : (queue : Queue) (lane last : ℕ) (bundle : Bundle) → HoldsOver queue last → IsOver bundle lane (last + 1)
     → (bundles : List Bundle) × EndsInHeld queue lane bundles

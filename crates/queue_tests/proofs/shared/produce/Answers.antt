@@ -1,6 +1,7 @@
 use Rattle.std.proofs.Common.{rules, ◌≡◌, ◌+◌, true, ap, sym, ◌∙◌, subst}
-use Rattle.user_queues.proofs.EndedLists.{AreEnded, may_go_on, next_ended}
-use Rattle.user_queues.proofs.tests.shared.produce.Goals as goal
+use Rattle.queue_tests.specs.Ended.{AreEnded}
+use Rattle.queue_tests.proofs.EndedLists.{may_go_on, next_ended}
+use Rattle.queue_tests.proofs.shared.produce.Goals as goal
 
 pub offer-requires-clause-goes_on : goal.offer-requires-clause-goes_on
 offer-requires-clause-goes_on g c =

@@ -3,10 +3,9 @@ ghost use Rattle.std.specs.Prelude.{◌≡◌, ◌<◌, ◌++◌, ◌∷◌, [],
 ghost use Rattle.indications.specs.LaneLists.{IsLaneList};
 ghost use Rattle.queue_rule.specs.Views.{with_sent};
 ghost use Rattle.user_queues.specs.Opened.{IsOpenedFor};
-ghost use Rattle.user_queues.specs.Shared.{IsFreshLane};
+ghost use Rattle.queue_tests.specs.Senders.{IsFreshLane, AreFresh};
 
-use crate::tests::bundles::bundle_of;
-use crate::{LaneOutlet, UserPort, UserQueue, open};
+use crate::bundles::bundle_of;
 use indications::{Bundle, Outlet};
 use std::alloc::{AllocError, Global};
 use std::sync::Wait;
@@ -14,6 +13,7 @@ use std::sync::atomic::{AtomicBool, Ordering};
 use std::test::*;
 use std::thread;
 use std::thread::Threads;
+use user_queues::{LaneOutlet, UserPort, UserQueue, open};
 
 // How many bundles each lane sends.
 const COUNT: u64 = 100;
@@ -96,7 +96,8 @@ fn ends<R: Wait + Copy>(
     capacity: usize,
 ) -> Result<Option<UserQueue<R>>, AllocError>
     requires { 0 < capacity }
-    ensures { IfOk result (λ ends. IfSome ends (λ e. IsOpenedFor 0 lanes capacity e.port e.outlets.items)) }
+    ensures { IfOk result (λ ends. IfSome ends (λ e. IsOpenedFor 0 lanes capacity e.port e.outlets.items
+        × All (λ outlet. IsFreshLane outlet outlet.knows.lane) e.outlets.items)) }
 {
     let mut queues = open(rt, alloc, &[lanes], capacity)?;
     let Some(only) = queues.users.pop() else {
@@ -105,15 +106,22 @@ fn ends<R: Wait + Copy>(
     Ok(Some(only))
 }
 
-/// The ends of a queue of two lanes, with room for so many bundles.
+/// The ends of a queue of two lanes.
+#[derive(Drop)]
+pub(crate) struct TwoEnds<R: Copy> {
+    pub(crate) port: UserPort,
+    pub(crate) first: LaneOutlet<R>,
+    pub(crate) second: LaneOutlet<R>,
+}
+
+/// Those of a queue with room for so many bundles.
 pub(crate) fn ends_of_two<R: Wait + Copy>(
     rt: R,
     alloc: Global,
     capacity: usize,
-) -> Result<Option<(UserPort, LaneOutlet<R>, LaneOutlet<R>)>, AllocError>
+) -> Result<Option<TwoEnds<R>>, AllocError>
     requires { 0 < capacity }
-    ensures { IfOk result (λ ends. IfSome ends
-        (λ e. (IsFreshLane e.1 0 × IsFreshLane e.2 1) × (e.1.queue ≡ e.0.queue) × (e.2.queue ≡ e.0.queue))) }
+    ensures { IfOk result (λ ends. IfSome ends (λ e. AreFresh e.port e.first e.second)) }
 {
     let Some(UserQueue { port, mut outlets }) = ends(rt, alloc, 2, capacity)? else {
         return Ok(None);
@@ -124,52 +132,45 @@ pub(crate) fn ends_of_two<R: Wait + Copy>(
     let Some(first) = outlets.pop() else {
         return Ok(None);
     };
-    Ok(Some((port, first, second)))
-}
-
-#[test]
-fn two_producers(rt: HostRuntime) -> Result<(), Fail> {
-    let alloc = rt.alloc();
-    let Some((mut port, mut first, mut second)) = ends_of_two(rt, alloc, 4)? else {
-        panic!(rt; "no ends");
-    };
-    assert_eq!(rt;
-        (port.user(), first.lane(), second.user(), second.lane()),
-        (0, 0, 0, 1)
-    );
-    let was_full = AtomicBool::new(false);
-    let ((one, two), all) = thread::join(
-        &rt,
-        || -> (Result<bool, AllocError>, Result<bool, AllocError>)
-            requires { IsFreshLane first 0 × IsFreshLane second 1 }
-        {
-            thread::join(
-                &rt,
-                || -> Result<bool, AllocError>
-                    requires { IsFreshLane first 0 }
-                { produce(alloc, &mut first, 0, &was_full) },
-                || -> Result<bool, AllocError>
-                    requires { IsFreshLane second 1 }
-                { produce(alloc, &mut second, 1, &was_full) },
-            )
-        },
-        || consume(&rt, &mut port, &mut [0; 2]),
-    );
-    assert!(rt; one? && two? && all);
-    Ok(())
+    Ok(Some(TwoEnds {
+        port,
+        first,
+        second,
+    }))
 }
 
 #[test]
 fn given_back(rt: HostRuntime) -> Result<(), Fail> {
-    let Some((mut port, first, second)) = ends_of_two(rt, rt.alloc(), 4)? else {
+    let Some(ends) = ends_of_two(rt, rt.alloc(), 4)? else {
         panic!(rt; "no ends");
     };
-    port.admit(second);
-    assert!(rt; !port.is_complete(), "the first is out");
-    port.admit(first);
-    assert!(rt; port.is_complete());
-    assert!(rt; port.take(&rt).is_none());
+    assert!(rt; are_of_first_user(&ends));
+    assert!(rt; are_given_back(&rt, ends));
     Ok(())
+}
+
+fn are_of_first_user<R: Copy>(ends: &TwoEnds<R>) -> bool {
+    ends.port.user() == 0
+        && ends.second.user() == 0
+        && ends.first.lane() == 0
+        && ends.second.lane() == 1
+}
+
+// Whether the port knows when both lanes have given their outlets back.
+fn are_given_back<R: Wait + Copy>(rt: &R, ends: TwoEnds<R>) -> bool
+    requires { AreFresh ends.port ends.first ends.second }
+{
+    let TwoEnds {
+        mut port,
+        first,
+        second,
+    } = ends;
+    port.admit(second);
+    if port.is_complete() {
+        return false;
+    }
+    port.admit(first);
+    port.is_complete() && port.take(rt).is_none()
 }
 
 // All lanes send, each in a thread of its own; whether all bundles were taken.
@@ -211,26 +212,36 @@ fn waits_until(was_full: &AtomicBool) -> bool {
     false
 }
 
-// Nothing is taken before some lane met a full queue.
-#[test]
-fn four_producers(rt: HostRuntime) -> Result<(), Fail> {
-    let alloc = rt.alloc();
-    let Some(UserQueue { mut port, outlets }) = ends(rt, alloc, 4, 4)? else {
-        panic!(rt; "no ends");
+// Lanes send to a queue with room for four bundles; whether all come, those of each lane in order. Where the user
+// waits, nothing is taken before some lane met a full queue.
+fn all_come<R: Threads + Wait + Copy + Send + Sync>(
+    rt: R,
+    alloc: Global,
+    waits: bool,
+    last: &mut [u64],
+) -> Result<bool, AllocError> {
+    let Some(UserQueue { mut port, outlets }) = ends(rt, alloc, last.len(), 4)? else {
+        return Ok(false);
     };
-    assert_eq!(rt; outlets.len(), 4);
-    let was_full = AtomicBool::new(false);
+    let was_full = AtomicBool::new(!waits);
     let (sent, came) = thread::join(
         &rt,
         || -> Result<bool, AllocError>
             requires { All (λ outlet. IsFreshLane outlet outlet.knows.lane) outlets.items }
         { produce_all(&rt, alloc, outlets, &was_full) },
-        || waits_until(&was_full) && consume(&rt, &mut port, &mut [0; 4]),
+        || waits_until(&was_full) && consume(&rt, &mut port, last),
     );
-    assert!(rt; sent?, "each bundle was taken");
-    assert!(rt;
-        came,
-        "a lane met a full queue, and all bundles came in order"
-    );
+    Ok(sent? && came)
+}
+
+#[test]
+fn two_producers(rt: HostRuntime) -> Result<(), Fail> {
+    assert!(rt; all_come(rt, rt.alloc(), false, &mut [0; 2])?);
+    Ok(())
+}
+
+#[test]
+fn four_producers(rt: HostRuntime) -> Result<(), Fail> {
+    assert!(rt; all_come(rt, rt.alloc(), true, &mut [0; 4])?);
     Ok(())
 }

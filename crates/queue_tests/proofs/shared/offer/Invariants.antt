@@ -1,5 +1,5 @@
 use Rattle.std.proofs.Common.{◌≡◌}
-use Rattle.user_queues.proofs.tests.shared.offer.Given as goal
+use Rattle.queue_tests.proofs.shared.offer.Given as goal
 
 abbrev pub invariant-loop : goal.invariant-loop
 invariant-loop g l = (l.outlet ≡ l.initial.outlet) × (l.bundle ≡ l.initial.bundle)

@@ -1,0 +1,3 @@
+pub mod EndedLists
+pub mod FreshLanes
+pub mod Turns
