@@ -1,9 +1,10 @@
 //! How a script is played at either end. Each of its lines is an event and what it is answered, with a
-//! colon between, or `nothing`; after `N times` it stands for so many. Entity 1 sends the file "a" to entity 2, to be
+//! colon between; after `N times` it stands for so many. Entity 1 sends the file "a" to entity 2, to be
 //! kept as "b", as transaction 5; entity 2 puts its own to entity 1, as transaction 4.
 use crate::events::{event_of, pdu_of};
 use crate::setting::{Acts, params};
-use crate::texts::{answer_text, image_text, refused};
+use crate::texts::{check_lines, push_answer, push_image};
+use answer_texts::push_refusal;
 use cfdp_types::{Class, EntityId, Params, PutFault, PutRequest, TxnKey};
 use pdu_values::Pdu;
 use receiver_core::ReceiverCore;
@@ -11,7 +12,7 @@ use sender_core::SenderCore;
 use std::alloc::{AllocError, Global};
 use std::process::Abort;
 use std::test::*;
-use txn_events::{Answer, Refusal, What};
+use txn_events::{Refusal, What};
 
 /// The transaction that is received.
 pub(crate) const RECEIVED: TxnKey = TxnKey {
@@ -25,6 +26,9 @@ pub(crate) const SENT: TxnKey = TxnKey {
     seq: 4,
 };
 
+// What to say where nothing is opened.
+const NO_BEGINNING: &str = "the first event opens a transaction";
+
 // What to say of a line that is none.
 const NO_ROW: &str = "the line is no event and its answer";
 
@@ -35,76 +39,76 @@ pub(crate) enum End {
     Sends(SenderCore),
 }
 
-// The answer of a receiver; none where it has ended.
-fn received(core: &mut ReceiverCore, event: &What) -> Result<Option<Answer>, Refusal> {
+// What an event gives a receiver.
+fn receive(
+    alloc: Global,
+    text: &mut String,
+    core: &mut ReceiverCore,
+    event: &What,
+) -> Result<(), AllocError> {
     if core.has_ended() {
-        return Ok(None);
+        return text.push_str("ended");
     }
-    let plan = core.plan(event)?;
-    Ok(Some(core.commit(plan)))
+    match core.plan(event) {
+        Err(why) => push_refusal(text, why.number(), why.name()),
+        Ok(plan) => push_answer(alloc, text, RECEIVED, core.commit(plan)),
+    }
 }
 
-// The answer of a sender; none where it has ended.
-fn sent(core: &mut SenderCore, event: &What) -> Result<Option<Answer>, Refusal> {
+// What an event gives a sender.
+fn send(
+    alloc: Global,
+    text: &mut String,
+    core: &mut SenderCore,
+    event: &What,
+) -> Result<(), AllocError> {
     if core.has_ended() {
-        return Ok(None);
+        return text.push_str("ended");
     }
-    let plan = core.plan(event)?;
-    Ok(Some(core.commit(plan)))
+    match core.plan(event) {
+        Err(why) => push_refusal(text, why.number(), why.name()),
+        Ok(plan) => push_answer(alloc, text, SENT, core.commit(plan)),
+    }
 }
 
-impl End {
-    fn key(&self) -> TxnKey {
-        match self {
-            End::Receives(_) => RECEIVED,
-            End::Sends(_) => SENT,
-        }
+// What an event gives an end.
+fn step(alloc: Global, text: &mut String, end: &mut End, event: &What) -> Result<(), AllocError> {
+    match end {
+        End::Receives(core) => receive(alloc, text, core, event),
+        End::Sends(core) => send(alloc, text, core, event),
     }
+}
 
-    fn answer(&mut self, event: &What) -> Result<Option<Answer>, Refusal> {
-        match self {
-            End::Receives(core) => received(core, event),
-            End::Sends(core) => sent(core, event),
-        }
+// The file with a stamp.
+fn image(alloc: Global, text: &mut String, end: &End, stamp: u32) -> Result<(), AllocError> {
+    match end {
+        End::Sends(_) => text.push_str("no receiver"),
+        End::Receives(core) => match core.image(stamp) {
+            Err(why) => push_refusal(text, why.number(), why.name()),
+            Ok(image) => push_image(alloc, text, &image),
+        },
     }
+}
 
-    // What an event is answered, as text.
-    fn step(&mut self, alloc: Global, event: &What) -> Result<String, AllocError> {
-        let key = self.key();
-        match self.answer(event) {
-            Err(refusal) => refused(alloc, refusal),
-            Ok(None) => String::from_str(alloc, "ended"),
-            Ok(Some(answer)) => answer_text(alloc, key, &answer),
-        }
-    }
+fn push_image_of(alloc: Global, text: &mut String, end: &End, stamp: &str) -> Option<()> {
+    image(alloc, text, end, stamp.parse().ok()?).ok()
+}
 
-    // The file with a stamp.
-    fn image(&self, alloc: Global, stamp: u32) -> Result<String, AllocError> {
-        match self {
-            End::Sends(_) => String::from_str(alloc, "no receiver"),
-            End::Receives(core) => match core.image(stamp) {
-                Err(refusal) => refused(alloc, refusal),
-                Ok(image) => image_text(alloc, &image),
-            },
-        }
-    }
+fn push_event(alloc: Global, text: &mut String, end: &mut End, event: &str) -> Option<()> {
+    step(alloc, text, end, &event_of(alloc, event)?).ok()
+}
 
-    // What an event is answered, or "image" with a stamp; none where it is neither.
-    fn line(&mut self, alloc: Global, event: &str) -> Option<String> {
-        match event.strip_prefix("image ") {
-            Some(stamp) => self.image(alloc, stamp.parse().ok()?).ok(),
-            None => {
-                let event = event_of(alloc, event)?;
-                self.step(alloc, &event).ok()
-            }
-        }
+// What an event gives, or "image" with a stamp; none where it is neither.
+fn push_line(alloc: Global, text: &mut String, end: &mut End, line: &str) -> Option<()> {
+    match line.strip_prefix("image ") {
+        Some(stamp) => push_image_of(alloc, text, end, stamp),
+        None => push_event(alloc, text, end, line),
     }
 }
 
 /// A line of a script: how often, which event, and the answer.
 pub(crate) fn row_of(line: &str) -> Option<(u32, &str, &str)> {
     let (event, answer) = line.split_once(": ")?;
-    let answer = if answer == "nothing" { "" } else { answer };
     match event.split_once(" times ") {
         None => Some((1, event, answer)),
         Some((count, event)) => Some((count.parse().ok()?, event, answer)),
@@ -135,51 +139,65 @@ fn play_line<R: AllocGlobal + Abort>(
 ) -> Result<(), Fail> {
     let (count, event, answer) = row_of(line).ok_or(NO_ROW)?;
     for _ in 0..count {
-        let answered = end.line(rt.alloc(), event).ok_or(NO_ROW)?;
-        assert_eq!(rt; answered.as_str(), answer, "{title}, at {event}");
+        play_event(rt, end, title, event, answer)?;
     }
     Ok(())
 }
 
-// Compares what an end's first event is answered, and plays what follows.
+fn play_event<R: AllocGlobal + Abort>(
+    rt: &R,
+    end: &mut End,
+    title: &str,
+    event: &str,
+    answer: &str,
+) -> Result<(), Fail> {
+    let mut given = String::new(rt.alloc());
+    push_line(rt.alloc(), &mut given, end, event).ok_or(NO_ROW)?;
+    check_lines(rt, title, event, given.as_str(), head_of(end), answer);
+    Ok(())
+}
+
+// The head of lines for the user of an end.
+fn head_of(end: &End) -> &'static str {
+    match end {
+        End::Receives(_) => "user 1 5 ",
+        End::Sends(_) => "user 2 4 ",
+    }
+}
+
+// Plays what follows the first event of an end, if there is one.
 fn play_from<R: AllocGlobal + Abort>(
     rt: &R,
-    begun: (End, String),
+    end: Option<End>,
     title: &str,
-    answer: &str,
     script: &str,
 ) -> Result<(), Fail> {
-    let (mut end, answered) = begun;
-    assert_eq!(rt; answered.as_str(), answer, "{title}, at its beginning");
-    play(rt, &mut end, title, script)
+    match end {
+        None => Err(Fail::from(NO_BEGINNING)),
+        Some(mut end) => play(rt, &mut end, title, script),
+    }
 }
 
-// An end, and the text of what its first event was answered.
-fn told(alloc: Global, begun: (End, Answer)) -> Option<(End, String)> {
-    let (end, answer) = begun;
-    let text = answer_text(alloc, end.key(), &answer).ok()?;
-    Some((end, text))
-}
-
-/// The reception that a PDU opens, with what that is answered.
+/// The reception that a PDU opens. What that is answered goes to the text.
 pub(crate) fn reception(
     alloc: Global,
+    text: &mut String,
     pdu: &Pdu,
     params: Params,
-) -> Result<(End, Answer), Refusal> {
+) -> Result<End, Refusal> {
     if !ReceiverCore::may_open(RECEIVED, pdu) {
         return Err(Refusal::NoTransaction);
     }
     let (mut core, plan) = ReceiverCore::open(alloc, RECEIVED, pdu, params)?;
-    let answer = core.commit(plan);
-    Ok((End::Receives(core), answer))
+    push_answer(alloc, text, RECEIVED, core.commit(plan))?;
+    Ok(End::Receives(core))
 }
 
 // The same, of a PDU in hex.
-fn received_from(alloc: Global, acts: (Acts, Acts), hex: &str) -> Option<(End, String)> {
+fn received_from(alloc: Global, text: &mut String, acts: (Acts, Acts), hex: &str) -> Option<End> {
     let params = params(acts.0, acts.1)?;
     let pdu = pdu_of(alloc, hex)?;
-    told(alloc, reception(alloc, &pdu, params).ok()?)
+    reception(alloc, text, &pdu, params).ok()
 }
 
 /// Plays a reception: the first line is the PDU that opens it. Each fault cancels it.
@@ -199,8 +217,10 @@ pub(crate) fn receives_with<R: AllocGlobal + Abort>(
     script: &str,
 ) -> Result<(), Fail> {
     let (hex, answer, rest) = parts_of(script).ok_or("a PDU comes first, and a line follows")?;
-    let begun = received_from(rt.alloc(), acts, hex).ok_or("the PDU opens a reception")?;
-    play_from(rt, begun, title, answer, rest)
+    let mut text = String::new(rt.alloc());
+    let end = received_from(rt.alloc(), &mut text, acts, hex);
+    check_lines(rt, title, hex, text.as_str(), "user 1 5 ", answer);
+    play_from(rt, end, title, rest)
 }
 
 // The PDU of a script's first line, what that is answered, and the lines behind it.
@@ -215,22 +235,23 @@ pub(crate) fn request(alloc: Global, class: Class, file: &[u8]) -> Result<PutReq
     PutRequest::new(alloc, EntityId(1), class, b"a", b"b", &[], file)
 }
 
-/// The sender that a Put opens, with what that is answered.
+/// The sender that a Put opens. What that is answered goes to the text.
 pub(crate) fn sending(
     alloc: Global,
+    text: &mut String,
     request: &PutRequest,
     params: Params,
-) -> Result<(End, Answer), Refusal> {
+) -> Result<End, Refusal> {
     let (mut core, plan) = SenderCore::open(alloc, SENT, request, params)?;
-    let answer = core.commit(plan);
-    Ok((End::Sends(core), answer))
+    push_answer(alloc, text, SENT, core.commit(plan))?;
+    Ok(End::Sends(core))
 }
 
 // The same, of the Put of a file.
-fn sent_from(alloc: Global, class: Class, file: &[u8]) -> Option<(End, String)> {
+fn sent_from(alloc: Global, text: &mut String, class: Class, file: &[u8]) -> Option<End> {
     let params = params(&[], &[])?;
     let request = request(alloc, class, file).ok()?;
-    told(alloc, sending(alloc, &request, params).ok()?)
+    sending(alloc, text, &request, params).ok()
 }
 
 /// Plays what follows the Put of a file, which is answered by Transaction alone.
@@ -241,6 +262,20 @@ pub(crate) fn sends<R: AllocGlobal + Abort>(
     file: &[u8],
     script: &str,
 ) -> Result<(), Fail> {
-    let begun = sent_from(rt.alloc(), class, file).ok_or("the Put opens a transaction")?;
-    play_from(rt, begun, title, "Transaction", script)
+    let mut text = String::new(rt.alloc());
+    let end = sent_from(rt.alloc(), &mut text, class, file);
+    check_lines(
+        rt,
+        title,
+        "the Put",
+        text.as_str(),
+        "user 2 4 ",
+        "ok; Transaction",
+    );
+    play_from(rt, end, title, script)
+}
+
+/// Whether nothing is opened, since a file is too large.
+pub(crate) fn is_too_large(opened: &Result<End, Refusal>) -> bool {
+    matches!(opened, Err(Refusal::TooLarge))
 }

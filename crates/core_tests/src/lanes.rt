@@ -11,13 +11,14 @@ use crate::desk::{Desk, new_desk, step, take};
 use crate::ends::{request, row_of};
 use crate::events::{event_of, pdu_of};
 use crate::setting::params;
-use crate::texts::{answer_text, bundle_text, image_text, refused, refused_by_lane};
+use crate::texts::{check_lines, push_image, push_step};
+use answer_texts::{push_bundle, push_refusal, push_refused};
 use cfdp_types::{Class, EntityId, TxnKey};
-use indications::{Bundle, Indications};
+use indications::Bundle;
 use std::alloc::{AllocError, Global};
 use std::process::Abort;
 use std::test::*;
-use txn_events::{Answer, Event, What};
+use txn_events::{Event, What};
 use txn_lane::{Done, Lane, Numbers, Refused};
 use user_queues::ListQueue;
 
@@ -43,8 +44,8 @@ pub(crate) fn sending_lane(alloc: Global, first: u64) -> Lane
     Lane::sending(alloc, 0, 0, EntityId(2), numbers, 255)
 }
 
-// A lane that receives, with room for so many bundles.
-fn receiving(alloc: Global, capacity: usize) -> Option<Desk>
+/// A lane that receives, with room for so many bundles.
+pub(crate) fn receiving(alloc: Global, capacity: usize) -> Option<Desk>
     ensures { IfSome result (λ desk. Fits desk.lane desk.number desk.queue) }
 {
     let lane = receiving_lane(alloc)?;
@@ -52,8 +53,8 @@ fn receiving(alloc: Global, capacity: usize) -> Option<Desk>
     Some(new_desk(lane, 2, queue))
 }
 
-// A lane that sends, with room for so many bundles.
-fn sending(alloc: Global, capacity: usize, first: u64) -> Option<Desk>
+/// A lane that sends, with room for so many bundles.
+pub(crate) fn sending(alloc: Global, capacity: usize, first: u64) -> Option<Desk>
     ensures { IfSome result (λ desk. Fits desk.lane desk.number desk.queue) }
 {
     let queue = ListQueue::new(alloc, 0, 4, capacity).ok()?;
@@ -127,96 +128,84 @@ pub(crate) fn event(alloc: Global, line: &str) -> Option<Event>
     on(key, event_of(alloc, what)?)
 }
 
-// What is given where the event is taken.
-fn done_text(alloc: Global, done: Done) -> Result<String, AllocError> {
-    let Done {
-        key,
-        pdus,
-        timers,
-        deposit,
-    } = done;
-    let inds = Indications::new(alloc);
-    let answer = Answer {
-        inds,
-        pdus,
-        timers,
-        deposit,
-    };
-    answer_text(alloc, key, &answer)
-}
-
 /// What a step gives, or why the event is not taken.
-pub(crate) fn stepped(alloc: Global, answer: Result<Done, Refused>) -> Result<String, AllocError> {
+pub(crate) fn push_stepped(
+    alloc: Global,
+    text: &mut String,
+    answer: &Result<Done, Refused>,
+) -> Result<(), AllocError> {
     match answer {
-        Ok(done) => done_text(alloc, done),
-        Err(refused) => refused_by_lane(alloc, &refused),
+        Ok(done) => push_step(alloc, text, done),
+        Err(refused) => push_refused(alloc, text, refused),
     }
 }
 
-// What an event gives.
-fn given(alloc: Global, desk: &mut Desk, event: Event) -> Result<String, AllocError>
-    requires keyed { IsKeyed event }
-    requires fits { Fits desk.old.lane desk.old.number desk.old.queue }
-    ensures { Fits desk.new.lane desk.new.number desk.new.queue }
-{
-    stepped(alloc, step(desk, &event))
-}
-
-// What the user takes.
-fn taken(alloc: Global, desk: &mut Desk) -> Result<String, AllocError>
-    requires { Fits desk.old.lane desk.old.number desk.old.queue }
-    ensures { Fits desk.new.lane desk.new.number desk.new.queue }
-{
-    taken_text(alloc, take(desk))
-}
-
-/// The text of what is taken.
-pub(crate) fn taken_text(alloc: Global, taken: Option<Bundle>) -> Result<String, AllocError> {
+/// What is taken.
+pub(crate) fn push_taken(
+    alloc: Global,
+    text: &mut String,
+    taken: &Option<Bundle>,
+) -> Result<(), AllocError> {
     match taken {
-        None => String::from_str(alloc, "none"),
-        Some(bundle) => bundle_text(alloc, &bundle),
+        None => text.push_str("none"),
+        Some(bundle) => push_bundle(alloc, text, "user", bundle),
     }
 }
 
 // The file of a key and a stamp.
-fn image(alloc: Global, desk: &Desk, words: &str) -> Option<String> {
+fn push_file(alloc: Global, text: &mut String, lane: &Lane, words: &str) -> Option<()> {
     let (key, stamp) = split_key(words)?;
-    match desk.lane.image(key, stamp.parse().ok()?) {
-        Err(why) => refused(alloc, why).ok(),
-        Ok(image) => image_text(alloc, &image).ok(),
+    match lane.image(key, stamp.parse().ok()?) {
+        Err(why) => push_refusal(text, why.number(), why.name()).ok(),
+        Ok(image) => push_image(alloc, text, &image).ok(),
     }
 }
 
 /// Which transaction a lane runs or ran last, how many events it took, and how much it told.
-pub(crate) fn last(alloc: Global, lane: &Lane) -> Result<String, AllocError> {
+pub(crate) fn push_last(text: &mut String, lane: &Lane) -> Result<(), AllocError> {
     let entries = lane.journal().len();
     let told = lane.trace().len();
-    let mut text = String::new(alloc);
     match lane.key() {
-        None => write!(text, "none")?,
+        None => text.push_str("none"),
         Some(key) => {
             let seq = key.seq;
-            write!(text, "{seq} {entries} {told}")?;
+            write!(text, "{seq} {entries} {told}")
         }
     }
-    Ok(text)
+}
+
+// What the user takes.
+fn push_take(alloc: Global, text: &mut String, desk: &mut Desk) -> Option<()>
+    requires { Fits desk.old.lane desk.old.number desk.old.queue }
+    ensures { Fits desk.new.lane desk.new.number desk.new.queue }
+{
+    push_taken(alloc, text, &take(desk)).ok()
+}
+
+// What an event gives.
+fn push_event(alloc: Global, text: &mut String, desk: &mut Desk, line: &str) -> Option<()>
+    requires { Fits desk.old.lane desk.old.number desk.old.queue }
+    ensures { Fits desk.new.lane desk.new.number desk.new.queue }
+{
+    let event = event(alloc, line)?;
+    push_stepped(alloc, text, &step(desk, &event)).ok()
 }
 
 // What a line gives, if it is one.
-fn line(alloc: Global, desk: &mut Desk, line: &str) -> Option<String>
+fn push_line(alloc: Global, text: &mut String, desk: &mut Desk, line: &str) -> Option<()>
     requires { Fits desk.old.lane desk.old.number desk.old.queue }
     ensures { Fits desk.new.lane desk.new.number desk.new.queue }
 {
     if line == "take" {
-        return taken(alloc, desk).ok();
+        return push_take(alloc, text, desk);
     }
     if line == "last" {
-        return last(alloc, &desk.lane).ok();
+        return push_last(text, &desk.lane).ok();
     }
-    if let Some(words) = line.strip_prefix("image ") {
-        return image(alloc, desk, words);
+    match line.strip_prefix("image ") {
+        Some(words) => push_file(alloc, text, &desk.lane, words),
+        None => push_event(alloc, text, desk, line),
     }
-    given(alloc, desk, event(alloc, line)?).ok()
 }
 
 fn play<R: AllocGlobal + Abort>(rt: &R, desk: &mut Desk, script: &str) -> Result<(), Fail>
@@ -238,14 +227,32 @@ fn play_row<R: AllocGlobal + Abort>(rt: &R, desk: &mut Desk, row: &str) -> Resul
 {
     let (count, event, answer) = row_of(row).ok_or(NO_LINE)?;
     for _ in 0..count {
-        let given = line(rt.alloc(), desk, event).ok_or(NO_LINE)?;
-        assert_eq!(rt; given.as_str(), answer, "at {event}");
+        play_event(rt, desk, event, answer)?;
     }
     Ok(())
 }
 
-// Plays a script at a lane, if it could be made.
-fn play_at<R: AllocGlobal + Abort>(rt: &R, desk: Option<Desk>, script: &str) -> Result<(), Fail>
+fn play_event<R: AllocGlobal + Abort>(
+    rt: &R,
+    desk: &mut Desk,
+    event: &str,
+    answer: &str,
+) -> Result<(), Fail>
+    requires { Fits desk.old.lane desk.old.number desk.old.queue }
+    ensures { Fits desk.new.lane desk.new.number desk.new.queue }
+{
+    let mut given = String::new(rt.alloc());
+    push_line(rt.alloc(), &mut given, desk, event).ok_or(NO_LINE)?;
+    check_lines(rt, "a lane", event, given.as_str(), "", answer);
+    Ok(())
+}
+
+/// Plays a script at a lane, if it could be made.
+pub(crate) fn play_at<R: AllocGlobal + Abort>(
+    rt: &R,
+    desk: Option<Desk>,
+    script: &str,
+) -> Result<(), Fail>
     requires { IfSome desk (λ desk. Fits desk.lane desk.number desk.queue) }
 {
     match desk {
@@ -262,46 +269,46 @@ fn a_lane_that_receives(rt: HostRuntime) -> Result<(), Fail> {
         receiving(rt.alloc(), 8),
         "
         last: none
-        put 1 616263: refused WrongState
-        1 5 report: refused NoTransaction
-        pdu 24000a0001050207000040000101610162: refused TooLarge
+        put 1 616263: refused 8 WrongState
+        1 5 report: refused 1 NoTransaction
+        pdu 24000a0001050207000040000101610162: refused 10 TooLarge
         last: none
-        pdu 24000a0001050207000000000301610162: arm inactivity 0 4000
-        pdu 3400070001050200000000616263: arm inactivity 1 4000
-        put 1 616263: refused LaneBusy
-        pdu 24000a0001070207000000000301610162: refused LaneBusy
-        1 7 report: refused NoTransaction
-        3 5 report: refused NoTransaction
-        pdu 3000070001050200000000616263: refused ModeMismatch
-        1 5 timer inactivity 0: refused StaleTimer
-        1 5 stored 1 yes: refused StaleStored
-        1 5 pump: refused WrongState
-        image 1 5 2: refused StaleStored
-        pdu 24000a0001050204006162630000000003: disarm inactivity 2; deposit 2
-        1 5 cancel: refused Storing
+        pdu 24000a0001050207000000000301610162: ok; arm inactivity 0 4000
+        pdu 3400070001050200000000616263: ok; arm inactivity 1 4000
+        put 1 616263: refused 3 LaneBusy
+        pdu 24000a0001070207000000000301610162: refused 3 LaneBusy
+        1 7 report: refused 1 NoTransaction
+        3 5 report: refused 1 NoTransaction
+        pdu 3000070001050200000000616263: refused 4 ModeMismatch
+        1 5 timer inactivity 0: refused 5 StaleTimer
+        1 5 stored 1 yes: refused 6 StaleStored
+        1 5 pump: refused 8 WrongState
+        image 1 5 2: refused 6 StaleStored
+        pdu 24000a0001050204006162630000000003: ok; deposit 2; disarm inactivity 2
+        1 5 cancel: refused 7 Storing
         image 1 5 2: image 61 62 616263
-        image 1 5 1: refused StaleStored
-        image 1 6 2: refused StaleStored
-        image 3 5 2: refused StaleStored
-        1 5 stored 2 yes: nothing
+        image 1 5 1: refused 6 StaleStored
+        image 1 6 2: refused 6 StaleStored
+        image 3 5 2: refused 6 StaleStored
+        1 5 stored 2 yes: ok
         last: 5 4 4
-        take: 1 5; Metadata-Recv 1 3 61 62
-        take: 1 5; File-Segment-Recv 0 3
-        take: 1 5; EOF-Recv
-        take: 1 5; Finished 0 Complete Retained
+        take: user 1 5 Metadata-Recv 1 3 61 62
+        take: user 1 5 File-Segment-Recv 0 3
+        take: user 1 5 EOF-Recv
+        take: user 1 5 Transaction-Finished 0 complete retained
         take: none
-        pdu 24000a0001050207000000000301610162: refused OldTransaction
-        pdu 20000a0001050204006162630000000003: refused OldTransaction; echo 28000300010502064002
-        put 1 616263: refused WrongState
-        pdu 24000a0001070207000000000301610162: arm inactivity 0 4000
-        1 5 report: refused OldTransaction
+        pdu 24000a0001050207000000000301610162: refused 2 OldTransaction
+        pdu 20000a0001050204006162630000000003: refused 2 OldTransaction; echo 28000300010502064002
+        put 1 616263: refused 8 WrongState
+        pdu 24000a0001070207000000000301610162: ok; arm inactivity 0 4000
+        1 5 report: refused 2 OldTransaction
         last: 7 1 1
-        1 7 report: nothing
-        1 7 cancel: disarm inactivity 2
-        take: 1 7; Metadata-Recv 1 3 61 62
-        take: 1 7; Report Active 0
-        take: 1 7; Finished 15 Incomplete Discarded
-        pdu 24000a0001060207000000000301610162: refused OldTransaction
+        1 7 report: ok
+        1 7 cancel: ok; disarm inactivity 2
+        take: user 1 7 Metadata-Recv 1 3 61 62
+        take: user 1 7 Report active 0
+        take: user 1 7 Transaction-Finished 15 incomplete discarded
+        pdu 24000a0001060207000000000301610162: refused 2 OldTransaction
         ",
     )
 }
@@ -313,13 +320,13 @@ fn a_full_queue(rt: HostRuntime) -> Result<(), Fail> {
         &rt,
         receiving(rt.alloc(), 1),
         "
-        pdu 24000a0001050207000000000001610162: arm inactivity 0 4000
-        pdu 24000a0001050204000000000000000000: refused QueueFull
+        pdu 24000a0001050207000000000001610162: ok; arm inactivity 0 4000
+        pdu 24000a0001050204000000000000000000: refused 13 QueueFull
         last: 5 1 1
-        pdu 3400040001050200000000: arm inactivity 1 4000
-        take: 1 5; Metadata-Recv 1 0 61 62
-        pdu 24000a0001050204000000000000000000: disarm inactivity 2; deposit 2
-        take: 1 5; EOF-Recv
+        pdu 3400040001050200000000: ok; arm inactivity 1 4000
+        take: user 1 5 Metadata-Recv 1 0 61 62
+        pdu 24000a0001050204000000000000000000: ok; deposit 2; disarm inactivity 2
+        take: user 1 5 EOF-Recv
         take: none
         ",
     )
@@ -332,21 +339,21 @@ fn a_suspended_reception(rt: HostRuntime) -> Result<(), Fail> {
         &rt,
         receiving(rt.alloc(), 8),
         "
-        pdu 20000a0001050207000000000301610162: arm inactivity 0 4000
-        pdu 20000a0001050204006162630000000003: 28000300010502064001; 280011000105020800000000000000030000000000000003; arm nak 1 2000; arm inactivity 1 4000
-        1 5 suspend: disarm nak 2; disarm inactivity 2
-        pdu 3000070001050200000000616263: nothing
-        1 5 resume: deposit 4
-        1 5 stored 4 no: 280005000105020545060102; arm ack 5 1000
-        pdu 20000300010502065102: disarm ack 6
+        pdu 20000a0001050207000000000301610162: ok; arm inactivity 0 4000
+        pdu 20000a0001050204006162630000000003: ok; pdu 28000300010502064001; pdu 280011000105020800000000000000030000000000000003; arm nak 1 2000; arm inactivity 1 4000
+        1 5 suspend: ok; disarm nak 2; disarm inactivity 2
+        pdu 3000070001050200000000616263: ok
+        1 5 resume: ok; deposit 4
+        1 5 stored 4 no: ok; pdu 280005000105020545060102; arm ack 5 1000
+        pdu 20000300010502065102: ok; disarm ack 6
         last: 5 7 6
-        pdu 20000300010502065102: refused OldTransaction
-        take: 1 5; Metadata-Recv 1 3 61 62
-        take: 1 5; EOF-Recv
-        take: 1 5; Suspended 14
-        take: 1 5; File-Segment-Recv 0 3
-        take: 1 5; Resumed 3
-        take: 1 5; Finished 4 Incomplete Rejected
+        pdu 20000300010502065102: refused 2 OldTransaction
+        take: user 1 5 Metadata-Recv 1 3 61 62
+        take: user 1 5 EOF-Recv
+        take: user 1 5 Suspended 14
+        take: user 1 5 File-Segment-Recv 0 3
+        take: user 1 5 Resumed 3
+        take: user 1 5 Transaction-Finished 4 incomplete rejected
         take: none
         ",
     )
@@ -359,35 +366,35 @@ fn a_lane_that_sends(rt: HostRuntime) -> Result<(), Fail> {
         &rt,
         sending(rt.alloc(), 2, 1),
         "
-        2 4 pump: refused NoTransaction
-        put 2 616263: nothing
-        put 1 -: refused LaneBusy
-        2 8 pump: refused NoTransaction
-        1 4 pump: refused NoTransaction
-        2 4 pump: 20000a0002040107000000000301610162
-        2 4 pump: 3000070002040100000000616263
-        2 4 pump: 20000a0002040104006162630000000003; arm ack 3 1000
-        2 4 pump: refused WrongState
-        2 4 report: refused QueueFull
-        pdu 280011000204010800000000000000030000000100000002: nothing
-        2 4 pump: 300005000204010000000162
-        pdu 28000300020401064001: disarm ack 6; arm inactivity 6 4000
-        pdu 280002000204010502: refused QueueFull
-        take: 2 4; Transaction
-        pdu 280002000204010502: 20000300020401065102; disarm inactivity 7
-        take: 2 4; EOF-Sent
-        take: 2 4; Finished 0 Complete Retained
+        2 4 pump: refused 1 NoTransaction
+        put 2 616263: ok
+        put 1 -: refused 3 LaneBusy
+        2 8 pump: refused 1 NoTransaction
+        1 4 pump: refused 1 NoTransaction
+        2 4 pump: ok; pdu 20000a0002040107000000000301610162
+        2 4 pump: ok; pdu 3000070002040100000000616263
+        2 4 pump: ok; pdu 20000a0002040104006162630000000003; arm ack 3 1000
+        2 4 pump: refused 8 WrongState
+        2 4 report: refused 13 QueueFull
+        pdu 280011000204010800000000000000030000000100000002: ok
+        2 4 pump: ok; pdu 300005000204010000000162
+        pdu 28000300020401064001: ok; disarm ack 6; arm inactivity 6 4000
+        pdu 280002000204010502: refused 13 QueueFull
+        take: user 2 4 Transaction
+        pdu 280002000204010502: ok; pdu 20000300020401065102; disarm inactivity 7
+        take: user 2 4 EOF-Sent
+        take: user 2 4 Transaction-Finished 0 complete retained
         take: none
         last: 4 8 3
-        pdu 280002000204010502: refused OldTransaction; echo 20000300020401065102
-        2 4 pump: refused OldTransaction
-        image 2 4 0: refused StaleStored
-        put 1 -: nothing
+        pdu 280002000204010502: refused 2 OldTransaction; echo 20000300020401065102
+        2 4 pump: refused 2 OldTransaction
+        image 2 4 0: refused 6 StaleStored
+        put 1 -: ok
         last: 8 1 1
-        2 8 suspend: nothing
-        2 8 pump: refused WrongState
-        take: 2 8; Transaction
-        take: 2 8; Suspended 14
+        2 8 suspend: ok
+        2 8 pump: refused 8 WrongState
+        take: user 2 8 Transaction
+        take: user 2 8 Suspended 14
         ",
     )
 }
@@ -399,11 +406,11 @@ fn the_last_number(rt: HostRuntime) -> Result<(), Fail> {
         &rt,
         sending(rt.alloc(), 1, 63),
         "
-        put 1 -: nothing
-        take: 2 252; Transaction
-        2 252 cancel: 24000d0002fc0104f00000000000000000060102
-        take: 2 252; Finished 15 Incomplete Unreported
-        put 1 -: refused SeqExhausted
+        put 1 -: ok
+        take: user 2 252 Transaction
+        2 252 cancel: ok; pdu 24000d0002fc0104f00000000000000000060102
+        take: user 2 252 Transaction-Finished 15 incomplete unreported
+        put 1 -: refused 9 SeqExhausted
         last: 252 2 2
         ",
     )
@@ -416,14 +423,14 @@ fn a_full_journal(rt: HostRuntime) -> Result<(), Fail> {
         &rt,
         sending(rt.alloc(), 65_533, 1),
         "
-        put 2 616263: nothing
-        take: 2 4; Transaction
-        65533 times 2 4 report: nothing
-        65533 times take: 2 4; Report Active 0
-        2 4 pump: refused JournalFull
-        2 4 report: refused JournalFull
-        2 4 abandon: nothing
-        take: 2 4; Abandoned 15 0
+        put 2 616263: ok
+        take: user 2 4 Transaction
+        65533 times 2 4 report: ok
+        65533 times take: user 2 4 Report active 0
+        2 4 pump: refused 11 JournalFull
+        2 4 report: refused 11 JournalFull
+        2 4 abandon: ok
+        take: user 2 4 Abandoned 15 0
         last: 4 65535 65535
         ",
     )

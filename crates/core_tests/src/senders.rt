@@ -1,10 +1,9 @@
 //! Senders: what follows the Put of a file.
-use crate::ends::{request, sending, sends};
+use crate::ends::{is_too_large, request, sending, sends};
 use crate::setting::params;
 use cfdp_types::Class;
 use std::alloc::Global;
 use std::test::*;
-use txn_events::Refusal;
 
 // Each with what it is about and its class: the Put of three octets is answered, and this follows.
 const SCRIPTS: &[(&str, Class, &str)] = &[
@@ -12,9 +11,9 @@ const SCRIPTS: &[(&str, Class, &str)] = &[
         "a file in class one",
         Class::One,
         "
-        pump: 24000a0002040107000000000301610162
-        pump: 3400070002040100000000616263
-        pump: 24000a0002040104006162630000000003; EOF-Sent; Finished 0 Incomplete Unreported
+        pump: ok; pdu 24000a0002040107000000000301610162
+        pump: ok; pdu 3400070002040100000000616263
+        pump: ok; pdu 24000a0002040104006162630000000003; EOF-Sent; Transaction-Finished 0 incomplete unreported
         pump: ended
         ",
     ),
@@ -23,13 +22,13 @@ const SCRIPTS: &[(&str, Class, &str)] = &[
         "cancelled",
         Class::Two,
         "
-        pump: 20000a0002040107000000000301610162
-        pump: 3000070002040100000000616263
-        cancel: 20000d0002040104f06162630000000003060102; arm ack 3 1000
-        cancel: refused WrongState
-        timer ack 3: 20000d0002040104f06162630000000003060102; arm ack 4 1000
-        timer ack 3: refused StaleTimer
-        timer ack 4: Finished 15 Incomplete Unreported; disarm ack 5
+        pump: ok; pdu 20000a0002040107000000000301610162
+        pump: ok; pdu 3000070002040100000000616263
+        cancel: ok; pdu 20000d0002040104f06162630000000003060102; arm ack 3 1000
+        cancel: refused 8 WrongState
+        timer ack 3: ok; pdu 20000d0002040104f06162630000000003060102; arm ack 4 1000
+        timer ack 3: refused 5 StaleTimer
+        timer ack 4: ok; Transaction-Finished 15 incomplete unreported; disarm ack 5
         cancel: ended
         ",
     ),
@@ -37,13 +36,13 @@ const SCRIPTS: &[(&str, Class, &str)] = &[
         "suspended and resumed",
         Class::Two,
         "
-        resume: refused WrongState
-        suspend: Suspended 14
-        pump: refused WrongState
-        suspend: refused WrongState
-        report: Report Suspended 0
-        resume: Resumed 0
-        pump: 20000a0002040107000000000301610162
+        resume: refused 8 WrongState
+        suspend: ok; Suspended 14
+        pump: refused 8 WrongState
+        suspend: refused 8 WrongState
+        report: ok; Report suspended 0
+        resume: ok; Resumed 0
+        pump: ok; pdu 20000a0002040107000000000301610162
         ",
     ),
     // A segment is asked for again, and the receiver says that it keeps the file.
@@ -51,14 +50,14 @@ const SCRIPTS: &[(&str, Class, &str)] = &[
         "a file in class two",
         Class::Two,
         "
-        pump: 20000a0002040107000000000301610162
-        pump: 3000070002040100000000616263
-        pump: 20000a0002040104006162630000000003; EOF-Sent; arm ack 3 1000
-        pump: refused WrongState
-        pdu 280011000204010800000000000000030000000100000002: nothing
-        pump: 300005000204010000000162
-        pdu 28000300020401064001: disarm ack 6; arm inactivity 6 4000
-        pdu 280002000204010502: 20000300020401065102; Finished 0 Complete Retained; disarm inactivity 7
+        pump: ok; pdu 20000a0002040107000000000301610162
+        pump: ok; pdu 3000070002040100000000616263
+        pump: ok; pdu 20000a0002040104006162630000000003; EOF-Sent; arm ack 3 1000
+        pump: refused 8 WrongState
+        pdu 280011000204010800000000000000030000000100000002: ok
+        pump: ok; pdu 300005000204010000000162
+        pdu 28000300020401064001: ok; disarm ack 6; arm inactivity 6 4000
+        pdu 280002000204010502: ok; pdu 20000300020401065102; Transaction-Finished 0 complete retained; disarm inactivity 7
         pump: ended
         ",
     ),
@@ -67,13 +66,13 @@ const SCRIPTS: &[(&str, Class, &str)] = &[
         "never acknowledged",
         Class::Two,
         "
-        pump: 20000a0002040107000000000301610162
-        pump: 3000070002040100000000616263
-        pump: 20000a0002040104006162630000000003; EOF-Sent; arm ack 3 1000
-        timer ack 3: 20000a0002040104006162630000000003; arm ack 4 1000
-        timer ack 4: 20000d0002040104106162630000000003060102; arm ack 5 1000
-        pump: refused WrongState
-        pdu 28000300020401064011: Finished 1 Incomplete Unreported; disarm ack 6
+        pump: ok; pdu 20000a0002040107000000000301610162
+        pump: ok; pdu 3000070002040100000000616263
+        pump: ok; pdu 20000a0002040104006162630000000003; EOF-Sent; arm ack 3 1000
+        timer ack 3: ok; pdu 20000a0002040104006162630000000003; arm ack 4 1000
+        timer ack 4: ok; pdu 20000d0002040104106162630000000003060102; arm ack 5 1000
+        pump: refused 8 WrongState
+        pdu 28000300020401064011: ok; Transaction-Finished 1 incomplete unreported; disarm ack 6
         pump: ended
         ",
     ),
@@ -82,12 +81,12 @@ const SCRIPTS: &[(&str, Class, &str)] = &[
         "what is refused",
         Class::Two,
         "
-        pdu 28000300020401064001: refused WrongState
-        pdu 2c0002000204010502: refused ModeMismatch
-        pdu 20000a0002040107000000000301610162: refused WrongState
-        stored 1 yes: refused StaleStored
-        timer ack 0: refused StaleTimer
-        abandon: Abandoned 15 0
+        pdu 28000300020401064001: refused 8 WrongState
+        pdu 2c0002000204010502: refused 4 ModeMismatch
+        pdu 20000a0002040107000000000301610162: refused 8 WrongState
+        stored 1 yes: refused 6 StaleStored
+        timer ack 0: refused 5 StaleTimer
+        abandon: ok; Abandoned 15 0
         abandon: ended
         ",
     ),
@@ -96,10 +95,10 @@ const SCRIPTS: &[(&str, Class, &str)] = &[
         "a full journal",
         Class::Two,
         "
-        65533 times report: Report Active 0
-        pump: refused JournalFull
-        report: refused JournalFull
-        abandon: Abandoned 15 0
+        65533 times report: ok; Report active 0
+        pump: refused 11 JournalFull
+        report: refused 11 JournalFull
+        abandon: ok; Abandoned 15 0
         abandon: ended
         ",
     ),
@@ -121,21 +120,21 @@ fn the_greatest_file(rt: HostRuntime) -> Result<(), Fail> {
         "the greatest file",
         Class::One,
         file.as_slice(),
-        "pump: 24000a0002040107000040000001610162",
+        "pump: ok; pdu 24000a0002040107000040000001610162",
     )
 }
 
 #[test]
 fn too_large_a_file(rt: HostRuntime) -> Result<(), Fail> {
     let file = vec![in rt.alloc(); 0; 4_194_305]?;
-    assert!(rt; is_too_large(rt.alloc(), file.as_slice()) == Some(true));
+    assert!(rt; is_refused(rt.alloc(), file.as_slice()) == Some(true));
     Ok(())
 }
 
 // Whether the Put of a file is refused, since that is too large.
-fn is_too_large(alloc: Global, file: &[u8]) -> Option<bool> {
+fn is_refused(alloc: Global, file: &[u8]) -> Option<bool> {
     let params = params(&[], &[])?;
     let request = request(alloc, Class::One, file).ok()?;
-    let opened = sending(alloc, &request, params);
-    Some(matches!(opened, Err(Refusal::TooLarge)))
+    let mut text = String::new(alloc);
+    Some(is_too_large(&sending(alloc, &mut text, &request, params)))
 }

@@ -1,209 +1,73 @@
-//! What an event is answered, as a text: the PDUs in hex, the indications, what is done with the timers
-//! and the stamp of the deposit, with semicolons between; or why it is refused.
-use cfdp_types::{Condition, Deposit, Image, Octets, TimerKind, TimerOp, TxnKey};
-use indications::{Bundle, Indication};
-use pdu_codec::encode;
-use pdu_values::Pdu;
+//! What an event is answered, line by line: what is sent and handed out, what the user is told, and what is done with
+//! the timers; or why it is refused. Each function adds to a text.
+use answer_texts::{push_bundle, push_done};
+use cfdp_types::{Deposit, Image, Octets, TimerKind, TimerOp, TxnKey};
+use indications::Bundle;
+use lane_table::Done;
 use std::alloc::{AllocError, Global};
-use txn_events::{Answer, Refusal};
-use txn_lane::Refused;
+use std::process::Abort;
+use txn_events::Answer;
 
-/// The text of a refusal.
-pub(crate) fn refused(alloc: Global, refusal: Refusal) -> Result<String, AllocError> {
-    let mut text = String::new(alloc);
-    write!(text, "refused {refusal:?}")?;
-    Ok(text)
-}
-
-/// The text of a file: its two names and its octets, in hex.
-pub(crate) fn image_text(alloc: Global, image: &Image) -> Result<String, AllocError> {
-    let mut text = String::from_str(alloc, "image")?;
-    push_octets(alloc, &mut text, &image.source_name)?;
-    push_octets(alloc, &mut text, &image.destination_name)?;
-    push_octets(alloc, &mut text, &image.octets)?;
-    Ok(text)
-}
-
-/// The text of an answer of the transaction with a key.
-pub(crate) fn answer_text(
-    alloc: Global,
-    key: TxnKey,
-    answer: &Answer,
-) -> Result<String, AllocError> {
-    let mut text = String::new(alloc);
-    push_answer(alloc, &mut text, key, answer)?;
-    Ok(text)
-}
-
-fn push_answer(
+/// The lines for an answer of the transaction with a key.
+pub(crate) fn push_answer(
     alloc: Global,
     text: &mut String,
     key: TxnKey,
-    answer: &Answer,
+    answer: Answer,
 ) -> Result<(), AllocError> {
-    push_pdus(alloc, text, answer.pdus.as_slice())?;
-    push_indications(alloc, text, answer.inds.as_slice())?;
-    push_timers(text, key, answer.timers.as_slice())?;
-    match answer.deposit {
-        Some(deposit) => push_deposit(text, key, deposit),
-        None => Ok(()),
-    }
+    let Answer {
+        inds,
+        pdus,
+        timers,
+        deposit,
+    } = answer;
+    let done = Done {
+        key,
+        pdus,
+        timers,
+        deposit,
+    };
+    let told = Bundle {
+        user: 0,
+        lane: 0,
+        key,
+        inds,
+    };
+    push_both(alloc, text, &done, &told)
 }
 
-fn push_pdus(alloc: Global, text: &mut String, pdus: &[Pdu]) -> Result<(), AllocError> {
-    for pdu in pdus {
-        separate(text)?;
-        push_pdu(alloc, text, pdu)?;
-    }
-    Ok(())
-}
-
-fn push_deposit(text: &mut String, key: TxnKey, deposit: Deposit) -> Result<(), AllocError> {
-    separate(text)?;
-    let stamp = deposit.stamp;
-    write!(text, "deposit {stamp}")?;
-    push_owner(text, key, deposit.key)
-}
-
-/// The text of a bundle: the key of its transaction, and what it tells.
-pub(crate) fn bundle_text(alloc: Global, bundle: &Bundle) -> Result<String, AllocError> {
-    let mut text = String::new(alloc);
-    let source = bundle.key.source.0;
-    let seq = bundle.key.seq;
-    write!(text, "{source} {seq}")?;
-    push_indications(alloc, &mut text, bundle.inds.as_slice())?;
-    Ok(text)
-}
-
-/// The text of a refusal, with its echo.
-pub(crate) fn refused_by_lane(alloc: Global, refused: &Refused) -> Result<String, AllocError> {
-    let why = refused.why;
-    let mut text = String::new(alloc);
-    write!(text, "refused {why:?}")?;
-    if let Some(echo) = &refused.echo {
-        text.push_str("; echo ")?;
-        push_pdu(alloc, &mut text, echo)?;
-    }
-    Ok(text)
-}
-
-// Parts an item from the one before.
-fn separate(text: &mut String) -> Result<(), AllocError> {
-    if text.is_empty() {
-        Ok(())
-    } else {
-        text.push_str("; ")
-    }
-}
-
-fn push_pdu(alloc: Global, text: &mut String, pdu: &Pdu) -> Result<(), AllocError> {
-    let mut octets = Vec::new(alloc);
-    encode(pdu, &mut octets)?;
-    let hex = hex::encode(alloc, octets.as_slice())?;
-    text.push_str(hex.as_str())
-}
-
-fn push_indications(
+fn push_both(
     alloc: Global,
     text: &mut String,
-    inds: &[Indication],
+    done: &Done,
+    told: &Bundle,
 ) -> Result<(), AllocError> {
-    for indication in inds {
-        separate(text)?;
-        push_indication(alloc, text, indication)?;
+    push_done(alloc, text, false, done)?;
+    push_bundle(alloc, text, "user", told)?;
+    push_timers(text, done)
+}
+
+/// The lines for a step of a lane.
+pub(crate) fn push_step(alloc: Global, text: &mut String, done: &Done) -> Result<(), AllocError> {
+    push_done(alloc, text, false, done)?;
+    push_timers(text, done)
+}
+
+fn push_timers(text: &mut String, done: &Done) -> Result<(), AllocError> {
+    if is_of_other(done.key, done.deposit) {
+        text.push_str("the deposit is another's\n")?;
+    }
+    for op in done.timers.as_slice() {
+        push_timer(text, done.key, op)?;
     }
     Ok(())
 }
 
-fn push_indication(alloc: Global, text: &mut String, told: &Indication) -> Result<(), AllocError> {
-    match told {
-        Indication::Transaction => text.push_str("Transaction"),
-        Indication::EofSent => text.push_str("EOF-Sent"),
-        Indication::EofRecv => text.push_str("EOF-Recv"),
-        Indication::TransactionFinished {
-            condition,
-            delivery,
-            status,
-        } => {
-            let code = condition.code();
-            write!(text, "Finished {code} {delivery:?} {status:?}")
-        }
-        Indication::MetadataRecv {
-            source,
-            size,
-            source_name,
-            destination_name,
-            messages,
-        } => {
-            let source = source.0;
-            write!(text, "Metadata-Recv {source} {size}")?;
-            push_names(alloc, text, source_name, destination_name)?;
-            push_all_octets(alloc, text, messages.as_slice())
-        }
-        Indication::FileSegmentRecv { offset, length } => {
-            write!(text, "File-Segment-Recv {offset} {length}")
-        }
-        Indication::Suspended { condition } => push_condition(text, "Suspended", *condition),
-        Indication::Resumed { progress } => write!(text, "Resumed {progress}"),
-        Indication::Report { phase, progress } => write!(text, "Report {phase:?} {progress}"),
-        Indication::Fault {
-            condition,
-            progress,
-        } => push_stopped(text, "Fault", *condition, *progress),
-        Indication::Abandoned {
-            condition,
-            progress,
-        } => push_stopped(text, "Abandoned", *condition, *progress),
+fn is_of_other(key: TxnKey, deposit: Option<Deposit>) -> bool {
+    match deposit {
+        None => false,
+        Some(deposit) => deposit.key != key,
     }
-}
-
-fn push_condition(text: &mut String, name: &str, condition: Condition) -> Result<(), AllocError> {
-    let code = condition.code();
-    write!(text, "{name} {code}")
-}
-
-fn push_stopped(
-    text: &mut String,
-    name: &str,
-    condition: Condition,
-    progress: u32,
-) -> Result<(), AllocError> {
-    let code = condition.code();
-    write!(text, "{name} {code} {progress}")
-}
-
-fn push_names(
-    alloc: Global,
-    text: &mut String,
-    source: &Octets,
-    destination: &Octets,
-) -> Result<(), AllocError> {
-    push_octets(alloc, text, source)?;
-    push_octets(alloc, text, destination)
-}
-
-fn push_all_octets(alloc: Global, text: &mut String, all: &[Octets]) -> Result<(), AllocError> {
-    for octets in all {
-        push_octets(alloc, text, octets)?;
-    }
-    Ok(())
-}
-
-// A space and octets in hex, or a dash for none.
-fn push_octets(alloc: Global, text: &mut String, octets: &Octets) -> Result<(), AllocError> {
-    if octets.as_slice().is_empty() {
-        return text.push_str(" -");
-    }
-    let hex = hex::encode(alloc, octets.as_slice())?;
-    write!(text, " {hex}")
-}
-
-fn push_timers(text: &mut String, key: TxnKey, ops: &[TimerOp]) -> Result<(), AllocError> {
-    for op in ops {
-        separate(text)?;
-        push_timer(text, key, op)?;
-    }
-    Ok(())
 }
 
 fn push_timer(text: &mut String, key: TxnKey, op: &TimerOp) -> Result<(), AllocError> {
@@ -213,21 +77,34 @@ fn push_timer(text: &mut String, key: TxnKey, op: &TimerOp) -> Result<(), AllocE
             kind,
             stamp,
             ms,
-        } => {
-            let name = name_of(*kind);
-            write!(text, "arm {name} {stamp} {ms}")?;
-            push_owner(text, key, *owner)
-        }
+        } => push_arm(text, *kind, *stamp, *ms, whose(key, *owner)),
         TimerOp::Disarm {
             key: owner,
             kind,
             stamp,
-        } => {
-            let name = name_of(*kind);
-            write!(text, "disarm {name} {stamp}")?;
-            push_owner(text, key, *owner)
-        }
+        } => push_disarm(text, *kind, *stamp, whose(key, *owner)),
     }
+}
+
+fn push_arm(
+    text: &mut String,
+    kind: TimerKind,
+    stamp: u32,
+    ms: u32,
+    whose: &str,
+) -> Result<(), AllocError> {
+    let name = name_of(kind);
+    writeln!(text, "arm {name} {stamp} {ms}{whose}")
+}
+
+fn push_disarm(
+    text: &mut String,
+    kind: TimerKind,
+    stamp: u32,
+    whose: &str,
+) -> Result<(), AllocError> {
+    let name = name_of(kind);
+    writeln!(text, "disarm {name} {stamp}{whose}")
 }
 
 fn name_of(kind: TimerKind) -> &'static str {
@@ -240,10 +117,60 @@ fn name_of(kind: TimerKind) -> &'static str {
 }
 
 // Says so where something is another transaction's.
-fn push_owner(text: &mut String, key: TxnKey, owner: TxnKey) -> Result<(), AllocError> {
-    if owner == key {
-        Ok(())
-    } else {
-        write!(text, " of {owner:?}")
+fn whose(key: TxnKey, owner: TxnKey) -> &'static str {
+    if owner == key { "" } else { " of another" }
+}
+
+/// The line for a file: its two names and its octets, in hex.
+pub(crate) fn push_image(
+    alloc: Global,
+    text: &mut String,
+    image: &Image,
+) -> Result<(), AllocError> {
+    text.push_str("image")?;
+    push_octets(alloc, text, &image.source_name)?;
+    push_octets(alloc, text, &image.destination_name)?;
+    push_octets(alloc, text, &image.octets)
+}
+
+// A space and octets in hex, or a dash for none.
+fn push_octets(alloc: Global, text: &mut String, octets: &Octets) -> Result<(), AllocError> {
+    if octets.as_slice().is_empty() {
+        return text.push_str(" -");
+    }
+    let hex = hex::encode(alloc, octets.as_slice())?;
+    write!(text, " {hex}")
+}
+
+/// Compares what an event gives with these lines.
+pub(crate) fn check_lines<R: Abort>(
+    rt: &R,
+    title: &str,
+    event: &str,
+    given: &str,
+    head: &str,
+    expected: &str,
+) {
+    assert!(rt;
+        has_lines(given, head, expected),
+        "{title}, at {event}: {given}"
+    );
+}
+
+// Whether a text has just these lines, with semicolons between; they leave out the head of those for a user.
+fn has_lines(text: &str, head: &str, expected: &str) -> bool {
+    let mut lines = text.lines();
+    for part in expected.split("; ") {
+        if !is_line(lines.next(), head, part) {
+            return false;
+        }
+    }
+    lines.next().is_none()
+}
+
+fn is_line(line: Option<&str>, head: &str, expected: &str) -> bool {
+    match line {
+        None => false,
+        Some(line) => line.strip_prefix(head).unwrap_or(line) == expected,
     }
 }

@@ -1,8 +1,5 @@
-use Rattle.core_tests.specs.Desks.{Fits, SharedFits}
+use Rattle.core_tests.specs.Desks.{SharedFits}
 use Rattle.core_tests.proofs.both_queues.play.Given as goal
 
 abbrev pub invariant-loop-row : goal.invariant-loop-row
-invariant-loop-row g l = record {
-  list : Fits l.both.list.lane l.both.list.number l.both.list.queue;
-  shared : SharedFits l.both.shared.lane l.both.shared.outlet;
-}
+invariant-loop-row g l = SharedFits l.desk.lane l.desk.outlet
