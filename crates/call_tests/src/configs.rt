@@ -1,8 +1,8 @@
 use cfdp_types::{
     Condition, EntityId, ExpirationLimits, FaultTable, FaultTables, Handler, Role, TimerLengths,
 };
-use entity_config::{Config, ConfigFault, Key, Setting, read_config};
-use std::alloc::{AllocError, Global};
+use entity_config::{Config, ConfigFault, Key, Remote, Setting, read_config};
+use std::alloc::Global;
 use std::test::*;
 
 mod texts;
@@ -41,7 +41,7 @@ fn reference(rt: HostRuntime) -> Result<(), Fail> {
     let config = Config::reference(rt.alloc())?;
     assert!(rt; has_its_users(&config));
     assert!(rt; has_its_remote(&config));
-    assert_eq!(rt; config.entity().local, EntityId(2));
+    assert!(rt; config.entity().local == EntityId(2));
     Ok(())
 }
 
@@ -62,12 +62,21 @@ fn example(rt: HostRuntime) -> Result<(), Fail> {
     let config = read_config(rt.alloc(), EXAMPLE)?;
     assert!(rt; has_its_users(&config));
     assert!(rt; has_its_remote(&config));
-    let remote = config.remote_at(0).ok_or("no remote entity")?;
-    assert_eq!(rt; (remote.id, remote.user), (EntityId(1), Some(0)));
-    assert!(rt; are_seconds(remote.params.timers()));
-    assert!(rt; are_limits(remote.params.limits(), 2, 2, 2));
-    assert!(rt; are_handlers_of_example(remote.params.tables()));
+    assert!(rt; has_example(config.remote_at(0)));
     Ok(())
+}
+
+// Whether a remote entity is that of the example.
+fn has_example(remote: Option<Remote>) -> bool {
+    match remote {
+        None => false,
+        Some(remote) => {
+            (remote.id, remote.user) == (EntityId(1), Some(0))
+                && are_seconds(remote.params.timers())
+                && are_limits(remote.params.limits(), 2, 2, 2)
+                && are_handlers_of_example(remote.params.tables())
+        }
+    }
 }
 
 #[test]
@@ -75,57 +84,70 @@ fn reference_as_text(rt: HostRuntime) -> Result<(), Fail> {
     let config = read_config(rt.alloc(), REFERENCE)?;
     assert!(rt; has_its_users(&config));
     assert!(rt; has_its_remote(&config));
-    let reference = Config::reference(rt.alloc())?;
-    assert!(rt; config.entity() == reference.entity());
-    assert!(rt; config.remote_at(0) == reference.remote_at(0));
+    assert!(rt; is_same(&config, &Config::reference(rt.alloc())?));
     Ok(())
 }
 
-fn put_all(text: &mut String, parts: &[&str]) -> Result<(), AllocError> {
-    for part in parts {
-        text.push_str(part)?;
+fn is_same(config: &Config, other: &Config) -> bool {
+    config.entity() == other.entity() && config.remote_at(0) == other.remote_at(0)
+}
+
+// The text of the reference where one part is changed.
+fn changed(alloc: Global, old: &str, new: &str) -> Option<String> {
+    let (before, after) = REFERENCE.split_once(old)?;
+    let mut text = String::from_str(alloc, before).ok()?;
+    text.push_str(new).ok()?;
+    text.push_str(after).ok()?;
+    Some(text)
+}
+
+fn has_fault(alloc: Global, text: Option<String>, fault: ConfigFault) -> bool {
+    match text {
+        Some(text) => read_config(alloc, text.as_str()).err() == Some(fault),
+        None => false,
     }
-    Ok(())
-}
-
-// The fault where one part of the reference's text is changed.
-fn fault_with(alloc: Global, old: &str, new: &str) -> Result<Option<ConfigFault>, Fail> {
-    let (before, after) = REFERENCE.split_once(old).ok_or("nothing to change")?;
-    let mut text = String::new(alloc);
-    put_all(&mut text, &[before, new, after])?;
-    Ok(read_config(alloc, text.as_str()).err())
 }
 
 #[test]
-fn faults(rt: HostRuntime) -> Result<(), Fail> {
+fn faults(rt: HostRuntime) {
     for (old, new, fault) in FAULTS {
-        assert_eq!(rt; fault_with(rt.alloc(), old, new)?, Some(*fault), "{new}");
+        assert!(rt;
+            has_fault(rt.alloc(), changed(rt.alloc(), old, new), *fault),
+            "{new}"
+        );
     }
-    Ok(())
+}
+
+// The text of the reference with eight more sources for alice.
+fn with_nine_sources(alloc: Global) -> Option<String> {
+    let mut text = String::from_str(alloc, REFERENCE).ok()?;
+    for id in 3..11u8 {
+        write!(text, "[[remote]]\nid = {id}{ONE_MORE}").ok()?;
+    }
+    Some(text)
 }
 
 #[test]
-fn ninth_source(rt: HostRuntime) -> Result<(), Fail> {
-    let mut text = String::from_str(rt.alloc(), REFERENCE)?;
-    for id in ["3", "4", "5", "6", "7", "8", "9", "10"] {
-        put_all(&mut text, &["[[remote]]\nid = ", id, ONE_MORE])?;
-    }
-    let fault = read_config(rt.alloc(), text.as_str()).err();
-    assert_eq!(rt; fault, Some(ConfigFault::TooManySources));
-    Ok(())
+fn ninth_source(rt: HostRuntime) {
+    let fault = ConfigFault::TooManySources;
+    assert!(rt; has_fault(rt.alloc(), with_nine_sources(rt.alloc()), fault));
 }
 
-fn printed(alloc: Global, fault: ConfigFault) -> Result<String, AllocError> {
-    fault.to_string(alloc)
+fn is_printed(alloc: Global, fault: ConfigFault, expected: &str) -> bool {
+    match fault.to_string(alloc) {
+        Ok(text) => text.as_str() == expected,
+        Err(_) => false,
+    }
 }
 
 #[test]
-fn printed_faults(rt: HostRuntime) -> Result<(), Fail> {
+fn printed_faults(rt: HostRuntime) {
     for (fault, number, text) in PRINTED {
-        assert_eq!(rt; fault.number(), *number);
-        assert_eq!(rt; printed(rt.alloc(), *fault)?.as_str(), *text);
+        assert!(rt;
+            fault.number() == *number && is_printed(rt.alloc(), *fault, text),
+            "{text}"
+        );
     }
-    Ok(())
 }
 
 const SETTINGS: [(Setting, Result<(), ConfigFault>); 8] = [
@@ -151,16 +173,32 @@ const SETTINGS: [(Setting, Result<(), ConfigFault>); 8] = [
     ),
 ];
 
+// Whether each setting is answered as it should be.
+fn are_set(config: &mut Config) -> bool {
+    for (setting, outcome) in SETTINGS {
+        if config.set(setting) != outcome {
+            return false;
+        }
+    }
+    true
+}
+
+// Whether a configuration has what was set.
+fn has_settings(config: &Config) -> bool {
+    match config.remote_at(0) {
+        None => false,
+        Some(remote) => {
+            let table = remote.params.tables().receive_two;
+            are_limits(remote.params.limits(), 255, 2, 3)
+                && table.action(Condition::NAK_LIMIT) == Handler::Suspend
+        }
+    }
+}
+
 #[test]
 fn settings(rt: HostRuntime) -> Result<(), Fail> {
     let mut config = Config::reference(rt.alloc())?;
-    for (setting, outcome) in SETTINGS {
-        assert_eq!(rt; config.set(setting), outcome, "{setting:?}");
-    }
-    assert_eq!(rt; (config.entity().capacity, config.entity().first), (1, 63));
-    let remote = config.remote_at(0).ok_or("no remote entity")?;
-    assert!(rt; are_limits(remote.params.limits(), 255, 2, 3));
-    let table = remote.params.tables().receive_two;
-    assert_eq!(rt; table.action(Condition::NAK_LIMIT), Handler::Suspend);
+    assert!(rt; are_set(&mut config) && has_settings(&config));
+    assert!(rt; (config.entity().capacity, config.entity().first) == (1, 63));
     Ok(())
 }

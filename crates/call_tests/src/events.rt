@@ -2,6 +2,7 @@ use cfdp_types::limits::FILE_OCTETS;
 use cfdp_types::{Class, Condition, EntityId, TimerKind, TimerLengths, TimerOp, TxnKey};
 use indications::Indication;
 use pdu_values::{Body, Direction, Eof, Header, KeepAlive, Pdu};
+use std::alloc::{AllocError, Global};
 use std::test::*;
 use txn_events::{
     CountResets, Event, Pdus, Refusal, Stamps, TimerChange, TimerChanges, TimerContext, TimerOps,
@@ -28,12 +29,10 @@ fn keep_alive() -> Pdu {
     Pdu::keep_alive(header, KeepAlive { progress: 3 })
 }
 
-#[test]
-fn pdus_in_order(rt: HostRuntime) -> Result<(), Fail> {
-    let mut pdus = Pdus::new(rt.alloc());
+fn pdus_in_order(alloc: Global) -> Result<bool, AllocError> {
+    let mut pdus = Pdus::new(alloc);
     pdus.push(keep_alive())?;
-    assert_eq!(rt; pdus.as_slice().len(), 1);
-    Ok(())
+    Ok(pdus.as_slice().len() == 1)
 }
 
 // Whether an event is a PDU, is one of the other class in class 1 and in class 2, and needs room.
@@ -45,8 +44,7 @@ fn asked(event: What) -> [bool; 4] {
     [is_pdu(&event), other[0], other[1], needs_room(&event)]
 }
 
-#[test]
-fn asked_of_events(rt: HostRuntime) {
+fn asked_of_events() -> bool {
     let answers = [
         asked(What::Pdu(keep_alive())),
         asked(What::Report),
@@ -59,7 +57,7 @@ fn asked_of_events(rt: HostRuntime) {
         [false; 4],
         [false; 4],
     ];
-    assert!(rt; answers == expected);
+    answers == expected
 }
 
 // An EOF of a file that is too large.
@@ -77,32 +75,27 @@ fn asked_of(body: Body) -> [bool; 2] {
     [body_opens(&body), is_body_too_large(&body)]
 }
 
-#[test]
-fn asked_of_bodies(rt: HostRuntime) {
+fn asked_of_bodies() -> bool {
     let answers = [
         asked_of(large_eof(Condition::NO_ERROR)),
         asked_of(large_eof(Condition::CANCEL_REQUEST)),
         asked_of(Body::KeepAlive(KeepAlive { progress: 3 })),
     ];
-    assert!(rt; answers == [[true, true], [true, false], [false, false]]);
+    answers == [[true, true], [true, false], [false, false]]
 }
 
-#[test]
-fn a_size_that_fits(rt: HostRuntime) {
-    assert!(rt; !is_too_large(&What::Pdu(keep_alive())));
+fn a_size_that_fits() -> bool {
+    !is_too_large(&What::Pdu(keep_alive()))
 }
 
-#[test]
-fn refusals(rt: HostRuntime) {
+fn refusals() -> bool {
     let shown = (Refusal::QueueFull.number(), Refusal::StaleStored.name());
-    assert_eq!(rt; shown, (13, "StaleStored"));
+    shown == (13, "StaleStored")
 }
 
-#[test]
-fn copies(rt: HostRuntime) -> Result<(), Fail> {
+fn copies() -> Result<bool, AllocError> {
     let copy = Event::On(KEY, What::Stored(3, true)).copy()?;
-    assert!(rt; answered(&copy) == Some((5, 3, true)));
-    Ok(())
+    Ok(answered(&copy) == Some((5, 3, true)))
 }
 
 // Of which transaction a deposit is answered, with which stamp, and whether it is kept.
@@ -126,23 +119,21 @@ fn asked_of_timer(kind: TimerKind, stamp: u32) -> [bool; 2] {
     ]
 }
 
-#[test]
-fn asked_of_timers(rt: HostRuntime) {
+fn asked_of_timers() -> bool {
     let answers = [
         asked_of_timer(TimerKind::Nak, 4),
         asked_of_timer(TimerKind::Nak, 3),
         asked_of_timer(TimerKind::Ack, 4),
     ];
-    assert!(rt; answers == [[true, false], [true, true], [false, true]]);
+    answers == [[true, false], [true, true], [false, true]]
 }
 
-#[test]
-fn stamps_of_timers(rt: HostRuntime) {
+fn stamps_of_timers() -> bool {
     let armed = Stamps {
         nak: Some(4),
         ..Stamps::NONE
     };
-    assert!(rt; armed.of(TimerKind::Nak) == Some(4) && armed.of(TimerKind::Ack).is_none());
+    armed.of(TimerKind::Nak) == Some(4) && armed.of(TimerKind::Ack).is_none()
 }
 
 // Whether what is told suspends a transaction that was not suspended, or was, and tells of a fault or of
@@ -153,8 +144,7 @@ fn asked_of_telling(told: Indication) -> [bool; 4] {
     [paused[0], paused[1], has_fault(&told), has_resumed(&told)]
 }
 
-#[test]
-fn asked_of_indications(rt: HostRuntime) {
+fn asked_of_indications() -> bool {
     let answers = [
         asked_of_telling(Indication::Suspended {
             condition: Condition::SUSPEND_REQUEST,
@@ -170,7 +160,7 @@ fn asked_of_indications(rt: HostRuntime) {
         [false, true, true, false],
         [false, false, false, true],
     ];
-    assert!(rt; answers == expected);
+    answers == expected
 }
 
 const ONCE: Tries = Tries {
@@ -183,25 +173,22 @@ const NO_RESETS: CountResets = CountResets {
     nak: false,
 };
 
-#[test]
-fn counts(rt: HostRuntime) {
+fn counts() -> bool {
     let expired = What::Timer(TimerKind::Nak, 4);
-    assert!(rt; Tries::NONE.after(&expired, &[], NO_RESETS) == ONCE);
+    Tries::NONE.after(&expired, &[], NO_RESETS) == ONCE
 }
 
-#[test]
-fn counts_begin_again(rt: HostRuntime) {
+fn counts_begin_again() -> bool {
     let resets = CountResets {
         nak: true,
         ..NO_RESETS
     };
-    assert!(rt; ONCE.after(&What::Report, &[], resets) == Tries::NONE);
+    ONCE.after(&What::Report, &[], resets) == Tries::NONE
 }
 
-#[test]
-fn counts_after_a_resumption(rt: HostRuntime) {
+fn counts_after_a_resumption() -> bool {
     let resumed = [Indication::Resumed { progress: 3 }];
-    assert!(rt; ONCE.after(&What::Resume, &resumed, NO_RESETS) == Tries::NONE);
+    ONCE.after(&What::Resume, &resumed, NO_RESETS) == Tries::NONE
 }
 
 const ARM: TimerOp = TimerOp::Arm {
@@ -231,18 +218,16 @@ const CHANGES: TimerChanges = TimerChanges {
     inactivity: TimerChange::Stops,
 };
 
-#[test]
-fn stamps_after_a_step(rt: HostRuntime) {
+fn stamps_after_a_step() -> bool {
     let after = Stamps {
         ack: Some(7),
         nak: None,
         ..BEFORE
     };
-    assert!(rt; BEFORE.after(CHANGES, 7) == after);
+    BEFORE.after(CHANGES, 7) == after
 }
 
-#[test]
-fn timers_of_a_step(rt: HostRuntime) -> Result<(), Fail> {
+fn timers_of_a_step(alloc: Global) -> Result<bool, AllocError> {
     let context = TimerContext {
         key: KEY,
         lengths: TimerLengths {
@@ -253,16 +238,28 @@ fn timers_of_a_step(rt: HostRuntime) -> Result<(), Fail> {
         },
         stamp: 7,
     };
-    let ops = operations(rt.alloc(), &context, CHANGES, &BEFORE)?;
-    assert!(rt; ops.as_slice() == [ARM, DISARM].as_slice());
-    Ok(())
+    let ops = operations(alloc, &context, CHANGES, &BEFORE)?;
+    Ok(ops.as_slice() == [ARM, DISARM].as_slice())
+}
+
+fn operations_in_order(alloc: Global) -> Result<bool, AllocError> {
+    let mut ops = TimerOps::new(alloc);
+    ops.push(DISARM)?;
+    ops.push(ARM)?;
+    Ok(ops.as_slice() == [DISARM, ARM].as_slice())
 }
 
 #[test]
-fn operations_in_order(rt: HostRuntime) -> Result<(), Fail> {
-    let mut ops = TimerOps::new(rt.alloc());
-    ops.push(DISARM)?;
-    ops.push(ARM)?;
-    assert!(rt; ops.as_slice() == [DISARM, ARM].as_slice());
+fn calls(rt: HostRuntime) -> Result<(), Fail> {
+    assert!(rt;
+        pdus_in_order(rt.alloc())? && asked_of_events() && asked_of_bodies() && a_size_that_fits()
+    );
+    assert!(rt; refusals() && copies()? && asked_of_timers() && stamps_of_timers());
+    assert!(rt;
+        asked_of_indications() && counts() && counts_begin_again() && counts_after_a_resumption()
+    );
+    assert!(rt;
+        stamps_after_a_step() && timers_of_a_step(rt.alloc())? && operations_in_order(rt.alloc())?
+    );
     Ok(())
 }

@@ -27,31 +27,30 @@ fn lacks(gaps: &Gaps, limit: u32, runs: &[Run]) -> Result<bool, AllocError> {
     Ok(missing.as_slice() == runs)
 }
 
-#[test]
-fn range_over_two_runs(rt: HostRuntime) -> Result<(), Fail> {
-    let mut gaps = set_of(rt.alloc(), &[run(0, 4), run(8, 12)])?;
+fn range_over_two_runs(alloc: Global) -> Result<bool, AllocError> {
+    let mut gaps = set_of(alloc, &[run(0, 4), run(8, 12)])?;
     let copied = gaps.copy()?;
-    assert!(rt; adds(&mut gaps, 2, 10, &[run(4, 8)])?);
-    assert!(rt; lacks(&gaps, 13, &[run(12, 13)])?);
-    assert!(rt; lacks(&copied, 13, &[run(4, 8), run(12, 13)])?);
-    Ok(())
+    Ok(
+        adds(&mut gaps, 2, 10, &[run(4, 8)])?
+            && lacks(&gaps, 13, &[run(12, 13)])?
+            && lacks(&copied, 13, &[run(4, 8), run(12, 13)])?,
+    )
 }
 
-#[test]
-fn range_over_all(rt: HostRuntime) -> Result<(), Fail> {
-    let mut gaps = set_of(rt.alloc(), &[run(0, 2), run(4, 6)])?;
-    assert!(rt; adds(&mut gaps, 0, 8, &[run(2, 4), run(6, 8)])?);
-    assert!(rt; gaps.is_full(8) && gaps.extent() == 8);
-    Ok(())
+fn range_over_all(alloc: Global) -> Result<bool, AllocError> {
+    let mut gaps = set_of(alloc, &[run(0, 2), run(4, 6)])?;
+    Ok(adds(&mut gaps, 0, 8, &[run(2, 4), run(6, 8)])? && gaps.is_full(8) && gaps.extent() == 8)
 }
 
-#[test]
-fn nothing(rt: HostRuntime) -> Result<(), Fail> {
-    let mut gaps = Gaps::new(rt.alloc());
-    assert!(rt; adds(&mut gaps, 7, 7, &[])?);
-    assert!(rt; gaps.extent() == 0 && gaps.is_full(0) && !gaps.is_full(1));
-    assert!(rt; lacks(&gaps, 3, &[run(0, 3)])?);
-    Ok(())
+fn nothing(alloc: Global) -> Result<bool, AllocError> {
+    let mut gaps = Gaps::new(alloc);
+    Ok(
+        adds(&mut gaps, 7, 7, &[])?
+            && gaps.extent() == 0
+            && gaps.is_full(0)
+            && !gaps.is_full(1)
+            && lacks(&gaps, 3, &[run(0, 3)])?,
+    )
 }
 
 // Adds one offset. Where the first try is refused memory, nothing has changed and the second goes well.
@@ -78,18 +77,20 @@ fn refused_memory(rt: HostRuntime) -> Result<(), Fail> {
     Ok(())
 }
 
-#[test]
-fn parts_in_room(rt: HostRuntime) -> Result<(), Fail> {
-    let mut gaps = Gaps::with_room(rt.alloc(), 1)?;
+fn parts_in_room(alloc: Global) -> Result<bool, AllocError> {
+    let mut gaps = Gaps::with_room(alloc, 1)?;
     gaps.add(2, 8);
     gaps.reserve(2)?;
     gaps.add(10, 12);
     gaps.remove(3, 5);
-    assert!(rt; lacks(&gaps, 12, &[run(0, 2), run(3, 5), run(8, 10)])?);
-    assert!(rt; would_add(&gaps, 6, 11, &[run(8, 10)])?);
-    assert!(rt; lacks_first(&gaps, 2, &[run(0, 2), run(3, 5)])?);
-    assert!(rt; gaps.is_free(8, 10) && !gaps.is_free(8, 11) && !gaps.is_free(7, 8));
-    Ok(())
+    Ok(
+        lacks(&gaps, 12, &[run(0, 2), run(3, 5), run(8, 10)])?
+            && would_add(&gaps, 6, 11, &[run(8, 10)])?
+            && lacks_first(&gaps, 2, &[run(0, 2), run(3, 5)])?
+            && gaps.is_free(8, 10)
+            && !gaps.is_free(8, 11)
+            && !gaps.is_free(7, 8),
+    )
 }
 
 // Whether a range would add just these runs.
@@ -104,9 +105,8 @@ fn lacks_first(gaps: &Gaps, count: usize, runs: &[Run]) -> Result<bool, AllocErr
     Ok(missing.as_slice() == runs)
 }
 
-#[test]
-fn first_runs(rt: HostRuntime) -> Result<(), Fail> {
-    let gaps = set_of(rt.alloc(), &[run(2, 6), run(8, 12)])?;
+fn first_runs(alloc: Global) -> Result<bool, AllocError> {
+    let gaps = set_of(alloc, &[run(2, 6), run(8, 12)])?;
     let cases = [
         (0, 20, Some(run(2, 6))),
         (4, 5, Some(run(4, 5))),
@@ -115,9 +115,11 @@ fn first_runs(rt: HostRuntime) -> Result<(), Fail> {
         (12, 20, None),
     ];
     for (offset, limit, first) in cases {
-        assert_eq!(rt; gaps.first_from(offset, limit), first, "from {offset}");
+        if gaps.first_from(offset, limit) != first {
+            return Ok(false);
+        }
     }
-    Ok(())
+    Ok(true)
 }
 
 // Moves to a set with more room, where there is one.
@@ -128,12 +130,13 @@ fn moved(gaps: &mut Gaps, count: usize) -> Result<bool, AllocError> {
     Ok(is_spare)
 }
 
-#[test]
-fn spare_room(rt: HostRuntime) -> Result<(), Fail> {
-    let mut gaps = set_of(rt.alloc(), &[run(2, 6), run(8, 12)])?;
-    assert!(rt; moved(&mut gaps, 100)? && !moved(&mut gaps, 100)?);
-    assert!(rt; lacks(&gaps, 13, &[run(0, 2), run(6, 8), run(12, 13)])?);
-    Ok(())
+fn spare_room(alloc: Global) -> Result<bool, AllocError> {
+    let mut gaps = set_of(alloc, &[run(2, 6), run(8, 12)])?;
+    Ok(
+        moved(&mut gaps, 100)?
+            && !moved(&mut gaps, 100)?
+            && lacks(&gaps, 13, &[run(0, 2), run(6, 8), run(12, 13)])?,
+    )
 }
 
 // Whether a range leaves just these runs missing below 20, and the first of them where one is wanted.
@@ -143,26 +146,42 @@ fn lacks_with(gaps: &Gaps, start: u32, end: u32, runs: &[Run]) -> Result<bool, A
     Ok(missing.as_slice() == runs && first.as_slice().first() == runs.first())
 }
 
-#[test]
-fn ranges_that_are_not_added(rt: HostRuntime) -> Result<(), Fail> {
-    let gaps = set_of(rt.alloc(), &[run(0, 4), run(8, 12)])?;
-    assert!(rt; lacks_with(&gaps, 5, 10, &[run(4, 5), run(12, 20)])?);
-    assert!(rt; lacks_with(&gaps, 6, 6, &[run(4, 8), run(12, 20)])?);
-    assert!(rt; gaps.is_full_with(4, 8, 12) && !gaps.is_full_with(4, 8, 13));
-    assert!(rt; !gaps.is_full_with(5, 8, 12) && gaps.is_full_with(5, 8, 4));
-    Ok(())
+fn ranges_that_are_not_added(alloc: Global) -> Result<bool, AllocError> {
+    let gaps = set_of(alloc, &[run(0, 4), run(8, 12)])?;
+    Ok(
+        lacks_with(&gaps, 5, 10, &[run(4, 5), run(12, 20)])?
+            && lacks_with(&gaps, 6, 6, &[run(4, 8), run(12, 20)])?
+            && gaps.is_full_with(4, 8, 12)
+            && !gaps.is_full_with(4, 8, 13)
+            && !gaps.is_full_with(5, 8, 12)
+            && gaps.is_full_with(5, 8, 4),
+    )
 }
 
 // Offsets that come from the last to the first, each a run of its own.
-#[test]
-fn falling_offsets(rt: HostRuntime) -> Result<(), Fail> {
-    let mut gaps = Gaps::new(rt.alloc());
+fn falling_offsets(alloc: Global) -> Result<bool, AllocError> {
+    let mut gaps = Gaps::new(alloc);
     for number in 0..20_000u32 {
         let offset = 2 * (20_000 - number);
         gaps.reserve(1)?;
         gaps.add(offset, offset + 1);
     }
-    assert_eq!(rt; gaps.missing(40_001)?.len(), 20_000);
-    assert_eq!(rt; gaps.extent(), 40_001);
+    Ok(gaps.missing(40_001)?.len() == 20_000 && gaps.extent() == 40_001)
+}
+
+#[test]
+fn sets(rt: HostRuntime) -> Result<(), Fail> {
+    assert!(rt;
+        first_runs(rt.alloc())?
+            && range_over_two_runs(rt.alloc())?
+            && range_over_all(rt.alloc())?
+            && nothing(rt.alloc())?
+    );
+    assert!(rt;
+        parts_in_room(rt.alloc())?
+            && spare_room(rt.alloc())?
+            && ranges_that_are_not_added(rt.alloc())?
+            && falling_offsets(rt.alloc())?
+    );
     Ok(())
 }

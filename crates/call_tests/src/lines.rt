@@ -1,7 +1,7 @@
 use script_io::{LINE_OCTETS, NextLine, ReplayFault, conclude, in_blocks, next_line, write_whole};
+use std::alloc::Global;
 use std::io;
 use std::io::{BufRead, Error, ErrorKind, Read, Write};
-use std::process::Abort;
 use std::test::*;
 
 // A reader that is interrupted some times in a row before each read, and fails in place of its end where
@@ -56,28 +56,38 @@ impl Write for SlowWriter {
     }
 }
 
-// Reads one line after the other, and what comes behind them.
-fn check_lines<R: AllocGlobal + Abort, B: BufRead>(
-    rt: &R,
+// Whether a reader has these lines, and this comes behind them.
+fn has_lines<B: BufRead>(
+    alloc: Global,
     reader: &mut B,
     lines: &[&[u8]],
     ending: Result<NextLine, ReplayFault>,
-) {
-    let mut line = Vec::new(rt.alloc());
+) -> bool {
+    let mut line = Vec::new(alloc);
     for expected in lines {
-        assert!(rt; next_line(reader, &mut line) == Ok(NextLine::Line));
-        assert!(rt; line.as_slice() == *expected);
+        if next_line(reader, &mut line) != Ok(NextLine::Line) || line.as_slice() != *expected {
+            return false;
+        }
     }
-    assert!(rt; next_line(reader, &mut line) == ending);
+    next_line(reader, &mut line) == ending
 }
 
 #[test]
 fn lines(rt: HostRuntime) -> Result<(), Fail> {
     let mut blocks = in_blocks(rt.alloc(), b"a b\n\n\r\nlast".as_slice())?;
     let lines = [b"a b".as_slice(), b"", b"\r", b"last"];
-    check_lines(&rt, &mut blocks, &lines, Ok(NextLine::End));
-    check_lines(&rt, &mut blocks, &[], Ok(NextLine::End));
+    assert!(rt; has_lines(rt.alloc(), &mut blocks, &lines, Ok(NextLine::End)));
+    assert!(rt; has_lines(rt.alloc(), &mut blocks, &[], Ok(NextLine::End)));
     Ok(())
+}
+
+fn slow(times: u32, is_broken: bool, rest: &[u8]) -> SlowReader<'_> {
+    SlowReader {
+        times,
+        left: times,
+        is_broken,
+        rest,
+    }
 }
 
 #[test]
@@ -86,38 +96,25 @@ fn interrupted_reads(rt: HostRuntime) -> Result<(), Fail> {
         (999_999, Ok(NextLine::Line)),
         (1_000_000, Err(ReplayFault::Read)),
     ] {
-        let reader = SlowReader {
-            times,
-            left: times,
-            is_broken: false,
-            rest: b"ab\n",
-        };
-        check_lines(&rt, &mut in_blocks(rt.alloc(), reader)?, &[], ending);
+        let mut blocks = in_blocks(rt.alloc(), slow(times, false, b"ab\n"))?;
+        assert!(rt; has_lines(rt.alloc(), &mut blocks, &[], ending), "{times}");
     }
     Ok(())
 }
 
 #[test]
 fn broken_reads(rt: HostRuntime) -> Result<(), Fail> {
-    let reader = SlowReader {
-        times: 0,
-        left: 0,
-        is_broken: true,
-        rest: b"ab\ncd",
-    };
-    let mut blocks = in_blocks(rt.alloc(), reader)?;
-    check_lines(&rt, &mut blocks, &[b"ab"], Err(ReplayFault::Read));
-    check_lines(&rt, &mut blocks, &[], Err(ReplayFault::Read));
+    let mut blocks = in_blocks(rt.alloc(), slow(0, true, b"ab\ncd"))?;
+    assert!(rt; has_lines(rt.alloc(), &mut blocks, &[b"ab"], Err(ReplayFault::Read)));
+    assert!(rt; has_lines(rt.alloc(), &mut blocks, &[], Err(ReplayFault::Read)));
     Ok(())
 }
 
-// What a text of one line gives.
-fn check_long<R: AllocGlobal + Abort>(rt: &R, text: &[u8], expected: NextLine) -> Result<(), Fail> {
-    let mut blocks = in_blocks(rt.alloc(), text)?;
-    let mut line = Vec::new(rt.alloc());
-    assert!(rt; next_line(&mut blocks, &mut line) == Ok(expected));
-    assert!(rt; expected == NextLine::TooLong || line.len() == LINE_OCTETS);
-    Ok(())
+// Whether a text of one line gives this.
+fn gives<B: BufRead>(alloc: Global, reader: &mut B, expected: NextLine) -> bool {
+    let mut line = Vec::new(alloc);
+    next_line(reader, &mut line) == Ok(expected)
+        && (expected == NextLine::TooLong || line.len() == LINE_OCTETS)
 }
 
 #[test]
@@ -127,29 +124,40 @@ fn long_lines(rt: HostRuntime) -> Result<(), Fail> {
         (LINE_OCTETS + 1, NextLine::TooLong),
     ] {
         let mut text = vec![in rt.alloc(); b'x'; octets]?;
-        check_long(&rt, text.as_slice(), expected)?;
+        assert!(rt;
+            gives(
+                rt.alloc(),
+                &mut in_blocks(rt.alloc(), text.as_slice())?,
+                expected
+            )
+        );
         text.push(b'\n')?;
-        check_long(&rt, text.as_slice(), expected)?;
+        assert!(rt;
+            gives(
+                rt.alloc(),
+                &mut in_blocks(rt.alloc(), text.as_slice())?,
+                expected
+            )
+        );
     }
     Ok(())
 }
 
-// Writes a text to a writer with so much room, which is interrupted so often.
-fn check_write<R: AllocGlobal + Abort>(
-    rt: &R,
+// Whether this comes of writing a text to a writer with so much room, which is interrupted so often.
+fn writes_so(
+    alloc: Global,
     times: u32,
     room: usize,
     expected: Result<(), ReplayFault>,
     taken: &[u8],
-) {
+) -> bool {
     let mut writer = SlowWriter {
         times,
         left: times,
         room,
-        taken: Vec::new(rt.alloc()),
+        taken: Vec::new(alloc),
     };
-    assert!(rt; write_whole(&mut writer, b"hello") == expected);
-    assert!(rt; writer.taken.as_slice() == taken);
+    write_whole(&mut writer, b"hello") == expected && writer.taken.as_slice() == taken
 }
 
 #[test]
@@ -161,24 +169,26 @@ fn writes(rt: HostRuntime) {
         (999_999, 9, Ok(()), b"hello"),
         (1_000_000, 9, Err(ReplayFault::Write), b""),
     ] {
-        check_write(&rt, times, room, expected, taken);
+        assert!(rt;
+            writes_so(rt.alloc(), times, room, expected, taken),
+            "{times} {room}"
+        );
     }
 }
 
-// What the writer gets at the end of a run, what is told beside it, and the exit status.
-fn check_end<R: AllocGlobal + Abort>(
-    rt: &R,
+// Whether the writer gets this at the end of a run, this is told beside it, and this is the exit status.
+fn ends_so(
+    alloc: Global,
     ended: Result<(), ReplayFault>,
     printed: &str,
     told: &str,
     status: u8,
-) {
-    let mut writer = Vec::new(rt.alloc());
-    let mut errors = Vec::new(rt.alloc());
-    let answer = conclude(ended, &mut writer, &mut errors);
-    assert!(rt; writer.as_slice() == printed.as_bytes());
-    assert!(rt; errors.as_slice() == told.as_bytes());
-    assert!(rt; answer == status);
+) -> bool {
+    let mut writer = Vec::new(alloc);
+    let mut errors = Vec::new(alloc);
+    conclude(ended, &mut writer, &mut errors) == status
+        && writer.as_slice() == printed.as_bytes()
+        && errors.as_slice() == told.as_bytes()
 }
 
 #[test]
@@ -190,6 +200,9 @@ fn ends(rt: HostRuntime) {
         (Err(ReplayFault::Write), "", "write fault\n", 1),
         (Err(ReplayFault::NoMemory), "", "no memory\n", 1),
     ] {
-        check_end(&rt, ended, printed, told, status);
+        assert!(rt;
+            ends_so(rt.alloc(), ended, printed, told, status),
+            "{printed}{told}"
+        );
     }
 }

@@ -8,11 +8,10 @@ use pdu_values::{
 use std::alloc::{AllocError, Global};
 use std::test::*;
 
-#[test]
-fn codes(rt: HostRuntime) {
-    assert_eq!(rt; Directive::KeepAlive.code(), 12);
-    assert!(rt; Directive::with_code(12) == Some(Directive::KeepAlive));
-    assert!(rt; Directive::with_code(10).is_none());
+fn codes() -> bool {
+    Directive::KeepAlive.code() == 12
+        && Directive::with_code(12) == Some(Directive::KeepAlive)
+        && Directive::with_code(10).is_none()
 }
 
 const REQUESTS: [SegmentRequest; 2] = [
@@ -27,25 +26,19 @@ fn requests(alloc: Global) -> Result<SegmentRequests, AllocError> {
     Ok(requests)
 }
 
-#[test]
-fn requests_in_order(rt: HostRuntime) -> Result<(), Fail> {
-    let requests = requests(rt.alloc())?;
-    assert!(rt; requests.as_slice() == REQUESTS.as_slice());
-    Ok(())
+fn requests_in_order(alloc: Global) -> Result<bool, AllocError> {
+    let requests = requests(alloc)?;
+    Ok(requests.as_slice() == REQUESTS.as_slice())
 }
 
-#[test]
-fn copies_of_requests(rt: HostRuntime) -> Result<(), Fail> {
-    let copy = requests(rt.alloc())?.copy(rt.alloc())?;
-    assert!(rt; copy.as_slice() == REQUESTS.as_slice());
-    Ok(())
+fn copies_of_requests(alloc: Global) -> Result<bool, AllocError> {
+    let copy = requests(alloc)?.copy(alloc)?;
+    Ok(copy.as_slice() == REQUESTS.as_slice())
 }
 
-#[test]
-fn clones_of_requests(rt: HostRuntime) -> Result<(), Fail> {
-    let copy = requests(rt.alloc())?.clone()?;
-    assert!(rt; copy.as_slice() == REQUESTS.as_slice());
-    Ok(())
+fn clones_of_requests(alloc: Global) -> Result<bool, AllocError> {
+    let copy = requests(alloc)?.clone()?;
+    Ok(copy.as_slice() == REQUESTS.as_slice())
 }
 
 // class 2, from entity 1 to entity 2, transaction 5
@@ -64,36 +57,33 @@ fn is_back(pdu: Pdu) -> bool {
     pdu.is_toward_sender() && *pdu.header() == HEADER
 }
 
-#[test]
-fn finished_and_keep_alive(rt: HostRuntime) {
+fn finished_and_keep_alive() -> bool {
     let finished = Finished {
         condition: Condition::NO_ERROR,
         delivery: Delivery::Complete,
         status: FileStatus::Retained,
         location: None,
     };
-    assert!(rt; is_back(Pdu::finished(HEADER, finished)));
-    assert!(rt; is_back(Pdu::keep_alive(HEADER, KeepAlive { progress: 3 })));
+    is_back(Pdu::finished(HEADER, finished))
+        && is_back(Pdu::keep_alive(HEADER, KeepAlive { progress: 3 }))
 }
 
-#[test]
-fn ack(rt: HostRuntime) {
+fn ack() -> bool {
     let ack = Ack {
         of: Acknowledged::Eof,
         condition: Condition::NO_ERROR,
         status: TransactionStatus::Active,
     };
-    assert!(rt; is_back(Pdu::ack(HEADER, ack)));
+    is_back(Pdu::ack(HEADER, ack))
 }
 
-#[test]
-fn nak(rt: HostRuntime) {
+fn nak(alloc: Global) -> bool {
     let nak = Nak {
         start: 0,
         end: 9,
-        requests: SegmentRequests::new(rt.alloc()),
+        requests: SegmentRequests::new(alloc),
     };
-    assert!(rt; is_back(Pdu::nak(HEADER, nak)));
+    is_back(Pdu::nak(HEADER, nak))
 }
 
 // The checksum and the size of the file that an EOF ends.
@@ -104,15 +94,14 @@ fn ended(pdu: &Pdu) -> Option<(u32, u32)> {
     }
 }
 
-#[test]
-fn eof(rt: HostRuntime) {
+fn eof() -> bool {
     let eof = Eof {
         condition: Condition::NO_ERROR,
         checksum: 0x6162_6300,
         size: 3,
         location: None,
     };
-    assert!(rt; ended(&Pdu::eof(HEADER, eof)) == Some((0x6162_6300, 3)));
+    ended(&Pdu::eof(HEADER, eof)) == Some((0x6162_6300, 3))
 }
 
 fn file_data(alloc: Global) -> Result<Pdu, AllocError> {
@@ -128,47 +117,54 @@ fn is_file_data(pdu: &Pdu) -> bool {
     }
 }
 
-#[test]
-fn octets_of_a_file(rt: HostRuntime) -> Result<(), Fail> {
-    let pdu = file_data(rt.alloc())?;
-    assert!(rt; is_file_data(&pdu) && !pdu.is_toward_sender());
-    Ok(())
+fn octets_of_a_file(alloc: Global) -> Result<bool, AllocError> {
+    let pdu = file_data(alloc)?;
+    Ok(is_file_data(&pdu) && !pdu.is_toward_sender())
 }
 
-#[test]
-fn clones(rt: HostRuntime) -> Result<(), Fail> {
-    let copy = file_data(rt.alloc())?.clone()?;
-    assert!(rt; is_file_data(&copy));
-    Ok(())
+fn clones(alloc: Global) -> Result<bool, AllocError> {
+    let copy = file_data(alloc)?.clone()?;
+    Ok(is_file_data(&copy))
 }
 
-#[test]
-fn parts(rt: HostRuntime) {
+fn parts() -> bool {
     let (header, body) = Pdu::keep_alive(HEADER, KeepAlive { progress: 3 }).into_parts();
-    assert!(rt; header == HEADER && matches!(body, Body::KeepAlive(_)));
+    header == HEADER && matches!(body, Body::KeepAlive(_))
 }
 
-#[test]
-fn metadata(rt: HostRuntime) -> Result<(), Fail> {
+fn metadata(alloc: Global) -> Result<bool, AllocError> {
     let metadata = Metadata {
         closure: false,
         checksum_type: ChecksumType::MODULAR,
         size: 3,
-        source_name: Octets::from_slice(rt.alloc(), b"a")?,
-        destination_name: Octets::from_slice(rt.alloc(), b"b")?,
-        messages: Messages::new(rt.alloc()),
+        source_name: Octets::from_slice(alloc, b"a")?,
+        destination_name: Octets::from_slice(alloc, b"b")?,
+        messages: Messages::new(alloc),
     };
-    assert!(rt; !is_back(Pdu::metadata(HEADER, metadata)));
-    Ok(())
+    Ok(!is_back(Pdu::metadata(HEADER, metadata)))
 }
 
-#[test]
-fn lengths(rt: HostRuntime) {
+fn lengths() -> bool {
     let least = [
         octets_for(1, 255),
         octets_for(1, 256),
         octets_for(1, u64::MAX),
     ];
-    assert_eq!(rt; least, [1, 2, 8]);
-    assert_eq!(rt; octets_for(4, 256), 4);
+    least == [1, 2, 8] && octets_for(4, 256) == 4
+}
+
+#[test]
+fn calls(rt: HostRuntime) -> Result<(), Fail> {
+    assert!(rt;
+        codes()
+            && requests_in_order(rt.alloc())?
+            && copies_of_requests(rt.alloc())?
+            && clones_of_requests(rt.alloc())?
+    );
+    assert!(rt; finished_and_keep_alive() && ack() && nak(rt.alloc()) && eof());
+    assert!(rt;
+        octets_of_a_file(rt.alloc())? && clones(rt.alloc())? && parts() && metadata(rt.alloc())?
+    );
+    assert!(rt; lengths());
+    Ok(())
 }

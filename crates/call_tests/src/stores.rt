@@ -1,14 +1,17 @@
 use entity_workers::{Filestore, FolderStore, MemoryStore, StoreFault, StoredFile};
 use std::fs;
-use std::process::Abort;
 use std::rt::Files;
 use std::test::*;
+
+// Gives a store in memory a file.
+fn takes(store: &mut MemoryStore, name: &[u8], octets: &[u8]) -> bool {
+    store.calls() < 2 && store.deposit(name, octets).is_ok()
+}
 
 #[test]
 fn files_in_memory(rt: HostRuntime) {
     let mut store = MemoryStore::new(rt.alloc());
-    assert!(rt; store.deposit(b"b", b"abc").is_ok());
-    assert!(rt; store.deposit(b"..", b"").is_ok());
+    assert!(rt; takes(&mut store, b"b", b"abc") && takes(&mut store, b"..", b""));
     assert!(rt; are_kept(store.files()));
     assert!(rt; (store.calls(), store.failures()) == (2, 0));
 }
@@ -26,10 +29,7 @@ fn is_file(file: &StoredFile, name: &[u8], octets: &[u8]) -> bool {
 
 #[test]
 fn numbers(rt: HostRuntime) {
-    assert_eq!(rt;
-        [StoreFault::BadName.number(), StoreFault::Failed.number()],
-        [1, 2]
-    );
+    assert!(rt; StoreFault::BadName.number() == 1 && StoreFault::Failed.number() == 2);
 }
 
 // An empty folder of a test's own.
@@ -40,111 +40,157 @@ fn new_folder<R: Files + AllocGlobal>(rt: &R, name: &str) -> Result<String, Fail
     Ok(folder)
 }
 
-// How many files a folder has.
-fn files_of<R: Files + AllocGlobal + Clone + Drop>(rt: &R, folder: &str) -> Result<usize, Fail> {
+// A store in a folder.
+fn new_store<R: Files + AllocGlobal + Clone + Drop>(
+    rt: &R,
+    folder: &str,
+) -> Result<FolderStore<R>, Fail> {
+    let folder = String::from_str(rt.alloc(), folder)?;
+    Ok(FolderStore::new(rt.clone()?, folder))
+}
+
+// Whether a folder has so many files.
+fn has_count<R: Files + AllocGlobal + Clone + Drop>(
+    rt: &R,
+    folder: &str,
+    expected: usize,
+) -> Result<bool, Fail> {
     let mut count = 0usize;
     for entry in fs::read_dir(rt, folder)? {
         let _ = entry?;
         count = count.saturating_add(1);
     }
-    Ok(count)
+    Ok(count == expected)
+}
+
+// Writes a file beside the store.
+fn write<R: Files + AllocGlobal>(
+    rt: &R,
+    folder: &str,
+    name: &str,
+    octets: &[u8],
+) -> Result<(), Fail> {
+    let path = format!(in rt.alloc(); "{folder}/{name}")?;
+    fs::write(rt, path.as_str(), octets)?;
+    Ok(())
+}
+
+// Whether a folder has a file.
+fn has_file<R: Files + AllocGlobal>(
+    rt: &R,
+    folder: &str,
+    name: &str,
+    octets: &[u8],
+) -> Result<bool, Fail> {
+    let path = format!(in rt.alloc(); "{folder}/{name}")?;
+    Ok(fs::read(rt, path.as_str())?.as_slice() == octets)
 }
 
 // Gives a store a file, and reads it in the store's folder.
-fn keeps<R: Files + AllocGlobal + Abort, S: Files + AllocGlobal + Drop>(
+fn keeps<R: Files + AllocGlobal, S: Files + AllocGlobal + Drop>(
     rt: &R,
     store: &mut FolderStore<S>,
     folder: &str,
     name: &str,
     octets: &[u8],
-) -> Result<(), Fail> {
+) -> Result<bool, Fail> {
     // a deposit asks that its call can be counted
-    assert!(rt; store.calls() < 4);
-    assert!(rt; store.deposit(name.as_bytes(), octets).is_ok());
-    let path = format!(in rt.alloc(); "{folder}/{name}")?;
-    let kept = fs::read(rt, path.as_str())?;
-    assert!(rt; kept.as_slice() == octets);
-    Ok(())
+    if store.calls() >= 4 || store.deposit(name.as_bytes(), octets).is_err() {
+        return Ok(false);
+    }
+    has_file(rt, folder, name, octets)
+}
+
+// A name that is there is replaced whole.
+fn replaces<R: Files + AllocGlobal, S: Files + AllocGlobal + Drop>(
+    rt: &R,
+    store: &mut FolderStore<S>,
+    folder: &str,
+) -> Result<bool, Fail> {
+    Ok(
+        keeps(rt, store, folder, "b", b"abc")?
+            && keeps(rt, store, folder, "empty", b"")?
+            && keeps(rt, store, folder, "b", b"z")?,
+    )
+}
+
+// A part that an earlier run left is in nobody's way.
+fn keeps_files<R: Files + AllocGlobal + Clone + Drop>(rt: &R, folder: &str) -> Result<bool, Fail> {
+    let mut store = new_store(rt, folder)?;
+    write(rt, folder, ".part-0", b"left")?;
+    Ok(
+        replaces(rt, &mut store, folder)?
+            && keeps(rt, &mut store, folder, "c", b"other")?
+            && (store.calls(), store.failures()) == (4, 0)
+            && has_count(rt, folder, 4)?,
+    )
 }
 
 #[test]
 fn files_in_a_folder(rt: HostRuntime) -> Result<(), Fail> {
     let folder = new_folder(&rt, "files")?;
-    let mut store = FolderStore::new(rt.clone()?, folder.clone()?);
-    fill(&rt, &mut store, folder.as_str())?;
-    assert!(rt; (store.calls(), store.failures()) == (4, 0));
+    assert!(rt; keeps_files(&rt, folder.as_str())?);
     fs::remove_dir_all(&rt, folder.as_str())?;
     Ok(())
 }
 
-fn fill<R: Files + AllocGlobal + Abort + Clone + Drop, S: Files + AllocGlobal + Drop>(
-    rt: &R,
-    store: &mut FolderStore<S>,
-    folder: &str,
-) -> Result<(), Fail> {
-    keeps(rt, store, folder, "b", b"abc")?;
-    keeps(rt, store, folder, "empty", b"")?;
-    // a name that is there is replaced whole
-    keeps(rt, store, folder, "b", b"z")?;
-    // a part that an earlier run left is in nobody's way
-    let part = format!(in rt.alloc(); "{folder}/.part-0")?;
-    fs::write(rt, part.as_str(), b"left")?;
-    keeps(rt, store, folder, "c", b"other")?;
-    assert!(rt; files_of(rt, folder)? == 4);
-    Ok(())
+const BAD_NAMES: &[&[u8]] = &[
+    b"", b".", b"..", b"a/b", b"/a", b"a\0b", b"a\xff", b".part-0", b".part-",
+];
+
+// Whether a store refuses each of the bad names.
+fn refuses<S: Files + AllocGlobal + Drop>(store: &mut FolderStore<S>) -> bool {
+    for name in BAD_NAMES {
+        if store.calls() >= 9 || store.deposit(name, b"abc") != Err(StoreFault::BadName) {
+            return false;
+        }
+    }
+    store.failures() == 9
 }
 
 #[test]
 fn bad_names(rt: HostRuntime) -> Result<(), Fail> {
     let folder = new_folder(&rt, "names")?;
-    let mut store = FolderStore::new(rt.clone()?, folder.clone()?);
-    for name in [
-        b"".as_slice(),
-        b".",
-        b"..",
-        b"a/b",
-        b"/a",
-        b"a\0b",
-        b"a\xff",
-        b".part-0",
-        b".part-",
-    ] {
-        assert!(rt; store.calls() < 9);
-        assert!(rt; store.deposit(name, b"abc") == Err(StoreFault::BadName));
-    }
-    assert!(rt; store.failures() == 9 && files_of(&rt, folder.as_str())? == 0);
+    assert!(rt; refuses(&mut new_store(&rt, folder.as_str())?));
+    assert!(rt; has_count(&rt, folder.as_str(), 0)?);
     fs::remove_dir_all(&rt, folder.as_str())?;
     Ok(())
+}
+
+fn keeps_odd<R: Files + AllocGlobal + Clone + Drop>(rt: &R, folder: &str) -> Result<bool, Fail> {
+    let mut store = new_store(rt, folder)?;
+    Ok(
+        keeps(rt, &mut store, folder, "...", b"abc")?
+            && keeps(rt, &mut store, folder, "ä b", b"abc")?
+            && keeps(rt, &mut store, folder, ".part", b"abc")?
+            && has_count(rt, folder, 3)?,
+    )
 }
 
 #[test]
 fn odd_names(rt: HostRuntime) -> Result<(), Fail> {
     let folder = new_folder(&rt, "odd")?;
-    let mut store = FolderStore::new(rt.clone()?, folder.clone()?);
-    for name in ["...", "ä b", ".part"] {
-        keeps(&rt, &mut store, folder.as_str(), name, b"abc")?;
-    }
-    assert!(rt; files_of(&rt, folder.as_str())? == 3);
+    assert!(rt; keeps_odd(&rt, folder.as_str())?);
     fs::remove_dir_all(&rt, folder.as_str())?;
     Ok(())
 }
 
 // Whether a store in a folder keeps nothing of a file.
-fn fails<R: Files + AllocGlobal + Clone + Drop>(rt: &R, folder: String) -> Result<bool, Fail> {
-    let mut store = FolderStore::new(rt.clone()?, folder);
-    let answer = store.deposit(b"b", b"abc");
-    Ok(answer == Err(StoreFault::Failed) && store.failures() == 1)
+fn fails<R: Files + AllocGlobal + Clone + Drop>(rt: &R, folder: &str) -> Result<bool, Fail> {
+    let mut store = new_store(rt, folder)?;
+    Ok(store.calls() == 0
+        && store.deposit(b"b", b"abc") == Err(StoreFault::Failed)
+        && store.failures() == 1)
 }
 
 // A folder that is gone, one that is a file, and one that nobody may write into.
 #[test]
 fn folders_that_keep_nothing(rt: HostRuntime) -> Result<(), Fail> {
     let folder = new_folder(&rt, "gone")?;
-    fs::write(&rt, format!(in rt.alloc(); "{folder}/b")?.as_str(), b"abc")?;
-    assert!(rt; fails(&rt, format!(in rt.alloc(); "{folder}/b")?)?);
+    write(&rt, folder.as_str(), "b", b"abc")?;
+    assert!(rt; fails(&rt, "/tmp/entity_workers_gone/b")?);
     fs::remove_dir_all(&rt, folder.as_str())?;
-    assert!(rt; fails(&rt, folder)?);
-    assert!(rt; fails(&rt, String::from_str(rt.alloc(), "/proc")?)?);
+    assert!(rt; fails(&rt, folder.as_str())? && fails(&rt, "/proc")?);
     Ok(())
 }
 
@@ -152,9 +198,8 @@ fn folders_that_keep_nothing(rt: HostRuntime) -> Result<(), Fail> {
 #[test]
 fn place_of_a_folder(rt: HostRuntime) -> Result<(), Fail> {
     let folder = new_folder(&rt, "place")?;
-    fs::create_dir(&rt, format!(in rt.alloc(); "{folder}/b")?.as_str())?;
-    assert!(rt; fails(&rt, folder.clone()?)?);
-    assert!(rt; files_of(&rt, folder.as_str())? == 1);
+    fs::create_dir(&rt, "/tmp/entity_workers_place/b")?;
+    assert!(rt; fails(&rt, folder.as_str())? && has_count(&rt, folder.as_str(), 1)?);
     fs::remove_dir_all(&rt, folder.as_str())?;
     Ok(())
 }

@@ -8,7 +8,7 @@ fn sums_of_files(rt: HostRuntime) {
         (&[1, 2, 3, 4, 5], 0x0602_0304),
         (&[0xff, 0xff, 0xff, 0xff, 0, 0, 0, 2], 1),
     ] {
-        assert_eq!(rt; sum_of(octets), sum);
+        assert!(rt; sum_of(octets) == sum);
     }
 }
 
@@ -31,6 +31,6 @@ fn sums_of_pieces(rt: HostRuntime) {
             1,
         ),
     ] {
-        assert_eq!(rt; sum_of_pieces(&pieces), sum);
+        assert!(rt; sum_of_pieces(&pieces) == sum);
     }
 }

@@ -20,9 +20,8 @@ fn metadata(alloc: Global) -> Result<Indication, AllocError> {
     })
 }
 
-#[test]
-fn ends(rt: HostRuntime) {
-    assert!(rt; FINISHED.kind() == IndicationKind::End(Delivery::Complete));
+fn ends() -> bool {
+    FINISHED.kind() == IndicationKind::End(Delivery::Complete)
 }
 
 fn told(alloc: Global) -> Result<Indications, AllocError> {
@@ -32,25 +31,19 @@ fn told(alloc: Global) -> Result<Indications, AllocError> {
     Ok(told)
 }
 
-#[test]
-fn indications_in_order(rt: HostRuntime) -> Result<(), Fail> {
-    let told = told(rt.alloc())?;
-    assert!(rt; told.has_end() && are_both(told.as_slice()));
-    Ok(())
+fn indications_in_order(alloc: Global) -> Result<bool, AllocError> {
+    let told = told(alloc)?;
+    Ok(told.has_end() && are_both(told.as_slice()))
 }
 
-#[test]
-fn copies(rt: HostRuntime) -> Result<(), Fail> {
-    let copy = told(rt.alloc())?.copy()?;
-    assert!(rt; copy.has_end() && are_both(copy.as_slice()));
-    Ok(())
+fn copies(alloc: Global) -> Result<bool, AllocError> {
+    let copy = told(alloc)?.copy()?;
+    Ok(copy.has_end() && are_both(copy.as_slice()))
 }
 
-#[test]
-fn copies_of_one(rt: HostRuntime) -> Result<(), Fail> {
-    let copy = metadata(rt.alloc())?.copy()?;
-    assert!(rt; is_metadata(&copy) && !copy.is_end());
-    Ok(())
+fn copies_of_one(alloc: Global) -> Result<bool, AllocError> {
+    let copy = metadata(alloc)?.copy()?;
+    Ok(is_metadata(&copy) && !copy.is_end())
 }
 
 fn are_both(told: &[Indication]) -> bool {
@@ -67,4 +60,15 @@ fn is_metadata(told: &Indication) -> bool {
         }
         _ => false,
     }
+}
+
+#[test]
+fn calls(rt: HostRuntime) -> Result<(), Fail> {
+    assert!(rt;
+        ends()
+            && indications_in_order(rt.alloc())?
+            && copies(rt.alloc())?
+            && copies_of_one(rt.alloc())?
+    );
+    Ok(())
 }

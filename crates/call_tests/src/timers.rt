@@ -1,6 +1,5 @@
 use cfdp_types::{EntityId, TimerKind, TimerOp, TxnKey};
-use std::alloc::AllocError;
-use std::process::Abort;
+use std::alloc::{AllocError, Global};
 use std::test::*;
 use timer_list::{Armed, TimerList};
 
@@ -71,52 +70,60 @@ fn is_done(timers: &mut TimerList, step: Step) -> Result<bool, AllocError> {
     }
 }
 
-// Does one step after the other.
-fn play<R: AllocGlobal + Abort>(rt: &R, steps: &[Step]) -> Result<(), Fail> {
-    let mut timers = TimerList::new(rt.alloc());
-    for (place, step) in steps.iter().enumerate() {
-        assert!(rt; is_done(&mut timers, *step)?, "{place}");
+// Each with what it is about.
+const SCRIPTS: &[(&str, &[Step])] = &[
+    (
+        "taken out and put back",
+        &[
+            Step::Arms(0, 1, 1_000),
+            Step::NoneDue(999),
+            Step::Due(1_000, 1, 1_000),
+            Step::PutBack(1, 1_000, true),
+            Step::PutBack(1, 1_000, false),
+            Step::Due(1_000, 1, 1_000),
+            Step::NoneDue(1_000),
+        ],
+    ),
+    (
+        "armed anew",
+        &[
+            Step::Arms(0, 1, 1_000),
+            Step::Arms(500, 2, 1_000),
+            Step::NoneDue(1_000),
+            Step::Due(1_500, 2, 1_500),
+        ],
+    ),
+    (
+        "late operations",
+        &[
+            Step::Arms(0, 3, 1_000),
+            Step::Arms(0, 2, 5_000),
+            Step::Disarms(2),
+            Step::Due(1_000, 3, 1_000),
+            Step::PutBack(3, 1_000, true),
+            Step::Disarms(4),
+            Step::NoneDue(u64::MAX),
+        ],
+    ),
+];
+
+// Whether one step after the other is done.
+fn are_done(alloc: Global, steps: &[Step]) -> Result<bool, AllocError> {
+    let mut timers = TimerList::new(alloc);
+    for step in steps {
+        if !is_done(&mut timers, *step)? {
+            return Ok(false);
+        }
+    }
+    Ok(true)
+}
+
+#[test]
+fn scripts(rt: HostRuntime) -> Result<(), Fail> {
+    for (title, steps) in SCRIPTS {
+        assert!(rt; are_done(rt.alloc(), steps)?, "{title}");
     }
     Ok(())
-}
-
-#[test]
-fn taken_out_and_put_back(rt: HostRuntime) -> Result<(), Fail> {
-    let steps = [
-        Step::Arms(0, 1, 1_000),
-        Step::NoneDue(999),
-        Step::Due(1_000, 1, 1_000),
-        Step::PutBack(1, 1_000, true),
-        Step::PutBack(1, 1_000, false),
-        Step::Due(1_000, 1, 1_000),
-        Step::NoneDue(1_000),
-    ];
-    play(&rt, &steps)
-}
-
-#[test]
-fn armed_anew(rt: HostRuntime) -> Result<(), Fail> {
-    let steps = [
-        Step::Arms(0, 1, 1_000),
-        Step::Arms(500, 2, 1_000),
-        Step::NoneDue(1_000),
-        Step::Due(1_500, 2, 1_500),
-    ];
-    play(&rt, &steps)
-}
-
-#[test]
-fn late_operations(rt: HostRuntime) -> Result<(), Fail> {
-    let steps = [
-        Step::Arms(0, 3, 1_000),
-        Step::Arms(0, 2, 5_000),
-        Step::Disarms(2),
-        Step::Due(1_000, 3, 1_000),
-        Step::PutBack(3, 1_000, true),
-        Step::Disarms(4),
-        Step::NoneDue(u64::MAX),
-    ];
-    play(&rt, &steps)
 }
 
 const KINDS: [TimerKind; 4] = [
@@ -134,18 +141,31 @@ fn is_due_at_last(timers: &mut TimerList, kind: TimerKind) -> bool {
     }
 }
 
+// Arms one timer of each kind.
+fn arm_each(timers: &mut TimerList) -> Result<(), AllocError> {
+    for kind in KINDS {
+        timers.apply(arming(kind, 5, 0, 1_000), u64::MAX - 1)?;
+    }
+    Ok(())
+}
+
+// Whether one of each kind is due at the last moment, in order.
+fn are_due_at_last(timers: &mut TimerList) -> bool {
+    for kind in KINDS {
+        if !is_due_at_last(timers, kind) {
+            return false;
+        }
+    }
+    true
+}
+
 // Timers of other kinds are others, and the last moment ends the count.
 #[test]
 fn kinds_and_moments(rt: HostRuntime) -> Result<(), Fail> {
     let mut timers = TimerList::new(rt.alloc());
-    for kind in KINDS {
-        timers.apply(arming(kind, 5, 0, 1_000), u64::MAX - 1)?;
-    }
+    arm_each(&mut timers)?;
     assert!(rt; timers.due(u64::MAX - 1).is_none());
-    for kind in KINDS {
-        assert!(rt; is_due_at_last(&mut timers, kind));
-    }
-    assert!(rt; timers.due(u64::MAX).is_none());
+    assert!(rt; are_due_at_last(&mut timers) && timers.due(u64::MAX).is_none());
     Ok(())
 }
 
@@ -171,18 +191,23 @@ fn count_due(timers: &mut TimerList, is_third: bool, stamp: u32) -> u32 {
     count
 }
 
+// Arms 60 timers, and then the others again and again.
+fn arm_many(timers: &mut TimerList) -> Result<(), AllocError> {
+    for seq in 0..60u64 {
+        apply_again(timers, arming(TimerKind::Nak, seq, 0, 10))?;
+    }
+    for round in 1..9u32 {
+        arm_again(timers, round)?;
+    }
+    Ok(())
+}
+
 // Many timers are taken out and armed again: those that stay keep their order, the others go last.
 #[test]
 fn order_of_many(rt: HostRuntime) -> Result<(), Fail> {
     let mut timers = TimerList::new(rt.alloc());
-    for seq in 0..60u64 {
-        apply_again(&mut timers, arming(TimerKind::Nak, seq, 0, 10))?;
-    }
-    for round in 1..9u32 {
-        arm_again(&mut timers, round)?;
-    }
-    assert_eq!(rt; count_due(&mut timers, true, 0), 20);
-    assert_eq!(rt; count_due(&mut timers, false, 8), 40);
+    arm_many(&mut timers)?;
+    assert!(rt; count_due(&mut timers, true, 0) == 20 && count_due(&mut timers, false, 8) == 40);
     assert!(rt; timers.due(10).is_none());
     Ok(())
 }

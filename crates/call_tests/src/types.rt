@@ -6,70 +6,86 @@ use cfdp_types::{
 use std::alloc::{AllocError, Global};
 use std::test::*;
 
-#[test]
-fn codes_of_conditions(rt: HostRuntime) {
-    for (condition, code) in [
-        (Condition::NO_ERROR, 0),
-        (Condition::POSITIVE_ACK_LIMIT, 1),
-        (Condition::KEEP_ALIVE_LIMIT, 2),
-        (Condition::INVALID_TRANSMISSION_MODE, 3),
-        (Condition::FILESTORE_REJECTION, 4),
-        (Condition::FILE_CHECKSUM_FAILURE, 5),
-        (Condition::FILE_SIZE_ERROR, 6),
-        (Condition::NAK_LIMIT, 7),
-        (Condition::INACTIVITY, 8),
-        (Condition::INVALID_FILE_STRUCTURE, 9),
-        (Condition::CHECK_LIMIT, 10),
-        (Condition::UNSUPPORTED_CHECKSUM_TYPE, 11),
-        (Condition::SUSPEND_REQUEST, 14),
-        (Condition::CANCEL_REQUEST, 15),
-    ] {
-        assert_eq!(rt; condition.code(), code);
+const CODES: [(Condition, u8); 14] = [
+    (Condition::NO_ERROR, 0),
+    (Condition::POSITIVE_ACK_LIMIT, 1),
+    (Condition::KEEP_ALIVE_LIMIT, 2),
+    (Condition::INVALID_TRANSMISSION_MODE, 3),
+    (Condition::FILESTORE_REJECTION, 4),
+    (Condition::FILE_CHECKSUM_FAILURE, 5),
+    (Condition::FILE_SIZE_ERROR, 6),
+    (Condition::NAK_LIMIT, 7),
+    (Condition::INACTIVITY, 8),
+    (Condition::INVALID_FILE_STRUCTURE, 9),
+    (Condition::CHECK_LIMIT, 10),
+    (Condition::UNSUPPORTED_CHECKSUM_TYPE, 11),
+    (Condition::SUSPEND_REQUEST, 14),
+    (Condition::CANCEL_REQUEST, 15),
+];
+
+fn are_codes(codes: &[(Condition, u8)]) -> bool {
+    for (condition, code) in codes {
+        if condition.code() != *code {
+            return false;
+        }
     }
+    true
 }
 
-#[test]
-fn made_of_numbers(rt: HostRuntime) {
-    assert!(rt; Condition::new(7) == Condition::NAK_LIMIT);
-    assert!(rt; ChecksumType::new(15) == ChecksumType::NULL);
+// What is made of numbers, and their numbers.
+fn are_made_of_numbers() -> bool {
+    Condition::new(7) == Condition::NAK_LIMIT
+        && ChecksumType::new(15) == ChecksumType::NULL
+        && ChecksumType::MODULAR.number() == 0
+        && ChecksumType::NULL.number() == 15
+        && PutFault::NoName.number() == 1
+        && PutFault::NoMemory.number() == 5
+        && HandlerNotAllowed.number() == 1
 }
 
 #[test]
 fn numbers(rt: HostRuntime) {
-    let types = [ChecksumType::MODULAR.number(), ChecksumType::NULL.number()];
-    let faults = [PutFault::NoName.number(), PutFault::NoMemory.number()];
-    assert!(rt; types == [0, 15] && faults == [1, 5] && HandlerNotAllowed.number() == 1);
+    assert!(rt; are_codes(&CODES) && are_made_of_numbers());
+}
+
+fn are_octets(octets: &Octets, expected: &[u8]) -> bool {
+    octets.as_slice() == expected
 }
 
 #[test]
 fn octets(rt: HostRuntime) -> Result<(), Fail> {
     let octets = Octets::from_slice(rt.alloc(), b"abc")?;
-    assert!(rt; octets.as_slice() == b"abc".as_slice());
-    let octets = octets.into_vec();
-    assert!(rt; octets.as_slice() == b"abc".as_slice());
+    assert!(rt; are_octets(&octets, b"abc"));
+    assert!(rt; octets.into_vec().as_slice() == b"abc".as_slice());
+    assert!(rt; are_octets(&Octets::new(rt.alloc()), b""));
     Ok(())
 }
 
 #[test]
 fn copies_of_octets(rt: HostRuntime) -> Result<(), Fail> {
     let copy = Octets::from_slice(rt.alloc(), b"abc")?.copy()?.clone()?;
-    assert!(rt; copy.as_slice() == b"abc".as_slice());
+    assert!(rt; are_octets(&copy, b"abc"));
     Ok(())
 }
 
 #[test]
 fn octets_of_a_vector(rt: HostRuntime) -> Result<(), Fail> {
     let octets = Octets::from_vec(vec![in rt.alloc(); 97, 98, 100]?);
-    assert!(rt; octets.as_slice() == b"abd".as_slice());
+    assert!(rt; are_octets(&octets, b"abd"));
     Ok(())
+}
+
+fn push_both(alloc: Global, messages: &mut Messages) -> Result<(), AllocError> {
+    messages.push(Octets::from_slice(alloc, b"abc")?)?;
+    messages.push(Octets::new(alloc))
 }
 
 #[test]
 fn messages_in_order(rt: HostRuntime) -> Result<(), Fail> {
     let mut messages = Messages::with_capacity(rt.alloc(), 3)?;
-    messages.push(Octets::from_slice(rt.alloc(), b"abc")?)?;
-    messages.push(Octets::new(rt.alloc()))?;
+    push_both(rt.alloc(), &mut messages)?;
     assert!(rt; are_both(&messages));
+    assert!(rt; Messages::new(rt.alloc()).as_slice().is_empty());
     Ok(())
 }
 
@@ -82,15 +98,9 @@ fn copies_of_messages(rt: HostRuntime) -> Result<(), Fail> {
     Ok(())
 }
 
-#[test]
-fn nothing_yet(rt: HostRuntime) {
-    assert!(rt; Octets::new(rt.alloc()).as_slice().is_empty());
-    assert!(rt; Messages::new(rt.alloc()).as_slice().is_empty());
-}
-
 fn are_both(messages: &Messages) -> bool {
     match messages.as_slice() {
-        [first, second] => { first.as_slice() == b"abc".as_slice() && second.as_slice().is_empty() }
+        [first, second] => are_octets(first, b"abc") && are_octets(second, b""),
         _ => false,
     }
 }
@@ -101,32 +111,26 @@ const PAIRS: [(Condition, Handler); 3] = [
     (Condition::NAK_LIMIT, Handler::Abandon),
 ];
 
+// The last pair counts, and where there is none, Cancel.
+fn has_last_pairs(table: FaultTable) -> bool {
+    table.action(Condition::NAK_LIMIT) == Handler::Abandon
+        && table.action(Condition::INACTIVITY) == Handler::Ignore
+        && table.action(Condition::CHECK_LIMIT) == Handler::Cancel
+        && table.action(Condition::NO_ERROR) == Handler::Cancel
+}
+
+// Whether the table is of that role, and has the handler that was put in.
+fn has_suspend(table: FaultTable) -> bool {
+    table.action(Condition::CHECK_LIMIT) == Handler::Suspend && table.role() == Role::RecvTwo
+}
+
 #[test]
-fn later_pairs(rt: HostRuntime) -> Result<(), Fail> {
+fn fault_tables(rt: HostRuntime) -> Result<(), Fail> {
     let table = FaultTable::new(Role::RecvTwo, &PAIRS)?;
-    for (condition, handler) in [
-        (Condition::NAK_LIMIT, Handler::Abandon),
-        (Condition::INACTIVITY, Handler::Ignore),
-        (Condition::CHECK_LIMIT, Handler::Cancel),
-        (Condition::NO_ERROR, Handler::Cancel),
-    ] {
-        assert_eq!(rt; table.action(condition), handler);
-    }
-    Ok(())
-}
-
-#[test]
-fn another_handler(rt: HostRuntime) -> Result<(), Fail> {
-    let table = FaultTable::new(Role::RecvTwo, &[])?;
-    let changed = table.with(Condition::CHECK_LIMIT, Handler::Suspend)?;
-    assert!(rt; changed.action(Condition::CHECK_LIMIT) == Handler::Suspend);
-    assert!(rt; changed.role() == Role::RecvTwo);
-    Ok(())
-}
-
-#[test]
-fn pairs_that_are_not_allowed(rt: HostRuntime) {
+    assert!(rt; has_last_pairs(table));
+    assert!(rt; has_suspend(table.with(Condition::CHECK_LIMIT, Handler::Suspend)?));
     assert!(rt; FaultTable::new(Role::RecvOne, &PAIRS) == Err(HandlerNotAllowed));
+    Ok(())
 }
 
 fn cancelling() -> Result<FaultTables, HandlerNotAllowed> {
@@ -157,51 +161,46 @@ fn params() -> Result<Params, Fail> {
     Ok(params.ok_or("the parameters are in range")?)
 }
 
-#[test]
-fn numbers_of_params(rt: HostRuntime) -> Result<(), Fail> {
-    let params = params()?;
-    assert!(rt; params.local() == EntityId(2) && params.segment_octets() == 300);
+fn has_numbers(params: &Params) -> bool {
     let lengths = params.lengths();
-    assert!(rt; [lengths.entity_octets, lengths.sequence_octets] == [4, 1]);
     let limits = params.limits();
-    assert!(rt; [limits.ack, limits.nak, limits.check] == [1, 2, 6]);
-    Ok(())
+    params.local() == EntityId(2)
+        && params.segment_octets() == 300
+        && (lengths.entity_octets, lengths.sequence_octets) == (4, 1)
+        && (limits.ack, limits.nak, limits.check) == (1, 2, 6)
+}
+
+fn has_timers(timers: TimerLengths) -> bool {
+    timers.of(TimerKind::Ack) == 1
+        && timers.of(TimerKind::Nak) == 2
+        && timers.of(TimerKind::Check) == 3
+        && timers.of(TimerKind::Inactivity) == 5
+}
+
+fn has_roles(tables: FaultTables) -> bool {
+    tables.of(Role::Send).role() == Role::Send
+        && tables.of(Role::RecvOne).role() == Role::RecvOne
+        && tables.of(Role::RecvTwo).role() == Role::RecvTwo
 }
 
 #[test]
-fn tables_of_params(rt: HostRuntime) -> Result<(), Fail> {
-    let tables = params()?.tables();
-    for role in [Role::Send, Role::RecvOne, Role::RecvTwo] {
-        assert_eq!(rt; tables.of(role).role(), role);
+fn parameters(rt: HostRuntime) -> Result<(), Fail> {
+    let params = params()?;
+    assert!(rt; has_numbers(&params) && has_timers(params.timers()) && has_roles(params.tables()));
+    Ok(())
+}
+
+fn has_copy(put: &PutRequest) -> bool {
+    match put.copy() {
+        Ok(copy) => has_its_parts(&copy),
+        Err(_) => false,
     }
-    Ok(())
 }
 
 #[test]
-fn timers_of_params(rt: HostRuntime) -> Result<(), Fail> {
-    let timers = params()?.timers();
-    for (kind, length) in [
-        (TimerKind::Ack, 1),
-        (TimerKind::Nak, 2),
-        (TimerKind::Check, 3),
-        (TimerKind::Inactivity, 5),
-    ] {
-        assert_eq!(rt; timers.of(kind), length);
-    }
-    Ok(())
-}
-
-#[test]
-fn kept_puts(rt: HostRuntime) -> Result<(), Fail> {
+fn puts(rt: HostRuntime) -> Result<(), Fail> {
     let put = put_of(rt.alloc())?;
-    assert!(rt; has_its_parts(&put));
-    Ok(())
-}
-
-#[test]
-fn copies_of_puts(rt: HostRuntime) -> Result<(), Fail> {
-    let copy = put_of(rt.alloc())?.copy()?;
-    assert!(rt; has_its_parts(&copy));
+    assert!(rt; has_its_parts(&put) && has_copy(&put));
     Ok(())
 }
 
