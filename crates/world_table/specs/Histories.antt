@@ -1,8 +1,9 @@
 -- What happens in an entity of one thread: lanes take events, and users take what they are told.
-use Rattle.std.specs.Prelude.{◌≡◌, ℕ, ◌==◌, Bool, ◌&&◌, if◌then◌else◌, List, [], ◌∷◌, ◌++◌, None}
+use Rattle.std.specs.Prelude.{◌≡◌, ℕ, ◌==◌, Bool, ◌&&◌, if◌then◌else◌, List, [], ◌∷◌, ◌++◌, Option, Some, None}
 use Rattle.indications.specs.declared.bundle.Bundle.{Bundle}
 use Rattle.txn_events.specs.declared.event.Event.{Event}
-use Rattle.lane_table.specs.Lane.{State, idle, IsNumbered}
+use Rattle.lane_table.specs.Lane.{State, idle, IsNumbered, log_from}
+use Rattle.lane_table.specs.Logs.{Log}
 use Rattle.lane_table.specs.Steps.{IsKeyed, refusal_at, stepped}
 use Rattle.lane_table.specs.Keeping.{bundle_of, events_of}
 
@@ -34,6 +35,11 @@ events_at (takes user ∷ earlier) of_user of_lane = events_at earlier of_user o
 -- those of its transaction with a number
 abbrev pub events_for : (ℕ → ℕ → State) → List Happening → ℕ → ℕ → ℕ → List Event
 events_for lanes history user lane number = events_of number (lanes user lane) (events_at history user lane)
+
+-- the log that these have, if there are any
+abbrev pub log_for : (ℕ → ℕ → State) → List Happening → ℕ → ℕ → ℕ → Option Log
+log_for lanes history user lane number =
+    log_from (lanes user lane).side (lanes user lane).source (Some number) (events_for lanes history user lane number)
 
 -- ---- users
 

@@ -1,10 +1,21 @@
 -- What holds of every run of an entity of one thread.
-use Rattle.std.specs.Prelude.{◌≡◌, ℕ, List, ◌++◌, Some}
+use Rattle.std.specs.Prelude.{◌≡◌, ℕ, List, [], ◌∷◌, ◌++◌, Option, Some, None, Ok, Contains}
+use Rattle.cfdp_types.specs.declared.image.Image.{Image}
+use Rattle.cfdp_types.specs.declared.key.TxnKey.{TxnKey}
+use Rattle.cfdp_types.specs.declared.names.Delivery.TheVariants.{Complete}
+use Rattle.cfdp_types.specs.declared.names.FileStatus.{FileStatus}
+use Rattle.indications.specs.declared.indication.Indication.TheVariants as told
+use Rattle.indications.specs.declared.side.Side.TheVariants.{Receiver}
 use Rattle.indications.specs.LaneLists.{of_lane, told_of, IsLaneList}
-use Rattle.lane_table.specs.Lane.{State, log_from, issued_in}
-use Rattle.lane_table.specs.Logs.{end_of}
+use Rattle.receiver_table.specs.Reception.{Reception, Entry, state_of}
+use Rattle.receiver_laws.specs.LegalReceptions.{IsGood}
+use Rattle.receiver_laws.specs.ReceptionLaws.{IsGiven}
+use Rattle.txn_events.specs.declared.event.Event.{Event}
+use Rattle.lane_table.specs.Lane.{State, key_at, issued_in, IsSound}
+use Rattle.lane_table.specs.Logs.{Log, received, end_of, IsLegal}
+use Rattle.lane_table.specs.Steps.{image_of}
 use Rattle.lane_table.specs.Keeping.{IsOfSide, Keeps}
-use Rattle.world_table.specs.Histories.{Happening, lane_after, events_for, mine, held_for, taken_by, AreIdle, IsHistory}
+use Rattle.world_table.specs.Histories.{Happening, lane_after, events_for, log_for, mine, held_for, taken_by, AreIdle, IsHistory}
 
 -- what a user took, and then what waits, is all that the user's lanes told, each once and in order
 abbrev pub TakesAllInOrder : Type 0
@@ -20,8 +31,7 @@ TellsLaneLists = (lanes : ℕ → ℕ → State) (history : List Happening) (use
 -- of each transaction of a lane, what the user was told is what the log of the transaction's own events tells
 abbrev pub TellsWhatLogsTell : Type 0
 TellsWhatLogsTell = (lanes : ℕ → ℕ → State) (history : List Happening) (user lane number : ℕ) → AreIdle lanes → IsHistory lanes history
-    → told_of number (of_lane lane (mine lanes history user))
-    ≡ issued_in (log_from (lanes user lane).side (lanes user lane).source (Some number) (events_for lanes history user lane number))
+    → told_of number (of_lane lane (mine lanes history user)) ≡ issued_in (log_for lanes history user lane number)
 
 -- a lane's journal has the events of the transaction that it opened last
 abbrev pub KeepsJournals : Type 0
@@ -33,3 +43,52 @@ KeepsJournals = (lanes : ℕ → ℕ → State) (history : List Happening) (user
 abbrev pub LanesKeep : Type 0
 LanesKeep = (lanes : ℕ → ℕ → State) (history : List Happening) (user lane : ℕ) → AreIdle lanes → IsHistory lanes history
     → Keeps (lane_after lanes history user lane) (of_lane lane (mine lanes history user))
+
+-- ---- logs
+
+-- of events there is a log, and their end can have it
+abbrev pub IsLogged : List Event → Option Log → Type 0
+IsLogged [] log = Unit {0}
+IsLogged (first ∷ later) None = ⊥
+IsLogged (first ∷ later) (Some log) = IsLegal log
+
+-- each lane stands where it can, and each of its transactions that took an event has a log that its end can have
+abbrev pub LogsAreLegal : Type 0
+LogsAreLegal = (lanes : ℕ → ℕ → State) (history : List Happening) (user lane : ℕ) → AreIdle lanes → IsHistory lanes history
+    → IsSound (lane_after lanes history user lane)
+    × ((number : ℕ) → IsLogged (events_for lanes history user lane number) (log_for lanes history user lane number))
+
+-- a transaction of a lane is a reception under its key, and its end can have this log
+pub record IsReceived (lanes : ℕ → ℕ → State) (history : List Happening) (user lane number : ℕ) (reception : Reception) (log : List Entry) : Type 0 where
+  pub log_is : log_for lanes history user lane number ≡ Some (received reception log)
+  pub key_is : reception.key ≡ key_at (lanes user lane).source number
+  pub legal : IsLegal (received reception log)
+
+-- a file came by a transaction of a lane, as its Metadata and its EOF describe it
+pub record HasGoodFile (lanes : ℕ → ℕ → State) (history : List Happening) (user lane number : ℕ) : Type 0 where
+  pub reception : Reception
+  pub log : List Entry
+  pub is_received : IsReceived lanes history user lane number reception log
+  pub good : IsGood (state_of log)
+
+-- where the user was told of a complete delivery by a receiving lane, the file came
+abbrev pub DeliversGood : Type 0
+DeliversGood = (lanes : ℕ → ℕ → State) (history : List Happening) (user lane number condition : ℕ) (status : FileStatus) → AreIdle lanes → IsHistory lanes history
+    → end_of (lanes user lane).side ≡ Receiver
+    → Contains (told_of number (of_lane lane (mine lanes history user))) (told.TransactionFinished condition Complete status)
+    → HasGoodFile lanes history user lane number
+
+-- an image is the one of a good file, by the names of its Metadata and the octets that came, of the transaction with a key
+pub record IsImageOf (lanes : ℕ → ℕ → State) (history : List Happening) (user lane : ℕ) (key : TxnKey) (stamp : ℕ) (image : Image) : Type 0 where
+  pub reception : Reception
+  pub log : List Entry
+  pub is_received : IsReceived lanes history user lane key.seq reception log
+  pub key_is : reception.key ≡ key
+  pub given : IsGiven (state_of log) stamp
+  pub image_is : given.image ≡ image
+
+-- the image that a lane gives by key and stamp is so
+abbrev pub GivesImages : Type 0
+GivesImages = (lanes : ℕ → ℕ → State) (history : List Happening) (user lane : ℕ) (key : TxnKey) (stamp : ℕ) (image : Image) → AreIdle lanes → IsHistory lanes history
+    → image_of (lane_after lanes history user lane) key stamp ≡ Ok image
+    → IsImageOf lanes history user lane key stamp image
