@@ -1,6 +1,5 @@
 -- Worked histories of two users, computed.
-use Rattle.std.proofs.Common.{◌≡◌, ℕ, nat_lt, if◌then◌else◌, List, [], ◌∷◌, ◌++◌, Some, None, arith, refl}
-use Rattle.cfdp_types.specs.Reference.{reference}
+use Rattle.std.proofs.Common.{◌≡◌, ℕ, List, [], ◌∷◌, Some, None, arith, refl}
 use Rattle.cfdp_types.specs.declared.names.Class.TheVariants.{One}
 use Rattle.cfdp_types.specs.declared.names.Delivery.TheVariants.{Incomplete}
 use Rattle.cfdp_types.specs.declared.names.FileStatus.TheVariants.{Unreported}
@@ -10,12 +9,11 @@ use Rattle.indications.specs.declared.indication.Indication.{Indication}
 use Rattle.indications.specs.declared.indication.Indication.TheVariants as told
 use Rattle.indications.specs.LaneLists.{of_lane, IsLaneList}
 use Rattle.sender_table.specs.Sending.{initial, step, state_of}
-use Rattle.txn_events.specs.declared.event.Event.{Event}
 use Rattle.txn_events.specs.declared.event.What.TheVariants as what
 use Rattle.lane_table.specs.Lane.{State}
 use Rattle.lane_rows.specs.SendingLaneRows.{sending_lane, key, put, on}
 use Rattle.world_table.specs.Histories.{Happening, steps, takes, lane_after, events_at, events_for, mine, held_for, taken_by, AreIdle, IsHistory}
-use Rattle.world_table.proofs.HistoryFacts.{tells_lane_lists, takes_all}
+use Rattle.world_table.proofs.HistoryFacts.{tells_lane_lists}
 
 -- two users with sending lanes
 abbrev pub lanes : ℕ → ℕ → State

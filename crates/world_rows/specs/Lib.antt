@@ -1,1 +1,2 @@
 pub mod HistoryRows
+pub mod ReceptionRows
