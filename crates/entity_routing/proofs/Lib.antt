@@ -1,2 +1,3 @@
 pub mod PlaceFacts
 pub mod RouteFacts
+pub mod NumberFacts

@@ -41,7 +41,7 @@ first_or_later test id first peers peer true here passes later is =
 first_or_later test id first peers peer false here passes later is = later (rw here at is)
 
 -- the remote entity with an ID is one of those that the configuration keeps
-found_keeps : (test : Route → Bool) (id : EntityId) (peers : List PeerValue) (peer : PeerValue) → list_all test (map route_of peers) ≡ true → find (has_id id) peers ≡ Some peer → test (route_of peer) ≡ true
+pub found_keeps : (test : Route → Bool) (id : EntityId) (peers : List PeerValue) (peer : PeerValue) → list_all test (map route_of peers) ≡ true → find (has_id id) peers ≡ Some peer → test (route_of peer) ≡ true
 found_keeps test id [] peer all is = absurd cc
 found_keeps test id (first ∷ peers) peer all is =
     let both = and_parts (test (route_of first)) (list_all test (map route_of peers)) all in

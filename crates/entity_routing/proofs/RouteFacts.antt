@@ -1,15 +1,10 @@
--- How a route is put together of its pieces, for each kind of event.
-use Rattle.std.proofs.Common.{◌≡◌, ℕ, Bool, true, false, not, ◌&&◌, ◌==◌, if◌then◌else◌, Option, Some, None, Result, Ok, Err, Vec, refl, sym, ap, ◌∙◌}
+-- What the pieces of a route tell.
+use Rattle.std.proofs.Common.{◌≡◌, ℕ, Bool, true, false, not, ◌&&◌, ◌==◌, if◌then◌else◌, Option, Some, None, Result, Ok, Err, refl, sym, ap, ◌∙◌}
 use Rattle.std.proofs.lemmas.Bool.{eqb-true}
-use Rattle.std.specs.declared.alloc.Global.{Global}
 use Rattle.cfdp_types.specs.declared.key.TxnKey.{TxnKey}
-use Rattle.cfdp_types.specs.Put.{PutValue}
 use Rattle.pdu_values.specs.declared.pdu.Direction.{Direction}
 use Rattle.pdu_values.specs.declared.pdu.Direction.TheVariants.{TowardReceiver, TowardSender}
 use Rattle.pdu_values.specs.declared.pdu.Header.{Header}
-use Rattle.pdu_values.specs.Pdu.{PduValue}
-use Rattle.pdu_reading.specs.declared.fault.DecodeFault.{DecodeFault}
-use Rattle.pdu_reading.specs.Reading.{reading}
 use Rattle.txn_events.specs.declared.event.Event.{Event}
 use Rattle.txn_events.specs.declared.event.Event.TheVariants.{On}
 use Rattle.txn_events.specs.declared.event.What.{What}
@@ -18,50 +13,9 @@ use Rattle.config_reading.specs.Values.{ConfigValue}
 use Rattle.entity_routing.specs.declared.place.Place.{Place}
 use Rattle.entity_routing.specs.declared.refusal.RouteRefusal.{RouteRefusal}
 use Rattle.entity_routing.specs.declared.refusal.RouteRefusal.TheVariants as refusals
-use Rattle.entity_routing.specs.declared.world_event.Request.TheVariants as requests
-use Rattle.entity_routing.specs.declared.world_event.WorldEvent.TheVariants as events
-use Rattle.entity_routing.specs.RouteLaws.{EventsGoAsTold, PdusGoTheirWay, PdusKeepKeys, RequestsGoAsTold}
+use Rattle.entity_routing.specs.RouteLaws.{PdusGoTheirWay, PdusKeepKeys}
 use Rattle.entity_routing.specs.Places.{is_local, place_of}
-use Rattle.entity_routing.specs.Routes.{Routed, goes_back, if_own, is_direction_of, is_for_us, is_from_itself, key_place, or_no_route, own_place, key_of_header, pdu_place, put_params, route, routed_key, routed_on, routed_own, routed_pdu, routed_put}
-
--- a Put: from the lane that it names, with the parameters of its destination
-pub put_routed : (config : ConfigValue) (user lane : ℕ) (put : PutValue)
-    → route config (events.Request user (requests.Put lane put)) ≡ routed_put (record { user = user; lane = lane }) put (put_params config put.destination)
-put_routed config user lane put = refl
-
--- a datagram that is read: as its PDU
-pub datagram_routed : (config : ConfigValue) (octets : Vec ℕ Global) (pdu : PduValue) → reading octets.items ≡ Ok pdu → route config (events.Deliver octets) ≡ routed_pdu config pdu
-datagram_routed config octets pdu is = rw is refl
-
--- a datagram that is not read: refused with its fault
-pub fault_routed : (config : ConfigValue) (octets : Vec ℕ Global) (fault : DecodeFault) → reading octets.items ≡ Err fault → route config (events.Deliver octets) ≡ Err (refusals.DecodeFault fault)
-fault_routed config octets fault is = rw is refl
-
-abbrev told_or : TxnKey × What → Option (TxnKey × What) → TxnKey × What
-told_or otherwise None = otherwise
-told_or otherwise (Some told) = told
-
-same_told : (way : TxnKey → What → Result Routed RouteRefusal) (told other : TxnKey × What) → Some told ≡ Some other → way told.0 told.1 ≡ way other.0 other.1
-same_told way told other is = ap (λ (t : TxnKey × What). way t.0 t.1) (ap (told_or told) is)
-
--- any other request: as its user asks
-pub request_routed : RequestsGoAsTold
-request_routed config user (requests.Put lane put) key happens is = absurd cc
-request_routed config user (requests.Cancel other) key happens is = same_told (routed_own config user) (other, what.Cancel) (key, happens) is
-request_routed config user (requests.Suspend other) key happens is = same_told (routed_own config user) (other, what.Suspend) (key, happens) is
-request_routed config user (requests.Resume other) key happens is = same_told (routed_own config user) (other, what.Resume) (key, happens) is
-request_routed config user (requests.Report other) key happens is = same_told (routed_own config user) (other, what.Report) (key, happens) is
-request_routed config user (requests.Abandon other) key happens is = same_told (routed_own config user) (other, what.Abandon) (key, happens) is
-
--- what happens inside the entity: where the transaction is
-pub event_routed : EventsGoAsTold
-event_routed config (events.Request user request) key happens is = absurd cc
-event_routed config (events.Deliver octets) key happens is = absurd cc
-event_routed config (events.Pump other) key happens is = same_told (routed_key config) (other, what.Pump) (key, happens) is
-event_routed config (events.Timer other kind stamp) key happens is = same_told (routed_key config) (other, what.Timer kind stamp) (key, happens) is
-event_routed config (events.Stored other stamp keeps) key happens is = same_told (routed_key config) (other, what.Stored stamp keeps) (key, happens) is
-
--- ---- what the pieces tell
+use Rattle.entity_routing.specs.Routes.{Routed, goes_back, if_own, is_direction_of, is_for_us, is_from_itself, key_place, or_no_route, own_place, key_of_header, pdu_place, routed_on}
 
 abbrev event_or : Event → Result Routed RouteRefusal → Event
 event_or otherwise (Err why) = otherwise

@@ -23,7 +23,7 @@ sending_place config seq = record { user = seq % length config.users; lane = seq
 abbrev pub is_source_of : ℕ → PeerValue → Bool
 is_source_of user peer = goes_to user (route_of peer)
 
--- the remote entities whose files go to the user, in the order of the configuration
+-- all remote entities that deliver to the user, as the configuration lists them
 abbrev pub sources_of : ConfigValue → ℕ → List PeerValue
 sources_of config user = filter (is_source_of user) config.peers
 

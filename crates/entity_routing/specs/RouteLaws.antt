@@ -1,18 +1,14 @@
 -- What holds of every route.
-use Rattle.std.specs.Prelude.{◌≡◌, ℕ, ◌<◌, true, false, IsTrue, length, Some, None, Ok}
+use Rattle.std.specs.Prelude.{◌≡◌, ◌-◌, ◌%◌, ◌<◌, ◌↔◌, true, false, IsTrue, length, Some, None, Ok}
 use Rattle.cfdp_types.specs.declared.key.TxnKey.{TxnKey}
 use Rattle.cfdp_types.specs.declared.key.EntityId.{EntityId}
 use Rattle.pdu_values.specs.Pdu.{PduValue}
 use Rattle.txn_events.specs.declared.event.Event.TheVariants.{On}
-use Rattle.txn_events.specs.declared.event.What.{What}
 use Rattle.txn_events.specs.declared.event.What.TheVariants as what
 use Rattle.config_reading.specs.Values.{ConfigValue, PeerValue, is_config}
 use Rattle.entity_routing.specs.declared.place.Place.{Place}
-use Rattle.entity_routing.specs.declared.world_event.Request.{Request}
-use Rattle.entity_routing.specs.declared.world_event.WorldEvent.{WorldEvent}
-use Rattle.entity_routing.specs.declared.world_event.WorldEvent.TheVariants as events
 use Rattle.entity_routing.specs.Places.{is_local, lanes_of, place_of, source_of_lane}
-use Rattle.entity_routing.specs.Routes.{Routed, goes_back, key_of_header, key_place, pdu_place, route, routed_key, routed_own, routed_pdu, told_by_event, told_by_request}
+use Rattle.entity_routing.specs.Routes.{Routed, goes_back, key_of_header, key_place, pdu_place, routed_pdu}
 
 -- ---- places
 
@@ -21,6 +17,7 @@ pub record IsWithin (config : ConfigValue) (place : Place) : Type 0 where
   pub user : place.user < length config.users
   pub lane : place.lane < lanes_of config place.user
 
+-- every place is such a lane
 abbrev pub PlacesAreWithin : Type 0
 PlacesAreWithin = (config : ConfigValue) (key : TxnKey) (place : Place) → IsTrue (is_config config) → place_of config key ≡ Some place → IsWithin config place
 
@@ -40,6 +37,12 @@ abbrev pub OthersAreReceived : Type 0
 OthersAreReceived = (config : ConfigValue) (key : TxnKey) (place : Place) → IsTrue (is_config config) → is_local config key.source ≡ false → place_of config key ≡ Some place
     → IsFrom config key.source place
 
+-- of the lanes that receive from a source, the number of its transaction tells the one that it is in
+abbrev pub NumbersTellLanes : Type 0
+NumbersTellLanes = (config : ConfigValue) (key : TxnKey) (place : Place) → IsTrue (is_config config) → IsFrom config key.source place
+    → (place_of config key ≡ Some place)
+    ↔ (key.seq % config.entity.receive_lanes ≡ (place.lane - config.entity.put_lanes) % config.entity.receive_lanes)
+
 -- ---- what a lane is told
 
 -- of a PDU, a lane is told under the PDU's own key
@@ -51,13 +54,3 @@ PdusKeepKeys = (config : ConfigValue) (pdu : PduValue) (routed : Routed) → rou
 abbrev pub PdusGoTheirWay : Type 0
 PdusGoTheirWay = (config : ConfigValue) (pdu : PduValue) (place : Place) → pdu_place config pdu ≡ Ok place
     → (key_place config (key_of_header pdu.header) ≡ Ok place) × (is_local config pdu.header.source ≡ goes_back pdu.header.direction)
-
--- what a request asks of a transaction goes where its user's own transactions go
-abbrev pub RequestsGoAsTold : Type 0
-RequestsGoAsTold = (config : ConfigValue) (user : ℕ) (request : Request) (key : TxnKey) (happens : What) → told_by_request request ≡ Some (key, happens)
-    → route config (events.Request user request) ≡ routed_own config user key happens
-
--- what happens inside the entity goes where its transaction goes
-abbrev pub EventsGoAsTold : Type 0
-EventsGoAsTold = (config : ConfigValue) (event : WorldEvent) (key : TxnKey) (happens : What) → told_by_event event ≡ Some (key, happens)
-    → route config event ≡ routed_key config key happens

@@ -138,22 +138,3 @@ route config (events.Deliver octets) = routed_reading config (reading octets.ite
 route config (events.Pump key) = routed_key config key what.Pump
 route config (events.Timer key kind stamp) = routed_key config key (what.Timer kind stamp)
 route config (events.Stored key stamp keeps) = routed_key config key (what.Stored stamp keeps)
-
--- ---- what a caller takes from an event to tell it
-
--- what a request asks to happen, and to which transaction; a Put opens one
-abbrev pub told_by_request : Request → Option (TxnKey × What)
-told_by_request (requests.Put lane put) = None
-told_by_request (requests.Cancel key) = Some (key, what.Cancel)
-told_by_request (requests.Suspend key) = Some (key, what.Suspend)
-told_by_request (requests.Resume key) = Some (key, what.Resume)
-told_by_request (requests.Report key) = Some (key, what.Report)
-told_by_request (requests.Abandon key) = Some (key, what.Abandon)
-
--- what happens inside the entity, and to which transaction
-abbrev pub told_by_event : WorldEvent → Option (TxnKey × What)
-told_by_event (events.Request user request) = None
-told_by_event (events.Deliver octets) = None
-told_by_event (events.Pump key) = Some (key, what.Pump)
-told_by_event (events.Timer key kind stamp) = Some (key, what.Timer kind stamp)
-told_by_event (events.Stored key stamp keeps) = Some (key, what.Stored stamp keeps)

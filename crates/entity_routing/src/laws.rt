@@ -1,6 +1,6 @@
 //! What holds of every route, over the definitions alone.
 
-ghost use Rattle.entity_routing.specs.RouteLaws.{EventsGoAsTold, OthersAreReceived, OwnAreSent, PdusGoTheirWay, PdusKeepKeys, PlacesAreWithin, RequestsGoAsTold};
+ghost use Rattle.entity_routing.specs.RouteLaws.{NumbersTellLanes, OthersAreReceived, OwnAreSent, PdusGoTheirWay, PdusKeepKeys, PlacesAreWithin};
 
 /// A transaction that has a lane has one that the configuration gives to one of its users.
 pub fn within()
@@ -17,6 +17,12 @@ pub fn received()
     ensures { OthersAreReceived }
 {}
 
+/// Of the lanes that receive from a source, a transaction of that source is in the one that its number tells, and in no
+/// other.
+pub fn numbers()
+    ensures { NumbersTellLanes }
+{}
+
 /// A PDU goes where its transaction is, and toward the sender only to one of the entity's own.
 pub fn ways()
     ensures { PdusGoTheirWay }
@@ -25,14 +31,4 @@ pub fn ways()
 /// A lane is told of a PDU under the PDU's own key.
 pub fn keys()
     ensures { PdusKeepKeys }
-{}
-
-/// A request that says what is to happen goes where its user's own transactions go.
-pub fn requests()
-    ensures { RequestsGoAsTold }
-{}
-
-/// What happens inside the entity to a transaction goes where the transaction is.
-pub fn events()
-    ensures { EventsGoAsTold }
 {}

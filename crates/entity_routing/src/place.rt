@@ -1,5 +1,5 @@
-/// A lane of a user. The sending lanes come first, then, for each source that is routed to the user, in the order
-/// of the configuration, its receiving lanes.
+/// A user, and one of the user's lanes by its number: from 0 on those for what the user puts, and behind them a block
+/// of lanes for each remote entity that delivers to the user, as the configuration lists them.
 #[derive(Clone, Copy, Debug, PartialEq, Eq)]
 pub struct Place {
     pub user: usize,

@@ -1,8 +1,4 @@
-ghost use Rattle.std.specs.Prelude.{◌≡◌};
-ghost use Rattle.entity_routing.specs.Routes.{told_by_event, told_by_request};
-
 use cfdp_types::{PutRequest, TimerKind, TxnKey};
-use txn_events::What;
 
 /// What a user asks for.
 #[derive(Debug, Drop)]
@@ -14,22 +10,6 @@ pub enum Request {
     Resume(TxnKey),
     Report(TxnKey),
     Abandon(TxnKey),
-}
-
-impl Request {
-    /// What it asks to happen, and to which transaction: none for a Put, which opens one.
-    pub fn told(&self) -> Option<(TxnKey, What)>
-        ensures { result ≡ told_by_request self.now }
-    {
-        match self {
-            Request::Put(_, _) => None,
-            Request::Cancel(key) => Some((*key, What::Cancel)),
-            Request::Suspend(key) => Some((*key, What::Suspend)),
-            Request::Resume(key) => Some((*key, What::Resume)),
-            Request::Report(key) => Some((*key, What::Report)),
-            Request::Abandon(key) => Some((*key, What::Abandon)),
-        }
-    }
 }
 
 /// What happens to an entity.
@@ -45,18 +25,4 @@ pub enum WorldEvent {
     Timer(TxnKey, TimerKind, u32),
     /// The file store answers a transaction's deposit with this stamp: whether it keeps the file.
     Stored(TxnKey, u32, bool),
-}
-
-impl WorldEvent {
-    /// What happens inside the entity, and to which transaction: none for a request or a datagram.
-    pub fn told(&self) -> Option<(TxnKey, What)>
-        ensures { result ≡ told_by_event self.now }
-    {
-        match self {
-            WorldEvent::Request(_, _) | WorldEvent::Deliver(_) => None,
-            WorldEvent::Pump(key) => Some((*key, What::Pump)),
-            WorldEvent::Timer(key, kind, stamp) => Some((*key, What::Timer(*kind, *stamp))),
-            WorldEvent::Stored(key, stamp, keeps) => Some((*key, What::Stored(*stamp, *keeps))),
-        }
-    }
 }
