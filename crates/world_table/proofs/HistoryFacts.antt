@@ -70,7 +70,7 @@ mine_beside lanes earlier user lane event of_user other =
 
 -- ---- a bundle is its lane's
 
-bundle_here : (state : State) (lane : ℕ) (key : Option TxnKey) (inds : List Indication) → state.lane ≡ lane
+pub bundle_here : (state : State) (lane : ℕ) (key : Option TxnKey) (inds : List Indication) → state.lane ≡ lane
     → of_lane lane (bundle_by state key inds) ≡ bundle_by state key inds
 bundle_here state lane None inds is = refl
 bundle_here state lane (Some key) [] is = refl

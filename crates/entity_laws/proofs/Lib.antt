@@ -1,0 +1,3 @@
+pub mod StepKeys
+pub mod KeyFacts
+pub mod EndFacts
