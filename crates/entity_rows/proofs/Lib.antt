@@ -1,0 +1,4 @@
+pub mod PostRows
+pub mod OpeningRows
+pub mod WorldRows
+pub mod LawRows
