@@ -1,5 +1,5 @@
 -- Worked places of transactions, and where what users ask for goes.
-use Rattle.std.proofs.Common.{◌≡◌, ℕ, true, List, [], ◌∷◌, map, Option, Some, None, Ok, Err, codes, refl}
+use Rattle.std.proofs.Common.{◌≡◌, ℕ, true, List, [], ◌∷◌, map, Option, Some, None, Ok, Err, codes, refl, arith}
 use Rattle.cfdp_types.specs.declared.key.TxnKey.{TxnKey}
 use Rattle.cfdp_types.specs.declared.names.Class.TheVariants.{One}
 use Rattle.cfdp_types.specs.declared.names.TimerKind.TheVariants as timer
@@ -19,7 +19,9 @@ use Rattle.entity_routing.specs.declared.world_event.WorldEvent.TheVariants as e
 use Rattle.pdu_reading.specs.declared.fault.DecodeFault.TheVariants.{TooShort}
 use Rattle.entity_routing.specs.Refusal.{refusal_name, refusal_number}
 use Rattle.entity_routing.specs.Places.{lanes_of, place_of, source_of_lane}
+use Rattle.entity_routing.specs.RouteLaws.{IsFrom}
 use Rattle.entity_routing.specs.Routes.{key_place, own_place, put_params, route, routed_request}
+use Rattle.entity_routing.proofs.NumberFacts.{numbers_tell}
 
 abbrev key : ℕ → ℕ → TxnKey
 key source seq = record { source = record { 0 = source }; seq = seq }
@@ -61,6 +63,19 @@ sources_of_lanes = refl
 
 no_sources : map (source_of_lane reference_config 1) (0 ∷ 1 ∷ 2 ∷ []) ≡ None ∷ None ∷ None ∷ []
 no_sources = refl
+
+-- so a number tells which of a source's lanes it is in, and no other
+from_one : IsFrom reference_config (record { 0 = 1 }) (record { user = 0; lane = 3 })
+from_one = record { peer = peer 1 (Some 0); found = refl; id = refl }
+
+told_by_number : place_of reference_config (key 1 7) ≡ at 0 3
+told_by_number = (numbers_tell reference_config (key 1 7) (record { user = 0; lane = 3 }) refl from_one).1 refl
+
+zero_one : (a b : ℕ) → a ≡ b → a ≡ 0 → b ≡ 1 → ⊥
+zero_one a b e a_is b_is = omega (arith, e, a_is, b_is)
+
+not_by_another : place_of reference_config (key 1 6) ≡ at 0 3 → ⊥
+not_by_another is = zero_one 0 1 ((numbers_tell reference_config (key 1 6) (record { user = 0; lane = 3 }) refl from_one).0 is) refl refl
 
 -- ---- two users with a source each
 
