@@ -24,7 +24,7 @@ use Rattle.cfdp_entity.specs.Routed.{AreRouted}
 use Rattle.entity_laws.specs.EntityLaws.{IsAtHome, TellsNothingMore, has_key, told_under}
 use Rattle.entity_laws.proofs.KeyFacts.{idle_lanes, tells_at_home}
 
-abbrev at : ℕ → ℕ → Option Place
+abbrev pub at : ℕ → ℕ → Option Place
 at user lane = Some (record { user = user; lane = lane })
 
 some_place : (one other : Place) → Some one ≡ Some other → one ≡ other
@@ -60,7 +60,7 @@ same_sources config one other place holds is is' false false own own' =
 
 -- ---- the bundles of a transaction
 
-key_is : (key : TxnKey) (bundle : Bundle) → has_key key bundle ≡ true → bundle.key ≡ key
+pub key_is : (key : TxnKey) (bundle : Bundle) → has_key key bundle ≡ true → bundle.key ≡ key
 key_is key bundle is =
     let both = both_true (bundle.key.source.0 == key.source.0) (bundle.key.seq == key.seq) is in
     ap (λ (n : ℕ). let k : TxnKey = record { source = record { 0 = n }; seq = bundle.key.seq } in k) (eqb-true bundle.key.source.0 key.source.0 both.0)
@@ -90,7 +90,7 @@ none_under config key user lane other (x ∷ xs) is away homes =
     ∙ none_under config key user lane other xs is away (All-tail (IsAtHome config other) x xs homes)
 
 -- the user is told of it what its lane tells of its number
-same_bundles : (config : ConfigValue) (key : TxnKey) (user lane : ℕ) (bundles : List Bundle) → IsTrue (is_config config) → place_of config key ≡ at user lane
+pub same_bundles : (config : ConfigValue) (key : TxnKey) (user lane : ℕ) (bundles : List Bundle) → IsTrue (is_config config) → place_of config key ≡ at user lane
     → All (IsAtHome config user) bundles → filter (has_key key) bundles ≡ of_number key.seq (of_lane lane bundles)
 same_bundles config key user lane [] holds is homes = refl
 same_bundles config key user lane (x ∷ xs) holds is homes =

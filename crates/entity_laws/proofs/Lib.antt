@@ -1,3 +1,4 @@
 pub mod StepKeys
 pub mod KeyFacts
 pub mod EndFacts
+pub mod WordFacts
