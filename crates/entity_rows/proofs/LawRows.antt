@@ -1,14 +1,16 @@
 -- A worked history of an entity by its configuration: where its events go, and what its laws say of it.
-use Rattle.std.proofs.Common.{◌≡◌, ℕ, false, IsTrue, All, List, [], ◌∷◌, ◌++◌, Some, refl, ap, arith}
+use Rattle.std.proofs.Common.{◌≡◌, ℕ, true, false, IsTrue, All, List, [], ◌∷◌, ◌++◌, map, Some, Contains, refl, ap, arith}
 use Rattle.std.specs.List.{list_any}
 use Rattle.cfdp_types.specs.declared.names.Class.TheVariants.{One, Two}
-use Rattle.cfdp_types.specs.declared.names.Delivery.TheVariants.{Incomplete}
-use Rattle.cfdp_types.specs.declared.names.FileStatus.TheVariants.{Unreported}
+use Rattle.cfdp_types.specs.declared.names.Delivery.TheVariants.{Complete, Incomplete}
+use Rattle.cfdp_types.specs.declared.names.FileStatus.TheVariants.{Retained, Unreported}
 use Rattle.gap_list.specs.Runs.{runs_of, runs_from}
 use Rattle.indications.specs.declared.indication.Indication.TheVariants as told
-use Rattle.indications.specs.Words.{is_end}
+use Rattle.indications.specs.declared.side.Side.TheVariants.{Sender, Receiver}
+use Rattle.indications.specs.Words.{is_end, IsBegunOf}
 use Rattle.receiver_table.specs.Reception as receiver
 use Rattle.sender_table.specs.Sending as sender
+use Rattle.txn_events.specs.Examples.{finished_acknowledged}
 use Rattle.txn_events.specs.declared.event.What.TheVariants as what
 use Rattle.config_reading.specs.Values.{is_config}
 use Rattle.entity_config.specs.Reference.{reference_config}
@@ -18,9 +20,10 @@ use Rattle.world_table.specs.Histories.{Happening, steps, takes, mine, IsHistory
 use Rattle.entity_routing.specs.declared.place.Place.{Place}
 use Rattle.cfdp_entity.specs.Opening.{first_lane}
 use Rattle.cfdp_entity.specs.Routed.{AreRouted, IsRoutedTo}
-use Rattle.entity_laws.specs.EntityLaws.{IsAtHome, told_under}
+use Rattle.entity_laws.specs.EntityLaws.{IsAtHome, HasFile, end_here, told_under}
 use Rattle.entity_laws.proofs.EndFacts.{tells_nothing_more}
 use Rattle.entity_laws.proofs.KeyFacts.{tells_at_home}
+use Rattle.entity_laws.proofs.WordFacts.{delivers_files, tells_words}
 use Rattle.entity_rows.proofs.WorldRows.{waiting}
 
 -- a file comes for alice, she and bob put one, and she cancels hers; the newest first
@@ -120,3 +123,38 @@ five_goes_on = refl
 four_stays : (user : ℕ) → told_under (sending.key 4) (mine (first_lane reference_config) (later ++ history) user)
     ≡ told_under (sending.key 4) (mine (first_lane reference_config) history user)
 four_stays user = tells_nothing_more reference_config later history 0 user (sending.key 4) kept all_routed all_can_be four_ended
+
+-- ---- words and files
+
+-- the file that came is kept
+abbrev completed : List Happening
+completed = steps 0 3 (receiving.on 5 (finished_acknowledged 0)) ∷ steps 0 3 (receiving.on 5 (what.Stored 2 true)) ∷ history
+
+completed_routed : AreRouted reference_config completed
+completed_routed = (refl, (refl, are_routed))
+
+completed_can_be : IsHistory (first_lane reference_config) completed
+unfolding receiver.initial receiver.step receiver.state_of sender.initial sender.step sender.state_of runs_of runs_from
+completed_can_be = ((refl, refl), refl, (tt, refl, can_be))
+
+-- the entity sends its own, and receives what comes from others
+ends : map (end_here reference_config) (sending.key 4 ∷ receiving.key 5 ∷ []) ≡ Sender ∷ Receiver ∷ []
+ends = refl
+
+four_begun : IsBegunOf Sender (told_under (sending.key 4) (mine (first_lane reference_config) completed 0))
+four_begun = tells_words reference_config completed 0 (sending.key 4) kept completed_routed completed_can_be
+
+five_begun : IsBegunOf Receiver (told_under (receiving.key 5) (mine (first_lane reference_config) completed 0))
+five_begun = tells_words reference_config completed 0 (receiving.key 5) kept completed_routed completed_can_be
+
+five_completes : Contains (told_under (receiving.key 5) (mine (first_lane reference_config) completed 0)) (told.TransactionFinished 0 Complete Retained)
+unfolding receiver.initial receiver.step receiver.state_of sender.initial sender.step sender.state_of runs_of runs_from
+five_completes = (3, omega (arith), refl)
+
+five_came : HasFile reference_config completed 0 (receiving.key 5)
+five_came = delivers_files reference_config completed 0 (receiving.key 5) 0 Retained kept completed_routed completed_can_be refl five_completes
+
+-- to alice, and to nobody else
+not_for_bob : HasFile reference_config completed 1 (receiving.key 5) → ⊥
+not_for_bob file =
+    zero_one 0 1 (ap (λ (p : Place). p.user) (same_place (record { user = 0; lane = 3 }) (record { user = 1; lane = file.lane }) file.place)) refl refl
