@@ -4,9 +4,9 @@ SHELL := /bin/bash
 
 program := crates/cfdp_replay/out/cfdp_replay
 
-# a first look: a file is received from a script of datagrams, and its user is told; nothing is proved
+# a first look: a file is received whose parts were lost and asked for again; nothing is proved
 demo:
-	@examples/demo.sh examples/reception.script
+	@examples/demo.sh examples/lost-segments.script
 
 # the script program, proved and built
 build:

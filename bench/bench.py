@@ -2,30 +2,45 @@
 
 usage: bench.py PROGRAM
 
-The scripts are made here: one reception of a large file in order, in segments of 256 and of 1,400 octets,
-many small receptions one after another, and datagrams of every kind, each at one size and at eight times
-that size. Below each pair stand the bars that it has, for a machine with four processors and no other work:
-for the large file and for the datagrams their speed, and for all how time and memory grow.
+The scripts are made here, each at one size and at eight times that size: receptions of a large file in both
+classes, also with the EOF first and the parts in rising and in falling order; many small receptions one
+after another; files that are put and sent; and datagrams of every kind. Nothing may be refused, but among
+those datagrams. Below each pair stand the bars that it has, for a machine with four processors and no other
+work: for speed, and for how time and memory grow.
 """
 
+import fcntl
 import os
 import platform
+import shutil
 import subprocess
 import sys
 import tempfile
+import termios
 import time
 
+# The smaller sizes: octets of a file, receptions, files that are put, segments, datagrams.
 LARGE = 512 * 1024
-SMALL = 10_000
-MIXED = 200_000
+SMALL = 12_500
+PUTS = 8
+SEGMENTS = 2_048
+MIXED = 25_000
 
 RUNS = 5
 
+# A line of a script has at most 131,200 octets, so the largest file that a script can put has 65,590: two
+# hexadecimal digits for each octet, behind the 20 octets `put alice 0 1 1 a b `. In the reference
+# configuration it is sent in parts of 256 octets.
+PUT_OCTETS = 65_590
+PART = 256
+
 # The bars: how many times as long a script of eight times the size may take; the peak memory beside four
-# times the file, in octets; the least speed of each kind of script that has one, by its unit.
+# times the file, in octets; how much more memory eight times as many receptions may take, one after another;
+# and how many times as long falling parts may take as rising ones.
 GROWTH = 10
 MEMORY = 16_000_000
-SPEEDS = {"large": (200, "MB/s"), "mixed": (1_000_000, "lines/s")}
+LEFT_BEHIND = 500_000
+FALLING = 3
 
 
 def checksum(octets):
@@ -36,36 +51,84 @@ def checksum(octets):
 
 
 def pdu(first, sequence, field):
-    """A PDU of class 1 from entity 1 to entity 2, all lengths one octet."""
-    header = bytes([first]) + len(field).to_bytes(2, "big") + bytes([0, 1, sequence, 2])
-    return "pdu " + (header + field).hex()
+    """A PDU from entity 1 to entity 2; a sequence number above 255 has four octets, the IDs have one."""
+    digits, lengths = (4, 3) if sequence > 255 else (1, 0)
+    ids = b"\x01" + sequence.to_bytes(digits, "big") + b"\x02"
+    return "pdu " + (bytes([first]) + len(field).to_bytes(2, "big") + bytes([lengths]) + ids + field).hex()
 
 
-def reception(sequence, octets, segment):
-    """The lines of one reception."""
-    size = len(octets).to_bytes(4, "big")
-    yield pdu(0x24, sequence, b"\x07\x00" + size + b"\x01a\x01b")
-    for offset in range(0, len(octets), segment):
-        yield pdu(0x34, sequence, offset.to_bytes(4, "big") + octets[offset : offset + segment])
-    yield pdu(0x24, sequence, b"\x04\x00" + checksum(octets).to_bytes(4, "big") + size)
+def file_of(size):
+    """The octets of a file."""
+    return bytes((i * 7 + i // 251) % 256 for i in range(size))
 
 
-def large(size, segment):
-    """One reception, whose bundles are taken as they come."""
-    octets = bytes((i * 7 + i // 251) % 256 for i in range(size))
-    lines = []
-    for line in reception(5, octets, segment):
-        lines += [line, "take alice"]
-    stamp = (size + segment - 1) // segment + 1
-    return lines + [f"stored 1 5 {stamp} yes", "take alice"]
+class Reception:
+    """The lines of one reception in class 1 or 2; the first octet of a PDU has one more bit set in class 1."""
+
+    def __init__(self, number, sequence, octets):
+        self.bit = 4 if number == 1 else 0
+        self.sequence = sequence
+        self.octets = octets
+        self.size = len(octets).to_bytes(4, "big")
+
+    def metadata(self):
+        return pdu(0x20 + self.bit, self.sequence, b"\x07\x00" + self.size + b"\x01a\x01b")
+
+    def part(self, offset, octets):
+        field = offset.to_bytes(4, "big") + self.octets[offset : offset + octets]
+        return pdu(0x30 + self.bit, self.sequence, field)
+
+    def eof(self):
+        return pdu(0x20 + self.bit, self.sequence, b"\x04\x00" + checksum(self.octets).to_bytes(4, "big") + self.size)
+
+    def kept(self, stamp):
+        """The store keeps the file; in class 2 the sender acknowledges the end."""
+        yield f"stored 1 {self.sequence} {stamp} yes"
+        if self.bit == 0:
+            yield pdu(0x20, self.sequence, b"\x06\x51\x02")
+
+
+def large(number, size, octets):
+    """One reception in order, in parts of so many octets, whose bundles are taken as they come."""
+    reception = Reception(number, 5, file_of(size))
+    lines = [reception.metadata(), "take alice"]
+    for offset in range(0, size, octets):
+        lines += [reception.part(offset, octets), "take alice"]
+    lines += [reception.eof(), "take alice"]
+    return lines + list(reception.kept((size + octets - 1) // octets + 1)) + ["take alice"]
+
+
+def ended_first(count, falling):
+    """One reception in class 2, the EOF and the Metadata before the parts, which rise or fall."""
+    reception = Reception(2, 5, file_of(count * PART))
+    lines = [reception.eof(), "take alice", reception.metadata(), "take alice"]
+    numbers = range(count - 1, -1, -1) if falling else range(count)
+    for number in numbers:
+        lines += [reception.part(number * PART, PART), "take alice"]
+    return lines + list(reception.kept(count + 1)) + ["take alice"]
 
 
 def small(count):
-    """Receptions of three octets, one after another."""
+    """Receptions of three octets in class 2, ten lines each, with rising sequence numbers."""
+    lines = []
+    for sequence in range(256, 256 + count):
+        reception = Reception(2, sequence, b"abc")
+        lines += [reception.metadata(), reception.part(0, 3), reception.eof()]
+        lines += [*reception.kept(2), *["take alice"] * 5]
+    return lines
+
+
+def puts(count):
+    """Files that alice puts in class 1 and sends to their ends, by turns in both of her lanes."""
+    octets = file_of(PUT_OCTETS).hex()
     lines = []
     for number in range(count):
-        lines += reception(number % 256, b"abc", 256)
-        lines += [f"stored 1 {number % 256} 2 yes", "take alice"]
+        lane = number % 2
+        # A user's lane numbers its transactions from 4 or 6 on, by steps of 4.
+        sequence = 4 * (number // 2) + 4 + 2 * lane
+        lines.append(f"put alice {lane} 1 1 a b {octets}")
+        lines += [f"pump 2 {sequence}"] * ((PUT_OCTETS + PART - 1) // PART + 2)
+        lines += ["take alice"] * 2
     return lines
 
 
@@ -100,78 +163,136 @@ def mixed(count):
         yield "pdu " + header.hex() + field
 
 
-def make(kind, size, segment):
+KINDS = {
+    "class 1 by 256": lambda size: large(1, size, 256),
+    "class 1 by 1,400": lambda size: large(1, size, 1400),
+    "class 2 by 1,400": lambda size: large(2, size, 1400),
+    "small": small,
+    "puts": puts,
+    "rising": lambda count: ended_first(count, False),
+    "falling": lambda count: ended_first(count, True),
+    "mixed": mixed,
+}
+
+# For each kind: what its smaller size is, what it counts, how many octets the largest file of each has, and
+# the least speed of the larger one, by its unit.
+MEASURED = {
+    "class 1 by 256": (LARGE, "octets", 1, None),
+    "class 1 by 1,400": (LARGE, "octets", 1, (150, "MB/s")),
+    "class 2 by 1,400": (LARGE, "octets", 1, (150, "MB/s")),
+    "small": (SMALL, "receptions", 0, (1_200_000, "lines/s")),
+    "puts": (PUTS, "files", 0, (150, "MB/s printed")),
+    "rising": (SEGMENTS, "parts", PART, None),
+    "falling": (SEGMENTS, "parts", PART, None),
+    "mixed": (MIXED, "datagrams", 0, (1_000_000, "lines/s")),
+}
+
+
+def make(kind, size):
     """Prints a script: it runs in a process of its own, so that the measuring one stays small."""
-    kinds = {"large": lambda: large(size, segment), "small": lambda: small(size), "mixed": lambda: mixed(size)}
-    lines = kinds[kind]()
-    sys.stdout.write("\n".join(lines) + "\n")
+    sys.stdout.write("\n".join(KINDS[kind](size)) + "\n")
 
 
-def run(program, script):
-    """Runs a script, and answers its seconds and the peak memory in octets."""
-    with open(script, "rb") as lines, tempfile.TemporaryFile() as output:
+def run(program, script, output):
+    """Runs a script, and answers its seconds."""
+    with open(script, "rb") as lines, open(output, "wb") as answers:
         start = time.perf_counter()
-        child = subprocess.Popen([program], stdin=lines, stdout=output)
-        _, status, usage = os.wait4(child.pid, 0)
+        child = subprocess.Popen([program], stdin=lines, stdout=answers)
+        status = child.wait()
         seconds = time.perf_counter() - start
-        child.returncode = os.waitstatus_to_exitcode(status)
-        if child.returncode != 0:
-            sys.exit(f"{program} ended with status {child.returncode}")
-        return seconds, usage.ru_maxrss * 1024
+    if status != 0:
+        sys.exit(f"{program} ended with status {status}")
+    return seconds
+
+
+def peak(program, script):
+    """Runs a script, and answers the peak memory in octets: what the kernel tells when all is read."""
+    child = subprocess.Popen([program], stdin=subprocess.PIPE, stdout=subprocess.DEVNULL)
+    with open(script, "rb") as lines:
+        shutil.copyfileobj(lines, child.stdin)
+    child.stdin.flush()
+    while fcntl.ioctl(child.stdin, termios.FIONREAD, b"\0" * 4) != b"\0" * 4:
+        time.sleep(0.01)
+    time.sleep(0.1)
+    with open(f"/proc/{child.pid}/status", encoding="ascii") as status:
+        told = next(line for line in status if line.startswith("VmHWM:"))
+    child.stdin.close()
+    child.wait()
+    return int(told.split()[1]) * 1024
+
+
+def refusals(output):
+    """How many lines of an output tell of a refusal."""
+    with open(output, "rb") as lines:
+        return sum(1 for line in lines if line.startswith(b"refused"))
 
 
 class Row:
     """What the best of some runs of one script took."""
 
-    def __init__(self, program, kind, size, segment):
-        with tempfile.NamedTemporaryFile() as script:
-            words = [sys.executable, __file__, "make", kind, str(size), str(segment)]
-            subprocess.run(words, stdout=script, check=True)
-            self.octets = os.path.getsize(script.name)
-            with open(script.name, "rb") as lines:
+    def __init__(self, program, kind, size):
+        with tempfile.TemporaryDirectory() as folder:
+            script, output = os.path.join(folder, "script"), os.path.join(folder, "output")
+            with open(script, "wb") as lines:
+                subprocess.run([sys.executable, __file__, "make", kind, str(size)], stdout=lines, check=True)
+            self.octets = os.path.getsize(script)
+            with open(script, "rb") as lines:
                 self.count = sum(1 for _ in lines)
-            self.seconds, self.memory = min(run(program, script.name) for _ in range(RUNS))
-        self.speeds = {"MB/s": self.octets / 1e6 / self.seconds, "lines/s": self.count / self.seconds}
+            self.seconds = min(run(program, script, output) for _ in range(RUNS))
+            self.printed = os.path.getsize(output)
+            if kind != "mixed" and refusals(output) > 0:
+                sys.exit(f"{kind}: {refusals(output)} lines of {self.count} were refused")
+            self.memory = peak(program, script)
+        self.speeds = {
+            "MB/s": self.octets / 1e6 / self.seconds,
+            "MB/s printed": self.printed / 1e6 / self.seconds,
+            "lines/s": self.count / self.seconds,
+        }
 
     def show(self, name):
         """Prints the row."""
         print(
-            f"{name:<26} {self.count:>7,} lines {self.octets / 1e6:>6.2f} MB {self.seconds:>6.3f} s"
-            f" {self.speeds['lines/s']:>10,.0f} lines/s {self.speeds['MB/s']:>6.1f} MB/s"
-            f" {self.memory / 1e6:>5.1f} MB peak"
+            f"{name:<34} {self.count:>9,} lines {self.octets / 1e6:>6.2f} MB, {self.printed / 1e6:>6.2f} MB printed"
+            f" {self.seconds:>6.3f} s {self.speeds['lines/s']:>10,.0f} lines/s {self.speeds['MB/s']:>6.1f} MB/s"
+            f" {self.memory / 1e6:>5.1f} MB peak",
+            flush=True,
         )
 
 
 def show_bar(what, met):
     """Prints a bar."""
-    print(f"  {'met' if met else 'MISSED'}: {what}")
+    print(f"  {'met' if met else 'MISSED'}: {what}", flush=True)
 
 
-def compare(program, kind, size, segment, name):
-    """Measures one size and eight times that size, and prints the bars."""
-    one = Row(program, kind, size, segment)
-    one.show(name(size))
-    eight = Row(program, kind, 8 * size, segment)
-    eight.show(name(8 * size))
+def compare(program, kind):
+    """Measures one size and eight times that size, prints the bars, and answers the seconds of the larger."""
+    size, unit, octets, speed = MEASURED[kind]
+    one = Row(program, kind, size)
+    one.show(f"{kind}: {size:,} {unit}")
+    eight = Row(program, kind, 8 * size)
+    eight.show(f"{kind}: {8 * size:,} {unit}")
     growth = eight.seconds / one.seconds
     show_bar(f"eight times the size takes {growth:.1f} times as long, at most {GROWTH}", growth <= GROWTH)
-    most = MEMORY + (4 * 8 * size if kind == "large" else 0)
+    most = MEMORY + 4 * 8 * size * octets
     show_bar(f"{eight.memory / 1e6:.1f} MB of memory, at most {most / 1e6:.1f}", eight.memory <= most)
-    if kind in SPEEDS:
-        least, unit = SPEEDS[kind]
+    if octets == 0:
+        more = eight.memory - one.memory
+        show_bar(f"{more / 1e6:.2f} MB more than one eighth takes, at most {LEFT_BEHIND / 1e6}", more <= LEFT_BEHIND)
+    if speed:
+        least, unit = speed
         show_bar(f"{eight.speeds[unit]:,.0f} {unit}, at least {least:,}", eight.speeds[unit] >= least)
+    return eight.seconds
 
 
 def main():
     if sys.argv[1] == "make":
-        make(sys.argv[2], int(sys.argv[3]), int(sys.argv[4]))
+        make(sys.argv[2], int(sys.argv[3]))
         return
     program = sys.argv[1]
     print(f"machine: {platform.machine()}, {os.cpu_count()} processors, {platform.system()}")
-    for segment in (256, 1400):
-        compare(program, "large", LARGE, segment, lambda size: f"{size:,} octets by {segment}")
-    compare(program, "small", SMALL // 8, 256, lambda count: f"{count:,} receptions")
-    compare(program, "mixed", MIXED // 8, 256, lambda count: f"{count:,} datagrams")
+    seconds = {kind: compare(program, kind) for kind in KINDS}
+    ratio = seconds["falling"] / seconds["rising"]
+    show_bar(f"falling parts take {ratio:.1f} times as long as rising ones, at most {FALLING}", ratio <= FALLING)
 
 
 if __name__ == "__main__":

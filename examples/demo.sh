@@ -9,25 +9,31 @@ work=$(mktemp -d)
 trap 'rm -rf "$work"' EXIT
 
 echo "The code runs as it stands, with nothing proved: about half a minute. (make build proves it.)"
-# The program is run on the first line, on the first two lines, and so on.
+# Behind each line that is answered stands a mark: a datagram of one octet, which is refused, and so tells
+# where the answer ends.
+mark='refused 20 DecodeFault 1'
 mkdir "$work/cases"
-lines=$(grep -c '' "$script")
-for number in $(seq 1 "$lines"); do
-    head -n "$number" "$script" > "$work/cases/$(printf %03d "$number")"
-done
+sed '/^$/b; /^#/b; /^set /b; a pdu 00' "$script" > "$work/cases/script"
 if ! rt try --cases "$work/cases" > "$work/log" 2>&1; then
     cat "$work/log"
     exit 1
 fi
+sed '/^== script$/d; /^cases\?=/d' "$work/log" > "$work/answers"
 
 echo "Each line of the script, and below it, indented, what the entity answers:"
 echo
-shown=0
-for number in $(seq 1 "$lines"); do
-    name=$(printf %03d "$number")
-    sed -n "${number}p" "$script"
-    # What is printed for the lines up to this one, without what was printed for those before.
-    awk -v name="$name" '/^== / { on = $2 == name } on && !/^(== |cases?=)/' "$work/log" > "$work/answers"
-    tail -n +"$((shown + 1))" "$work/answers" | sed 's/^/        /'
-    shown=$(wc -l < "$work/answers")
-done
+exec 3< "$work/answers"
+while IFS= read -r line || [ -n "$line" ]; do
+    echo "$line"
+    case $line in '' | '#'* | 'set '*) continue ;; esac
+    # The first line of an answer may look like the mark, those behind it can't.
+    IFS= read -r answer <&3
+    case $answer in 'line '*': bad line')
+        echo "This line, or a setting above it, is a bad line: the run ends here."
+        exit 1 ;;
+    esac
+    echo "        $answer"
+    while IFS= read -r answer <&3 && [ "$answer" != "$mark" ]; do
+        echo "        $answer"
+    done
+done < "$script"

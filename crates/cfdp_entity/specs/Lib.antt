@@ -1,3 +1,4 @@
 pub mod Opening
-pub mod Worlds
 pub mod Routed
+pub mod Worlds
+pub mod Answering

@@ -1,6 +1,6 @@
 ghost use Rattle.std.specs.Prelude.{◌≡◌, Ok, IfOk, IfErr};
 ghost use Rattle.pdu_reading.specs.Reading.{reading};
-ghost use Rattle.cfdp_entity.specs.Worlds.{IsNotRead};
+ghost use Rattle.cfdp_entity.specs.Answering.{IsNotRead};
 
 use crate::opening::users_for;
 use crate::refusal::EntityRefusal;
@@ -35,29 +35,27 @@ impl Model for World {
 
     ghost view = { λ w. record { config = w.config; posts = w.users } };
 
-    ghost use Rattle.std.specs.Prelude.{IsTrue};
-    ghost use Rattle.config_reading.specs.Values.{is_config};
+    ghost use Rattle.cfdp_entity.specs.Worlds.{IsWorld};
 
-    ghost invariant = { λ w. IsTrue (is_config w.config) };
+    ghost invariant = { λ w. IsWorld (record { config = w.config; posts = w.users }) };
 }
 
 impl World {
-    ghost use Rattle.std.specs.Prelude.{◌≡◌, ◌<◌, ◌⊎◌, [], List, length, Ok, IfOk, IfErr, IfSome, IfNone, OnErr};
+    ghost use Rattle.std.specs.Prelude.{◌≡◌, ◌<◌, ◌⊎◌, [], ◌∷◌, List, length, Ok, IfOk, IfErr, IfSome, IfNone, OnErr};
     ghost use Rattle.pdu_reading.specs.Reading.{reading};
     ghost use Rattle.txn_events.specs.declared.event.Event.TheVariants.{On};
     ghost use Rattle.lane_table.specs.Steps.{IsKeyed};
-    ghost use Rattle.world_table.specs.Histories.{Happening, held_for};
-    ghost use Rattle.entity_routing.specs.RouteLaws.{IsWithin};
+    ghost use Rattle.world_table.specs.Histories.{Happening, takes, held_for};
     ghost use Rattle.entity_routing.specs.Routes.{route, key_place, routed_key, routed_own, routed_request, routed_reading, routed_put, put_params};
-    ghost use Rattle.entity_users.specs.Standing.{IsTakenFrom};
-    ghost use Rattle.cfdp_entity.specs.Opening.{layout_of, first_lane};
-    ghost use Rattle.cfdp_entity.specs.Worlds.{StandsAfter, IsWorld, MayTake, MayCome, MayRequest, IsAnswered, IsAnsweredAt, IsUnread, IsUnreadFrom, IsImage};
+    ghost use Rattle.cfdp_entity.specs.Opening.{first_lane};
+    ghost use Rattle.cfdp_entity.specs.Routed.{IsRoutedTo};
+    ghost use Rattle.cfdp_entity.specs.Worlds.{StandsAfter, MayCome, MayRequest, IsAnswered, IsUnread, IsUnreadFrom, IsFront, IsImage, history_after};
+    ghost use Rattle.cfdp_entity.specs.Answering.{Answers, AnswersAt};
 
     /// An entity with this configuration, to which nothing has happened.
     pub fn open(alloc: Global, config: Config) -> Result<World, AllocError>
         ensures config { IfOk result (λ world. world.config ≡ config) }
         ensures stands { IfOk result (λ world. StandsAfter world []) }
-        ensures still { IfOk result IsWorld }
     {
         let users = users_for(alloc, &config)?;
         Ok(World {
@@ -91,35 +89,34 @@ impl World {
     /// Tells it of an event: the lane that the event goes to takes it, or it is refused and changes nothing. The users
     /// that it names have to be among its own, and the lane of a Put among the user's sending lanes.
     pub fn step(&mut self, event: &WorldEvent) -> Result<Done, EntityRefusal>
-        requires may { MayCome self.old.config event.now }
-        requires world { IsWorld self.old }
+        requires { MayCome self.old.config event.now }
         ensures answered { (history : List Happening) → StandsAfter self.old history
-            → IsAnswered self.old.config history (route self.old.config event.now) self.new.posts result
-            ⊎ IsUnread event.now result }
+            → IsAnswered self.old.config history (route self.old.config event.now) result ⊎ IsUnread event.now result }
+        ensures stands { (history : List Happening) → StandsAfter self.old history
+            → StandsAfter self.new (history_after history (route self.old.config event.now) result) }
         ensures config { self.new.config ≡ self.old.config }
         ensures same { OnErr result (self.new ≡ self.old) }
-        ensures still { IsWorld self.new }
     {
         self.answer(event)
     }
 
     /// A user takes the bundle at the front of the user's queue, if any waits.
     pub fn take(&mut self, user: usize) -> Option<Bundle>
-        requires { MayTake self.old user }
+        requires { user < length self.old.config.users }
         ensures none { (history : List Happening) → StandsAfter self.old history
             → IfNone result (held_for (first_lane self.old.config) history user ≡ []) }
         ensures same { IfNone result (self.new ≡ self.old) }
         ensures front { (history : List Happening) → StandsAfter self.old history
-            → IfSome result (IsTakenFrom (layout_of self.old.config) history user self.new.posts) }
+            → IfSome result (IsFront self.old.config history user) }
+        ensures stands { (history : List Happening) → StandsAfter self.old history
+            → IfSome result (λ bundle. StandsAfter self.new (takes user ∷ history)) }
         ensures config { self.new.config ≡ self.old.config }
-        ensures still { IsWorld self.new }
     {
         self.users.take(user)
     }
 
     /// The file of a deposit that waits, by its transaction and its stamp.
     pub fn image(&self, key: TxnKey, stamp: u32) -> Result<Image, EntityRefusal>
-        requires { IsWorld self.now }
         ensures { (history : List Happening) → StandsAfter self.now history
             → IsImage self.now history key stamp (key_place self.now.config key) result }
     {
@@ -132,10 +129,9 @@ impl World {
 
     // The same, but for what follows of the history.
     fn answer(&mut self, event: &WorldEvent) -> Result<Done, EntityRefusal>
-        requires may { MayCome self.old.config event.now }
-        requires world { IsWorld self.old }
+        requires { MayCome self.old.config event.now }
         ensures answered { (history : List Happening) → StandsAfter self.old history
-            → IsAnswered self.old.config history (route self.old.config event.now) self.new.posts result
+            → Answers self.old.config history (route self.old.config event.now) self.new.posts result
             ⊎ IsUnread event.now result }
         ensures config { self.new.config ≡ self.old.config }
         ensures same { OnErr result (self.new ≡ self.old) }
@@ -151,10 +147,9 @@ impl World {
 
     // A user asks for something.
     fn request(&mut self, user: usize, request: &Request) -> Result<Done, EntityRefusal>
-        requires may { MayRequest self.old.config user request.now }
-        requires world { IsWorld self.old }
+        requires { MayRequest self.old.config user request.now }
         ensures answered { (history : List Happening) → StandsAfter self.old history
-            → IsAnswered self.old.config history (routed_request self.old.config user request.now) self.new.posts result }
+            → Answers self.old.config history (routed_request self.old.config user request.now) self.new.posts result }
         ensures config { self.new.config ≡ self.old.config }
         ensures same { OnErr result (self.new ≡ self.old) }
     {
@@ -170,10 +165,9 @@ impl World {
 
     // Something happens to a transaction, in the entity itself.
     fn inside(&mut self, key: TxnKey, what: What) -> Result<Done, EntityRefusal>
-        requires keyed { IsKeyed (On key what) }
-        requires world { IsWorld self.old }
+        requires { IsKeyed (On key what) }
         ensures answered { (history : List Happening) → StandsAfter self.old history
-            → IsAnswered self.old.config history (routed_key self.old.config key what) self.new.posts result }
+            → Answers self.old.config history (routed_key self.old.config key what) self.new.posts result }
         ensures config { self.new.config ≡ self.old.config }
         ensures same { OnErr result (self.new ≡ self.old) }
     {
@@ -183,10 +177,9 @@ impl World {
 
     // The same where a user asks for it.
     fn own(&mut self, user: usize, key: TxnKey, what: What) -> Result<Done, EntityRefusal>
-        requires keyed { IsKeyed (On key what) }
-        requires world { IsWorld self.old }
+        requires { IsKeyed (On key what) }
         ensures answered { (history : List Happening) → StandsAfter self.old history
-            → IsAnswered self.old.config history (routed_own self.old.config user key what) self.new.posts result }
+            → Answers self.old.config history (routed_own self.old.config user key what) self.new.posts result }
         ensures config { self.new.config ≡ self.old.config }
         ensures same { OnErr result (self.new ≡ self.old) }
     {
@@ -198,10 +191,10 @@ impl World {
     fn put(&mut self, user: usize, lane: usize, put: &PutRequest) -> Result<Done, EntityRefusal>
         requires user { user < length self.old.config.users }
         requires lane { lane < self.old.config.entity.put_lanes }
-        requires world { IsWorld self.old }
         ensures answered { (history : List Happening) → StandsAfter self.old history
-            → IsAnswered self.old.config history
-            (routed_put (record { user = user; lane = lane }) put.now (put_params self.old.config put.now.destination)) self.new.posts result }
+            → Answers self.old.config history
+            (routed_put (record { user = user; lane = lane }) put.now (put_params self.old.config put.now.destination))
+            self.new.posts result }
         ensures config { self.new.config ≡ self.old.config }
         ensures same { OnErr result (self.new ≡ self.old) }
     {
@@ -214,9 +207,9 @@ impl World {
 
     // A datagram comes.
     fn deliver(&mut self, octets: &[u8]) -> Result<Done, EntityRefusal>
-        requires { IsWorld self.old }
         ensures answered { (history : List Happening) → StandsAfter self.old history
-            → IsAnswered self.old.config history (routed_reading self.old.config (reading octets.now)) self.new.posts result
+            → Answers self.old.config history (routed_reading self.old.config (reading octets.now)) self.new.posts
+            result
             ⊎ IsUnreadFrom octets.now result }
         ensures config { self.new.config ≡ self.old.config }
         ensures same { OnErr result (self.new ≡ self.old) }
@@ -230,10 +223,9 @@ impl World {
     // Tells a lane of an event.
     fn tell(&mut self, place: Place, event: Event) -> Result<Done, EntityRefusal>
         requires keyed { IsKeyed event }
-        requires within { IsWithin self.old.config place }
-        requires world { IsWorld self.old }
+        requires routed { IsRoutedTo self.old.config place.user place.lane event }
         ensures answered { (history : List Happening) → StandsAfter self.old history
-            → IsAnsweredAt self.old.config history (record { place = place; event = event }) self.new.posts result }
+            → AnswersAt self.old.config history (record { place = place; event = event }) self.new.posts result }
         ensures config { self.new.config ≡ self.old.config }
         ensures same { OnErr result (self.new ≡ self.old) }
     {

@@ -1,18 +1,9 @@
-//! Runs a script of PDUs, store answers and takes through one protocol entity, and prints what it
+//! Runs a script of PDUs, requests, timers, store answers and takes through one protocol entity, and prints what it
 //! answers.
 #![tactic(auto)]
 
-mod command;
-pub mod laws;
-mod queue;
-mod replay;
-mod reply;
-mod text;
-mod words;
-mod world;
-
-use replay::replay;
-use script_io::{BLOCK_OCTETS, ReplayFault, conclude};
+use script_io::{BLOCK_OCTETS, conclude};
+use script_replay::{ReplayFault, replay};
 use std::io;
 use std::io::{BufWriter, Write};
 use std::process::ExitCode;

@@ -134,7 +134,7 @@ routed_key config key happens = routed_on key happens (key_place config key)
 -- the lane that is told of what happens, and what it is told
 abbrev pub route : ConfigValue → WorldEvent → Result Routed RouteRefusal
 route config (events.Request user request) = routed_request config user request
-route config (events.Deliver octets) = routed_reading config (reading octets.items)
+route config (events.Deliver octets) = routed_reading config (reading octets)
 route config (events.Pump key) = routed_key config key what.Pump
 route config (events.Timer key kind stamp) = routed_key config key (what.Timer kind stamp)
 route config (events.Stored key stamp keeps) = routed_key config key (what.Stored stamp keeps)

@@ -1,4 +1,4 @@
-use cfdp_types::{PutRequest, TimerKind, TxnKey};
+use cfdp_types::{Octets, PutRequest, TimerKind, TxnKey};
 
 /// What a user asks for.
 #[derive(Debug, Drop)]
@@ -18,7 +18,7 @@ pub enum WorldEvent {
     /// A user asks for something.
     Request(usize, Request),
     /// A datagram comes.
-    Deliver(Vec<u8>),
+    Deliver(Octets),
     /// The next PDU of a transaction is to be sent.
     Pump(TxnKey),
     /// A transaction's timer that was armed with this stamp expires.

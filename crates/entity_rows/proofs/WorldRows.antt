@@ -1,6 +1,5 @@
 -- Worked answers of an entity: what its callers see to, and what is answered where no lane is told.
-use Rattle.std.proofs.Common.{◌≡◌, ℕ, List, [], ◌∷◌, Result, Ok, Err, Vec, inl, refl, arith}
-use Rattle.std.specs.declared.alloc.Global.{Global}
+use Rattle.std.proofs.Common.{◌≡◌, ℕ, List, [], ◌∷◌, Result, Ok, Err, inl, refl, arith}
 use Rattle.cfdp_types.specs.declared.image.Image.{Image}
 use Rattle.cfdp_types.specs.declared.key.TxnKey.{TxnKey}
 use Rattle.cfdp_types.specs.declared.names.Class.TheVariants.{One, Two}
@@ -28,10 +27,10 @@ use Rattle.entity_routing.specs.Routes.{Routed}
 use Rattle.entity_routing.specs.declared.refusal.RouteRefusal.TheVariants as routes
 use Rattle.entity_routing.specs.declared.world_event.Request.TheVariants as requests
 use Rattle.entity_routing.specs.declared.world_event.WorldEvent.TheVariants as events
-use Rattle.entity_users.specs.Posts.{Post}
 use Rattle.cfdp_entity.specs.declared.refusal.EntityRefusal.{EntityRefusal}
 use Rattle.cfdp_entity.specs.declared.refusal.EntityRefusal.TheVariants as answer
-use Rattle.cfdp_entity.specs.Worlds.{IsAnswered, IsImage, IsNotRead, IsUnread, IsUnreadFrom, MayCome, MayRequest, WorldValue}
+use Rattle.cfdp_entity.specs.Worlds.{IsAnswered, IsImage, IsUnread, IsUnreadFrom, MayCome, MayRequest, WorldValue, history_after}
+use Rattle.cfdp_entity.specs.Answering.{IsNotRead}
 
 abbrev key : ℕ → ℕ → TxnKey
 key source seq = record { source = record { 0 = source }; seq = seq }
@@ -65,7 +64,7 @@ lane_not_there : MayCome reference_config (events.Request 0 (requests.Put 2 (put
 lane_not_there may = let within = may.1 in omega (arith, within)
 
 -- all else may always come
-octets_come : (octets : Vec ℕ Global) → MayCome reference_config (events.Deliver octets)
+octets_come : (octets : List ℕ) → MayCome reference_config (events.Deliver octets)
 octets_come octets = tt
 
 pump_comes : MayCome reference_config (events.Pump (key 3 1))
@@ -73,18 +72,18 @@ pump_comes = tt
 
 -- ---- where there is no route
 
-no_route : (history : List Happening) (posts : List Post) → IsAnswered reference_config history (Err routes.NoRoute) posts (Err (answer.Route routes.NoRoute))
-no_route history posts = refl
+no_route : (history : List Happening) → IsAnswered reference_config history (Err routes.NoRoute) (Err (answer.Route routes.NoRoute))
+no_route history = refl
 
 -- nothing else is answered then
-other_route : (history : List Happening) (posts : List Post) → IsAnswered reference_config history (Err routes.NoRoute) posts (Err (answer.Route routes.NotYours)) → ⊥
-other_route history posts is = cc
+other_route : (history : List Happening) → IsAnswered reference_config history (Err routes.NoRoute) (Err (answer.Route routes.NotYours)) → ⊥
+other_route history is = cc
 
-not_by_a_lane : (history : List Happening) (posts : List Post) (refused : Refused) → IsAnswered reference_config history (Err routes.NoRoute) posts (Err (answer.Lane refused)) → ⊥
-not_by_a_lane history posts refused is = cc
+not_by_a_lane : (history : List Happening) (refused : Refused) → IsAnswered reference_config history (Err routes.NoRoute) (Err (answer.Lane refused)) → ⊥
+not_by_a_lane history refused is = cc
 
-not_taken : (history : List Happening) (posts : List Post) (done : Done) → IsAnswered reference_config history (Err routes.NoRoute) posts (Ok done) → ⊥
-not_taken history posts done is = cc
+not_taken : (history : List Happening) (done : Done) → IsAnswered reference_config history (Err routes.NoRoute) (Ok done) → ⊥
+not_taken history done is = cc
 
 -- ---- where a lane is told
 
@@ -92,14 +91,26 @@ not_taken history posts done is = cc
 abbrev unknown : Routed
 unknown = record { place = record { user = 0; lane = 0 }; event = On (key 2 4) what.Report }
 
-unknown_there : (posts : List Post) → IsAnswered reference_config [] (Ok unknown) posts (Err (answer.Lane (plainly refusal.NoTransaction)))
-unknown_there posts = record { taken = tt; refused = (plainly refusal.NoTransaction, refl, inl refl) }
+unknown_there : IsAnswered reference_config [] (Ok unknown) (Err (answer.Lane (plainly refusal.NoTransaction)))
+unknown_there = record { taken = tt; refused = (plainly refusal.NoTransaction, refl, inl refl) }
 
 route_is_lane : (why : Refused) → answer.Route routes.NoRoute ≡ answer.Lane why → ⊥
 route_is_lane why e = cc
 
-no_refusal_of_routes : (posts : List Post) → IsAnswered reference_config [] (Ok unknown) posts (Err (answer.Route routes.NoRoute)) → ⊥
-no_refusal_of_routes posts is = let refused = is.refused in route_is_lane refused.0 refused.1
+no_refusal_of_routes : IsAnswered reference_config [] (Ok unknown) (Err (answer.Route routes.NoRoute)) → ⊥
+no_refusal_of_routes is = let refused = is.refused in route_is_lane refused.0 refused.1
+
+-- ---- what has happened then
+
+-- an event that is taken is a step of the lane that it goes to; one that is refused is nothing
+taken_then : (done : Done) → history_after [] (Ok unknown) (Ok done) ≡ steps 0 0 (On (key 2 4) what.Report) ∷ []
+taken_then done = refl
+
+refused_then : (history : List Happening) (why : EntityRefusal) → history_after history (Ok unknown) (Err why) ≡ history
+refused_then history why = refl
+
+unrouted_then : (history : List Happening) (why : EntityRefusal) → history_after history (Err routes.NoRoute) (Err why) ≡ history
+unrouted_then history why = refl
 
 -- ---- octets that are not read
 

@@ -123,10 +123,12 @@ taken_at layout history posts user lane event old new done stand at keyed is ste
     (ap (λ (s : State). post_stepped old lane (stepped s event)) (sym here) ∙ sym step.new_is)
     (stepped_here layout history user lane event old at.lane_is after) in
     record {
-      free = free;
-      room = subst (λ s. HasRoomFor (queue_in layout history user) (bundle_of (stepped s event))) here
-          (subst (λ q. HasRoomFor q (bundle_of (stepped step.state event))) after.queue step.room);
-      done_is = subst (λ s. IsDone (stepped s event) done) here step.done_is;
+      takes_it = record {
+        free = free;
+        room = subst (λ s. HasRoomFor (queue_in layout history user) (bundle_of (stepped s event))) here
+            (subst (λ q. HasRoomFor q (bundle_of (stepped step.state event))) after.queue step.room);
+        done_is = subst (λ s. IsDone (stepped s event) done) here step.done_is;
+      };
       stand = record {
         idle = stand.idle;
         legal = (keyed, free, stand.legal);

@@ -54,11 +54,15 @@ pub record MayHappen (posts : List Post) (user lane : ℕ) : Type 0 where
   pub stand : StandAfter layout history posts
   pub lane_is : IsLaneIn layout user lane
 
--- a lane takes an event
-pub record IsTakenAt (layout : Layout) (history : List Happening) (user lane : ℕ) (event : Event) (posts : List Post) (done : Done) : Type 0 where
+-- a lane takes an event, there is room for what it tells, and this is to be done
+pub record Takes (layout : Layout) (history : List Happening) (user lane : ℕ) (event : Event) (done : Done) : Type 0 where
   pub free : refusal_at (lane_in layout history user lane) event ≡ None
   pub room : HasRoomFor (queue_in layout history user) (bundle_of (stepped (lane_in layout history user lane) event))
   pub done_is : IsDone (stepped (lane_in layout history user lane) event) done
+
+-- a lane takes an event, and so all users stand then
+pub record IsTakenAt (layout : Layout) (history : List Happening) (user lane : ℕ) (event : Event) (posts : List Post) (done : Done) : Type 0 where
+  pub takes_it : Takes layout history user lane event done
   pub stand : StandAfter layout (steps user lane event ∷ history) posts
 
 -- why it does not

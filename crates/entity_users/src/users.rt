@@ -40,9 +40,11 @@ impl Users {
     pub fn step(&mut self, user: usize, lane: usize, event: &Event) -> Result<Done, Refused>
         requires keyed { IsKeyed event.now }
         requires stands { MayHappen self.old user lane }
-        ensures taken { (layout : Layout) (history : List Happening) → StandAfter layout history self.old → IsLaneIn layout user lane
+        ensures taken { (layout : Layout) (history : List Happening) → StandAfter layout history self.old
+            → IsLaneIn layout user lane
             → IfOk result (IsTakenAt layout history user lane event.now self.new) }
-        ensures refused { (layout : Layout) (history : List Happening) → StandAfter layout history self.old → IsLaneIn layout user lane
+        ensures refused { (layout : Layout) (history : List Happening) → StandAfter layout history self.old
+            → IsLaneIn layout user lane
             → IfErr result (IsRefusedAt layout history user lane event.now) }
         ensures same { OnErr result (self.new ≡ self.old) }
     {
@@ -65,8 +67,8 @@ impl Users {
     /// or else for want of memory.
     pub fn refuse_put(&self, user: usize, lane: usize, request: &PutRequest) -> Refused
         requires { MayHappen self.now user lane }
-        ensures { (layout : Layout) (history : List Happening) (params : ParamsValue) → StandAfter layout history self.now
-            → IsLaneIn layout user lane → IsRefusedAt layout history user lane (Put request.now params) result }
+        ensures { (layout : Layout) (history : List Happening) (params : ParamsValue)
+            → StandAfter layout history self.now → IsLaneIn layout user lane → IsRefusedAt layout history user lane (Put request.now params) result }
     {
         self.parts[user].refuse_put(lane, request)
     }
@@ -74,9 +76,11 @@ impl Users {
     /// The file of a deposit that waits at a lane of a user, by its key and its stamp.
     pub fn image(&self, user: usize, lane: usize, key: TxnKey, stamp: u32) -> Result<Image, Refusal>
         requires { MayHappen self.now user lane }
-        ensures image { (layout : Layout) (history : List Happening) → StandAfter layout history self.now → IsLaneIn layout user lane
+        ensures image { (layout : Layout) (history : List Happening) → StandAfter layout history self.now
+            → IsLaneIn layout user lane
             → IfOk result (λ image. image_of (lane_in layout history user lane) key stamp ≡ Ok image) }
-        ensures refused { (layout : Layout) (history : List Happening) → StandAfter layout history self.now → IsLaneIn layout user lane
+        ensures refused { (layout : Layout) (history : List Happening) → StandAfter layout history self.now
+            → IsLaneIn layout user lane
             → IfErr result (λ why. IsWhy (image_of (lane_in layout history user lane) key stamp) why) }
     {
         self.parts[user].image(lane, key, stamp)

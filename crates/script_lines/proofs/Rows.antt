@@ -8,6 +8,7 @@ use Rattle.cfdp_types.specs.declared.names.Role.TheVariants.{Send, RecvOne, Recv
 use Rattle.cfdp_types.specs.declared.names.TimerKind.TheVariants.{Ack, Nak, Check, Inactivity}
 use Rattle.entity_config.specs.declared.setting.Setting.TheVariants as setting
 use Rattle.entity_routing.specs.declared.world_event.Request.TheVariants as requests
+use Rattle.entity_routing.specs.declared.world_event.WorldEvent.TheVariants as events
 use Rattle.script_lines.specs.declared.command.Command.TheVariants as command
 use Rattle.script_lines.specs.Commands.{command_of}
 
@@ -33,16 +34,16 @@ remarks : map command_of ([] ∷ codes "#" ∷ codes "# pdu 00" ∷ codes "#\r" 
 remarks = refl
 
 deliveries : map command_of (codes "pdu 00" ∷ codes "pdu 0aFfaF" ∷ [])
-    ≡ Some (command.Deliver (0x00 ∷ [])) ∷ Some (command.Deliver (0x0A ∷ 0xFF ∷ 0xAF ∷ [])) ∷ []
+    ≡ Some (command.Event (events.Deliver (0x00 ∷ []))) ∷ Some (command.Event (events.Deliver (0x0A ∷ 0xFF ∷ 0xAF ∷ []))) ∷ []
 unfolding decode_pairs
 deliveries = refl
 
 answers_of_the_store : map command_of (codes "stored 1 2 3 yes" ∷ codes "stored 0 000 0000000000000000000000003 no"
     ∷ codes "stored 18446744073709551615 18446744073709551615 4294967295 no" ∷ [])
-    ≡ Some (command.Stored (record { source = record { 0 = 1 }; seq = 2 }) 3 true)
-    ∷ Some (command.Stored (record { source = record { 0 = 0 }; seq = 0 }) 3 false)
-    ∷ Some (command.Stored (record { source = record { 0 = 18446744073709551615 }; seq = 18446744073709551615 })
-    4294967295 false)
+    ≡ Some (command.Event (events.Stored (record { source = record { 0 = 1 }; seq = 2 }) 3 true))
+    ∷ Some (command.Event (events.Stored (record { source = record { 0 = 0 }; seq = 0 }) 3 false))
+    ∷ Some (command.Event (events.Stored (record { source = record { 0 = 18446744073709551615 }; seq = 18446744073709551615 })
+    4294967295 false))
     ∷ []
 answers_of_the_store = refl
 
@@ -74,28 +75,28 @@ key : TxnKey
 key = record { source = record { 0 = 2 }; seq = 4 }
 
 asked : map command_of (codes "cancel alice 2 4" ∷ codes "suspend bob 2 4" ∷ codes "resume alice 2 4" ∷ codes "report alice 2 4" ∷ codes "abandon alice 2 4" ∷ [])
-    ≡ Some (command.Request 0 (requests.Cancel key)) ∷ Some (command.Request 1 (requests.Suspend key)) ∷ Some (command.Request 0 (requests.Resume key))
-    ∷ Some (command.Request 0 (requests.Report key)) ∷ Some (command.Request 0 (requests.Abandon key)) ∷ []
+    ≡ Some (command.Event (events.Request 0 (requests.Cancel key))) ∷ Some (command.Event (events.Request 1 (requests.Suspend key))) ∷ Some (command.Event (events.Request 0 (requests.Resume key)))
+    ∷ Some (command.Event (events.Request 0 (requests.Report key))) ∷ Some (command.Event (events.Request 0 (requests.Abandon key))) ∷ []
 unfolding key
 asked = refl
 
 puts : map command_of (codes "put alice 0 1 1 a b 616263" ∷ codes "put bob 1 2 18446744073709551615 x y -" ∷ [])
-    ≡ Some (command.Request 0 (requests.Put 0 (record {
+    ≡ Some (command.Event (events.Request 0 (requests.Put 0 (record {
       destination = record { 0 = 1 };
       class = One;
       source_name = codes "a";
       destination_name = codes "b";
       messages = [];
       file = codes "abc";
-    })))
-    ∷ Some (command.Request 1 (requests.Put 1 (record {
+    }))))
+    ∷ Some (command.Event (events.Request 1 (requests.Put 1 (record {
       destination = record { 0 = 18446744073709551615 };
       class = Two;
       source_name = codes "x";
       destination_name = codes "y";
       messages = [];
       file = [];
-    })))
+    }))))
     ∷ []
 unfolding decode_pairs
 puts = refl
@@ -110,8 +111,8 @@ bad_requests = refl
 -- ---- what happens inside the entity
 
 inside : map command_of (codes "pump 2 4" ∷ codes "timer 2 4 ack 3" ∷ codes "timer 2 4 nak 3" ∷ codes "timer 2 4 check 3" ∷ codes "timer 2 4 inactivity 4294967295" ∷ [])
-    ≡ Some (command.Pump key) ∷ Some (command.Timer key Ack 3) ∷ Some (command.Timer key Nak 3) ∷ Some (command.Timer key Check 3)
-    ∷ Some (command.Timer key Inactivity 4294967295) ∷ []
+    ≡ Some (command.Event (events.Pump key)) ∷ Some (command.Event (events.Timer key Ack 3)) ∷ Some (command.Event (events.Timer key Nak 3)) ∷ Some (command.Event (events.Timer key Check 3))
+    ∷ Some (command.Event (events.Timer key Inactivity 4294967295)) ∷ []
 unfolding key
 inside = refl
 

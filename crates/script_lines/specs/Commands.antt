@@ -18,6 +18,7 @@ use Rattle.cfdp_types.specs.declared.names.TimerKind.TheVariants.{Ack, Nak, Chec
 use Rattle.entity_config.specs.declared.setting.Setting.TheVariants as setting
 use Rattle.entity_routing.specs.declared.world_event.Request.{Request}
 use Rattle.entity_routing.specs.declared.world_event.Request.TheVariants as requests
+use Rattle.entity_routing.specs.declared.world_event.WorldEvent.TheVariants as events
 use Rattle.script_lines.specs.declared.command.Command.{Command}
 use Rattle.script_lines.specs.declared.command.Command.TheVariants as command
 use Rattle.script_lines.specs.Words.{words_of, decimal_of}
@@ -131,7 +132,7 @@ set_of operands = None
 
 -- pdu HEX
 abbrev pub deliver_of : List (List ℕ) → Option Command
-deliver_of (octets ∷ []) = option_map command.Deliver (octets_of octets)
+deliver_of (octets ∷ []) = option_map (λ o. command.Event (events.Deliver o)) (octets_of octets)
 deliver_of operands = None
 
 -- what the first word asks for, of a transaction
@@ -150,7 +151,7 @@ asked_from kind user source seq = do
   of_user ← user_of user
   key ← key_from source seq
   request ← request_for kind key
-  Some (command.Request of_user request)
+  Some (command.Event (events.Request of_user request))
 
 -- cancel USER SOURCE SEQ, and the like
 abbrev pub asked_of : List ℕ → List (List ℕ) → Option Command
@@ -159,7 +160,7 @@ asked_of kind operands = None
 
 -- pump SOURCE SEQ
 abbrev pub pump_of : List (List ℕ) → Option Command
-pump_of (source ∷ seq ∷ []) = option_map command.Pump (key_from source seq)
+pump_of (source ∷ seq ∷ []) = option_map (λ key. command.Event (events.Pump key)) (key_from source seq)
 pump_of operands = None
 
 -- timer SOURCE SEQ KIND STAMP
@@ -168,7 +169,7 @@ timer_from source seq kind stamp = do
   key ← key_from source seq
   of_kind ← kind_of kind
   number ← stamp_of stamp
-  Some (command.Timer key of_kind number)
+  Some (command.Event (events.Timer key of_kind number))
 
 abbrev pub timer_of : List (List ℕ) → Option Command
 timer_of (source ∷ seq ∷ kind ∷ stamp ∷ []) = timer_from source seq kind stamp
@@ -180,7 +181,7 @@ stored_from source seq stamp answer = do
   key ← key_from source seq
   number ← stamp_of stamp
   kept ← answer_of answer
-  Some (command.Stored key number kept)
+  Some (command.Event (events.Stored key number kept))
 
 abbrev pub stored_of : List (List ℕ) → Option Command
 stored_of (source ∷ seq ∷ stamp ∷ answer ∷ []) = stored_from source seq stamp answer
@@ -224,7 +225,7 @@ put_at user lane operands = do
   of_user ← user_of user
   of_lane ← lane_of lane
   put ← put_words operands
-  Some (command.Request of_user (requests.Put of_lane put))
+  Some (command.Event (events.Request of_user (requests.Put of_lane put)))
 
 -- put USER LANE CLASS DEST SRC DST FILE
 abbrev pub put_of : List (List ℕ) → Option Command

@@ -8,9 +8,9 @@ use crate::operands::{answer_of, key_from, kind_of, octets_of, stamp_of, user_of
 use crate::put::put;
 use crate::setting::set;
 use crate::words::{Rest, last_word, next_word, split_word};
-use cfdp_types::{Octets, TimerKind, TxnKey};
+use cfdp_types::TxnKey;
 use entity_config::Setting;
-use entity_routing::Request;
+use entity_routing::{Request, WorldEvent};
 use std::alloc::{AllocError, Global};
 
 /// What a line of a script says.
@@ -18,16 +18,8 @@ use std::alloc::{AllocError, Global};
 pub enum Command {
     /// A setting of the configuration.
     Set(Setting),
-    /// A datagram comes.
-    Deliver(Octets),
-    /// A user asks for something.
-    Request(usize, Request),
-    /// The next PDU of a transaction is to be sent.
-    Pump(TxnKey),
-    /// A transaction's timer that was armed with this stamp expires.
-    Timer(TxnKey, TimerKind, u32),
-    /// The file store answers a transaction's deposit with this stamp: whether it keeps the file.
-    Stored(TxnKey, u32, bool),
+    /// Something happens to the entity.
+    Event(WorldEvent),
     /// A user takes the bundle at the front.
     Take(usize),
     /// The line is a remark.
@@ -75,7 +67,10 @@ fn deliver(alloc: Global, operands: Rest<'_>) -> Result<Option<Command>, AllocEr
     let Some(word) = last_word(operands) else {
         return Ok(None);
     };
-    Ok(octets_of(alloc, word)?.map(Command::Deliver))
+    match octets_of(alloc, word)? {
+        Some(octets) => Ok(Some(Command::Event(WorldEvent::Deliver(octets)))),
+        None => Ok(None),
+    }
 }
 
 fn asked(kind: &[u8], operands: Rest<'_>) -> Option<Command>
@@ -92,7 +87,7 @@ fn asked_from(kind: &[u8], user: &[u8], source: &[u8], seq: &[u8]) -> Option<Com
     let user = user_of(user)?;
     let key = key_from(source, seq)?;
     let request = request_for(kind, key)?;
-    Some(Command::Request(user, request))
+    Some(Command::Event(WorldEvent::Request(user, request)))
 }
 
 // What the first word asks for, of a transaction.
@@ -119,7 +114,7 @@ fn pump(operands: Rest<'_>) -> Option<Command>
 {
     let (source, operands) = next_word(operands)?;
     let key = key_from(source, last_word(operands)?)?;
-    Some(Command::Pump(key))
+    Some(Command::Event(WorldEvent::Pump(key)))
 }
 
 fn timer(operands: Rest<'_>) -> Option<Command>
@@ -137,7 +132,7 @@ fn timer_from(source: &[u8], seq: &[u8], kind: &[u8], stamp: &[u8]) -> Option<Co
     let key = key_from(source, seq)?;
     let kind = kind_of(kind)?;
     let stamp = stamp_of(stamp)?;
-    Some(Command::Timer(key, kind, stamp))
+    Some(Command::Event(WorldEvent::Timer(key, kind, stamp)))
 }
 
 fn stored(operands: Rest<'_>) -> Option<Command>
@@ -155,7 +150,7 @@ fn stored_from(source: &[u8], seq: &[u8], stamp: &[u8], answer: &[u8]) -> Option
     let key = key_from(source, seq)?;
     let stamp = stamp_of(stamp)?;
     let kept = answer_of(answer)?;
-    Some(Command::Stored(key, stamp, kept))
+    Some(Command::Event(WorldEvent::Stored(key, stamp, kept)))
 }
 
 fn take(operands: Rest<'_>) -> Option<Command>

@@ -8,7 +8,7 @@ use crate::command::Command;
 use crate::operands::{class_of, file_of, lane_of, name_of, number_of, user_of};
 use crate::words::{Rest, last_word, next_word};
 use cfdp_types::{Class, EntityId, Octets, PutFault, PutRequest};
-use entity_routing::Request;
+use entity_routing::{Request, WorldEvent};
 use std::alloc::{AllocError, Global};
 
 /// A Put, by what stands behind the first word.
@@ -40,7 +40,10 @@ fn put_at(
         return Ok(None);
     };
     match put_words(alloc, operands)? {
-        Some(request) => Ok(Some(Command::Request(user, Request::Put(lane, request)))),
+        Some(request) => {
+            let request = Request::Put(lane, request);
+            Ok(Some(Command::Event(WorldEvent::Request(user, request))))
+        }
         None => Ok(None),
     }
 }

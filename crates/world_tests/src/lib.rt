@@ -1,8 +1,9 @@
-//! An entity of one thread, as its callers see it: worked transactions of several users and lanes. What is printed is
-//! worked out by hand from the tables.
+//! What an entity of one thread does that no script can show: files of several sources, and the images of deposits.
 #![tactic(auto)]
 
 #[cfg(test)]
-mod scripts;
+mod images;
 #[cfg(test)]
-mod talk;
+mod sources;
+#[cfg(test)]
+mod telling;

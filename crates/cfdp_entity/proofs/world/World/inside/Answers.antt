@@ -1,10 +1,11 @@
 use Rattle.std.proofs.Common.{sym, ◌∙◌, subst}
-use Rattle.entity_routing.specs.RouteLaws.{IsWithin}
+use Rattle.txn_events.specs.declared.event.Event.TheVariants.{On}
+use Rattle.cfdp_entity.specs.Routed.{IsRoutedTo}
 use Rattle.cfdp_entity.specs.Worlds.{WorldValue}
-use Rattle.cfdp_entity.proofs.WorldFacts.{within_key}
+use Rattle.cfdp_entity.proofs.WorldFacts.{routed_by_key}
 use Rattle.cfdp_entity.proofs.world.World.inside.Goals as goal
 
-pub tell-requires-clause-within : goal.tell-requires-clause-within
-tell-requires-clause-within c =
-    subst (λ (w : WorldValue). IsWithin w.config c.in_ok-place.place) c.self.view_is
-    (within_key c.self.inside.config c.args.key c.in_ok-place.place c.self.invariant (sym c.place_of_key.ensures ∙ c.in_ok-place.was))
+pub tell-requires-clause-routed : goal.tell-requires-clause-routed
+tell-requires-clause-routed c =
+    subst (λ (w : WorldValue). IsRoutedTo w.config c.in_ok-place.place.user c.in_ok-place.place.lane (On c.args.key c.args.what)) c.self.view_is
+    (routed_by_key c.self.inside.config c.args.key c.args.what c.in_ok-place.place (sym c.place_of_key.ensures ∙ c.in_ok-place.was))

@@ -1,9 +1,0 @@
-pub mod Commands
-pub mod Words
-pub mod Texts
-pub mod Queue
-pub mod Session
-pub mod World
-pub mod Run
-pub mod Running
-pub mod Laws

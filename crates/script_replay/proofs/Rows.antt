@@ -1,0 +1,137 @@
+-- Worked rows: what lines do to a session, which are bad, and what is printed.
+use Rattle.std.proofs.Common.{◌≡◌, ℕ, true, false, List, [], ◌∷◌, map, Some, None, Err, codes, inl, inr, refl, arith, ⊎_elim}
+use Rattle.std.specs.Fmt.{digits}
+use Rattle.cfdp_types.specs.declared.key.TxnKey.{TxnKey}
+use Rattle.txn_events.specs.declared.refusal.Refusal.TheVariants as refusal
+use Rattle.txn_events.specs.Examples.{abc, put_value}
+use Rattle.cfdp_types.specs.declared.names.Class.TheVariants.{One}
+use Rattle.indications.specs.declared.indication.Indication.TheVariants as told
+use Rattle.lane_table.specs.Steps.{plainly}
+use Rattle.pdu_reading.specs.declared.fault.DecodeFault.TheVariants as faults
+use Rattle.world_table.specs.Histories.{takes}
+use Rattle.config_reading.specs.Values.{ConfigValue}
+use Rattle.entity_config.specs.declared.setting.Setting.TheVariants as setting
+use Rattle.entity_config.specs.Reference.{reference_config}
+use Rattle.entity_routing.specs.declared.refusal.RouteRefusal.TheVariants as routes
+use Rattle.entity_routing.specs.declared.world_event.Request.TheVariants as requests
+use Rattle.entity_routing.specs.declared.world_event.WorldEvent.TheVariants as events
+use Rattle.cfdp_entity.specs.declared.refusal.EntityRefusal.TheVariants as answer
+use Rattle.script_lines.specs.declared.command.Command.TheVariants as command
+use Rattle.script_io.specs.declared.fault.TheConstants.{INTERRUPTIONS}
+use Rattle.script_io.specs.declared.input.TheConstants.{LINE_OCTETS}
+use Rattle.script_io.specs.Lines.{line_octets}
+use Rattle.script_replay.specs.declared.run.TheConstants.{LINES}
+use Rattle.script_replay.specs.Sessions.{Session, fresh, with_history, is_put, history_taken, Answers, IsBadFor}
+use Rattle.script_replay.specs.Texts.{user_name, route_text, answer_text, taken_text}
+
+abbrev pub key : TxnKey
+key = record { source = record { 0 = 1 }; seq = 5 }
+
+-- ---- what is printed
+
+names : map user_name (0 ∷ 1 ∷ []) ≡ codes "alice" ∷ codes "bob" ∷ []
+names = refl
+
+routes_printed : map route_text (routes.DecodeFault faults.TooShort ∷ routes.DecodeFault faults.NoFileName ∷ routes.NotForUs ∷ routes.WrongDirection
+    ∷ routes.NoRoute ∷ routes.NotYours ∷ routes.UnknownRemote ∷ [])
+    ≡ codes "refused 20 DecodeFault 1\n" ∷ codes "refused 20 DecodeFault 8\n" ∷ codes "refused 21 NotForUs\n" ∷ codes "refused 22 WrongDirection\n"
+    ∷ codes "refused 23 NoRoute\n" ∷ codes "refused 24 NotYours\n" ∷ codes "refused 25 UnknownRemote\n" ∷ []
+unfolding digits
+routes_printed = refl
+
+refusals_printed : map (answer_text false) (Err (answer.Lane (plainly refusal.QueueFull)) ∷ Err (answer.Route routes.NoRoute) ∷ [])
+    ≡ codes "refused 13 QueueFull\n" ∷ codes "refused 23 NoRoute\n" ∷ []
+unfolding digits
+refusals_printed = refl
+
+takes_printed : map (taken_text 1) (None ∷ Some (record { user = 1; lane = 3; key = key; inds = told.EofRecv ∷ told.Resumed 9 ∷ [] }) ∷ [])
+    ≡ codes "none\n" ∷ codes "bob 1 5 EOF-Recv\nbob 1 5 Resumed 9\n" ∷ []
+unfolding digits
+takes_printed = refl
+
+puts : map is_put (events.Request 0 (requests.Put 1 (put_value One abc)) ∷ events.Request 0 (requests.Cancel key) ∷ events.Pump key ∷ [])
+    ≡ true ∷ false ∷ false ∷ []
+puts = refl
+
+-- ---- settings
+
+-- room for one bundle instead of eight
+abbrev pub narrow : ConfigValue
+narrow = record reference_config { entity = record reference_config.entity { capacity = 1 } }
+
+set_early : Answers fresh (command.Set (setting.Capacity 1)) (record { config = narrow; may_set = true; history = [] }) []
+set_early = record { early = refl; config = narrow; set = refl; after_is = refl; silent = refl }
+
+-- once anything has happened no setting may come
+set_late : IsBadFor (with_history fresh []) (Some (command.Set (setting.Capacity 1)))
+set_late = inl refl
+
+never_answered : (after : Session) (text : List ℕ) → Answers (with_history fresh []) (command.Set (setting.Capacity 1)) after text → ⊥
+never_answered after text set = let early = set.early in cc
+
+set_out_of_range : IsBadFor fresh (Some (command.Set (setting.Capacity 0)))
+set_out_of_range = inr refl
+
+set_well : IsBadFor fresh (Some (command.Set (setting.Capacity 1))) → ⊥
+set_well bad = ⊎_elim (λ late. cc) (λ refused. cc) bad
+
+-- ---- takes
+
+nothing_waits : Answers fresh (command.Take 1) (with_history fresh []) (codes "none\n")
+nothing_waits = record { may = omega (arith); taken = None; gives = refl; after_is = refl; printed = refl }
+
+nobody_takes : IsBadFor fresh (Some (command.Take 2))
+nobody_takes = omega (arith)
+
+bob_may_take : IsBadFor fresh (Some (command.Take 1)) → ⊥
+bob_may_take bad = omega (arith, bad)
+
+taken_then : (bundle : _) → history_taken [] 1 (Some bundle) ≡ takes 1 ∷ []
+taken_then bundle = refl
+
+not_taken_then : history_taken (takes 0 ∷ []) 1 None ≡ takes 0 ∷ []
+not_taken_then = refl
+
+-- ---- events
+
+no_such_user : IsBadFor fresh (Some (command.Event (events.Request 2 (requests.Report key))))
+no_such_user = λ may. omega (arith, may)
+
+no_such_lane : IsBadFor fresh (Some (command.Event (events.Request 1 (requests.Put 2 (put_value One abc)))))
+no_such_lane = λ may. let within = may.1 in omega (arith, within)
+
+pumps_may_come : IsBadFor fresh (Some (command.Event (events.Pump key))) → ⊥
+pumps_may_come bad = bad tt
+
+-- a pump of what is not there is refused, and changes nothing but that no setting may come now
+no_transaction : Answers fresh (command.Event (events.Pump key)) (with_history fresh []) (codes "refused 1 NoTransaction\n")
+unfolding digits
+no_transaction = record {
+  may = tt;
+  result = Err (answer.Lane (plainly refusal.NoTransaction));
+  answered = inl (record { taken = tt; refused = (plainly refusal.NoTransaction, refl, inl refl) });
+  after_is = refl;
+  printed = refl;
+}
+
+-- ---- the others
+
+remark : Answers fresh command.Nothing fresh []
+remark = (refl, refl)
+
+remark_is_good : IsBadFor fresh (Some command.Nothing) → ⊥
+remark_is_good bad = bad
+
+says_nothing_known : IsBadFor fresh None
+says_nothing_known = tt
+
+-- ---- the numbers of scripts, as they stand in the code
+
+lines : LINES ≡ 1000000
+lines = refl
+
+octets_of_a_line : LINE_OCTETS ≡ line_octets
+octets_of_a_line = refl
+
+interruptions : INTERRUPTIONS ≡ 1000000
+interruptions = refl

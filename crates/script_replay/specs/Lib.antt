@@ -1,0 +1,4 @@
+pub mod Texts
+pub mod Sessions
+pub mod Run
+pub mod Running

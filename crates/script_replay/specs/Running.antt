@@ -1,0 +1,80 @@
+-- Where a run stands between two lines.
+use Rattle.std.specs.Prelude.{◌≡◌, ℕ, ◌+◌, ◌≤◌, Bool, true, false, List, [], ◌++◌, length, Option, Some, None, Result, Ok, Err}
+use Rattle.std.specs.Io.KnownBytes.{Appends}
+use Rattle.entity_config.specs.declared.setting.Setting.{Setting}
+use Rattle.cfdp_entity.specs.Worlds.{WorldValue, StandsAfter}
+use Rattle.script_io.specs.declared.fault.ReplayFault.{ReplayFault}
+use Rattle.script_io.specs.Lines.{lines_of}
+use Rattle.script_lines.specs.declared.command.Command.{Command}
+use Rattle.script_lines.specs.Commands.{command_of}
+use Rattle.script_replay.specs.declared.run.TheConstants.{LINES}
+use Rattle.script_replay.specs.declared.session.Session.{Session as Kept}
+use Rattle.script_replay.specs.declared.session.Session.TheVariants.{Configured, Running, Over}
+use Rattle.script_replay.specs.Sessions.{Session, fresh, IsSet, Answers, IsBadSetting, IsBadFor}
+use Rattle.script_replay.specs.Run.{Plays, Prints, Stops}
+
+-- ---- what the code keeps of a session
+
+-- an entity goes by the session's configuration, and stands after what has happened
+pub record RunsAs (world : WorldValue) (session : Session) : Type 0 where
+  pub config : world.config ≡ session.config
+  pub stands : StandsAfter world session.history
+
+-- what is kept is where the session stands
+abbrev pub Stands : Kept → Session → Type 0
+Stands (Configured config) session = session ≡ record { config = config; may_set = true; history = [] }
+Stands (Running world) session = (session.may_set ≡ false) × RunsAs world session
+Stands Over session = ⊥
+
+-- the entity runs
+abbrev pub HasBegun : Kept → Session → Type 0
+HasBegun (Running world) session = RunsAs world session
+HasBegun kept session = ⊥
+
+-- ---- what a line does
+
+-- a setting was made, or may not be
+abbrev pub SetsTo : Bool → Session → Setting → Kept → Type 0
+SetsTo false session setting kept = IsBadSetting session setting
+SetsTo true session setting kept = (after : Session) × Stands kept after × IsSet session setting after []
+
+-- what a line says was done, and its answer stands behind what the text held; or the line is a bad one
+abbrev pub ObeysTo : Bool → Session → Command → Kept → List ℕ → List ℕ → Type 0
+ObeysTo false session command kept old new = IsBadFor session (Some command)
+ObeysTo true session command kept old new =
+    (after : Session) × (said : List ℕ) × Stands kept after × Answers session command after said × (new ≡ old ++ said)
+
+-- the same of an entity that runs
+abbrev pub ToldTo : Bool → Session → Command → WorldValue → List ℕ → List ℕ → Type 0
+ToldTo good session command world old new = ObeysTo good session command (Running world) old new
+
+-- a line was played, and its answer stands in the text; or it is none that a script may have there
+abbrev pub PlaysTo : Bool → Session → List ℕ → Kept → List ℕ → Type 0
+PlaysTo false session line kept text = IsBadFor session (command_of line)
+PlaysTo true session line kept text =
+    (after : Session) × Stands kept after × ((command : Command) × (command_of line ≡ Some command) × Answers session command after text)
+
+-- ---- the run
+
+-- what is left is known, and its lines are the others
+abbrev pub IsLeft : List (List ℕ) → List (List ℕ) → Option (List ℕ) → Type 0
+IsLeft lines done None = ⊥
+IsLeft lines done (Some rest) = lines ≡ done ++ lines_of rest
+
+-- so many lines were played, and what they print was written
+pub record Ran (lines : List (List ℕ)) (left : Option (List ℕ)) (count : ℕ) (kept : Kept) (old new : Option (List ℕ)) : Type 0 where
+  pub done : List (List ℕ)
+  pub session : Session
+  pub text : List ℕ
+  pub counted : length done ≡ count
+  pub few : count ≤ LINES
+  pub others : IsLeft lines done left
+  pub plays : Plays fresh done session text
+  pub stands : Stands kept session
+  pub written : Appends old new text
+
+-- after one line more, or at the end, or where the run stops
+abbrev pub GoesOn : Result Bool ReplayFault → List (List ℕ) → Option (List ℕ) → ℕ → Kept → Option (List ℕ) → Option (List ℕ) → Type 0
+GoesOn (Ok true) lines left count kept old new = Ran lines left (count + 1) kept old new
+GoesOn (Ok false) lines left count kept old new = (length lines ≡ count) × Prints lines old new
+GoesOn (Err why) lines left count kept old new = Stops why lines old new

@@ -1,0 +1,99 @@
+-- What the lines of a script do to an entity, and what they are answered.
+use Rattle.std.specs.Prelude.{◌≡◌, ℕ, ◌<◌, ◌≤◌, Bool, true, false, List, [], ◌∷◌, length, Option, Some, None, Result, Ok, IsErr, ◌⊎◌}
+use Rattle.config_reading.specs.Values.{ConfigValue}
+use Rattle.entity_config.specs.declared.setting.Setting.{Setting}
+use Rattle.entity_config.specs.Reference.{reference_config}
+use Rattle.entity_config.specs.Settings.{with_setting}
+use Rattle.entity_routing.specs.declared.world_event.Request.TheVariants as requests
+use Rattle.entity_routing.specs.declared.world_event.WorldEvent.{WorldEvent}
+use Rattle.entity_routing.specs.declared.world_event.WorldEvent.TheVariants as events
+use Rattle.entity_routing.specs.Routes.{route}
+use Rattle.indications.specs.declared.bundle.Bundle.{Bundle}
+use Rattle.lane_table.specs.declared.done.Done.{Done}
+use Rattle.world_table.specs.Histories.{Happening, takes, held_for}
+use Rattle.cfdp_entity.specs.declared.refusal.EntityRefusal.{EntityRefusal}
+use Rattle.cfdp_entity.specs.Opening.{first_lane}
+use Rattle.cfdp_entity.specs.Worlds.{MayCome, IsAnswered, IsUnread, IsFront, history_after}
+use Rattle.script_lines.specs.declared.command.Command.{Command}
+use Rattle.script_lines.specs.declared.command.Command.TheVariants as command
+use Rattle.script_replay.specs.Texts.{answer_text, taken_text}
+
+-- the configuration, whether it may be changed, and what has happened in the entity, the newest first
+pub record Session : Type 0 where
+  pub config : ConfigValue
+  pub may_set : Bool
+  pub history : List Happening
+
+-- a script begins with the reference configuration, which it may change
+abbrev pub fresh : Session
+fresh = record { config = reference_config; may_set = true; history = [] }
+
+-- more has happened in the entity: from now on its configuration stays
+abbrev pub with_history : Session → List Happening → Session
+with_history session history = record { config = session.config; may_set = false; history = history }
+
+-- ---- settings
+
+-- a setting is made, where it may be, and nothing is printed
+pub record IsSet (session : Session) (setting : Setting) (after : Session) (text : List ℕ) : Type 0 where
+  pub early : session.may_set ≡ true
+  pub config : ConfigValue
+  pub set : with_setting setting session.config ≡ Ok config
+  pub after_is : after ≡ record { config = config; may_set = true; history = session.history }
+  pub silent : text ≡ []
+
+-- ---- events
+
+-- an event is a Put
+abbrev pub is_put : WorldEvent → Bool
+is_put (events.Request user (requests.Put lane put)) = true
+is_put event = false
+
+-- the entity is told of an event, takes or refuses it, and that is printed
+pub record IsTold (session : Session) (event : WorldEvent) (after : Session) (text : List ℕ) : Type 0 where
+  pub may : MayCome session.config event
+  pub result : Result Done EntityRefusal
+  pub answered : IsAnswered session.config session.history (route session.config event) result ⊎ IsUnread event result
+  pub after_is : after ≡ with_history session (history_after session.history (route session.config event) result)
+  pub printed : text ≡ answer_text (is_put event) result
+
+-- ---- takes
+
+-- what a user takes is at the front, or nothing waits
+abbrev pub Gives : ConfigValue → List Happening → ℕ → Option Bundle → Type 0
+Gives config history user None = held_for (first_lane config) history user ≡ []
+Gives config history user (Some bundle) = IsFront config history user bundle
+
+-- what has happened then
+abbrev pub history_taken : List Happening → ℕ → Option Bundle → List Happening
+history_taken history user None = history
+history_taken history user (Some bundle) = takes user ∷ history
+
+-- a user takes what there is, and that is printed
+pub record IsTakenBy (session : Session) (user : ℕ) (after : Session) (text : List ℕ) : Type 0 where
+  pub may : user < length session.config.users
+  pub taken : Option Bundle
+  pub gives : Gives session.config session.history user taken
+  pub after_is : after ≡ with_history session (history_taken session.history user taken)
+  pub printed : text ≡ taken_text user taken
+
+-- ---- lines
+
+-- what a line says is done, and this is printed
+abbrev pub Answers : Session → Command → Session → List ℕ → Type 0
+Answers session command.Nothing after text = (after ≡ session) × (text ≡ [])
+Answers session (command.Set setting) after text = IsSet session setting after text
+Answers session (command.Event event) after text = IsTold session event after text
+Answers session (command.Take user) after text = IsTakenBy session user after text
+
+-- a setting comes too late, or is refused
+abbrev pub IsBadSetting : Session → Setting → Type 0
+IsBadSetting session setting = (session.may_set ≡ false) ⊎ IsErr (with_setting setting session.config)
+
+-- a line is a bad one there: it says nothing, makes no setting, or names a user or a lane that the entity does not have
+abbrev pub IsBadFor : Session → Option Command → Type 0
+IsBadFor session None = Unit {0}
+IsBadFor session (Some command.Nothing) = ⊥
+IsBadFor session (Some (command.Set setting)) = IsBadSetting session setting
+IsBadFor session (Some (command.Event event)) = MayCome session.config event → ⊥
+IsBadFor session (Some (command.Take user)) = length session.config.users ≤ user

@@ -1,0 +1,32 @@
+-- What is printed for the lines of a script.
+use Rattle.std.specs.Prelude.{ℕ, ◌==◌, if◌then◌else◌, Bool, List, Option, Some, None, Result, Ok, Err, codes}
+use Rattle.answer_texts.specs.AnswerTexts.{done_text, refusal_text, fault_line, refused_text}
+use Rattle.answer_texts.specs.ToldTexts.{bundle_text}
+use Rattle.cfdp_entity.specs.declared.refusal.EntityRefusal.{EntityRefusal}
+use Rattle.cfdp_entity.specs.declared.refusal.EntityRefusal.TheVariants as answer
+use Rattle.entity_routing.specs.declared.refusal.RouteRefusal.{RouteRefusal}
+use Rattle.entity_routing.specs.declared.refusal.RouteRefusal.TheVariants.{DecodeFault}
+use Rattle.entity_routing.specs.Refusal.{refusal_number, refusal_name}
+use Rattle.indications.specs.declared.bundle.Bundle.{Bundle}
+use Rattle.lane_table.specs.declared.done.Done.{Done}
+use Rattle.pdu_reading.specs.Fault.{fault_number}
+
+-- a user's name
+abbrev pub user_name : ℕ → List ℕ
+user_name user = if user == 0 then codes "alice" else codes "bob"
+
+-- why no lane is told of an event; of what is no PDU, the fault
+abbrev pub route_text : RouteRefusal → List ℕ
+route_text (DecodeFault fault) = fault_line (fault_number fault)
+route_text why = refusal_text (refusal_number why) (refusal_name why)
+
+-- what an event is answered, a Put or another
+abbrev pub answer_text : Bool → Result Done EntityRefusal → List ℕ
+answer_text is_put (Ok done) = done_text is_put done
+answer_text is_put (Err (answer.Lane refused)) = refused_text refused
+answer_text is_put (Err (answer.Route why)) = route_text why
+
+-- what a user took, if anything waited
+abbrev pub taken_text : ℕ → Option Bundle → List ℕ
+taken_text user None = codes "none\n"
+taken_text user (Some bundle) = bundle_text (user_name user) bundle

@@ -1,0 +1,56 @@
+//! The texts of an entity's answers. Each function adds to a text; after an `Err` the text is no answer.
+ghost use Rattle.std.specs.Prelude.{◌≡◌, ◌++◌, OnOk, string_bytes};
+ghost use Rattle.script_replay.specs.Texts.{answer_text, route_text, taken_text, user_name};
+
+use answer_texts::{push_bundle, push_decode_fault, push_done, push_refusal, push_refused};
+use cfdp_entity::{EntityRefusal, RouteRefusal};
+use indications::Bundle;
+use lane_table::Done;
+use std::alloc::{AllocError, Global};
+
+/// Adds the lines for an event that was taken or refused: for a Put, also that of the transaction that it opened.
+pub fn push_answer(
+    alloc: Global,
+    text: &mut String,
+    is_put: bool,
+    answer: &Result<Done, EntityRefusal>,
+) -> Result<(), AllocError>
+    ensures { OnOk result (string_bytes text.new ≡ string_bytes text.old ++ answer_text is_put answer.now) }
+{
+    match answer {
+        Ok(done) => push_done(alloc, text, is_put, done),
+        Err(EntityRefusal::Lane(refused)) => push_refused(alloc, text, refused),
+        Err(EntityRefusal::Route(why)) => push_route_refusal(text, *why),
+    }
+}
+
+fn push_route_refusal(text: &mut String, why: RouteRefusal) -> Result<(), AllocError>
+    ensures { OnOk result (string_bytes text.new ≡ string_bytes text.old ++ route_text why) }
+{
+    match why {
+        RouteRefusal::DecodeFault(fault) => push_decode_fault(text, fault.number()),
+        _ => push_refusal(text, why.number(), why.name()),
+    }
+}
+
+/// Adds the lines for what a user of a script took, if anything waited.
+pub fn push_taken(
+    alloc: Global,
+    text: &mut String,
+    user: usize,
+    taken: &Option<Bundle>,
+) -> Result<(), AllocError>
+    ensures { OnOk result (string_bytes text.new ≡ string_bytes text.old ++ taken_text user taken.now) }
+{
+    match taken {
+        Some(bundle) => push_bundle(alloc, text, user_name(user), bundle),
+        None => text.push_str("none\n"),
+    }
+}
+
+// The name of a user in scripts.
+fn user_name(user: usize) -> &'static str
+    ensures { result.now ≡ user_name user }
+{
+    if user == 0 { "alice" } else { "bob" }
+}

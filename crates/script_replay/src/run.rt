@@ -1,0 +1,91 @@
+//! Runs a whole script.
+ghost use Rattle.std.specs.Prelude.{ℕ, ◌<◌, ◌+◌, List, Option, Some, None, IfSome};
+ghost use Rattle.script_io.specs.Lines.{lines_of};
+ghost use Rattle.script_replay.specs.declared.session.Session.{Session};
+ghost use Rattle.script_replay.specs.Run.{Replays};
+ghost use Rattle.script_replay.specs.Running.{Ran, GoesOn};
+
+use crate::session::Session;
+use script_io::{NextLine, ReplayFault, in_blocks, next_line, write_whole};
+use std::alloc::Global;
+use std::io::{BufRead, Read, Write};
+
+/// The most lines of a script.
+pub const LINES: u32 = 1_000_000;
+
+/// Runs the script that the reader holds through an entity, and writes what it answers, line by
+/// line. It reads ahead, by blocks: where it ends before the text does, the reader stands further
+/// than the last line that was played.
+pub fn replay<R: Read, W: Write>(
+    alloc: Global,
+    reader: &mut R,
+    writer: &mut W,
+) -> Result<(), ReplayFault>
+    ensures { IfSome (R.remaining reader.old)
+        (λ script. Replays result (lines_of script) (W.contents writer.old) (W.contents writer.new)) }
+{
+    let mut blocks = in_blocks(alloc, reader)?;
+    let mut session = Session::new(alloc)?;
+    play_lines(alloc, &mut session, &mut blocks, writer)
+}
+
+// The same for a session that begins, and a reader that shows its blocks.
+fn play_lines<B: BufRead, W: Write>(
+    alloc: Global,
+    session: &mut Session,
+    reader: &mut B,
+    writer: &mut W,
+) -> Result<(), ReplayFault>
+    ensures { (lines : List (List ℕ)) (old : Option (List ℕ))
+        → Ran lines (B.remaining reader.old) 0 session.old old (W.contents writer.old)
+        → Replays result lines old (W.contents writer.new) }
+{
+    let mut line = Vec::new(alloc);
+    let mut text = String::new(alloc);
+    for count in 0..LINES {
+        if !turn(alloc, session, &mut line, &mut text, reader, writer, count)? {
+            return Ok(());
+        }
+    }
+    ends(reader, &mut line)
+}
+
+// Behind the last line that a script may have no line comes.
+fn ends<B: BufRead>(reader: &mut B, line: &mut Vec<u8>) -> Result<(), ReplayFault>
+    ensures { (lines : List (List ℕ)) (session : Session) (old new : Option (List ℕ))
+        → Ran lines (B.remaining reader.old) LINES session old new
+        → Replays result lines old new }
+{
+    match next_line(reader, line)? {
+        NextLine::End => Ok(()),
+        NextLine::TooLong => Err(ReplayFault::BadLine(LINES + 1)),
+        NextLine::Line => Err(ReplayFault::BadLine(LINES + 1)),
+    }
+}
+
+// Plays the next line, and says whether there was one.
+fn turn<B: BufRead, W: Write>(
+    alloc: Global,
+    session: &mut Session,
+    line: &mut Vec<u8>,
+    text: &mut String,
+    reader: &mut B,
+    writer: &mut W,
+    count: u32,
+) -> Result<bool, ReplayFault>
+    requires { count < LINES }
+    ensures { (lines : List (List ℕ)) (old : Option (List ℕ))
+        → Ran lines (B.remaining reader.old) count session.old old (W.contents writer.old)
+        → GoesOn result lines (B.remaining reader.new) count session.new old (W.contents writer.new) }
+{
+    match next_line(reader, line)? {
+        NextLine::End => return Ok(false),
+        NextLine::TooLong => return Err(ReplayFault::BadLine(count + 1)),
+        NextLine::Line => {}
+    }
+    if !session.play(alloc, line.as_slice(), text)? {
+        return Err(ReplayFault::BadLine(count + 1));
+    }
+    write_whole(writer, text.as_bytes())?;
+    Ok(true)
+}

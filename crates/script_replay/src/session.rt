@@ -1,0 +1,180 @@
+//! What the lines of a script do.
+ghost use Rattle.std.specs.Prelude.{◌≡◌, true, false, IfOk, OnOk, string_bytes};
+ghost use Rattle.cfdp_entity.specs.Worlds.{MayCome};
+ghost use Rattle.script_replay.specs.Sessions.{Session as Played, fresh, is_put};
+ghost use Rattle.script_replay.specs.Running.{Stands, RunsAs, HasBegun, SetsTo, ToldTo, ObeysTo, PlaysTo};
+ghost use Rattle.script_lines.specs.declared.command.Command.TheVariants as command;
+
+use crate::answer::{push_answer, push_taken};
+use cfdp_entity::{Request, World, WorldEvent};
+use entity_config::{Config, Setting};
+use script_lines::{Command, command_of};
+use std::alloc::{AllocError, Global};
+use std::mem;
+
+/// What a script drives: a configuration, as long as it may be changed, and then the entity that goes by it.
+#[derive(Drop)]
+pub(crate) enum Session {
+    Configured(Config),
+    Running(World),
+    /// There was no memory for the entity.
+    Over,
+}
+
+impl Session {
+    /// A script begins with the reference configuration.
+    pub(crate) fn new(alloc: Global) -> Result<Session, AllocError>
+        ensures { IfOk result (λ session. Stands session fresh) }
+    {
+        Ok(Session::Configured(Config::reference(alloc)?))
+    }
+
+    /// Plays a line, puts its answer in place of what `text` holds, and says whether it is a line that the script may
+    /// have there.
+    pub(crate) fn play(
+        &mut self,
+        alloc: Global,
+        line: &[u8],
+        text: &mut String,
+    ) -> Result<bool, AllocError>
+        ensures { (played : Played) → Stands self.old played
+            → IfOk result (λ good. PlaysTo good played line.now self.new (string_bytes text.new)) }
+    {
+        text.clear();
+        match command_of(alloc, line)? {
+            Some(command) => self.obey(alloc, command, text),
+            None => Ok(false),
+        }
+    }
+
+    // Does what a line says, and adds its answer.
+    fn obey(
+        &mut self,
+        alloc: Global,
+        command: Command,
+        text: &mut String,
+    ) -> Result<bool, AllocError>
+        ensures { (played : Played) → Stands self.old played
+            → IfOk result (λ good. ObeysTo good played command self.new (string_bytes text.old)
+            (string_bytes text.new)) }
+    {
+        match command {
+            Command::Nothing => Ok(true),
+            Command::Set(setting) => Ok(self.set(setting)),
+            Command::Event(event) => self.tell(alloc, &event, text),
+            Command::Take(user) => self.take(alloc, user, text),
+        }
+    }
+
+    // Changes the configuration, if that may be.
+    fn set(&mut self, setting: Setting) -> bool
+        ensures { (played : Played) → Stands self.old played → SetsTo result played setting self.new }
+    {
+        match self {
+            Session::Configured(config) => config.set(setting).is_ok(),
+            _ => false,
+        }
+    }
+
+    // The entity begins now, if it does not run yet.
+    fn begin(&mut self, alloc: Global) -> Result<(), AllocError>
+        ensures { (played : Played) → Stands self.old played → OnOk result (HasBegun self.new played) }
+    {
+        if let Session::Running(_) = self {
+            return Ok(());
+        }
+        if let Session::Configured(config) = mem::replace(self, Session::Over) {
+            *self = Session::Running(World::open(alloc, config)?);
+        }
+        Ok(())
+    }
+
+    // Tells the entity of an event.
+    fn tell(
+        &mut self,
+        alloc: Global,
+        event: &WorldEvent,
+        text: &mut String,
+    ) -> Result<bool, AllocError>
+        ensures { (played : Played) → Stands self.old played
+            → IfOk result (λ good. ObeysTo good played (command.Event event.now) self.new (string_bytes text.old)
+            (string_bytes text.new)) }
+    {
+        self.begin(alloc)?;
+        let Session::Running(world) = self else {
+            return Ok(false);
+        };
+        tell(alloc, world, event, text)
+    }
+
+    // A user of the entity takes what waits.
+    fn take(&mut self, alloc: Global, user: usize, text: &mut String) -> Result<bool, AllocError>
+        ensures { (played : Played) → Stands self.old played
+            → IfOk result (λ good. ObeysTo good played (command.Take user) self.new (string_bytes text.old)
+            (string_bytes text.new)) }
+    {
+        self.begin(alloc)?;
+        let Session::Running(world) = self else {
+            return Ok(false);
+        };
+        take(alloc, world, user, text)
+    }
+}
+
+// Whether the users and lanes that an event names are the entity's.
+fn may_come(world: &World, event: &WorldEvent) -> bool
+    ensures may { result ≡ true → MayCome world.now.config event.now }
+    ensures unknown { result ≡ false → MayCome world.now.config event.now → ⊥ }
+{
+    match event {
+        WorldEvent::Request(user, Request::Put(lane, _)) => {
+            *user < world.users() && *lane < world.put_lanes()
+        }
+        WorldEvent::Request(user, _) => *user < world.users(),
+        _ => true,
+    }
+}
+
+fn is_put(event: &WorldEvent) -> bool
+    ensures { result ≡ is_put event.now }
+{
+    matches!(event, WorldEvent::Request(_, Request::Put(_, _)))
+}
+
+// Tells an entity of an event, and adds what it answers.
+fn tell(
+    alloc: Global,
+    world: &mut World,
+    event: &WorldEvent,
+    text: &mut String,
+) -> Result<bool, AllocError>
+    ensures { (played : Played) → RunsAs world.old played
+        → IfOk result (λ good. ToldTo good played (command.Event event.now) world.new (string_bytes text.old)
+        (string_bytes text.new)) }
+{
+    if !may_come(world, event) {
+        return Ok(false);
+    }
+    let answer = world.step(event);
+    push_answer(alloc, text, is_put(event), &answer)?;
+    Ok(true)
+}
+
+// A user of an entity takes what waits, and that is added.
+fn take(
+    alloc: Global,
+    world: &mut World,
+    user: usize,
+    text: &mut String,
+) -> Result<bool, AllocError>
+    ensures { (played : Played) → RunsAs world.old played
+        → IfOk result (λ good. ToldTo good played (command.Take user) world.new (string_bytes text.old)
+        (string_bytes text.new)) }
+{
+    if user >= world.users() {
+        return Ok(false);
+    }
+    let taken = world.take(user);
+    push_taken(alloc, text, user, &taken)?;
+    Ok(true)
+}
