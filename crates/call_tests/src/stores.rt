@@ -178,9 +178,11 @@ fn odd_names(rt: HostRuntime) -> Result<(), Fail> {
 // Whether a store in a folder keeps nothing of a file.
 fn fails<R: Files + AllocGlobal + Clone + Drop>(rt: &R, folder: &str) -> Result<bool, Fail> {
     let mut store = new_store(rt, folder)?;
-    Ok(store.calls() == 0
-        && store.deposit(b"b", b"abc") == Err(StoreFault::Failed)
-        && store.failures() == 1)
+    Ok(
+        store.calls() == 0
+            && store.deposit(b"b", b"abc") == Err(StoreFault::Failed)
+            && store.failures() == 1,
+    )
 }
 
 // A folder that is gone, one that is a file, and one that nobody may write into.
