@@ -7,7 +7,7 @@ use Rattle.user_queues.specs.Queue.{Queue, empty}
 use Rattle.world_table.specs.Histories.{AreIdle}
 use Rattle.entity_routing.specs.Places.{lanes_of, source_of_lane}
 use Rattle.entity_users.specs.Posts.{Post}
-use Rattle.entity_users.specs.Standing.{IsPostAfter, StandAfter}
+use Rattle.entity_users.specs.Standing.{IsPostAfter, UsersStandAfter}
 use Rattle.entity_users.proofs.ListFacts.{some_is, get_within, within_get}
 use Rattle.cfdp_entity.specs.Opening.{lane_for, first_lane, layout_of, AreMade}
 
@@ -72,7 +72,7 @@ post_made config user count queue lanes counted is made = record {
 }
 
 pub users_made : (config : ConfigValue) (posts : List Post) (count : ℕ) → count ≡ length config.users → 0 < config.entity.put_lanes → 0 < length config.users
-    → AreMade (λ place part. IsPostAfter (layout_of config) [] place part) posts count → StandAfter (layout_of config) [] posts
+    → AreMade (λ place part. IsPostAfter (layout_of config) [] place part) posts count → UsersStandAfter (layout_of config) [] posts
 users_made config posts count counted lanes users made = record {
   idle = are_idle config lanes users;
   legal = tt;

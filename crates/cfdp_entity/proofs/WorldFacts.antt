@@ -20,7 +20,7 @@ use Rattle.entity_routing.specs.Routes.{Routed, route, key_place, own_place, pdu
 use Rattle.entity_routing.proofs.PlaceFacts.{places_within}
 use Rattle.entity_routing.proofs.RouteFacts.{place_is, own_is, pdu_is}
 use Rattle.entity_users.specs.Posts.{Post}
-use Rattle.entity_users.specs.Standing.{IsLaneIn, StandAfter, IsTakenAt, IsRefusedAt, IsTakenFrom}
+use Rattle.entity_users.specs.Standing.{IsLaneIn, UsersStandAfter, IsTakenAt, IsRefusedAt, IsTakenFrom}
 use Rattle.entity_users.proofs.StandFacts.{ok_then}
 use Rattle.cfdp_entity.specs.declared.refusal.EntityRefusal.{EntityRefusal}
 use Rattle.cfdp_entity.specs.declared.refusal.EntityRefusal.TheVariants as answer
@@ -130,7 +130,7 @@ still_told config old new routed (Ok done) world taken left = record {
 }
 
 pub still_taken : (config : ConfigValue) (old new : List Post) (user : ℕ) (result : Option Bundle) → IsWorld (record { config = config; posts = old })
-    → ((history : List Happening) → StandAfter (layout_of config) history old → IfSome result (IsTakenFrom (layout_of config) history user new))
+    → ((history : List Happening) → UsersStandAfter (layout_of config) history old → IfSome result (IsTakenFrom (layout_of config) history user new))
     → IfNone result (new ≡ old) → IsWorld (record { config = config; posts = new })
 still_taken config old new user None world front left = subst (λ posts. IsWorld (record { config = config; posts = posts })) (sym left) world
 still_taken config old new user (Some bundle) world front left = record {

@@ -19,7 +19,7 @@ use Rattle.entity_routing.specs.declared.world_event.WorldEvent.{WorldEvent}
 use Rattle.entity_routing.specs.declared.world_event.WorldEvent.TheVariants as events
 use Rattle.entity_routing.specs.Routes.{Routed}
 use Rattle.entity_users.specs.Posts.{Post}
-use Rattle.entity_users.specs.Standing.{lane_in, StandAfter, Takes, IsRefusedAt}
+use Rattle.entity_users.specs.Standing.{lane_in, UsersStandAfter, Takes, IsRefusedAt}
 use Rattle.cfdp_entity.specs.declared.refusal.EntityRefusal.{EntityRefusal}
 use Rattle.cfdp_entity.specs.declared.refusal.EntityRefusal.TheVariants as answer
 use Rattle.cfdp_entity.specs.Opening.{layout_of, first_lane}
@@ -32,7 +32,7 @@ pub record WorldValue : Type 0 where
 
 -- it stands after what has happened, each step of it in the lane that it goes to
 pub record StandsAfter (world : WorldValue) (history : List Happening) : Type 0 where
-  pub stand : StandAfter (layout_of world.config) history world.posts
+  pub stand : UsersStandAfter (layout_of world.config) history world.posts
   pub routed : AreRouted world.config history
 
 -- the configuration keeps all limits, and some history has led there

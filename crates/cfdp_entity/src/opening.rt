@@ -1,6 +1,6 @@
 //! How the users of an entity are made, by its configuration.
 ghost use Rattle.std.specs.Prelude.{◌≡◌, ◌^◌, ◌-◌, [], IfOk, IsTrue};
-ghost use Rattle.entity_users.specs.Standing.{IsPostAfter, StandAfter};
+ghost use Rattle.entity_users.specs.Standing.{IsPostAfter, UsersStandAfter};
 ghost use Rattle.config_reading.specs.Texts.{is_within};
 ghost use Rattle.config_reading.specs.Values.{is_config};
 ghost use Rattle.cfdp_entity.specs.Opening.{first_lane, first_sending, layout_of};
@@ -15,7 +15,7 @@ use user_queues::ListQueue;
 
 /// The users of an entity, to whom nothing has happened.
 pub(crate) fn users_for(alloc: Global, config: &Config) -> Result<Users, AllocError>
-    ensures stand { IfOk result (StandAfter (layout_of config.now) []) }
+    ensures stand { IfOk result (UsersStandAfter (layout_of config.now) []) }
     ensures kept { IsTrue (is_config config.now) }
 {
     let count = config.users();

@@ -26,7 +26,7 @@ use Rattle.cfdp_entity.specs.Opening.{numbers_of, greatest_of, first_lane, lane_
 use Rattle.cfdp_entity.specs.Routed.{IsRoutedTo}
 use Rattle.cfdp_entity.proofs.OpeningFacts.{are_idle}
 use Rattle.entity_laws.specs.EntityLaws.{IsAtHome, TellsAtHome}
-use Rattle.entity_laws.proofs.StepKeys.{step_keyed}
+use Rattle.world_table.proofs.StepKeys.{step_keyed}
 
 pub idle_lanes : (config : ConfigValue) → IsTrue (is_config config) → AreIdle (first_lane config)
 idle_lanes config holds = are_idle config (has_lanes config holds).put (has_users config holds)

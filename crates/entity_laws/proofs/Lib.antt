@@ -1,4 +1,4 @@
-pub mod StepKeys
+pub mod RouteHomes
 pub mod KeyFacts
 pub mod EndFacts
 pub mod WordFacts

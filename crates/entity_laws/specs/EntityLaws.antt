@@ -1,5 +1,5 @@
 -- What holds of every run of an entity whose events go where its configuration says.
-use Rattle.std.specs.Prelude.{◌≡◌, ℕ, Bool, false, IsTrue, ◌&&◌, ◌==◌, if◌then◌else◌, All, List, ◌++◌, Some, Contains}
+use Rattle.std.specs.Prelude.{◌≡◌, ℕ, Bool, false, IsTrue, ◌&&◌, ◌==◌, if◌then◌else◌, All, List, ◌++◌, Some, Ok, Contains}
 use Rattle.std.specs.List.{filter, list_any}
 use Rattle.cfdp_types.specs.declared.key.TxnKey.{TxnKey}
 use Rattle.cfdp_types.specs.declared.names.Delivery.TheVariants.{Complete}
@@ -14,9 +14,20 @@ use Rattle.indications.specs.LaneLists.{told_in}
 use Rattle.indications.specs.Words.{is_end, IsBegunOf}
 use Rattle.world_table.specs.Histories.{Happening, mine, IsHistory}
 use Rattle.world_table.specs.HistoryLaws.{HasGoodFile}
+use Rattle.lane_table.specs.Steps.{IsKeyed}
+use Rattle.entity_routing.specs.declared.world_event.WorldEvent.{WorldEvent}
 use Rattle.entity_routing.specs.Places.{is_local, place_of}
+use Rattle.entity_routing.specs.Routes.{Routed, route}
 use Rattle.cfdp_entity.specs.Opening.{first_lane}
-use Rattle.cfdp_entity.specs.Routed.{AreRouted}
+use Rattle.cfdp_entity.specs.Routed.{AreRouted, IsRoutedTo}
+use Rattle.cfdp_entity.specs.Worlds.{MayCome}
+
+-- ---- routes
+
+-- what may come to an entity and goes to a lane is an event that belongs there
+abbrev pub RoutesHome : Type 0
+RoutesHome = (config : ConfigValue) (event : WorldEvent) (routed : Routed) → MayCome config event → route config event ≡ Ok routed
+    → IsRoutedTo config routed.place.user routed.place.lane routed.event × IsKeyed routed.event
 
 -- ---- keys
 

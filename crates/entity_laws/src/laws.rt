@@ -1,6 +1,12 @@
 //! What holds of every run of an entity by its configuration, over the definitions alone.
 
-ghost use Rattle.entity_laws.specs.EntityLaws.{DeliversFiles, TellsAtHome, TellsNothingMore, TellsWords};
+ghost use Rattle.entity_laws.specs.EntityLaws.{DeliversFiles, RoutesHome, TellsAtHome, TellsNothingMore, TellsWords};
+
+/// What may come to an entity goes to a lane where it belongs, or to none: a Put to a sending lane of its user, and all
+/// else to the lane of its transaction.
+pub fn routes()
+    ensures { RoutesHome }
+{}
 
 /// What a user is told is of transactions that belong to this user, and each to the lane that tells of it: so a
 /// transaction keeps to one lane of one user for the whole run.

@@ -14,7 +14,7 @@ use Rattle.lane_rows.specs.SendingLaneRows.{put, on}
 use Rattle.world_table.specs.Histories.{Happening, takes}
 use Rattle.world_rows.specs.HistoryRows.{lanes, idle_lanes, history, can_be, bundle}
 use Rattle.entity_users.specs.Posts.{Post}
-use Rattle.entity_users.specs.Standing.{IsPostAfter, IsRefusedAt, IsTakenFrom, Layout, StandAfter, lane_in, queue_in}
+use Rattle.entity_users.specs.Standing.{IsPostAfter, IsRefusedAt, IsTakenFrom, Layout, UsersStandAfter, lane_in, queue_in}
 
 -- two lanes of each of two users, and room for three bundles
 abbrev layout : Layout
@@ -63,11 +63,11 @@ each_of_two happened zero post is = subst (IsPostAfter layout happened 0) (same_
 each_of_two happened (suc zero) post is = subst (IsPostAfter layout happened 1) (same_post (post_after happened 1) post is) (is_after happened 1)
 each_of_two happened (suc (suc user)) post is = absurd (none_is_some post is)
 
-stand : StandAfter layout history (post_after history 0 ∷ post_after history 1 ∷ [])
+stand : UsersStandAfter layout history (post_after history 0 ∷ post_after history 1 ∷ [])
 stand = record { idle = idle_lanes; legal = can_be; count = refl; each = each_of_two history }
 
 -- one user alone does not
-one_alone : StandAfter layout history (post_after history 0 ∷ []) → ⊥
+one_alone : UsersStandAfter layout history (post_after history 0 ∷ []) → ⊥
 one_alone is = one_two 1 2 is.count refl refl
 
 -- ---- takes

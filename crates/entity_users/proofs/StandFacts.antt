@@ -15,17 +15,17 @@ use Rattle.user_queues.specs.Queue.{Queue, EndsInHeld, with_front}
 use Rattle.world_table.specs.Histories.{Happening, steps, takes, rest_of, told_by, mine, held_for, taken_by}
 use Rattle.world_table.proofs.HistoryFacts.{runs, takes_all, lane_here, lane_beside, other_user, other_lane}
 use Rattle.entity_users.specs.Posts.{Post, with_told, HasRoomFor, IsWhyRefused, MayStep, post_stepped, IsStepOf, IsNoStepOf}
-use Rattle.entity_users.specs.Standing.{Layout, IsLaneIn, lane_in, queue_in, IsPostAfter, StandAfter, IsTakenAt, IsRefusedAt, IsTakenFrom}
+use Rattle.entity_users.specs.Standing.{Layout, IsLaneIn, lane_in, queue_in, IsPostAfter, UsersStandAfter, IsTakenAt, IsRefusedAt, IsTakenFrom}
 use Rattle.entity_users.proofs.ListFacts.{some_is, set_length, set_here, set_beside, get_within}
 
 -- ---- before a step
 
-pub post_at : (layout : Layout) (history : List Happening) (posts : List Post) (user : ℕ) (current : Post) → StandAfter layout history posts
+pub post_at : (layout : Layout) (history : List Happening) (posts : List Post) (user : ℕ) (current : Post) → UsersStandAfter layout history posts
     → user < layout.users → current ≡ slice_index_or posts user current → slice_get posts user ≡ Some current
 post_at layout history posts user current stand within at =
     slice_get_read posts (length posts) user current refl (subst (λ n. user < n) (sym stand.count) within) at
 
-pub may_step : (layout : Layout) (history : List Happening) (posts : List Post) (user lane : ℕ) (post : Post) → StandAfter layout history posts
+pub may_step : (layout : Layout) (history : List Happening) (posts : List Post) (user lane : ℕ) (post : Post) → UsersStandAfter layout history posts
     → IsLaneIn layout user lane → slice_get posts user ≡ Some post → MayStep post lane
 may_step layout history posts user lane post stand at is =
     let after : IsPostAfter layout history user post = stand.each user post is in
@@ -98,7 +98,7 @@ stepped_beside layout history user lane event other post apart after = record {
 
 -- one user changed
 posts_with : (layout : Layout) (history later : List Happening) (posts : List Post) (user : ℕ) (old new : Post) → slice_get posts user ≡ Some old
-    → StandAfter layout history posts → IsPostAfter layout later user new
+    → UsersStandAfter layout history posts → IsPostAfter layout later user new
     → ((other : ℕ) (post : Post) → (user ≡ other → ⊥) → IsPostAfter layout history other post → IsPostAfter layout later other post)
     → (of_user : ℕ) (post : Post) → slice_get (slice_set posts user new) of_user ≡ Some post → IsPostAfter layout later of_user post
 posts_with layout history later posts user old new is stand here beside of_user post found =
@@ -112,7 +112,7 @@ posts_with layout history later posts user old new is stand here beside of_user 
     (cases_eq user of_user)
 
 pub taken_at : (layout : Layout) (history : List Happening) (posts : List Post) (user lane : ℕ) (event : Event) (old new : Post) (done : Done)
-    → StandAfter layout history posts → IsLaneIn layout user lane → IsKeyed event → slice_get posts user ≡ Some old → IsStepOf old lane event new done
+    → UsersStandAfter layout history posts → IsLaneIn layout user lane → IsKeyed event → slice_get posts user ≡ Some old → IsStepOf old lane event new done
     → IsTakenAt layout history user lane event (slice_set posts user new) done
 taken_at layout history posts user lane event old new done stand at keyed is step =
     let after : IsPostAfter layout history user old = stand.each user old is in
@@ -139,7 +139,7 @@ taken_at layout history posts user lane event old new done stand at keyed is ste
     }
 
 pub refused_at : (layout : Layout) (history : List Happening) (posts : List Post) (user lane : ℕ) (event : Event) (old new : Post) (refused : Refused)
-    → StandAfter layout history posts → IsLaneIn layout user lane → slice_get posts user ≡ Some old → IsNoStepOf old lane event new refused
+    → UsersStandAfter layout history posts → IsLaneIn layout user lane → slice_get posts user ≡ Some old → IsNoStepOf old lane event new refused
     → IsRefusedAt layout history user lane event refused
 refused_at layout history posts user lane event old new refused stand at is step =
     let after : IsPostAfter layout history user old = stand.each user old is in
@@ -162,7 +162,7 @@ some_held : (bundle : Bundle) (rest : List Bundle) → bundle ∷ rest ≡ [] �
 some_held bundle rest e = cc
 
 pub taken_from : (layout : Layout) (history : List Happening) (posts : List Post) (user : ℕ) (old new : Post) (bundle : Bundle)
-    → StandAfter layout history posts → slice_get posts user ≡ Some old → old ≡ record { queue = with_front new.queue bundle; lanes = new.lanes }
+    → UsersStandAfter layout history posts → slice_get posts user ≡ Some old → old ≡ record { queue = with_front new.queue bundle; lanes = new.lanes }
     → IsTakenFrom layout history user (slice_set posts user new) bundle
 taken_from layout history posts user old new bundle stand is was =
     let after : IsPostAfter layout history user old = stand.each user old is in
@@ -191,7 +191,7 @@ taken_from layout history posts user old new bundle stand is was =
       };
     }
 
-pub none_from : (layout : Layout) (history : List Happening) (posts : List Post) (user : ℕ) (old : Post) → StandAfter layout history posts
+pub none_from : (layout : Layout) (history : List Happening) (posts : List Post) (user : ℕ) (old : Post) → UsersStandAfter layout history posts
     → slice_get posts user ≡ Some old → old.queue.held ≡ [] → held_for layout.lanes history user ≡ []
 none_from layout history posts user old stand is none = ap (λ (q : Queue). q.held) (sym (stand.each user old is).queue) ∙ none
 

@@ -39,7 +39,7 @@ pub record IsPostAfter (layout : Layout) (history : List Happening) (user : ℕ)
   pub lanes : (lane : ℕ) → lane < layout.lanes_of user → slice_get post.lanes lane ≡ Some (lane_in layout history user lane)
 
 -- all users do, after what can have happened
-pub record StandAfter (layout : Layout) (history : List Happening) (posts : List Post) : Type 0 where
+pub record UsersStandAfter (layout : Layout) (history : List Happening) (posts : List Post) : Type 0 where
   pub idle : AreIdle layout.lanes
   pub legal : IsHistory layout.lanes history
   pub count : length posts ≡ layout.users
@@ -51,7 +51,7 @@ pub record StandAfter (layout : Layout) (history : List Happening) (posts : List
 pub record MayHappen (posts : List Post) (user lane : ℕ) : Type 0 where
   pub layout : Layout
   pub history : List Happening
-  pub stand : StandAfter layout history posts
+  pub stand : UsersStandAfter layout history posts
   pub lane_is : IsLaneIn layout user lane
 
 -- a lane takes an event, there is room for what it tells, and this is to be done
@@ -63,7 +63,7 @@ pub record Takes (layout : Layout) (history : List Happening) (user lane : ℕ) 
 -- a lane takes an event, and so all users stand then
 pub record IsTakenAt (layout : Layout) (history : List Happening) (user lane : ℕ) (event : Event) (posts : List Post) (done : Done) : Type 0 where
   pub takes_it : Takes layout history user lane event done
-  pub stand : StandAfter layout (steps user lane event ∷ history) posts
+  pub stand : UsersStandAfter layout (steps user lane event ∷ history) posts
 
 -- why it does not
 abbrev pub IsRefusedAt : Layout → List Happening → ℕ → ℕ → Event → Refused → Type 0
@@ -72,4 +72,4 @@ IsRefusedAt layout history user lane event refused = IsWhyRefused (lane_in layou
 -- a user takes the bundle at the front
 pub record IsTakenFrom (layout : Layout) (history : List Happening) (user : ℕ) (posts : List Post) (bundle : Bundle) : Type 0 where
   pub front : held_for layout.lanes history user ≡ bundle ∷ held_for layout.lanes (takes user ∷ history) user
-  pub stand : StandAfter layout (takes user ∷ history) posts
+  pub stand : UsersStandAfter layout (takes user ∷ history) posts

@@ -27,7 +27,16 @@ impl Users {
     ghost use Rattle.txn_core.specs.Transactions.{IsWhy};
     ghost use Rattle.txn_events.specs.declared.event.Event.TheVariants.{Put};
     ghost use Rattle.world_table.specs.Histories.{Happening, held_for};
-    ghost use Rattle.entity_users.specs.Standing.{Layout, IsLaneIn, StandAfter, MayHappen, IsTakenAt, IsRefusedAt, IsTakenFrom, lane_in};
+    ghost use Rattle.entity_users.specs.Standing.{
+      Layout,
+      IsLaneIn,
+      UsersStandAfter,
+      MayHappen,
+      IsTakenAt,
+      IsRefusedAt,
+      IsTakenFrom,
+      lane_in,
+    };
 
     /// Users with their lanes and queues, in order.
     pub fn new(parts: Vec<UserPart>) -> Users
@@ -40,10 +49,10 @@ impl Users {
     pub fn step(&mut self, user: usize, lane: usize, event: &Event) -> Result<Done, Refused>
         requires keyed { IsKeyed event.now }
         requires stands { MayHappen self.old user lane }
-        ensures taken { (layout : Layout) (history : List Happening) → StandAfter layout history self.old
+        ensures taken { (layout : Layout) (history : List Happening) → UsersStandAfter layout history self.old
             → IsLaneIn layout user lane
             → IfOk result (IsTakenAt layout history user lane event.now self.new) }
-        ensures refused { (layout : Layout) (history : List Happening) → StandAfter layout history self.old
+        ensures refused { (layout : Layout) (history : List Happening) → UsersStandAfter layout history self.old
             → IsLaneIn layout user lane
             → IfErr result (IsRefusedAt layout history user lane event.now) }
         ensures same { OnErr result (self.new ≡ self.old) }
@@ -54,10 +63,10 @@ impl Users {
     /// A user takes the bundle at the front, if any waits.
     pub fn take(&mut self, user: usize) -> Option<Bundle>
         requires { user < length self.old }
-        ensures none { (layout : Layout) (history : List Happening) → StandAfter layout history self.old
+        ensures none { (layout : Layout) (history : List Happening) → UsersStandAfter layout history self.old
             → IfNone result (held_for layout.lanes history user ≡ []) }
         ensures same { IfNone result (self.new ≡ self.old) }
-        ensures front { (layout : Layout) (history : List Happening) → StandAfter layout history self.old
+        ensures front { (layout : Layout) (history : List Happening) → UsersStandAfter layout history self.old
             → IfSome result (IsTakenFrom layout history user self.new) }
     {
         self.parts[user].take()
@@ -68,7 +77,8 @@ impl Users {
     pub fn refuse_put(&self, user: usize, lane: usize, request: &PutRequest) -> Refused
         requires { MayHappen self.now user lane }
         ensures { (layout : Layout) (history : List Happening) (params : ParamsValue)
-            → StandAfter layout history self.now → IsLaneIn layout user lane → IsRefusedAt layout history user lane (Put request.now params) result }
+            → UsersStandAfter layout history self.now → IsLaneIn layout user lane
+            → IsRefusedAt layout history user lane (Put request.now params) result }
     {
         self.parts[user].refuse_put(lane, request)
     }
@@ -76,10 +86,10 @@ impl Users {
     /// The file of a deposit that waits at a lane of a user, by its key and its stamp.
     pub fn image(&self, user: usize, lane: usize, key: TxnKey, stamp: u32) -> Result<Image, Refusal>
         requires { MayHappen self.now user lane }
-        ensures image { (layout : Layout) (history : List Happening) → StandAfter layout history self.now
+        ensures image { (layout : Layout) (history : List Happening) → UsersStandAfter layout history self.now
             → IsLaneIn layout user lane
             → IfOk result (λ image. image_of (lane_in layout history user lane) key stamp ≡ Ok image) }
-        ensures refused { (layout : Layout) (history : List Happening) → StandAfter layout history self.now
+        ensures refused { (layout : Layout) (history : List Happening) → UsersStandAfter layout history self.now
             → IsLaneIn layout user lane
             → IfErr result (λ why. IsWhy (image_of (lane_in layout history user lane) key stamp) why) }
     {

@@ -4,24 +4,23 @@ use Rattle.cfdp_types.specs.Reference.{reference}
 use Rattle.cfdp_types.specs.declared.key.EntityId.{EntityId}
 use Rattle.cfdp_types.specs.declared.names.Class.TheVariants.{One, Two}
 use Rattle.cfdp_types.specs.declared.names.Delivery.TheVariants.{Incomplete}
-use Rattle.cfdp_types.specs.declared.names.FileStatus.TheVariants.{Discarded, Unreported}
+use Rattle.cfdp_types.specs.declared.names.FileStatus.TheVariants.{Unreported}
 use Rattle.gap_list.specs.Runs.{runs_of, runs_from}
 use Rattle.indications.specs.declared.bundle.Bundle.{Bundle}
 use Rattle.indications.specs.declared.indication.Indication.{Indication}
 use Rattle.indications.specs.declared.indication.Indication.TheVariants as told
-use Rattle.indications.specs.LaneLists.{IsLaneList, told_of}
-use Rattle.receiver_table.specs.Reception as receiver
+use Rattle.indications.specs.LaneLists.{IsLaneList}
 use Rattle.sender_table.specs.Sending as sender
-use Rattle.txn_events.specs.Examples.{header, put_value}
+use Rattle.txn_events.specs.Examples.{header}
 use Rattle.pdu_values.specs.declared.pdu.Body.TheVariants as body
 use Rattle.pdu_values.specs.declared.bodies.Prompt.TheVariants as prompt
 use Rattle.txn_events.specs.declared.event.Event.{Event}
-use Rattle.txn_events.specs.declared.event.Event.TheVariants.{Put, On}
+use Rattle.txn_events.specs.declared.event.Event.TheVariants.{On}
 use Rattle.txn_events.specs.declared.event.What.{What}
 use Rattle.txn_events.specs.declared.event.What.TheVariants as what
 use Rattle.lane_table.specs.declared.lane_side.LaneSide.TheVariants.{Sending, Receiving}
 use Rattle.lane_table.specs.declared.lane_side.Numbers.{Numbers}
-use Rattle.lane_table.specs.Lane.{State, idle, number_at, number_after, IsNumberOf, IsNumbered}
+use Rattle.lane_table.specs.Lane.{number_at, number_after, IsNumberOf, IsNumbered}
 use Rattle.lane_table.specs.Steps.{IsKeyed, stepped}
 use Rattle.lane_table.specs.Keeping.{Keeps, bundle_of, sent_after, events_of, AreTaken}
 use Rattle.lane_table.proofs.RunFacts.{sends_lane_lists}

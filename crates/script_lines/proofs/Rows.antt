@@ -80,7 +80,7 @@ asked : map command_of (codes "cancel alice 2 4" ∷ codes "suspend bob 2 4" ∷
 unfolding key
 asked = refl
 
-puts : map command_of (codes "put alice 0 1 1 a b 616263" ∷ codes "put bob 1 2 18446744073709551615 x y -" ∷ [])
+puts : map command_of (codes "put alice 0 1 1 a b 616263" ∷ codes "put bob 1 02 18446744073709551615 x y -" ∷ [])
     ≡ Some (command.Event (events.Request 0 (requests.Put 0 (record {
       destination = record { 0 = 1 };
       class = One;
@@ -102,9 +102,9 @@ unfolding decode_pairs
 puts = refl
 
 bad_requests : map command_of (codes "cancel" ∷ codes "cancel alice 2" ∷ codes "cancel carol 2 4" ∷ codes "cancel alice 2 4 5" ∷ codes "put alice 2 1 1 a b -"
-    ∷ codes "put alice 0 3 1 a b -" ∷ codes "put alice 0 1 1  b -" ∷ codes "put alice 0 1 1 a b" ∷ codes "put alice 0 1 1 a b - -" ∷ codes "put alice 0 1 1 a b 6"
+    ∷ codes "put alice 0 3 1 a b -" ∷ codes "put alice 0 0 1 a b -" ∷ codes "put alice 0 1 1  b -" ∷ codes "put alice 0 1 1 a b" ∷ codes "put alice 0 1 1 a b - -" ∷ codes "put alice 0 1 1 a b 6"
     ∷ (codes "put alice 0 1 1 " ++ 128 ∷ codes " b -") ∷ [])
-    ≡ replicate 11 None
+    ≡ replicate 12 None
 unfolding decode_pairs
 bad_requests = refl
 

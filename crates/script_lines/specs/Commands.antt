@@ -71,11 +71,15 @@ answer_of word =
     else if bytes_eq word (codes "no") then Some false
     else None
 
-abbrev pub class_of : List ℕ → Option Class
-class_of word =
-    if bytes_eq word (codes "1") then Some One
-    else if bytes_eq word (codes "2") then Some Two
+-- a class, by its number
+abbrev pub class_by : ℕ → Option Class
+class_by number =
+    if number == 1 then Some One
+    else if number == 2 then Some Two
     else None
+
+abbrev pub class_of : List ℕ → Option Class
+class_of word = option_and_then class_by (decimal_of 2 word)
 
 abbrev pub kind_of : List ℕ → Option TimerKind
 kind_of word =

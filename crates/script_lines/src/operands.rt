@@ -102,12 +102,10 @@ pub(crate) fn answer_of(word: &[u8]) -> Option<bool>
 pub(crate) fn class_of(word: &[u8]) -> Option<Class>
     ensures { result ≡ class_of word.now }
 {
-    if word == b"1".as_slice() {
-        Some(Class::One)
-    } else if word == b"2".as_slice() {
-        Some(Class::Two)
-    } else {
-        None
+    match decimal(word, 2)? {
+        1 => Some(Class::One),
+        2 => Some(Class::Two),
+        _ => None,
     }
 }
 

@@ -1,5 +1,5 @@
 -- Worked rows: what lines do to a session, which are bad, and what is printed.
-use Rattle.std.proofs.Common.{◌≡◌, ℕ, true, false, List, [], ◌∷◌, map, Some, None, Err, codes, inl, inr, refl, arith, ⊎_elim}
+use Rattle.std.proofs.Common.{◌≡◌, ℕ, ◌<◌, ◌+◌, true, false, List, [], ◌∷◌, map, length, Option, Some, None, Ok, Err, codes, inl, inr, refl, arith, ⊎_elim}
 use Rattle.std.specs.Fmt.{digits}
 use Rattle.cfdp_types.specs.declared.key.TxnKey.{TxnKey}
 use Rattle.txn_events.specs.declared.refusal.Refusal.TheVariants as refusal
@@ -20,7 +20,10 @@ use Rattle.script_lines.specs.declared.command.Command.TheVariants as command
 use Rattle.script_io.specs.declared.fault.TheConstants.{INTERRUPTIONS}
 use Rattle.script_io.specs.declared.input.TheConstants.{LINE_OCTETS}
 use Rattle.script_io.specs.Lines.{line_octets}
+use Rattle.script_io.specs.declared.fault.ReplayFault.{ReplayFault}
+use Rattle.script_io.specs.declared.fault.ReplayFault.TheVariants as stop
 use Rattle.script_replay.specs.declared.run.TheConstants.{LINES}
+use Rattle.script_replay.specs.Run.{PlaysLine, Replays, Stops}
 use Rattle.script_replay.specs.Sessions.{Session, fresh, with_history, is_put, history_taken, Answers, IsBadFor}
 use Rattle.script_replay.specs.Texts.{user_name, route_text, answer_text, taken_text}
 
@@ -135,3 +138,19 @@ octets_of_a_line = refl
 
 interruptions : INTERRUPTIONS ≡ 1000000
 interruptions = refl
+
+-- ---- whole scripts
+
+-- no script with more lines comes to its end
+too_many_lines : (script : List (List ℕ)) (old new : Option (List ℕ)) → LINES < length script → Replays {A = ℕ} (Ok 0) script old new → ⊥
+too_many_lines script old new more ends = let few = ends.0 in omega (arith, more, few)
+
+-- no line that is too long is played
+too_long_a_line : (session after : Session) (line text : List ℕ) → line_octets < length line → PlaysLine session line after text → ⊥
+too_long_a_line session after line text long plays = let short = plays.short in omega (arith, long, short)
+
+-- no bad line has a greater number than the one behind the last that there may be
+no_later_bad_line : (script : List (List ℕ)) (number : ℕ) (old new : Option (List ℕ)) → LINES + 1 < number → Stops (stop.BadLine number) script old new → ⊥
+no_later_bad_line script number old new later stops =
+    let few = stops.few in
+    let is = stops.number_is in omega (arith, later, few, is)

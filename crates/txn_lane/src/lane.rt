@@ -196,8 +196,8 @@ impl Lane {
         requires outlet { IsOutletOf O.user O.lane O.stands self.old outlet.old }
         ensures taken { IfOk result (λ done. IsTaken self.old event.now self.new done) }
         ensures handed { OnOk result (IsHanded O.user O.lane O.takes O.stands self.old self.new outlet.old outlet.new) }
-        ensures left { IfErr result
-            (λ refused. IsLeft O.user O.lane O.returns O.stands self.old event.now self.new outlet.old outlet.new refused) }
+        ensures left { IfErr result (λ refused. IsLeft O.user O.lane O.returns O.stands
+            self.old event.now self.new outlet.old outlet.new refused) }
     {
         if let Some(refused) = self.refusal(event) {
             return Err(refused);

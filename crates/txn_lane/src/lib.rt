@@ -10,7 +10,8 @@ mod put;
 mod running;
 mod stepping;
 
+pub use cfdp_types::{Deposit, Image, TimerOp};
 pub use indications::Outlet;
 pub use lane::Lane;
 pub use lane_table::{Done, LaneSide, Numbers, Refused, laws};
-pub use txn_events::Event;
+pub use txn_events::{Event, Refusal, What};

@@ -45,7 +45,8 @@ impl Running {
     ) -> Result<(Running, Step, Option<Bundle>), Refusal>
         requires opens { IsSome (opened_by side.now key event.now) }
         requires of_key { IsOfKey event.now key }
-        ensures opened { IfOk result (λ opened. IsOpenedBy (opened_by side.now key event.now) event.now opened.0 opened.1) }
+        ensures opened { IfOk result
+            (λ opened. IsOpenedBy (opened_by side.now key event.now) event.now opened.0 opened.1) }
         ensures bundle { IfOk result
             (λ opened. opened.2 ≡ bundle_for address.user address.lane key (plan_answer opened.1.plan).inds) }
         ensures refused { IfErr result (λ why. IsWhy (first_answer (opened_by side.now key event.now) event.now) why) }

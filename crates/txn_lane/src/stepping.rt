@@ -63,7 +63,8 @@ pub(crate) fn start<O: Outlet>(
     requires may { (answer : AnswerValue) → first_answer (opened_by side.now key event.now) event.now ≡ Ok answer
         → MayHandOver (O.user outlet.old) (O.lane outlet.old) (O.stands outlet.old)
         (bundle_for address.user address.lane key answer.inds) }
-    ensures started { IfOk result (λ started. IsStarted (opened_by side.now key event.now) event.now started.0 started.1) }
+    ensures started { IfOk result
+        (λ started. IsStarted (opened_by side.now key event.now) event.now started.0 started.1) }
     ensures offered { IfOk result (λ started. IsHandedOver O.takes outlet.old outlet.new
         (bundle_for address.user address.lane key started.1.inds)) }
     ensures refused { IfErr result (λ why. IsNotCarried O.returns outlet.old outlet.new address.user address.lane key

@@ -1,6 +1,7 @@
 -- Worked histories of lanes that receive, computed: two files one after the other in a lane, and another user's beside them.
-use Rattle.std.proofs.Common.{◌≡◌, ℕ, true, List, [], ◌∷◌, Option, Some, None, Ok, Err, Contains, refl, ap, ◌∙◌, arith}
+use Rattle.std.proofs.Common.{◌≡◌, ℕ, true, All, List, [], ◌∷◌, Option, Some, None, Ok, Err, Contains, refl, ap, ◌∙◌, arith}
 use Rattle.cfdp_types.specs.Reference.{reference}
+use Rattle.cfdp_types.specs.declared.key.TxnKey.{TxnKey}
 use Rattle.cfdp_types.specs.declared.names.Class.TheVariants.{One, Two}
 use Rattle.cfdp_types.specs.declared.names.Delivery.TheVariants.{Complete}
 use Rattle.cfdp_types.specs.declared.names.FileStatus.TheVariants.{Retained}
@@ -18,8 +19,9 @@ use Rattle.lane_table.specs.Logs.{Log, received}
 use Rattle.lane_table.specs.Steps.{image_of}
 use Rattle.lane_rows.specs.ReceivingLaneRows.{key, metadata, part, eof, on, image}
 use Rattle.world_table.specs.Histories.{Happening, steps, takes, lane_after, events_for, log_for, mine, AreIdle, IsHistory}
-use Rattle.world_table.specs.HistoryLaws.{IsLogged, HasGoodFile, IsImageOf}
+use Rattle.world_table.specs.HistoryLaws.{IsEventOf, IsLogged, HasGoodFile, IsImageOf}
 use Rattle.world_table.proofs.HistoryFacts.{tells_lane_lists, keeps_journals}
+use Rattle.world_table.proofs.EventFacts.{keeps_events_apart}
 use Rattle.world_table.proofs.LogFacts.{logs_are_legal, delivers_good, gives_images}
 
 -- lanes of every user for what comes from entity 1
@@ -83,6 +85,16 @@ last_is_second = refl
 
 pub journal_of_second : (lane_after lanes history 0 2).journal ≡ events_for lanes history 0 2 7
 journal_of_second = keeps_journals lanes history 0 2 7 idle_lanes can_be last_is_second
+
+-- and all of them name it, which an event of another one does not
+pub events_name_it : All (IsEventOf (key 5)) (events_for lanes history 0 2 5)
+events_name_it = keeps_events_apart lanes history 0 2 5 idle_lanes can_be
+
+pub none_of_another : IsEventOf (key 5) (on 7 (what.Stored 2 true)) → ⊥
+none_of_another named = seven_five 7 5 (ap (λ (k : TxnKey). k.seq) named.0) refl refl
+  where
+    seven_five : (a b : ℕ) → a ≡ b → a ≡ 7 → b ≡ 5 → ⊥
+    seven_five a b e a_is b_is = omega (arith, e, a_is, b_is)
 
 -- ---- what the users are told
 

@@ -1,3 +1,5 @@
 pub mod RunLemmas
 pub mod HistoryFacts
 pub mod LogFacts
+pub mod StepKeys
+pub mod EventFacts

@@ -1,5 +1,5 @@
 -- What holds of every run of an entity of one thread.
-use Rattle.std.specs.Prelude.{◌≡◌, ℕ, List, [], ◌∷◌, ◌++◌, Option, Some, None, Ok, Contains}
+use Rattle.std.specs.Prelude.{◌≡◌, ℕ, All, List, [], ◌∷◌, ◌++◌, Option, Some, None, Ok, Contains}
 use Rattle.cfdp_types.specs.declared.image.Image.{Image}
 use Rattle.cfdp_types.specs.declared.key.TxnKey.{TxnKey}
 use Rattle.cfdp_types.specs.declared.names.Delivery.TheVariants.{Complete}
@@ -11,8 +11,9 @@ use Rattle.receiver_table.specs.Reception.{Reception, Entry, state_of}
 use Rattle.receiver_laws.specs.LegalReceptions.{IsGood}
 use Rattle.receiver_laws.specs.ReceptionLaws.{IsGiven}
 use Rattle.txn_events.specs.declared.event.Event.{Event}
+use Rattle.txn_events.specs.declared.event.Event.TheVariants.{Put, On}
 use Rattle.lane_table.specs.Lane.{State, key_at, issued_in, IsSound}
-use Rattle.lane_table.specs.Logs.{Log, received, end_of, IsLegal}
+use Rattle.lane_table.specs.Logs.{Log, received, end_of, IsLegal, IsOfKey}
 use Rattle.lane_table.specs.Steps.{image_of}
 use Rattle.lane_table.specs.Keeping.{IsOfSide, Keeps}
 use Rattle.world_table.specs.Histories.{Happening, lane_after, events_for, log_for, mine, held_for, taken_by, AreIdle, IsHistory}
@@ -38,6 +39,16 @@ abbrev pub KeepsJournals : Type 0
 KeepsJournals = (lanes : ℕ → ℕ → State) (history : List Happening) (user lane number : ℕ) → AreIdle lanes → IsHistory lanes history
     → (lane_after lanes history user lane).last ≡ Some number
     → (lane_after lanes history user lane).journal ≡ events_for lanes history user lane number
+
+-- an event is of the transaction with a key: a Put, which opens one, or what happens under this key, where a PDU has it too
+abbrev pub IsEventOf : TxnKey → Event → Type 0
+IsEventOf key (Put request params) = Unit {0}
+IsEventOf key (On named happens) = (named ≡ key) × IsOfKey (On named happens) key
+
+-- every event of a transaction is of its key
+abbrev pub KeepsEventsApart : Type 0
+KeepsEventsApart = (lanes : ℕ → ℕ → State) (history : List Happening) (user lane number : ℕ) → AreIdle lanes → IsHistory lanes history
+    → All (IsEventOf (key_at (lanes user lane).source number)) (events_for lanes history user lane number)
 
 -- a lane knows what it told
 abbrev pub LanesKeep : Type 0

@@ -1,6 +1,16 @@
 //! What holds of every run of an entity of one thread, over the definitions alone.
 
-ghost use Rattle.world_table.specs.HistoryLaws.{TakesAllInOrder, TellsLaneLists, TellsWhatLogsTell, KeepsJournals, LanesKeep, LogsAreLegal, DeliversGood, GivesImages};
+ghost use Rattle.world_table.specs.HistoryLaws.{
+  DeliversGood,
+  GivesImages,
+  KeepsEventsApart,
+  KeepsJournals,
+  LanesKeep,
+  LogsAreLegal,
+  TakesAllInOrder,
+  TellsLaneLists,
+  TellsWhatLogsTell,
+};
 
 /// What a user took, followed by what still waits, is all that the user's lanes told: each bundle once, in the order in
 /// which it was told.
@@ -24,6 +34,11 @@ pub fn journals()
     ensures { KeepsJournals }
 {}
 
+/// The events of a transaction are its Put and what happens under its own key; each PDU among them names that key too.
+pub fn events()
+    ensures { KeepsEventsApart }
+{}
+
 /// What a lane told fits where it stands, so that it can tell what its next step says.
 pub fn keeps()
     ensures { LanesKeep }
@@ -34,14 +49,14 @@ pub fn sound()
     ensures { LogsAreLegal }
 {}
 
-/// Where a receiving lane tells its user of a complete delivery, Metadata and EOF came, every octet below the EOF's size
-/// was received and none above it, and the modular checksum agrees.
+/// Where a receiving lane tells its user of a complete delivery, Metadata and EOF came, every octet below the EOF's
+/// size was received and none above it, and the modular checksum agrees.
 pub fn complete()
     ensures { DeliversGood }
 {}
 
-/// The image that a lane gives of a deposit that waits has the names of the Metadata that came and, at each offset below
-/// the EOF's size, the octet that was received there, of the very transaction that was asked for.
+/// The image that a lane gives of a deposit that waits has the names of the Metadata that came and, at each offset
+/// below the EOF's size, the octet that was received there, of the very transaction that was asked for.
 pub fn images()
     ensures { GivesImages }
 {}

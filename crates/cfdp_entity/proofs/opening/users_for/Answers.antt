@@ -1,6 +1,6 @@
 use Rattle.std.proofs.Common.{[], sym, subst}
 use Rattle.entity_config.proofs.Limits.{has_users, has_lanes}
-use Rattle.entity_users.specs.Standing.{IsPostAfter, StandAfter}
+use Rattle.entity_users.specs.Standing.{IsPostAfter, UsersStandAfter}
 use Rattle.cfdp_entity.specs.Opening.{layout_of}
 use Rattle.cfdp_entity.proofs.OpeningFacts.{one_made, users_made, all_made, made_at}
 use Rattle.cfdp_entity.proofs.opening.users_for.Goals as goal
@@ -13,7 +13,7 @@ loop-user-preserved c =
 pub returns-clause-stand : goal.returns-clause-stand
 returns-clause-stand c =
     let config = c.args.config.now in
-    subst (StandAfter (layout_of config) []) (sym c.new.ensures)
+    subst (UsersStandAfter (layout_of config) []) (sym c.new.ensures)
     (users_made config c.loop-user.parts.items c.users-count.result c.users-count.ensures (has_lanes config c.entity-capacity.ensures.kept).put
     (has_users config c.entity-capacity.ensures.kept)
     (made_at (λ place part. IsPostAfter (layout_of config) [] place part) c.loop-user.parts.items c.loop-user.user c.users-count.result

@@ -16,7 +16,7 @@ none_first : {A : Type 0} (o rest : Option A) → option_or o rest ≡ None → 
 none_first None rest e = refl
 none_first (Some x) rest e = absurd cc
 
-stamp_is : (last : Option ℕ) (number : ℕ) → is_stamp last number ≡ true → last ≡ Some number
+pub stamp_is : (last : Option ℕ) (number : ℕ) → is_stamp last number ≡ true → last ≡ Some number
 stamp_is None number is = absurd cc
 stamp_is (Some l) number is = ap Some (eqb-true l number is)
 

@@ -1,0 +1,5 @@
+use Rattle.entity_laws.proofs.RouteHomes.{routes_home}
+use Rattle.entity_laws.proofs.laws.routes.Goals as goal
+
+pub returns : goal.returns
+returns c = routes_home

@@ -1,0 +1,3 @@
+pub mod SettingFacts
+pub mod ScriptFacts
+pub mod Rows

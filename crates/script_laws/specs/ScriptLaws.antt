@@ -1,0 +1,18 @@
+-- What holds of every script that is played.
+use Rattle.std.specs.Prelude.{ℕ, IsTrue, List}
+use Rattle.config_reading.specs.Values.{is_config}
+use Rattle.world_table.specs.Histories.{IsHistory}
+use Rattle.cfdp_entity.specs.Opening.{first_lane}
+use Rattle.cfdp_entity.specs.Routed.{AreRouted}
+use Rattle.script_replay.specs.Sessions.{Session, fresh}
+use Rattle.script_replay.specs.Run.{Plays}
+
+-- what has happened can happen in an entity of the session's configuration, each event where it belongs
+pub record CanBe (session : Session) : Type 0 where
+  pub kept : IsTrue (is_config session.config)
+  pub routed : AreRouted session.config session.history
+  pub legal : IsHistory (first_lane session.config) session.history
+
+-- every script that is played leads to such a session
+abbrev pub PlaysWhatCanBe : Type 0
+PlaysWhatCanBe = (lines : List (List ℕ)) (after : Session) (text : List ℕ) → Plays fresh lines after text → CanBe after
