@@ -1,0 +1,2 @@
+pub mod FirstLanes
+pub mod Asking

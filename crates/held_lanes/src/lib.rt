@@ -1,0 +1,10 @@
+//! What lies behind the lock of a lane: the lane with its own outlet. Threads that reach it go through a gate.
+#![tactic(auto)]
+
+mod gate;
+mod held;
+mod names;
+
+pub use gate::{Gate, NoGate, Point};
+pub use held::Held;
+pub use names::Names;
