@@ -1,0 +1,365 @@
+ghost use Rattle.std.specs.Prelude.{◌≡◌, IsTrue, Ok, IfOk, IfErr, OnErr};
+ghost use Rattle.lane_table.specs.Steps.{IsKeyed};
+ghost use Rattle.pdu_reading.specs.Reading.{reading};
+ghost use Rattle.shared_entity.specs.Answering.{IsAt, IsNotRead, MayAnswerAt, MayGiveImage};
+
+use crate::opening::add_lanes;
+use crate::outlets::OutletRoom;
+use crate::refusal::SharedRefusal;
+use cfdp_types::{Image, PutRequest, TimerKind, TxnKey};
+use entity_config::Config;
+use entity_routing::{
+    Place, Request, RouteRefusal, key_of_pdu, params_of_put, place_of_key, place_of_own,
+    place_of_pdu,
+};
+use held_lanes::{Gate, Held, Names, Point};
+use lane_table::Refused;
+use pdu_codec::{DecodeFault, Pdu, decode};
+use std::alloc::{AllocError, Global};
+use std::marker::Model;
+use std::sync::{Mutex, Wait};
+use txn_events::{Event, Refusal, What};
+use user_queues::{LaneOutlet, Queues, UserPort, UserQueue};
+
+/// A protocol entity that threads share. Each call says by the configuration which lane an event goes to, takes that
+/// lane's lock, and leaves the rest to a gate; nothing else is locked, so lanes run side by side. Contracts see the
+/// configuration.
+#[derive(Drop)]
+pub struct Entity<N: Names, R: Copy> {
+    alloc: Global,
+    config: Config,
+    /// Where the lanes of each user begin.
+    first_of: Vec<usize>,
+    /// The lanes of all users, in order.
+    lanes: Vec<Mutex<Held<N, R>>>,
+    room: Mutex<OutletRoom<N, R>>,
+}
+
+impl<N: Names, R: Copy> Model for Entity<N, R> {
+    ghost use Rattle.std.specs.Prelude.{◌≡◌, vec_len};
+    ghost use Rattle.config_reading.specs.Values.{ConfigValue};
+
+    ghost Value = { ConfigValue };
+
+    ghost view = { λ e. e.config };
+
+    ghost invariant = { λ e. vec_len e.lanes ≡ N.lanes };
+}
+
+impl<N: Names, R: Copy> Entity<N, R> {
+    ghost use Rattle.std.specs.Prelude.{◌≡◌, ℕ, All, IfOk, Some, length, map, slice_get, vec_len};
+    ghost use Rattle.std.specs.List.{sum_by};
+    ghost use Rattle.entity_routing.specs.Places.{lanes_of};
+    ghost use Rattle.user_queues.specs.Opened.{IsOpenedFor};
+
+    /// An entity with this configuration, to which nothing has happened, over the queues that were opened for it; and the
+    /// ports of its users, in order.
+    pub fn open(
+        alloc: Global,
+        config: Config,
+        queues: Queues<R>,
+    ) -> Result<(Entity<N, R>, Vec<UserPort>), AllocError>
+        requires opened { (user : ℕ) (ends : _) → slice_get queues.users.items user ≡ Some ends
+            → IsOpenedFor user (lanes_of config user) config.entity.capacity ends.port ends.outlets.items }
+        requires named { (user : ℕ) (ends : _) → slice_get queues.users.items user ≡ Some ends
+            → ends.port.queue ≡ N.queue user }
+        requires lanes { N.lanes ≡ sum_by (λ ends. vec_len ends.outlets) queues.users.items }
+        ensures config { IfOk result (λ opened. opened.0 ≡ config) }
+        ensures ports { IfOk result (λ opened. opened.1.items ≡ map (λ ends. ends.port) queues.users.items) }
+        ensures named { IfOk result
+            (λ opened. All (λ port. port.queue ≡ N.queue port.knows.user) opened.1.items) }
+    {
+        let mut ports = Vec::with_capacity(alloc, queues.users.len())?;
+        let mut first_of = Vec::with_capacity(alloc, queues.users.len())?;
+        let mut lanes = Vec::new(alloc);
+        for ends in queues.users {
+            let UserQueue { port, outlets } = ends;
+            ports.push(port)?;
+            first_of.push(lanes.len())?;
+            add_lanes(alloc, &config, outlets, &mut lanes)?;
+        }
+        let room = Mutex::new(OutletRoom::new(alloc, lanes.len())?);
+        let entity = Entity {
+            alloc,
+            config,
+            first_of,
+            lanes,
+            room,
+        };
+        Ok((entity, ports))
+    }
+
+    /// The number of users.
+    pub fn users(&self) -> usize
+        ensures { result ≡ length self.now.users }
+    {
+        self.config.users()
+    }
+
+    /// The number of sending lanes of each user.
+    pub fn put_lanes(&self) -> usize
+        ensures { result ≡ self.now.entity.put_lanes }
+    {
+        self.config.entity().put_lanes
+    }
+
+    /// Its configuration.
+    pub fn config(&self) -> &Config
+        ensures { result.now ≡ self.now }
+    {
+        &self.config
+    }
+
+    /// The outlets of all lanes, in order, for the users' ports to take back. It takes no memory.
+    pub fn into_lanes(self) -> Vec<LaneOutlet<R>>
+        ensures count { vec_len result ≡ N.lanes }
+        ensures named { All (λ outlet. outlet.queue ≡ N.queue outlet.knows.user) result.items }
+    {
+        let Entity { lanes, room, .. } = self;
+        let mut outlets = room.into_inner().into_outlets();
+        for held in lanes {
+            outlets.push_reserved(held.into_inner().into_outlet());
+        }
+        outlets
+    }
+
+    // The lock of a lane.
+    fn lock_of(&self, place: Place) -> Option<&Mutex<Held<N, R>>> {
+        let first = *self.first_of.get(place.user)?;
+        self.lanes.get(first.checked_add(place.lane)?)
+    }
+}
+
+impl<N: Names, R: Wait + Copy> Entity<N, R> {
+    ghost use Rattle.std.specs.Prelude.{◌≡◌, ◌⊎◌};
+    ghost use Rattle.pdu_reading.specs.Reading.{reading};
+    ghost use Rattle.txn_events.specs.declared.event.Event.TheVariants.{On};
+    ghost use Rattle.txn_events.specs.declared.event.What.TheVariants as what;
+    ghost use Rattle.lane_table.specs.Steps.{IsKeyed};
+    ghost use Rattle.entity_lanes.specs.Asking.{MayRequest};
+    ghost use Rattle.entity_routing.specs.Routes.{key_place, routed_key, routed_own, routed_request, routed_reading, routed_put, routed_pdu, put_params};
+    ghost use Rattle.shared_entity.specs.Answering.{IsUnread, MayAnswer, MayAnswerAt, MayGiveImage};
+
+    /// A user asks for something.
+    pub fn request<G: Gate<N, R>>(
+        &self,
+        rt: &R,
+        gate: &G,
+        user: usize,
+        request: Request,
+    ) -> Result<G::Answer, SharedRefusal>
+        requires { MayRequest self.now user request }
+        ensures { MayAnswer N.queue (G.gives gate.now) (routed_request self.now user request) result }
+    {
+        match request {
+            Request::Put(lane, put) => self.put(rt, gate, Place { user, lane }, put),
+            Request::Cancel(key) => self.own(rt, gate, user, key, What::Cancel),
+            Request::Suspend(key) => self.own(rt, gate, user, key, What::Suspend),
+            Request::Resume(key) => self.own(rt, gate, user, key, What::Resume),
+            Request::Report(key) => self.own(rt, gate, user, key, What::Report),
+            Request::Abandon(key) => self.own(rt, gate, user, key, What::Abandon),
+        }
+    }
+
+    /// A datagram comes.
+    pub fn deliver<G: Gate<N, R>>(
+        &self,
+        rt: &R,
+        gate: &G,
+        octets: &[u8],
+    ) -> Result<G::Answer, SharedRefusal>
+        ensures { MayAnswer N.queue (G.gives gate.now) (routed_reading self.now (reading octets.now)) result
+            ⊎ IsUnread octets.now result }
+    {
+        let pdu = read(self.alloc, octets)?;
+        self.deliver_pdu(rt, gate, pdu)
+    }
+
+    /// A PDU comes, which was read from a datagram.
+    pub fn deliver_pdu<G: Gate<N, R>>(
+        &self,
+        rt: &R,
+        gate: &G,
+        pdu: Pdu,
+    ) -> Result<G::Answer, SharedRefusal>
+        ensures { MayAnswer N.queue (G.gives gate.now) (routed_pdu self.now pdu) result }
+    {
+        let place = place_of_pdu(&self.config, &pdu)?;
+        let key = key_of_pdu(&pdu);
+        self.tell(rt, gate, place, Event::On(key, What::Pdu(pdu)))
+    }
+
+    /// The next PDU of a transaction is to be sent.
+    pub fn pump<G: Gate<N, R>>(
+        &self,
+        rt: &R,
+        gate: &G,
+        key: TxnKey,
+    ) -> Result<G::Answer, SharedRefusal>
+        ensures { MayAnswer N.queue (G.gives gate.now) (routed_key self.now key what.Pump) result }
+    {
+        self.inside(rt, gate, key, What::Pump)
+    }
+
+    /// A transaction's timer that was armed with this stamp expires.
+    pub fn timer<G: Gate<N, R>>(
+        &self,
+        rt: &R,
+        gate: &G,
+        key: TxnKey,
+        kind: TimerKind,
+        stamp: u32,
+    ) -> Result<G::Answer, SharedRefusal>
+        ensures { MayAnswer N.queue (G.gives gate.now) (routed_key self.now key (what.Timer kind stamp)) result }
+    {
+        self.inside(rt, gate, key, What::Timer(kind, stamp))
+    }
+
+    /// The file store answers a transaction's deposit with this stamp: whether it keeps the file.
+    pub fn stored<G: Gate<N, R>>(
+        &self,
+        rt: &R,
+        gate: &G,
+        key: TxnKey,
+        stamp: u32,
+        kept: bool,
+    ) -> Result<G::Answer, SharedRefusal>
+        ensures { MayAnswer N.queue (G.gives gate.now) (routed_key self.now key (what.Stored stamp kept)) result }
+    {
+        self.inside(rt, gate, key, What::Stored(stamp, kept))
+    }
+
+    /// The file of a deposit that waits, by its transaction and its stamp.
+    pub fn image(&self, rt: &R, key: TxnKey, stamp: u32) -> Result<Image, SharedRefusal>
+        ensures { MayGiveImage N.queue key stamp (key_place self.now key) result }
+    {
+        let place = place_of_key(&self.config, key)?;
+        let Some(lock) = self.lock_of(place) else {
+            return Err(SharedRefusal::WrongLane);
+        };
+        let held = lock.lock(rt);
+        image_at(&held, place, key, stamp)
+    }
+
+    // Something happens to a transaction, in the entity itself.
+    fn inside<G: Gate<N, R>>(
+        &self,
+        rt: &R,
+        gate: &G,
+        key: TxnKey,
+        what: What,
+    ) -> Result<G::Answer, SharedRefusal>
+        requires { IsKeyed (On key what) }
+        ensures { MayAnswer N.queue (G.gives gate.now) (routed_key self.now key what) result }
+    {
+        let place = place_of_key(&self.config, key)?;
+        self.tell(rt, gate, place, Event::On(key, what))
+    }
+
+    // The same where a user asks for it.
+    fn own<G: Gate<N, R>>(
+        &self,
+        rt: &R,
+        gate: &G,
+        user: usize,
+        key: TxnKey,
+        what: What,
+    ) -> Result<G::Answer, SharedRefusal>
+        requires { IsKeyed (On key what) }
+        ensures { MayAnswer N.queue (G.gives gate.now) (routed_own self.now user key what) result }
+    {
+        let place = place_of_own(&self.config, user, key)?;
+        self.tell(rt, gate, place, Event::On(key, what))
+    }
+
+    // A user wants a file to be sent.
+    fn put<G: Gate<N, R>>(
+        &self,
+        rt: &R,
+        gate: &G,
+        place: Place,
+        put: PutRequest,
+    ) -> Result<G::Answer, SharedRefusal>
+        ensures { MayAnswer N.queue (G.gives gate.now) (routed_put place put (put_params self.now put.destination)) result }
+    {
+        let params = params_of_put(&self.config, put.destination())?;
+        self.tell(rt, gate, place, Event::Put(put, params))
+    }
+
+    // Tells a lane of an event, while its lock is held.
+    fn tell<G: Gate<N, R>>(
+        &self,
+        rt: &R,
+        gate: &G,
+        place: Place,
+        event: Event,
+    ) -> Result<G::Answer, SharedRefusal>
+        requires { IsKeyed event }
+        ensures { MayAnswerAt N.queue (G.gives gate.now) (record { place = place; event = event }) result }
+    {
+        let Some(lock) = self.lock_of(place) else {
+            return Err(SharedRefusal::WrongLane);
+        };
+        let mut held = lock.lock(rt);
+        gate.at(Point::Locked(place.user));
+        bring(gate, &mut held, place, &event)
+    }
+}
+
+// Brings an event to what lies behind a lock, if that is the lane of the place.
+fn bring<N: Names, R: Wait + Copy, G: Gate<N, R>>(
+    gate: &G,
+    held: &mut Held<N, R>,
+    place: Place,
+    event: &Event,
+) -> Result<G::Answer, SharedRefusal>
+    requires { IsKeyed event.now }
+    ensures answer { MayAnswerAt N.queue (G.gives gate.now) (record { place = place; event = event.now }) result }
+    ensures gave { IfOk result (λ answer. G.gives gate.now held.old event.now answer held.new) }
+    ensures same { OnErr result (held.new ≡ held.old) }
+{
+    if !is_at(held, place) {
+        return Err(SharedRefusal::WrongLane);
+    }
+    Ok(gate.locked(held, event))
+}
+
+// Whether what lies behind a lock is the lane of a place.
+fn is_at<N: Names, R: Copy>(held: &Held<N, R>, place: Place) -> bool
+    ensures { IsTrue result → IsAt N.queue place held.now }
+{
+    held.user() == place.user && held.lane() == place.lane
+}
+
+// The file of a deposit that waits at what lies behind a lock, if that is the lane of the place.
+fn image_at<N: Names, R: Copy>(
+    held: &Held<N, R>,
+    place: Place,
+    key: TxnKey,
+    stamp: u32,
+) -> Result<Image, SharedRefusal>
+    ensures { MayGiveImage N.queue key stamp (Ok place) result }
+{
+    if !is_at(held, place) {
+        return Err(SharedRefusal::WrongLane);
+    }
+    match held.image(key, stamp) {
+        Ok(image) => Ok(image),
+        Err(why) => Err(SharedRefusal::Lane(Refused { why, echo: None })),
+    }
+}
+
+// The PDU that octets are read as.
+fn read(alloc: Global, octets: &[u8]) -> Result<Pdu, SharedRefusal>
+    ensures read { IfOk result (λ pdu. reading octets.now ≡ Ok pdu) }
+    ensures refused { IfErr result (IsNotRead (reading octets.now)) }
+{
+    match decode(alloc, octets) {
+        Ok(pdu) => Ok(pdu),
+        Err(DecodeFault::NoMemory) => Err(SharedRefusal::Lane(Refused {
+            why: Refusal::NoMemory,
+            echo: None,
+        })),
+        Err(fault) => Err(SharedRefusal::Route(RouteRefusal::DecodeFault(fault))),
+    }
+}

@@ -1,0 +1,14 @@
+//! The entity that threads share: each lane lies behind a lock of its own, with its outlet, and nothing else is locked.
+#![tactic(auto)]
+
+mod entity;
+mod opening;
+mod outlets;
+mod queues;
+mod refusal;
+
+pub use entity::Entity;
+pub use entity_routing::{Place, Request, RouteRefusal};
+pub use held_lanes::{Gate, Held, Names, NoGate, Point};
+pub use queues::queues_of;
+pub use refusal::SharedRefusal;

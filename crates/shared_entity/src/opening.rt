@@ -1,0 +1,36 @@
+//! How the lanes of an entity are laid behind their locks.
+ghost use Rattle.std.specs.Prelude.{◌≡◌, ◌+◌, All, OnOk, vec_len};
+ghost use Rattle.shared_entity.specs.Opening.{IsFresh};
+
+use entity_config::Config;
+use entity_lanes::lane_for;
+use held_lanes::{Held, Names};
+use std::alloc::{AllocError, Global};
+use std::sync::Mutex;
+use user_queues::LaneOutlet;
+
+/// Lays the lanes of outlets behind locks, each with its outlet, behind those that are there.
+pub(crate) fn add_lanes<N: Names, R: Copy>(
+    alloc: Global,
+    config: &Config,
+    outlets: Vec<LaneOutlet<R>>,
+    lanes: &mut Vec<Mutex<Held<N, R>>>,
+) -> Result<(), AllocError>
+    requires { All (λ outlet. IsFresh N.queue outlet) outlets.items }
+    ensures { OnOk result (vec_len lanes.new ≡ vec_len lanes.old + vec_len outlets) }
+{
+    for outlet in outlets {
+        lanes.push(Mutex::new(held_for(alloc, config, outlet)))?;
+    }
+    Ok(())
+}
+
+// The lane of an outlet, to which nothing has happened, with the outlet.
+fn held_for<N: Names, R: Copy>(alloc: Global, config: &Config, outlet: LaneOutlet<R>) -> Held<N, R>
+    requires { IsFresh N.queue outlet }
+{
+    Held::new(
+        lane_for(alloc, config, outlet.user(), outlet.lane()),
+        outlet,
+    )
+}
