@@ -1,0 +1,4 @@
+pub mod EntryFacts
+pub mod SenderFacts
+pub mod ReceiverFacts
+pub mod KeptFacts
