@@ -123,7 +123,7 @@ denied : (log : List Entry) (finished : Option Finished) → Denies finished →
 denied log None denies = tt
 denied log (Some f) denies = λ complete. absurd (denies complete)
 
-kept_on : (entry : Entry) (front : List Entry) → HasKept front → HasKept (entry ∷ front)
+pub kept_on : (entry : Entry) (front : List Entry) → HasKept front → HasKept (entry ∷ front)
 kept_on entry front kept = record {
   later = entry ∷ kept.later;
   stamp = kept.stamp;
