@@ -1,0 +1,2 @@
+pub mod LaneMoves
+pub mod EntityMoves
