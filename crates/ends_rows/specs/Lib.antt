@@ -1,0 +1,3 @@
+pub mod WorkedSchedules
+pub mod ScheduleRows
+pub mod LaneEndRows
