@@ -1,0 +1,12 @@
+//! Two entities of one thread, of which each is given what the other sent: a worked run with its octets, and a long
+//! one in which PDUs are lost, repeated and reordered as if by lot.
+#![tactic(auto)]
+
+#[cfg(test)]
+mod entities;
+#[cfg(test)]
+mod link;
+#[cfg(test)]
+mod two_worlds;
+#[cfg(test)]
+mod worked_run;
