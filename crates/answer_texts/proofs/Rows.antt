@@ -32,13 +32,22 @@ acknowledged_eof = record {
   body = body.Ack (record { of = acknowledged.Eof; condition = 0; status = Active });
 }
 
+-- the same once the transaction is over
+echoed_eof : PduValue
+echoed_eof = record {
+  header = record (header Two) { direction = TowardSender };
+  body = body.Ack (record { of = acknowledged.Eof; condition = 0; status = Terminated });
+}
+
 -- ---- events
 
 -- taken
 events : map (done_text false) (record { key = key; pdus = []; timers = []; deposit = None }
-    ∷ record { key = key; pdus = acknowledged_eof ∷ []; timers = []; deposit = Some (record { key = key; stamp = 2 }) } ∷ [])
-    ≡ codes "ok\n" ∷ codes "ok\npdu 28000300010502064001\ndeposit 2\n" ∷ []
-unfolding digits encode_with written spelling octets_of width_from key acknowledged_eof
+    ∷ record { key = key; pdus = acknowledged_eof ∷ []; timers = []; deposit = Some (record { key = key; stamp = 2 }) }
+    ∷ record { key = key; pdus = acknowledged_eof ∷ echoed_eof ∷ []; timers = []; deposit = None } ∷ [])
+    ≡ codes "ok\n" ∷ codes "ok\npdu 28000300010502064001\ndeposit 2\n"
+    ∷ codes "ok\npdu 28000300010502064001\npdu 28000300010502064002\n" ∷ []
+unfolding digits encode_with written spelling octets_of width_from key acknowledged_eof echoed_eof
 events = refl
 
 -- a Put that was taken

@@ -1,10 +1,6 @@
-//! A protocol entity: the lanes of its users, and what it answers to what happens.
+//! A protocol entity, for one thread (`World`) and for threads that share it (`Entity`).
 #![tactic(auto)]
 
-mod opening;
-mod refusal;
-mod world;
-
 pub use entity_routing::{Place, Request, RouteRefusal, WorldEvent};
-pub use refusal::EntityRefusal;
-pub use world::World;
+pub use entity_world::{EntityRefusal, World};
+pub use shared_entity::{Entity, Gate, Held, Names, NoGate, Point, SharedRefusal, queues_of};

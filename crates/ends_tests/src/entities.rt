@@ -1,8 +1,8 @@
 //! The two entities, and what one is told.
 
-use cfdp_entity::{EntityRefusal, Request, World, WorldEvent};
 use cfdp_types::{Class, EntityId, Octets, PutFault, PutRequest, TimerKind, TxnKey};
 use entity_config::{Config, read_config};
+use entity_world::{EntityRefusal, Request, World, WorldEvent};
 use lane_table::Done;
 use std::alloc::Global;
 

@@ -1,8 +1,8 @@
 //! Two entities and all that either ever sent.
 
 use crate::entities::{deliver, expire, file_for_one, pump, put, store};
-use cfdp_entity::{EntityRefusal, World};
 use cfdp_types::{Class, Delivery, Deposit, Image, Octets, TimerKind, TimerOp, TxnKey};
+use entity_world::{EntityRefusal, World};
 use indications::{Bundle, Indication};
 use lane_table::{Done, Refused};
 use pdu_codec::{Pdu, encode};

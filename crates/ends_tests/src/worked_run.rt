@@ -2,8 +2,8 @@
 
 use crate::entities::{deliver, entity_one, entity_two, file_for_one, pump, put, store};
 use answer_texts::{push_bundle, push_done, push_refused};
-use cfdp_entity::{EntityRefusal, World};
 use cfdp_types::{Class, EntityId, Octets, TxnKey};
+use entity_world::{EntityRefusal, World};
 use indications::Bundle;
 use lane_table::Done;
 use std::alloc::{AllocError, Global};

@@ -19,8 +19,8 @@ use Rattle.world_table.proofs.HistoryFacts.{tells_lane_lists}
 use Rattle.entity_routing.specs.declared.place.Place.{Place}
 use Rattle.entity_routing.specs.Places.{is_local, place_of}
 use Rattle.entity_routing.proofs.PlaceFacts.{own_sent, others_received}
-use Rattle.cfdp_entity.specs.Opening.{first_lane}
-use Rattle.cfdp_entity.specs.Routed.{AreRouted}
+use Rattle.entity_lanes.specs.FirstLanes.{first_lane}
+use Rattle.entity_world.specs.Routed.{AreRouted}
 use Rattle.entity_laws.specs.EntityLaws.{IsAtHome, TellsNothingMore, has_key, told_under}
 use Rattle.entity_laws.proofs.KeyFacts.{idle_lanes, tells_at_home}
 

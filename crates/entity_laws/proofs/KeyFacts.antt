@@ -22,9 +22,9 @@ use Rattle.world_table.specs.Histories.{Happening, steps, takes, lane_after, eve
 use Rattle.world_table.proofs.HistoryFacts.{runs, mine_here, mine_beside, tells_lane_lists, bundle_here}
 use Rattle.entity_routing.specs.declared.place.Place.{Place}
 use Rattle.entity_routing.specs.Places.{is_local, place_of, source_of_lane}
-use Rattle.cfdp_entity.specs.Opening.{numbers_of, greatest_of, first_lane, lane_for, first_sending}
-use Rattle.cfdp_entity.specs.Routed.{IsRoutedTo}
-use Rattle.cfdp_entity.proofs.OpeningFacts.{are_idle}
+use Rattle.entity_lanes.specs.FirstLanes.{numbers_of, greatest_of, first_lane, lane_for, first_sending}
+use Rattle.entity_world.specs.Routed.{IsRoutedTo}
+use Rattle.entity_world.proofs.OpeningFacts.{are_idle}
 use Rattle.entity_laws.specs.EntityLaws.{IsAtHome, TellsAtHome}
 use Rattle.world_table.proofs.StepKeys.{step_keyed}
 

@@ -16,8 +16,8 @@ use Rattle.entity_routing.specs.declared.refusal.RouteRefusal.{RouteRefusal}
 use Rattle.entity_routing.specs.declared.world_event.Request.TheVariants as requests
 use Rattle.entity_routing.specs.declared.world_event.WorldEvent.TheVariants as events
 use Rattle.entity_routing.specs.Routes.{Routed, key_of_header, key_place, own_place, pdu_place, put_params, routed_on, routed_own, routed_key, routed_put, routed_reading}
-use Rattle.cfdp_entity.specs.Routed.{IsRoutedTo}
-use Rattle.cfdp_entity.proofs.WorldFacts.{routed_by_key, routed_by_own, routed_by_pdu}
+use Rattle.entity_world.specs.Routed.{IsRoutedTo}
+use Rattle.entity_world.proofs.WorldFacts.{routed_by_key, routed_by_own, routed_by_pdu}
 use Rattle.entity_laws.specs.EntityLaws.{RoutesHome}
 
 -- it belongs where it goes

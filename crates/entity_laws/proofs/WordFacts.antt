@@ -22,8 +22,8 @@ use Rattle.world_table.proofs.HistoryFacts.{tells_lane_lists}
 use Rattle.world_table.proofs.LogFacts.{delivers_good}
 use Rattle.entity_routing.specs.Places.{is_local, place_of}
 use Rattle.entity_routing.proofs.PlaceFacts.{own_sent, others_received}
-use Rattle.cfdp_entity.specs.Opening.{first_lane, lane_for}
-use Rattle.cfdp_entity.specs.Routed.{AreRouted}
+use Rattle.entity_lanes.specs.FirstLanes.{first_lane, lane_for}
+use Rattle.entity_world.specs.Routed.{AreRouted}
 use Rattle.entity_laws.specs.EntityLaws.{IsAtHome, DeliversFiles, HasFile, TellsWords, has_key, told_under}
 use Rattle.entity_laws.proofs.EndFacts.{at, key_is, same_bundles}
 use Rattle.entity_laws.proofs.KeyFacts.{idle_lanes, tells_at_home}

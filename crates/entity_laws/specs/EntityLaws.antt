@@ -18,9 +18,9 @@ use Rattle.lane_table.specs.Steps.{IsKeyed}
 use Rattle.entity_routing.specs.declared.world_event.WorldEvent.{WorldEvent}
 use Rattle.entity_routing.specs.Places.{is_local, place_of}
 use Rattle.entity_routing.specs.Routes.{Routed, route}
-use Rattle.cfdp_entity.specs.Opening.{first_lane}
-use Rattle.cfdp_entity.specs.Routed.{AreRouted, IsRoutedTo}
-use Rattle.cfdp_entity.specs.Worlds.{MayCome}
+use Rattle.entity_lanes.specs.FirstLanes.{first_lane}
+use Rattle.entity_world.specs.Routed.{AreRouted, IsRoutedTo}
+use Rattle.entity_world.specs.Worlds.{MayCome}
 
 -- ---- routes
 

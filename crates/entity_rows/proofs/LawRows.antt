@@ -18,8 +18,8 @@ use Rattle.lane_rows.specs.ReceivingLaneRows as receiving
 use Rattle.lane_rows.specs.SendingLaneRows as sending
 use Rattle.world_table.specs.Histories.{Happening, steps, takes, mine, IsHistory}
 use Rattle.entity_routing.specs.declared.place.Place.{Place}
-use Rattle.cfdp_entity.specs.Opening.{first_lane}
-use Rattle.cfdp_entity.specs.Routed.{AreRouted, IsRoutedTo}
+use Rattle.entity_lanes.specs.FirstLanes.{first_lane}
+use Rattle.entity_world.specs.Routed.{AreRouted, IsRoutedTo}
 use Rattle.entity_laws.specs.EntityLaws.{IsAtHome, HasFile, end_here, told_under}
 use Rattle.entity_laws.proofs.EndFacts.{tells_nothing_more}
 use Rattle.entity_laws.proofs.KeyFacts.{tells_at_home}

@@ -6,7 +6,8 @@ use Rattle.config_reading.specs.Values.{ConfigValue, PeerValue}
 use Rattle.entity_config.specs.Reference.{reference_config}
 use Rattle.lane_table.specs.declared.lane_side.LaneSide.TheVariants.{Sending, Receiving}
 use Rattle.lane_table.specs.Lane.{idle}
-use Rattle.cfdp_entity.specs.Opening.{first_lane, greatest_of, layout_of, numbers_of}
+use Rattle.entity_lanes.specs.FirstLanes.{first_lane, greatest_of, numbers_of}
+use Rattle.entity_world.specs.Opening.{layout_of}
 
 -- parameters and a remote entity that differ from others
 abbrev params : ℕ → ParamsValue

@@ -27,10 +27,11 @@ use Rattle.entity_routing.specs.Routes.{Routed}
 use Rattle.entity_routing.specs.declared.refusal.RouteRefusal.TheVariants as routes
 use Rattle.entity_routing.specs.declared.world_event.Request.TheVariants as requests
 use Rattle.entity_routing.specs.declared.world_event.WorldEvent.TheVariants as events
-use Rattle.cfdp_entity.specs.declared.refusal.EntityRefusal.{EntityRefusal}
-use Rattle.cfdp_entity.specs.declared.refusal.EntityRefusal.TheVariants as answer
-use Rattle.cfdp_entity.specs.Worlds.{IsAnswered, IsImage, IsUnread, IsUnreadFrom, MayCome, MayRequest, WorldValue, history_after}
-use Rattle.cfdp_entity.specs.Answering.{IsNotRead}
+use Rattle.entity_world.specs.declared.refusal.EntityRefusal.{EntityRefusal}
+use Rattle.entity_world.specs.declared.refusal.EntityRefusal.TheVariants as answer
+use Rattle.entity_lanes.specs.Asking.{MayRequest}
+use Rattle.entity_world.specs.Worlds.{IsAnswered, IsImage, IsUnread, IsUnreadFrom, MayCome, WorldValue, history_after}
+use Rattle.entity_world.specs.Answering.{IsNotRead}
 
 abbrev key : ℕ → ℕ → TxnKey
 key source seq = record { source = record { 0 = source }; seq = seq }

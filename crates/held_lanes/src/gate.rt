@@ -1,8 +1,8 @@
 use crate::held::Held;
-use crate::names::Names;
 use lane_table::{Done, Refused};
 use std::sync::Wait;
 use txn_events::Event;
+use user_queues::Names;
 
 /// Where a thread is that brings an event to a lane.
 #[derive(Clone, Copy, Debug, PartialEq, Eq)]

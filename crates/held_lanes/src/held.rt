@@ -1,4 +1,3 @@
-use crate::names::Names;
 use cfdp_types::{Image, TxnKey};
 use indications::Indication;
 use lane_table::{Done, Refused};
@@ -6,7 +5,7 @@ use std::marker::{Model, PhantomData};
 use std::sync::Wait;
 use txn_events::{Event, Refusal};
 use txn_lane::Lane;
-use user_queues::LaneOutlet;
+use user_queues::{LaneOutlet, Names};
 
 /// A lane with its own outlet, of the queue that `N` names for its user. Contracts see both. Its type keeps that all
 /// that was sent through the outlet fits the lane, so nothing goes into the queue there but what a step of the lane tells.

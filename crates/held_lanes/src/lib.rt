@@ -3,8 +3,7 @@
 
 mod gate;
 mod held;
-mod names;
 
 pub use gate::{Gate, NoGate, Point};
 pub use held::Held;
-pub use names::Names;
+pub use user_queues::Names;

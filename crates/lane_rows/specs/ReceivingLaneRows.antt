@@ -1,9 +1,10 @@
 -- Worked steps of a lane that receives, computed.
-use Rattle.std.specs.Prelude.{◌≡◌, ℕ, Bool, true, not, ◌&&◌, is_some, List, [], ◌∷◌, ◌++◌, map, Option, Some, None, Err, Ok, refl}
+use Rattle.std.specs.Prelude.{◌≡◌, ℕ, nat_lt, Bool, true, not, ◌&&◌, is_some, List, [], ◌∷◌, ◌++◌, length, map, Option, Some, None, Err, Ok, refl}
 use Rattle.std.specs.Option.{option_to_list}
 use Rattle.cfdp_types.specs.Reference.{reference}
 use Rattle.cfdp_types.specs.declared.image.Image.{Image}
 use Rattle.cfdp_types.specs.declared.key.TxnKey.{TxnKey}
+use Rattle.cfdp_types.specs.declared.limits.TheConstants.{FILE_OCTETS}
 use Rattle.cfdp_types.specs.declared.names.Class.{Class}
 use Rattle.cfdp_types.specs.declared.names.Class.TheVariants.{One, Two}
 use Rattle.cfdp_types.specs.declared.names.Delivery.TheVariants.{Complete, Incomplete}
@@ -19,6 +20,7 @@ use Rattle.pdu_values.specs.Numbers.{digits}
 use Rattle.pdu_values.specs.Spelling.{spelling, written}
 use Rattle.pdu_values.specs.Tlvs.{width_from}
 use Rattle.pdu_values.specs.declared.pdu.Body.{Body}
+use Rattle.pdu_values.specs.declared.pdu.Direction.TheVariants.{TowardSender}
 use Rattle.pdu_values.specs.declared.pdu.Body.TheVariants as body
 use Rattle.pdu_values.specs.declared.bodies.Prompt.TheVariants as prompt
 use Rattle.indications.specs.declared.indication.Indication.TheVariants as told
@@ -114,6 +116,11 @@ report_opens_not = refl
 -- a Put has no place here
 pub put_opens_not : refusal_at fresh (Put (put_value Two abc) reference) ≡ plain refusal.WrongState
 put_opens_not = refl
+
+-- however large its file is
+pub large_put_opens_not : (file : List ℕ) → nat_lt FILE_OCTETS (length file) ≡ true
+    → refusal_at fresh (Put (put_value Two file) reference) ≡ plain refusal.WrongState
+large_put_opens_not file large = refl
 
 -- Metadata of a file that is too large
 pub too_large_opens_not : refusal_at fresh (pdu One 5 (body.Metadata (metadata_value 0 4194305))) ≡ plain refusal.TooLarge
@@ -266,6 +273,17 @@ whole_told = refl
 pub eof_again_is_echoed : echoed (refusal_at (after fresh whole) (eof Two 5)) ≡ digits 10 0x28000300010502064002 ∷ []
 unfolding initial step state_of runs_of runs_from written spelling digits width_from
 eof_again_is_echoed = refl
+
+-- what is echoed, and how, is told by the PDU alone: a Finished PDU has its echo here too
+abbrev pub finished : Event
+finished = on 5 (what.Pdu (record {
+  header = record (header Two) { direction = TowardSender };
+  body = body.Finished (record { condition = 0; delivery = Complete; status = Retained; location = None });
+}))
+
+pub finished_is_echoed : echoed (refusal_at (after fresh whole) finished) ≡ digits 10 0x20000300010502065102 ∷ []
+unfolding initial step state_of runs_of runs_from written spelling digits width_from
+finished_is_echoed = refl
 
 pub metadata_again_is_not : refusal_at (after fresh whole) (metadata Two 5) ≡ plain refusal.OldTransaction
 unfolding initial step state_of runs_of runs_from

@@ -1,7 +1,8 @@
 -- Worked steps of a lane that sends, computed.
-use Rattle.std.specs.Prelude.{◌≡◌, ℕ, true, List, [], ◌∷◌, map, Some, None, Err, refl}
+use Rattle.std.specs.Prelude.{◌≡◌, ℕ, nat_lt, true, List, [], ◌∷◌, length, map, Some, None, Err, refl}
 use Rattle.cfdp_types.specs.Reference.{reference}
 use Rattle.cfdp_types.specs.declared.key.TxnKey.{TxnKey}
+use Rattle.cfdp_types.specs.declared.limits.TheConstants.{FILE_OCTETS}
 use Rattle.cfdp_types.specs.declared.names.Class.{Class}
 use Rattle.cfdp_types.specs.declared.names.Class.TheVariants.{One, Two}
 use Rattle.cfdp_types.specs.declared.names.Delivery.TheVariants.{Complete}
@@ -16,11 +17,12 @@ use Rattle.pdu_values.specs.Numbers.{digits}
 use Rattle.pdu_values.specs.Spelling.{spelling, written}
 use Rattle.pdu_values.specs.Tlvs.{width_from}
 use Rattle.pdu_values.specs.Pdu.{PduValue}
+use Rattle.pdu_values.specs.declared.pdu.Body.{Body}
 use Rattle.pdu_values.specs.declared.pdu.Body.TheVariants as body
 use Rattle.pdu_values.specs.declared.pdu.Direction.TheVariants.{TowardSender}
 use Rattle.indications.specs.declared.indication.Indication.TheVariants as told
 use Rattle.sender_table.specs.Sending.{initial, step, state_of}
-use Rattle.txn_events.specs.Examples.{abc, put_value}
+use Rattle.txn_events.specs.Examples.{abc, eof_value, header, metadata_value, put_value}
 use Rattle.txn_events.specs.declared.event.Event.{Event}
 use Rattle.txn_events.specs.declared.event.Event.TheVariants.{Put, On}
 use Rattle.lane_table.specs.declared.lane_side.LaneSide.TheVariants.{Sending}
@@ -100,6 +102,26 @@ pub number_above_is_unknown : refusal_at (after fresh (put One ∷ [])) (on 8 wh
 unfolding initial step state_of runs_of runs_from
 number_above_is_unknown = refl
 
+-- a PDU that goes toward the receiver, of a file of this entity's own
+abbrev pub sent_back : ℕ → Body → Event
+sent_back number b = on number (what.Pdu (record {
+  header = record (header Two) { source = record { 0 = 2 }; sequence = number; destination = record { 0 = 1 } };
+  body = b;
+}))
+
+-- Metadata of such a file opens nothing here, also with a higher number while a transaction runs
+pub metadata_opens_not : refusal_at fresh (sent_back 4 (body.Metadata (metadata_value 0 3))) ≡ plain refusal.NoTransaction
+metadata_opens_not = refl
+
+pub metadata_above_is_unknown : refusal_at (after fresh (put One ∷ [])) (sent_back 8 (body.Metadata (metadata_value 0 3))) ≡ plain refusal.NoTransaction
+unfolding initial step state_of runs_of runs_from
+metadata_above_is_unknown = refl
+
+-- another source's transaction is unknown, also under the number that runs
+pub other_source : refusal_at (after fresh (put One ∷ [])) (On (record { source = record { 0 = 1 }; seq = 4 }) what.Pump) ≡ plain refusal.NoTransaction
+unfolding initial step state_of runs_of runs_from
+other_source = refl
+
 -- ---- a whole transaction of class 2
 
 -- the receiver's Finished PDU
@@ -132,6 +154,11 @@ whole_told = refl
 pub finished_again_is_echoed : echoed (refusal_at (after fresh whole) (on 4 (what.Pdu (finished 4)))) ≡ digits 10 0x20000300020401065102 ∷ []
 unfolding initial step state_of runs_of runs_from written spelling digits width_from
 finished_again_is_echoed = refl
+
+-- what is echoed, and how, is told by the PDU alone: an EOF has its echo here too
+pub eof_is_echoed : echoed (refusal_at (after fresh whole) (sent_back 4 (body.Eof (eof_value 0 0x6162_6300 3)))) ≡ digits 10 0x28000300020401064002 ∷ []
+unfolding initial step state_of runs_of runs_from written spelling digits width_from
+eof_is_echoed = refl
 
 -- one with a number above the last is unknown, and has no echo
 pub finished_above_is_unknown : refusal_at (after fresh whole) (on 8 (what.Pdu (finished 8))) ≡ plain refusal.NoTransaction
@@ -185,6 +212,22 @@ then_exhausted = refl
 pub busy_before_exhausted : refusal_at (after last_number (puts One [] ∷ [])) (puts One []) ≡ plain refusal.LaneBusy
 unfolding initial step state_of runs_of runs_from
 busy_before_exhausted = refl
+
+-- both come before a look at the file, however large it is
+pub exhausted_before_large : (file : List ℕ) → nat_lt FILE_OCTETS (length file) ≡ true
+    → refusal_at (after last_number (puts One [] ∷ on 252 what.Cancel ∷ [])) (puts One file) ≡ plain refusal.SeqExhausted
+unfolding initial step state_of runs_of runs_from
+exhausted_before_large file large = refl
+
+pub busy_before_large : (file : List ℕ) → nat_lt FILE_OCTETS (length file) ≡ true
+    → refusal_at (after last_number (puts One [] ∷ [])) (puts One file) ≡ plain refusal.LaneBusy
+unfolding initial step state_of runs_of runs_from
+busy_before_large file large = refl
+
+-- where there is a number, a file that is too large is refused for that
+pub large_is_refused : (file : List ℕ) → nat_lt FILE_OCTETS (length file) ≡ true → refusal_at last_number (puts One file) ≡ plain refusal.TooLarge
+unfolding initial step state_of runs_of runs_from
+large_is_refused file large = rw large refl
 
 -- lane 1 of user 1, which has the greatest number left
 abbrev pub greatest_number : State

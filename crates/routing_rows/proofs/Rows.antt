@@ -1,5 +1,5 @@
 -- Worked places of transactions, and where what users ask for goes.
-use Rattle.std.proofs.Common.{◌≡◌, ℕ, true, List, [], ◌∷◌, map, Option, Some, None, Ok, Err, codes, refl, arith}
+use Rattle.std.proofs.Common.{◌≡◌, ℕ, true, false, List, [], ◌∷◌, map, Option, Some, None, Ok, Err, codes, refl, arith}
 use Rattle.cfdp_types.specs.declared.key.TxnKey.{TxnKey}
 use Rattle.cfdp_types.specs.declared.names.Class.TheVariants.{One}
 use Rattle.cfdp_types.specs.declared.names.TimerKind.TheVariants as timer
@@ -169,10 +169,15 @@ unknown_remotes = refl
 
 -- ---- what happens inside the entity is asked by no user
 
-inside : map (route reference_config) (events.Pump (key 2 5) ∷ events.Timer (key 1 5) timer.Nak 3 ∷ events.Stored (key 1 6) 2 true ∷ events.Pump (key 3 1) ∷ [])
+inside : map (route reference_config) (events.Pump (key 2 5) ∷ events.Timer (key 1 5) timer.Nak 3 ∷ events.Stored (key 1 6) 2 true
+    ∷ events.Stored (key 1 5) 3 false ∷ events.Timer (key 2 4) timer.Ack 4 ∷ events.Timer (key 1 6) timer.Check 0 ∷ events.Timer (key 1 6) timer.Inactivity 1 ∷ events.Pump (key 3 1) ∷ [])
     ≡ Ok (record { place = record { user = 1; lane = 0 }; event = On (key 2 5) what.Pump })
     ∷ Ok (record { place = record { user = 0; lane = 3 }; event = On (key 1 5) (what.Timer timer.Nak 3) })
     ∷ Ok (record { place = record { user = 0; lane = 2 }; event = On (key 1 6) (what.Stored 2 true) })
+    ∷ Ok (record { place = record { user = 0; lane = 3 }; event = On (key 1 5) (what.Stored 3 false) })
+    ∷ Ok (record { place = record { user = 0; lane = 0 }; event = On (key 2 4) (what.Timer timer.Ack 4) })
+    ∷ Ok (record { place = record { user = 0; lane = 2 }; event = On (key 1 6) (what.Timer timer.Check 0) })
+    ∷ Ok (record { place = record { user = 0; lane = 2 }; event = On (key 1 6) (what.Timer timer.Inactivity 1) })
     ∷ Err refusals.NoRoute
     ∷ []
 inside = refl

@@ -9,10 +9,10 @@ use Rattle.entity_routing.specs.Routes.{Routed, route}
 use Rattle.indications.specs.declared.bundle.Bundle.{Bundle}
 use Rattle.lane_table.specs.declared.done.Done.{Done}
 use Rattle.world_table.specs.Histories.{Happening, takes, held_for, IsHistory}
-use Rattle.cfdp_entity.specs.declared.refusal.EntityRefusal.{EntityRefusal}
-use Rattle.cfdp_entity.specs.Opening.{first_lane}
-use Rattle.cfdp_entity.specs.Routed.{AreRouted}
-use Rattle.cfdp_entity.specs.Worlds.{MayCome, IsAnswered, IsUnread, history_after}
+use Rattle.entity_world.specs.declared.refusal.EntityRefusal.{EntityRefusal}
+use Rattle.entity_lanes.specs.FirstLanes.{first_lane}
+use Rattle.entity_world.specs.Routed.{AreRouted}
+use Rattle.entity_world.specs.Worlds.{MayCome, IsAnswered, IsUnread, history_after}
 use Rattle.entity_laws.proofs.RouteHomes.{routes_home}
 use Rattle.script_lines.specs.declared.command.Command.{Command}
 use Rattle.script_lines.specs.declared.command.Command.TheVariants as command

@@ -2,8 +2,8 @@
 use Rattle.std.specs.Prelude.{ℕ, IsTrue, List}
 use Rattle.config_reading.specs.Values.{is_config}
 use Rattle.world_table.specs.Histories.{IsHistory}
-use Rattle.cfdp_entity.specs.Opening.{first_lane}
-use Rattle.cfdp_entity.specs.Routed.{AreRouted}
+use Rattle.entity_lanes.specs.FirstLanes.{first_lane}
+use Rattle.entity_world.specs.Routed.{AreRouted}
 use Rattle.script_replay.specs.Sessions.{Session, fresh}
 use Rattle.script_replay.specs.Run.{Plays}
 

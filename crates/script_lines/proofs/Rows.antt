@@ -80,7 +80,7 @@ asked : map command_of (codes "cancel alice 2 4" ∷ codes "suspend bob 2 4" ∷
 unfolding key
 asked = refl
 
-puts : map command_of (codes "put alice 0 1 1 a b 616263" ∷ codes "put bob 1 02 18446744073709551615 x y -" ∷ [])
+puts : map command_of (codes "put alice 0 1 1 a b 616263" ∷ codes "put bob 01 02 18446744073709551615 x y -" ∷ [])
     ≡ Some (command.Event (events.Request 0 (requests.Put 0 (record {
       destination = record { 0 = 1 };
       class = One;
@@ -100,6 +100,19 @@ puts : map command_of (codes "put alice 0 1 1 a b 616263" ∷ codes "put bob 1 0
     ∷ []
 unfolding decode_pairs
 puts = refl
+
+-- a name may have every octet below 128 but those of a space and a line feed
+puts_any_name : command_of (codes "put alice 0 1 1 " ++ 127 ∷ codes " " ++ 1 ∷ 13 ∷ codes " -")
+    ≡ Some (command.Event (events.Request 0 (requests.Put 0 (record {
+      destination = record { 0 = 1 };
+      class = One;
+      source_name = 127 ∷ [];
+      destination_name = 1 ∷ 13 ∷ [];
+      messages = [];
+      file = [];
+    }))))
+unfolding decode_pairs
+puts_any_name = refl
 
 bad_requests : map command_of (codes "cancel" ∷ codes "cancel alice 2" ∷ codes "cancel carol 2 4" ∷ codes "cancel alice 2 4 5" ∷ codes "put alice 2 1 1 a b -"
     ∷ codes "put alice 0 3 1 a b -" ∷ codes "put alice 0 0 1 a b -" ∷ codes "put alice 0 1 1  b -" ∷ codes "put alice 0 1 1 a b" ∷ codes "put alice 0 1 1 a b - -" ∷ codes "put alice 0 1 1 a b 6"

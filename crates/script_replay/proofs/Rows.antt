@@ -15,7 +15,7 @@ use Rattle.entity_config.specs.Reference.{reference_config}
 use Rattle.entity_routing.specs.declared.refusal.RouteRefusal.TheVariants as routes
 use Rattle.entity_routing.specs.declared.world_event.Request.TheVariants as requests
 use Rattle.entity_routing.specs.declared.world_event.WorldEvent.TheVariants as events
-use Rattle.cfdp_entity.specs.declared.refusal.EntityRefusal.TheVariants as answer
+use Rattle.entity_world.specs.declared.refusal.EntityRefusal.TheVariants as answer
 use Rattle.script_lines.specs.declared.command.Command.TheVariants as command
 use Rattle.script_io.specs.declared.fault.TheConstants.{INTERRUPTIONS}
 use Rattle.script_io.specs.declared.input.TheConstants.{LINE_OCTETS}

@@ -2,7 +2,7 @@
 use Rattle.std.specs.Prelude.{◌≡◌, ℕ, ◌+◌, ◌≤◌, Bool, true, false, List, [], ◌++◌, length, Option, Some, None, Result, Ok, Err}
 use Rattle.std.specs.Io.KnownBytes.{Appends}
 use Rattle.entity_config.specs.declared.setting.Setting.{Setting}
-use Rattle.cfdp_entity.specs.Worlds.{WorldValue, StandsAfter}
+use Rattle.entity_world.specs.Worlds.{WorldValue, StandsAfter}
 use Rattle.script_io.specs.declared.fault.ReplayFault.{ReplayFault}
 use Rattle.script_io.specs.Lines.{lines_of}
 use Rattle.script_lines.specs.declared.command.Command.{Command}

@@ -11,9 +11,9 @@ use Rattle.entity_routing.specs.Routes.{route}
 use Rattle.indications.specs.declared.bundle.Bundle.{Bundle}
 use Rattle.lane_table.specs.declared.done.Done.{Done}
 use Rattle.world_table.specs.Histories.{Happening, takes, held_for}
-use Rattle.cfdp_entity.specs.declared.refusal.EntityRefusal.{EntityRefusal}
-use Rattle.cfdp_entity.specs.Opening.{first_lane}
-use Rattle.cfdp_entity.specs.Worlds.{MayCome, IsAnswered, IsUnread, IsFront, history_after}
+use Rattle.entity_world.specs.declared.refusal.EntityRefusal.{EntityRefusal}
+use Rattle.entity_lanes.specs.FirstLanes.{first_lane}
+use Rattle.entity_world.specs.Worlds.{MayCome, IsAnswered, IsUnread, IsFront, history_after}
 use Rattle.script_lines.specs.declared.command.Command.{Command}
 use Rattle.script_lines.specs.declared.command.Command.TheVariants as command
 use Rattle.script_replay.specs.Texts.{answer_text, taken_text}

@@ -2,8 +2,8 @@
 use Rattle.std.specs.Prelude.{ℕ, ◌==◌, if◌then◌else◌, Bool, List, Option, Some, None, Result, Ok, Err, codes}
 use Rattle.answer_texts.specs.AnswerTexts.{done_text, refusal_text, fault_line, refused_text}
 use Rattle.answer_texts.specs.ToldTexts.{bundle_text}
-use Rattle.cfdp_entity.specs.declared.refusal.EntityRefusal.{EntityRefusal}
-use Rattle.cfdp_entity.specs.declared.refusal.EntityRefusal.TheVariants as answer
+use Rattle.entity_world.specs.declared.refusal.EntityRefusal.{EntityRefusal}
+use Rattle.entity_world.specs.declared.refusal.EntityRefusal.TheVariants as answer
 use Rattle.entity_routing.specs.declared.refusal.RouteRefusal.{RouteRefusal}
 use Rattle.entity_routing.specs.declared.refusal.RouteRefusal.TheVariants.{DecodeFault}
 use Rattle.entity_routing.specs.Refusal.{refusal_number, refusal_name}

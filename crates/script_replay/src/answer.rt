@@ -3,7 +3,7 @@ ghost use Rattle.std.specs.Prelude.{◌≡◌, ◌++◌, OnOk, string_bytes};
 ghost use Rattle.script_replay.specs.Texts.{answer_text, route_text, taken_text, user_name};
 
 use answer_texts::{push_bundle, push_decode_fault, push_done, push_refusal, push_refused};
-use cfdp_entity::{EntityRefusal, RouteRefusal};
+use entity_world::{EntityRefusal, RouteRefusal};
 use indications::Bundle;
 use lane_table::Done;
 use std::alloc::{AllocError, Global};

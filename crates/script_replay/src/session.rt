@@ -1,13 +1,13 @@
 //! What the lines of a script do.
 ghost use Rattle.std.specs.Prelude.{◌≡◌, true, false, IfOk, OnOk, string_bytes};
-ghost use Rattle.cfdp_entity.specs.Worlds.{MayCome};
+ghost use Rattle.entity_world.specs.Worlds.{MayCome};
 ghost use Rattle.script_replay.specs.Sessions.{Session as Played, fresh, is_put};
 ghost use Rattle.script_replay.specs.Running.{Stands, RunsAs, HasBegun, SetsTo, ToldTo, ObeysTo, PlaysTo};
 ghost use Rattle.script_lines.specs.declared.command.Command.TheVariants as command;
 
 use crate::answer::{push_answer, push_taken};
-use cfdp_entity::{Request, World, WorldEvent};
 use entity_config::{Config, Setting};
+use entity_world::{Request, World, WorldEvent};
 use script_lines::{Command, command_of};
 use std::alloc::{AllocError, Global};
 use std::mem;

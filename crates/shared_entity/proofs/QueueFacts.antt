@@ -1,13 +1,15 @@
 -- The queues and outlets that an entity is opened with.
-use Rattle.std.proofs.Common.{◌≡◌, ℕ, zero, suc, ◌<◌, All, List, [], ◌∷◌, ◌++◌, length, Some, slice_get, slice_index, slice_index_or, Result, Ok, Err, IfOk, refl, sym, ap, ◌∙◌, subst, arith}
+use Rattle.std.proofs.Common.{◌≡◌, ℕ, zero, suc, ◌<◌, All, List, [], ◌∷◌, ◌++◌, length, Option, Some, slice_get, slice_index, slice_index_or, Result, Ok, Err, IfOk, refl, sym, ap, ◌∙◌, subst, arith}
+use Rattle.std.specs.Option.{option_map, unwrap_or}
 use Rattle.std.proofs.lemmas.Option.{slice_get_within, slice_get-get_or}
 use Rattle.std.proofs.lemmas.List.Elements.{All-nil, All-push}
 use Rattle.std.proofs.lemmas.List.{append-nil}
 use Rattle.atomic_table.specs.Seated.{TableId}
 use Rattle.queue_rule.specs.declared.view.PortView.{PortView}
 use Rattle.user_queues.specs.Opened.{fresh_outlet, fresh_outlets, IsOpenedFor}
+use Rattle.user_queues.specs.Names.{no_queue}
 use Rattle.user_queues.specs.Shared.{OutletEnd, PortEnd}
-use Rattle.shared_entity.specs.Opening.{IsFresh}
+use Rattle.shared_entity.specs.Opening.{IsFresh, queue_at}
 
 -- ---- outlets
 
@@ -81,3 +83,9 @@ opened_as_counted (Ok queues) long_of users_of port outlets long counts f room s
     subst (λ r. IsOpenedFor user (f user) r (port ends) (outlets ends)) is
     (subst (λ n. IsOpenedFor user n same (port ends) (outlets ends))
     (count_at f counts (users_of queues) user ends (sym (long queues) ∙ many) there each) (opened user ends there))
+
+-- ---- what a run picks
+
+pub picked_named : {A : Type 0} (queue_of : A → TableId) (users : List A) (user : ℕ) (ends : A) → slice_get users user ≡ Some ends
+    → queue_of ends ≡ queue_at queue_of users user
+picked_named {A} queue_of users user ends is = sym (ap (λ (o : Option A). unwrap_or (option_map queue_of o) (no_queue user)) is)

@@ -3,3 +3,4 @@ pub mod Standing
 pub mod Shared
 pub mod SharedStanding
 pub mod Opened
+pub mod Names

@@ -1,9 +1,9 @@
 //! The file of a deposit that waits.
 
 use crate::telling::deliver;
-use cfdp_entity::{EntityRefusal, World};
 use cfdp_types::{EntityId, Image, TxnKey};
 use entity_config::Config;
+use entity_world::{EntityRefusal, World};
 use std::alloc::{AllocError, Global};
 use std::test::*;
 

@@ -1,8 +1,8 @@
 //! Files of two sources, which go to two users.
 
 use crate::telling::{deliver, taken};
-use cfdp_entity::World;
 use entity_config::read_config;
+use entity_world::World;
 use std::alloc::Global;
 use std::test::*;
 

@@ -1,7 +1,7 @@
 //! Short ways to tell an entity something, and to see what it tells.
 
-use cfdp_entity::{World, WorldEvent};
 use cfdp_types::Octets;
+use entity_world::{World, WorldEvent};
 use script_replay::push_taken;
 use std::alloc::{AllocError, Global};
 

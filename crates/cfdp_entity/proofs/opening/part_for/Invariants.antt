@@ -1,7 +1,0 @@
-use Rattle.std.proofs.Common.{◌≡◌}
-use Rattle.cfdp_entity.specs.Opening.{first_lane, AreMade}
-use Rattle.cfdp_entity.proofs.opening.part_for.Given as goal
-
--- the lanes so far are the user's first ones
-abbrev pub invariant-loop-lane : goal.invariant-loop-lane
-invariant-loop-lane l = AreMade (λ place lane. lane ≡ first_lane l.config l.user place) l.lanes.items l.lane
