@@ -28,30 +28,34 @@ const FINISHED: &str = "280002000204010502";
 
 const FINISHED_ACK: &str = "20000300020401065102";
 
-// What is printed of an answer.
-fn text_of(alloc: Global, answer: &Result<Done, EntityRefusal>) -> Result<String, AllocError> {
+// What is printed of an answer, to a Put or to something else.
+fn text_of(
+    alloc: Global,
+    is_put: bool,
+    answer: &Result<Done, EntityRefusal>,
+) -> Result<String, AllocError> {
     let mut text = String::new(alloc);
     match answer {
-        Ok(done) => push_done(alloc, &mut text, false, done)?,
+        Ok(done) => push_done(alloc, &mut text, is_put, done)?,
         Err(EntityRefusal::Lane(refused)) => push_refused(alloc, &mut text, refused)?,
-        Err(EntityRefusal::Route(why)) => text.push_str(why.name())?,
+        Err(why) => text.push_str(why.name())?,
     }
     Ok(text)
 }
 
 fn pumped(alloc: Global, world: &mut World) -> Result<String, AllocError> {
-    text_of(alloc, &pump(world, KEY))
+    text_of(alloc, false, &pump(world, KEY))
 }
 
 fn given(alloc: Global, world: &mut World, digits: &str) -> Result<String, AllocError> {
     match hex::decode(alloc, digits) {
-        Ok(octets) => text_of(alloc, &deliver(world, Octets::from_vec(octets))),
+        Ok(octets) => text_of(alloc, false, &deliver(world, Octets::from_vec(octets))),
         Err(_) => String::from_str(alloc, "no hex"),
     }
 }
 
 fn stored(alloc: Global, world: &mut World) -> Result<String, AllocError> {
-    text_of(alloc, &store(world, KEY, 2, true))
+    text_of(alloc, false, &store(world, KEY, 2, true))
 }
 
 // The answer that sends these PDUs.
@@ -85,13 +89,13 @@ fn last_told(alloc: Global, world: &mut World, user: usize) -> Result<String, Al
 }
 
 // The user alice of entity 2 puts "abc", named "a", to be kept as "b".
-fn put_abc(alloc: Global, world: &mut World) -> bool {
+fn put_abc(alloc: Global, world: &mut World) -> Result<String, AllocError> {
     match file_for_one(alloc, Class::Two, b"a", b"b", b"abc") {
         Ok(request) => match put(world, 0, 0, request) {
-            Some(result) => result.is_ok(),
-            None => false,
+            Some(answer) => text_of(alloc, true, &answer),
+            None => String::from_str(alloc, "no lane"),
         },
-        Err(_) => false,
+        Err(_) => String::from_str(alloc, "no request"),
     }
 }
 
@@ -100,7 +104,7 @@ fn lost_at_first(rt: HostRuntime) -> Result<(), Fail> {
     let alloc = rt.alloc();
     let mut two = entity_two(alloc).ok_or("no entity 2")?;
     let mut one = entity_one(alloc).ok_or("no entity 1")?;
-    assert!(rt; put_abc(alloc, &mut two));
+    assert_eq!(rt; put_abc(alloc, &mut two)?.as_str(), "ok\ntxn 2 4\n");
     assert_eq!(rt;
         pumped(alloc, &mut two)?.as_str(),
         sends(alloc, &[METADATA])?.as_str()

@@ -1,5 +1,5 @@
 //! Threads that deliver, each to a lane of its own.
-ghost use Rattle.std.specs.Prelude.{◌≡◌, ℕ, Some, slice_get, vec_len};
+ghost use Rattle.std.specs.Prelude.{◌≡◌, ℕ, Some, length, slice_get, vec_len};
 ghost use Rattle.std.specs.List.{sum_by};
 ghost use Rattle.entity_routing.specs.Places.{lanes_of};
 ghost use Rattle.user_queues.specs.Opened.{IsOpenedFor};
@@ -142,6 +142,7 @@ fn come_named<N: Names + Send + Sync, R: Threads + Wait + Copy + Send + Sync>(
     requires named { (user : ℕ) (ends : _) → slice_get queues.users.items user ≡ Some ends
         → ends.port.queue ≡ N.queue user }
     requires lanes { N.lanes ≡ sum_by (λ ends. vec_len ends.outlets) queues.users.items }
+    requires users { vec_len queues.users ≡ length config.users }
 {
     let (entity, _ports) = Entity::<N, R>::open(alloc, config, queues)?;
     deliver_all(&rt, alloc, &entity, size)

@@ -27,11 +27,11 @@ use Rattle.entity_routing.specs.Routes.{Routed}
 use Rattle.entity_routing.specs.declared.refusal.RouteRefusal.TheVariants as routes
 use Rattle.entity_routing.specs.declared.world_event.Request.TheVariants as requests
 use Rattle.entity_routing.specs.declared.world_event.WorldEvent.TheVariants as events
-use Rattle.entity_world.specs.declared.refusal.EntityRefusal.{EntityRefusal}
-use Rattle.entity_world.specs.declared.refusal.EntityRefusal.TheVariants as answer
+use Rattle.entity_refusals.specs.declared.refusal.EntityRefusal.{EntityRefusal}
+use Rattle.entity_refusals.specs.declared.refusal.EntityRefusal.TheVariants as answer
 use Rattle.entity_lanes.specs.Asking.{MayRequest}
-use Rattle.entity_world.specs.Worlds.{IsAnswered, IsImage, IsUnread, IsUnreadFrom, MayCome, WorldValue, history_after}
-use Rattle.entity_world.specs.Answering.{IsNotRead}
+use Rattle.entity_world.specs.Worlds.{IsAnswered, IsImage, IsUnread, MayCome, WorldValue, history_after}
+use Rattle.entity_refusals.specs.Refusals.{IsNotRead, IsUnreadFrom}
 
 abbrev key : ℕ → ℕ → TxnKey
 key source seq = record { source = record { 0 = source }; seq = seq }
@@ -119,17 +119,17 @@ unrouted_then history why = refl
 abbrev metadata_octets : List ℕ
 metadata_octets = 0x24 ∷ 0x00 ∷ 0x0A ∷ 0x00 ∷ 0x01 ∷ 0x05 ∷ 0x02 ∷ 0x07 ∷ 0x00 ∷ 0x00 ∷ 0x00 ∷ 0x00 ∷ 0x03 ∷ 0x01 ∷ 0x61 ∷ 0x01 ∷ 0x62 ∷ []
 
-no_memory_for_it : IsUnreadFrom metadata_octets (Err (answer.Lane (plainly refusal.NoMemory)))
+no_memory_for_it : IsUnreadFrom {A = Done} metadata_octets (Err (answer.Lane (plainly refusal.NoMemory)))
 unfolding reading fixed_header_at fixed_header_fault header_of body_of number_at lv_at metadata_at items_to_end items_within messages_in number_of
 no_memory_for_it = (refl, refl)
 
 -- octets that are no PDU are never so
-no_pdu : IsUnreadFrom [] (Err (answer.Lane (plainly refusal.NoMemory))) → ⊥
+no_pdu : IsUnreadFrom {A = Done} [] (Err (answer.Lane (plainly refusal.NoMemory))) → ⊥
 unfolding reading fixed_header_at fixed_header_fault header_of body_of number_at lv_at metadata_at items_to_end items_within messages_in number_of
 no_pdu is = let read = is.0 in cc
 
 -- and where memory ran out, that is answered
-other_reason : IsUnreadFrom metadata_octets (Err (answer.Route routes.NotForUs)) → ⊥
+other_reason : IsUnreadFrom {A = Done} metadata_octets (Err (answer.Route routes.NotForUs)) → ⊥
 other_reason is = let why = is.1 in cc
 
 nothing_to_read : (result : Result Done EntityRefusal) → IsUnread (events.Pump (key 1 5)) result → ⊥

@@ -22,8 +22,8 @@ use Rattle.entity_routing.proofs.RouteFacts.{place_is, own_is, pdu_is}
 use Rattle.entity_users.specs.Posts.{Post}
 use Rattle.entity_users.specs.Standing.{IsLaneIn, UsersStandAfter, IsTakenAt, IsRefusedAt, IsTakenFrom}
 use Rattle.entity_users.proofs.StandFacts.{ok_then}
-use Rattle.entity_world.specs.declared.refusal.EntityRefusal.{EntityRefusal}
-use Rattle.entity_world.specs.declared.refusal.EntityRefusal.TheVariants as answer
+use Rattle.entity_refusals.specs.declared.refusal.EntityRefusal.{EntityRefusal}
+use Rattle.entity_refusals.specs.declared.refusal.EntityRefusal.TheVariants as answer
 use Rattle.entity_world.specs.Opening.{layout_of}
 use Rattle.entity_world.specs.Routed.{IsRoutedTo}
 use Rattle.entity_world.specs.Worlds.{WorldValue, StandsAfter, IsWorld, IsAnswered, IsUnread, history_after}

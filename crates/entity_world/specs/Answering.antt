@@ -3,18 +3,13 @@ use Rattle.std.specs.Prelude.{◌≡◌, List, ◌∷◌, Result, Ok, Err, IfOk,
 use Rattle.config_reading.specs.Values.{ConfigValue}
 use Rattle.lane_table.specs.declared.done.Done.{Done}
 use Rattle.lane_table.specs.declared.refused.Refused.{Refused}
-use Rattle.lane_table.specs.Steps.{plainly}
-use Rattle.pdu_reading.specs.declared.fault.DecodeFault.{DecodeFault}
-use Rattle.pdu_values.specs.Pdu.{PduValue}
-use Rattle.txn_events.specs.declared.refusal.Refusal.TheVariants as refusal
 use Rattle.world_table.specs.Histories.{Happening, steps}
 use Rattle.entity_routing.specs.declared.refusal.RouteRefusal.{RouteRefusal}
-use Rattle.entity_routing.specs.declared.refusal.RouteRefusal.TheVariants as routes
 use Rattle.entity_routing.specs.Routes.{Routed}
 use Rattle.entity_users.specs.Posts.{Post}
 use Rattle.entity_users.specs.Standing.{Takes, IsRefusedAt}
-use Rattle.entity_world.specs.declared.refusal.EntityRefusal.{EntityRefusal}
-use Rattle.entity_world.specs.declared.refusal.EntityRefusal.TheVariants as answer
+use Rattle.entity_refusals.specs.declared.refusal.EntityRefusal.{EntityRefusal}
+use Rattle.entity_refusals.specs.declared.refusal.EntityRefusal.TheVariants as answer
 use Rattle.entity_world.specs.Opening.{layout_of}
 use Rattle.entity_world.specs.Worlds.{StandsAfter}
 
@@ -33,8 +28,3 @@ pub record AnswersAt (config : ConfigValue) (history : List Happening) (routed :
 abbrev pub Answers : ConfigValue → List Happening → Result Routed RouteRefusal → List Post → Result Done EntityRefusal → Type 0
 Answers config history (Err why) posts result = result ≡ Err (answer.Route why)
 Answers config history (Ok routed) posts result = AnswersAt config history routed posts result
-
--- why octets are not read: they are no PDU, or there was no memory for it
-abbrev pub IsNotRead : Result PduValue DecodeFault → EntityRefusal → Type 0
-IsNotRead (Err fault) why = why ≡ answer.Route (routes.DecodeFault fault)
-IsNotRead (Ok pdu) why = why ≡ answer.Lane (plainly refusal.NoMemory)

@@ -1,5 +1,5 @@
 -- An entity of one thread: its configuration, and where its users stand; and what it answers.
-use Rattle.std.specs.Prelude.{◌≡◌, ℕ, ◌<◌, List, ◌∷◌, Result, Ok, Err, IfOk, IfErr, IsOk, IsTrue, length}
+use Rattle.std.specs.Prelude.{◌≡◌, ℕ, List, ◌∷◌, Result, Ok, Err, IfOk, IfErr, IsTrue}
 use Rattle.cfdp_types.specs.declared.image.Image.{Image}
 use Rattle.cfdp_types.specs.declared.key.TxnKey.{TxnKey}
 use Rattle.config_reading.specs.Values.{ConfigValue, is_config}
@@ -7,9 +7,7 @@ use Rattle.indications.specs.declared.bundle.Bundle.{Bundle}
 use Rattle.lane_table.specs.declared.done.Done.{Done}
 use Rattle.lane_table.specs.declared.refused.Refused.{Refused}
 use Rattle.lane_table.specs.Steps.{plainly, image_of}
-use Rattle.pdu_reading.specs.Reading.{reading}
 use Rattle.txn_core.specs.Transactions.{IsWhy}
-use Rattle.txn_events.specs.declared.refusal.Refusal.TheVariants as refusal
 use Rattle.world_table.specs.Histories.{Happening, steps, takes, held_for}
 use Rattle.entity_routing.specs.declared.place.Place.{Place}
 use Rattle.entity_routing.specs.declared.refusal.RouteRefusal.{RouteRefusal}
@@ -19,8 +17,9 @@ use Rattle.entity_routing.specs.Routes.{Routed}
 use Rattle.entity_lanes.specs.Asking.{MayRequest}
 use Rattle.entity_users.specs.Posts.{Post}
 use Rattle.entity_users.specs.Standing.{lane_in, UsersStandAfter, Takes, IsRefusedAt}
-use Rattle.entity_world.specs.declared.refusal.EntityRefusal.{EntityRefusal}
-use Rattle.entity_world.specs.declared.refusal.EntityRefusal.TheVariants as answer
+use Rattle.entity_refusals.specs.declared.refusal.EntityRefusal.{EntityRefusal}
+use Rattle.entity_refusals.specs.declared.refusal.EntityRefusal.TheVariants as answer
+use Rattle.entity_refusals.specs.Refusals.{IsUnreadFrom}
 use Rattle.entity_lanes.specs.FirstLanes.{first_lane}
 use Rattle.entity_world.specs.Opening.{layout_of}
 use Rattle.entity_world.specs.Routed.{AreRouted}
@@ -61,11 +60,7 @@ abbrev pub IsAnswered : ConfigValue → List Happening → Result Routed RouteRe
 IsAnswered config history (Err why) result = result ≡ Err (answer.Route why)
 IsAnswered config history (Ok routed) result = IsAnsweredAt config history routed result
 
--- octets are a PDU, for which there was no memory
-abbrev pub IsUnreadFrom : List ℕ → Result Done EntityRefusal → Type 0
-IsUnreadFrom octets result = IsOk (reading octets) × (result ≡ Err (answer.Lane (plainly refusal.NoMemory)))
-
--- a datagram is so
+-- a datagram is a PDU, for which there was no memory
 abbrev pub IsUnread : WorldEvent → Result Done EntityRefusal → Type 0
 IsUnread (events.Deliver octets) result = IsUnreadFrom octets result
 IsUnread event result = ⊥

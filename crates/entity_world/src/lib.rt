@@ -2,9 +2,8 @@
 #![tactic(auto)]
 
 mod opening;
-mod refusal;
 mod world;
 
+pub use entity_refusals::EntityRefusal;
 pub use entity_routing::{Place, Request, RouteRefusal, WorldEvent};
-pub use refusal::EntityRefusal;
 pub use world::World;

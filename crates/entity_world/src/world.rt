@@ -1,22 +1,16 @@
-ghost use Rattle.std.specs.Prelude.{◌≡◌, Ok, IfOk, IfErr};
-ghost use Rattle.pdu_reading.specs.Reading.{reading};
-ghost use Rattle.entity_world.specs.Answering.{IsNotRead};
-
 use crate::opening::users_for;
-use crate::refusal::EntityRefusal;
 use cfdp_types::{Image, PutRequest, TxnKey};
 use entity_config::Config;
+use entity_refusals::{EntityRefusal, read_pdu};
 use entity_routing::{
-    Place, Request, RouteRefusal, WorldEvent, key_of_pdu, params_of_put, place_of_key,
-    place_of_own, place_of_pdu,
+    Place, Request, WorldEvent, key_of_pdu, params_of_put, place_of_key, place_of_own, place_of_pdu,
 };
 use entity_users::Users;
 use indications::Bundle;
 use lane_table::{Done, Refused};
-use pdu_codec::{DecodeFault, Pdu, decode};
 use std::alloc::{AllocError, Global};
 use std::marker::Model;
-use txn_events::{Event, Refusal, What};
+use txn_events::{Event, What};
 
 /// A protocol entity in one thread. It is told what happens, and answers what is to be done; its users take what they
 /// are told. Contracts see its configuration, and where its users stand; they speak of every list of what has happened,
@@ -50,7 +44,8 @@ impl World {
     ghost use Rattle.entity_lanes.specs.FirstLanes.{first_lane};
     ghost use Rattle.entity_world.specs.Routed.{IsRoutedTo};
     ghost use Rattle.entity_lanes.specs.Asking.{MayRequest};
-    ghost use Rattle.entity_world.specs.Worlds.{StandsAfter, MayCome, IsAnswered, IsUnread, IsUnreadFrom, IsFront, IsImage, history_after};
+    ghost use Rattle.entity_world.specs.Worlds.{StandsAfter, MayCome, IsAnswered, IsUnread, IsFront, IsImage, history_after};
+    ghost use Rattle.entity_refusals.specs.Refusals.{IsUnreadFrom};
     ghost use Rattle.entity_world.specs.Answering.{Answers, AnswersAt};
 
     /// An entity with this configuration, to which nothing has happened.
@@ -215,7 +210,7 @@ impl World {
         ensures config { self.new.config ≡ self.old.config }
         ensures same { OnErr result (self.new ≡ self.old) }
     {
-        let pdu = read(self.alloc, octets)?;
+        let pdu = read_pdu(self.alloc, octets)?;
         let place = place_of_pdu(&self.config, &pdu)?;
         let key = key_of_pdu(&pdu);
         self.tell(place, Event::On(key, What::Pdu(pdu)))
@@ -234,20 +229,5 @@ impl World {
             Ok(done) => Ok(done),
             Err(refused) => Err(EntityRefusal::Lane(refused)),
         }
-    }
-}
-
-// The PDU that octets are read as.
-fn read(alloc: Global, octets: &[u8]) -> Result<Pdu, EntityRefusal>
-    ensures read { IfOk result (λ pdu. reading octets.now ≡ Ok pdu) }
-    ensures refused { IfErr result (IsNotRead (reading octets.now)) }
-{
-    match decode(alloc, octets) {
-        Ok(pdu) => Ok(pdu),
-        Err(DecodeFault::NoMemory) => Err(EntityRefusal::Lane(Refused {
-            why: Refusal::NoMemory,
-            echo: None,
-        })),
-        Err(fault) => Err(EntityRefusal::Route(RouteRefusal::DecodeFault(fault))),
     }
 }

@@ -9,7 +9,7 @@ use Rattle.queue_rule.specs.declared.view.OutletView.{OutletView}
 use Rattle.queue_rule.specs.declared.view.PortView.{PortView}
 use Rattle.queue_rule.specs.declared.view.View.{View}
 use Rattle.queue_rule.specs.declared.view.View.TheVariants.{Origin, Port, Outlet, Spent}
-use Rattle.queue_rule.specs.Views.{IsSomeLaneList, new_port}
+use Rattle.queue_rule.specs.Views.{IsSomeLaneList, new_port, outlet_in}
 use Rattle.queue_rule.specs.Rule.{Whole, PortFits, OutletFits, Fits, IsSeated, IsFair}
 use Rattle.queue_rule.proofs.PassLists.{EachPass, each_more}
 use Rattle.queue_rows.proofs.Samples.{bundle, source, sends_nothing, sends_one, sends_two, not_falling, of_lower, front_number}
@@ -209,6 +209,30 @@ one_given_back = (
   },
 )
 
+-- ---- an outlet's pass is of its own lane only
+
+first_lanes : IsSeated views_out 2 0
+first_lanes = seated_out 0 2 refl
+
+lane_of : (pass lane : ℕ) (one : OutletView) → get_elem? views_out pass ≡ some (Outlet one) → IsSeated views_out pass lane → one.lane ≡ lane
+lane_of pass lane one at seated =
+    ap (λ (v : View). (outlet_in v).lane) (some-injective (Outlet one) (Outlet seated.0) (sym at ∙ seated.1)) ∙ seated.2
+
+not_second_lanes : IsSeated views_out 2 1 → ⊥
+not_second_lanes seated =
+    let lane : 0 ≡ 1 = lane_of 2 1 (outlet 0 (one ∷ two ∷ [])) refl seated in omega (arith, lane)
+
+-- what it knows is of no other pass
+not_at_other_pass : OutletFits both_out 3 (outlet 0 (one ∷ two ∷ [])) → ⊥
+not_at_other_pass fits = let pass : 2 ≡ 3 = same_pass 2 3 fits.sits in omega (arith, pass)
+
+port_of_no_lane : (lane : ℕ) → IsSeated views_out 1 lane → ⊥
+port_of_no_lane lane seated = let is = some-injective (Port (port (one ∷ []) (None ∷ None ∷ []))) (Outlet seated.0) seated.1 in cc
+
+-- nor is it so under any whole
+not_two_lanes : (items : List Bundle) (fair : IsFair items views_out) → fair.0.seat 1 ≡ Some 2 → ⊥
+not_two_lanes items fair sits = not_second_lanes (fair.1.seated 1 2 sits)
+
 -- ---- what can't be
 
 -- what was taken by the port and what is held is what the outlet sent
@@ -244,6 +268,10 @@ not_overtaken : IsFair (one ∷ []) (alone (two ∷ []) (one ∷ two ∷ [])) �
 not_overtaken fair =
     let number : 6 ≡ 4 = ap front_number (all_of (one ∷ []) (two ∷ []) (one ∷ two ∷ []) fair) in omega (arith, number)
 
+-- an outlet that knows what another lane sent
+not_of_other_lane : IsFair (beside ∷ []) (alone [] (beside ∷ [])) → ⊥
+not_of_other_lane fair = let count : 0 ≡ 1 = ap length (all_of (beside ∷ []) [] (beside ∷ []) fair) in omega (arith, count)
+
 -- one that nobody sent
 not_unsent : IsFair (one ∷ []) (alone [] []) → ⊥
 not_unsent fair = let count : 1 ≡ 0 = ap length (all_of (one ∷ []) [] [] fair) in omega (arith, count)
@@ -256,7 +284,31 @@ not_too_many fair =
     let within : 3 ≤ fair.0.room = fair.1.within in
     omega (arith, room, within)
 
--- a bundle of a lane that never had an outlet
+-- two that were taken in the other order
+not_taken_turned : IsFair [] (alone (two ∷ one ∷ []) (one ∷ two ∷ [])) → ⊥
+not_taken_turned fair =
+    let number : 6 ≡ 4 = ap front_number (all_of [] (two ∷ one ∷ []) (one ∷ two ∷ []) fair) in omega (arith, number)
+
+-- a lane that never had an outlet sent nothing
+nothing_beyond : (items taken sent : List Bundle) (fair : IsFair items (alone taken sent)) (lane : ℕ) → 1 ≤ lane → fair.0.sent lane ≡ []
+nothing_beyond items taken sent fair lane le =
+    let mine : PortFits fair.0 1 (port taken (None ∷ [])) = fair.1.fits 1 (Port (port taken (None ∷ []))) refl in
+    (fair.1.beyond lane (omega (arith, le, mine.split))).1
+
+not_sent_beyond : (items taken sent : List Bundle) (fair : IsFair items (alone taken sent)) → fair.0.sent 1 ≡ beside ∷ [] → ⊥
+not_sent_beyond items taken sent fair is =
+    let count : 1 ≡ 0 = ap length (sym is ∙ nothing_beyond items taken sent fair 1 (omega arith)) in omega (arith, count)
+
+-- so none of it was taken
+not_taken_of_no_lane : IsFair [] (alone (beside ∷ []) []) → ⊥
+not_taken_of_no_lane fair =
+    let mine : PortFits fair.0 1 (port (beside ∷ []) (None ∷ [])) = fair.1.fits 1 (Port (port (beside ∷ []) (None ∷ []))) refl in
+    let taken : of_lane 1 (beside ∷ []) ≡ [] =
+    subst (λ (t : List Bundle). of_lane 1 (t ++ []) ≡ fair.0.sent 1) (sym mine.took) (fair.1.parts 1)
+    ∙ nothing_beyond [] (beside ∷ []) [] fair 1 (omega arith) in
+    let count : 1 ≡ 0 = ap length taken in omega (arith, count)
+
+-- nor is any held: a bundle of such a lane
 not_of_no_lane : IsFair (beside ∷ []) (alone [] []) → ⊥
 not_of_no_lane fair =
     let mine : PortFits fair.0 1 (port [] (None ∷ [])) = fair.1.fits 1 (Port (port [] (None ∷ []))) refl in

@@ -1,12 +1,12 @@
 -- Worked views of a queue that threads share: how what is known changes, what may be sent, and what is learned.
-use Rattle.std.proofs.Common.{◌≡◌, ℕ, zero, suc, List, [], ◌∷◌, length, Option, Some, None, refl, sym, ap, ◌∙◌, subst, arith}
-use Rattle.std.proofs.lemmas.List.Elements.{All-head}
+use Rattle.std.proofs.Common.{◌≡◌, ℕ, zero, suc, List, [], ◌∷◌, length, Option, Some, None, ◌<◌, refl, sym, ap, ◌∙◌, subst, arith}
+use Rattle.std.proofs.lemmas.List.Elements.{All-nil, All-cons, All-head, All-tail}
 use Rattle.indications.specs.declared.bundle.Bundle.{Bundle}
 use Rattle.indications.specs.LaneLists.{of_lane}
 use Rattle.queue_rule.specs.declared.view.OutletView.{OutletView}
 use Rattle.queue_rule.specs.declared.view.PortView.{PortView}
 use Rattle.queue_rule.specs.declared.view.View.TheVariants.{Origin, Port, Outlet, Spent}
-use Rattle.queue_rule.specs.Views.{with_sent, with_taken, with_lane, with_known, new_port, next_outlet, pushed, popped, split_port, split_outlet, joined, MaySend, IsTakenInOrder, IsWholeWith, IsLearned, IsOrderly, outlet_in, port_in, IsSomeLaneList}
+use Rattle.queue_rule.specs.Views.{with_sent, with_taken, with_lane, with_known, new_port, next_outlet, pushed, popped, split_port, split_outlet, joined, MaySend, IsTakenInOrder, IsTakenOfLanes, IsWholeWith, IsLearned, IsOrderly, outlet_in, port_in, IsSomeLaneList}
 use Rattle.queue_rows.proofs.Samples.{bundle, source, sends_nothing, sends_one, sends_two, not_falling, of_lower}
 
 -- two bundles of one lane, and one of another
@@ -140,6 +140,26 @@ not_another_users : IsTakenInOrder (record (port (one ∷ []) (None ∷ [])) { u
 not_another_users taken =
     let user : 0 ≡ 1 = All-head (λ (b : Bundle). b.user ≡ 1) one [] (taken 0).1.users in omega (arith, user)
 
+-- ---- what was taken is of lanes that ever had an outlet
+
+abbrev IsBelow : ℕ → Bundle → Type 0
+IsBelow lanes bundle = bundle.lane < lanes
+
+nothing_of_no_lanes : IsTakenOfLanes (port [] [])
+nothing_of_no_lanes = All-nil (IsBelow 0)
+
+-- whether it is out, or was given back
+of_both_lanes : IsTakenOfLanes (port (two ∷ beside ∷ []) (None ∷ Some (beside ∷ []) ∷ []))
+of_both_lanes =
+    All-cons (IsBelow 2) two (beside ∷ []) (omega arith) (All-cons (IsBelow 2) beside [] (omega arith) (All-nil (IsBelow 2)))
+
+not_of_next_lane : IsTakenOfLanes (port (one ∷ beside ∷ []) (None ∷ [])) → ⊥
+not_of_next_lane taken =
+    let lane : 1 < 1 = All-head (IsBelow 1) beside [] (All-tail (IsBelow 1) one (beside ∷ []) taken) in omega (arith, lane)
+
+not_of_no_lane : IsTakenOfLanes (port (one ∷ []) []) → ⊥
+not_of_no_lane taken = let lane : 0 < 0 = All-head (IsBelow 0) one [] taken in omega (arith, lane)
+
 -- ---- what was sent and is known was taken, or is held
 
 pub some_list : {A : Type 0} {x y : A} → Some x ≡ Some y → x ≡ y
@@ -167,19 +187,33 @@ not_at_another_place : IsWholeWith (port (one ∷ []) (None ∷ Some (one ∷ []
 not_at_another_place whole =
     let count : 0 ≡ 1 = ap length (whole 1 (one ∷ []) refl) in omega (arith, count)
 
--- ---- a port learns both, and the others nothing
+-- ---- a port learns all of it, and the others nothing
 
 port_learns : IsLearned (Port (port (one ∷ []) (Some (one ∷ []) ∷ []))) [] → IsWholeWith (port (one ∷ []) (Some (one ∷ []) ∷ [])) []
 port_learns learned = learned.1
 
 port_learns_order : IsLearned (Port (port (two ∷ one ∷ []) [])) [] → ⊥
-port_learns_order learned = not_falling 0 4 6 (omega arith) (learned.0 0)
+port_learns_order learned = not_falling 0 4 6 (omega arith) (learned.0.0 0)
+
+port_learns_lanes : IsLearned (Port (port (one ∷ []) [])) [] → ⊥
+port_learns_lanes learned = not_of_no_lane learned.0.1
+
+all_learned : IsLearned (Port (port (two ∷ beside ∷ []) (None ∷ Some (beside ∷ []) ∷ []))) []
+all_learned = ((in_order, of_both_lanes), whole)
+  where
+    whole : IsWholeWith (port (two ∷ beside ∷ []) (None ∷ Some (beside ∷ []) ∷ [])) []
+    whole zero bundles is = absurd cc
+    whole (suc zero) bundles is = some_list is
+    whole (suc (suc lane)) bundles is = absurd cc
 
 outlet_learns_nothing : IsLearned (Outlet (outlet 0 (one ∷ []))) (two ∷ one ∷ [])
 outlet_learns_nothing = tt
 
 not_orderly : IsOrderly (Port (port (two ∷ one ∷ []) [])) → ⊥
-not_orderly taken = not_falling 0 4 6 (omega arith) (taken 0)
+not_orderly taken = not_falling 0 4 6 (omega arith) (taken.0 0)
+
+not_orderly_of_no_lane : IsOrderly (Port (port (one ∷ []) [])) → ⊥
+not_orderly_of_no_lane taken = not_of_no_lane taken.1
 
 others_are_orderly : IsOrderly (Outlet (outlet 0 (two ∷ one ∷ [])))
 others_are_orderly = tt

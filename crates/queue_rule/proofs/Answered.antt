@@ -6,7 +6,7 @@ use Rattle.queue_rule.specs.declared.view.OutletView.{OutletView}
 use Rattle.queue_rule.specs.declared.view.PortView.{PortView}
 use Rattle.queue_rule.specs.declared.view.View.{View}
 use Rattle.queue_rule.specs.declared.view.View.TheVariants.{Origin, Port, Outlet, Spent}
-use Rattle.queue_rule.specs.Views.{pushed, popped, split_port, split_outlet, joined, new_port, port_in, IsSomeLaneList, IsTakenInOrder, IsWholeWith, IsLearned, IsOrderly}
+use Rattle.queue_rule.specs.Views.{pushed, popped, split_port, split_outlet, joined, new_port, port_in, IsSomeLaneList, IsWholeWith, IsLearned, IsOrderly}
 use Rattle.queue_rule.specs.Rule.{IsFair}
 use Rattle.queue_rule.proofs.Keeping.{sends, takes, learns, opens, splits, admits}
 
@@ -40,18 +40,18 @@ whole_of port new None told =
     subst (λ (v : View). IsWholeWith (port_in v) []) (sym told.0)
     (subst (IsWholeWith port) (empty_list told.1.0 told.1.1) told.1.2.1)
 
-order_of : (port : PortView) (new : View) (answer : Option Bundle) → Answers (Port port) new answer → IsTakenInOrder (port_in new)
-order_of port new None told = subst (λ (v : View). IsTakenInOrder (port_in v)) (sym told.0) told.1.2.0
+order_of : (port : PortView) (new : View) (answer : Option Bundle) → Answers (Port port) new answer → IsOrderly (Port (port_in new))
+order_of port new None told = subst (λ (v : View). IsOrderly (Port (port_in v))) (sym told.0) told.1.2.0
 order_of port new (Some bundle) told =
-    subst (λ (v : View). IsTakenInOrder (port_in v)) (sym told.0) (subst IsOrderly told.0 told.1)
+    subst (λ (v : View). IsOrderly (Port (port_in v))) (sym told.0) (subst IsOrderly told.0 told.1)
 
 pub is_whole : (old new : View) (port : PortView) (answer : Option Bundle) → old ≡ Port port → Answers old new answer
     → IfNone answer (IsWholeWith (port_in new) [])
 is_whole old new port answer is told = whole_of port new answer (subst (λ (v : View). Answers v new answer) is told)
 
-pub is_in_order : (old new : View) (port : PortView) (answer : Option Bundle) → old ≡ Port port → Answers old new answer
-    → IsTakenInOrder (port_in new)
-is_in_order old new port answer is told = order_of port new answer (subst (λ (v : View). Answers v new answer) is told)
+pub is_orderly : (old new : View) (port : PortView) (answer : Option Bundle) → old ≡ Port port → Answers old new answer
+    → IsOrderly (Port (port_in new))
+is_orderly old new port answer is told = order_of port new answer (subst (λ (v : View). Answers v new answer) is told)
 
 pub may_open : (pass : ℕ) (view : View) (user room : ℕ) → view ≡ Origin → Forks IsFair pass view Spent (Port (new_port user room))
 may_open pass view user room is =

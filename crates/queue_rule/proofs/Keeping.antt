@@ -12,9 +12,9 @@ use Rattle.queue_rule.specs.declared.view.OutletView.{OutletView}
 use Rattle.queue_rule.specs.declared.view.PortView.{PortView}
 use Rattle.queue_rule.specs.declared.view.View.{View}
 use Rattle.queue_rule.specs.declared.view.View.TheVariants.{Origin, Port, Outlet, Spent}
-use Rattle.queue_rule.specs.Views.{with_sent, with_taken, with_lane, with_known, new_port, next_outlet, pushed, popped, split_port, split_outlet, joined, IsSomeLaneList, IsTakenInOrder, IsLearned, IsOrderly, outlet_in}
+use Rattle.queue_rule.specs.Views.{with_sent, with_taken, with_lane, with_known, new_port, next_outlet, pushed, popped, split_port, split_outlet, joined, IsSomeLaneList, IsTakenInOrder, IsTakenOfLanes, IsLearned, IsOrderly, outlet_in}
 use Rattle.queue_rule.specs.Rule.{Whole, PortFits, OutletFits, Fits, IsSeated, IsFairOf, IsFair}
-use Rattle.queue_rule.proofs.PassLists.{EachPass, get_or-set_here, get_or-set_else, each_set, each_more, is_within, get_or-more_none, get_or-past_none, no_bundles, none_behind, changed_at, changed_here, changed_else}
+use Rattle.queue_rule.proofs.PassLists.{EachPass, get_or-set_here, get_or-set_else, each_set, each_more, is_within, get_or-more_none, get_or-past_none, no_bundles, none_behind, lower_lanes, changed_at, changed_here, changed_else}
 
 -- ---- the outlets of lanes among the passes
 
@@ -186,6 +186,19 @@ in_order whole items views pass port fair mine lane =
     subst (λ (u : ℕ). IsSomeLaneList u lane (of_lane lane port.taken)) (sym mine.of_user)
     (subst (λ (l : List Bundle). IsSomeLaneList whole.user lane (of_lane lane l)) (sym mine.took) front)
 
+-- and of lanes that ever had an outlet
+of_lanes : (whole : Whole) (items : List Bundle) (views : List View) (pass : ℕ) (port : PortView)
+    → IsFairOf whole items views → PortFits whole pass port → IsTakenOfLanes port
+of_lanes whole items views pass port fair mine = lower_lanes (length port.known) port.taken items
+    (λ lane le. ap (λ (l : List Bundle). of_lane lane (l ++ items)) mine.took ∙ fair.parts lane
+    ∙ (fair.beyond lane (omega (arith, le, mine.split))).1)
+
+-- both, of a port
+orderly : (whole : Whole) (items : List Bundle) (views : List View) (pass : ℕ) (port : PortView)
+    → IsFairOf whole items views → PortFits whole pass port → IsOrderly (Port port)
+orderly whole items views pass port fair mine =
+    (in_order whole items views pass port fair mine, of_lanes whole items views pass port fair mine)
+
 pub takes : (pass : ℕ) (port : PortView)
     → Pops IsFair pass (Port port) (λ bundle w. (w ≡ popped (Port port) bundle) × IsOrderly w)
 takes pass port bundle items views fair at =
@@ -213,13 +226,13 @@ takes pass port bundle items views fair at =
       fits = each_set (Fits next) views pass (Port took) fits_now
           (λ j u other e. fits_more_taken whole pass bundle mine.reads j u other (fair.1.fits j u e));
     } in
-    (Port took, (next, fair_now), (refl, in_order next items (set views pass (Port took)) pass took fair_now fits_now))
+    (Port took, (next, fair_now), (refl, orderly next items (set views pass (Port took)) pass took fair_now fits_now))
 
 pub learns : (pass : ℕ) (port : PortView) → Learns IsFair pass (Port port) (λ items. IsLearned (Port port) items)
 learns pass port items views fair at =
     let whole : Whole = fair.0 in
     let mine : PortFits whole pass port = fair.1.fits pass (Port port) at in (
-      in_order whole items views pass port fair.1 mine,
+      orderly whole items views pass port fair.1 mine,
       λ lane bundles is. ap (λ (l : List Bundle). of_lane lane (l ++ items)) mine.took ∙ fair.1.parts lane ∙ (mine.knows lane bundles is).1,
     )
 

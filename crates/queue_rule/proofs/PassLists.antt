@@ -1,5 +1,7 @@
 -- What holds of each pass, where one changes or one more comes; and bundles by their lanes.
-use Rattle.std.proofs.Common.{◌≡◌, ◌≢◌, ◌⊎◌, ℕ, ◌<◌, Bool, zero, suc, cond, eqb, eq-eqb, ne_eqb, List, [], ◌∷◌, ◌++◌, length, set, Option, None, get_or, refl, ap, sym, subst, ⊎_elim, inl, inr, arith}
+use Rattle.std.proofs.Common.{◌≡◌, ◌≢◌, ◌⊎◌, ℕ, ◌<◌, ◌≤◌, All, Bool, true, false, zero, suc, cond, eqb, eq-eqb, ne_eqb, List, [], ◌∷◌, ◌++◌, length, set, Option, None, get_or, refl, ap, sym, subst, ⊎_elim, inl, inr, arith}
+use Rattle.std.proofs.lemmas.Bool.{cases_lt}
+use Rattle.std.proofs.lemmas.List.Elements.{All-nil, All-cons}
 use mathlib.Core.Option.{some, some-injective, some-ne-none}
 use lib.ListN.{get_elem?}
 use Rattle.crossbeam_queue.proofs.Lists.{at_set}
@@ -67,6 +69,22 @@ no_bundles (x ∷ xs) none =
 pub none_behind : (xs ys : List Bundle) → xs ++ ys ≡ [] → ys ≡ []
 none_behind [] ys none = none
 none_behind (x ∷ xs) ys none = absurd cc
+
+none_kept : {A : Type 0} (is : Bool) (x : A) (xs : List A) → cond is (x ∷ xs) xs ≡ [] → (is ≡ false) × (xs ≡ [])
+none_kept true x xs none = absurd cc
+none_kept false x xs none = (refl, none)
+
+-- bundles before others, where lanes from one on have none of all: they are of lanes below it
+pub lower_lanes : (lanes : ℕ) (xs ys : List Bundle) → ((lane : ℕ) → lanes ≤ lane → of_lane lane (xs ++ ys) ≡ [])
+    → All (λ (bundle : Bundle). bundle.lane < lanes) xs
+lower_lanes lanes [] ys none = All-nil (λ (bundle : Bundle). bundle.lane < lanes)
+lower_lanes lanes (x ∷ xs) ys none = All-cons (λ (bundle : Bundle). bundle.lane < lanes) x xs
+    (⊎_elim (λ (less : x.lane < lanes). less)
+    (λ (past : lanes ≤ x.lane).
+    let other = (none_kept (eqb x.lane x.lane) x (of_lane x.lane (xs ++ ys)) (none x.lane past)).0 in
+    let same = eq-eqb x.lane x.lane refl in absurd cc)
+    (cases_lt x.lane lanes))
+    (lower_lanes lanes xs ys (λ lane le. (none_kept (eqb x.lane lane) x (of_lane lane (xs ++ ys)) (none lane le)).1))
 
 -- a table of lanes in which one has another value
 abbrev pub changed_at : {B : Type 0} → ℕ → B → (ℕ → B) → ℕ → B

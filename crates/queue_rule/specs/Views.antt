@@ -1,5 +1,5 @@
 -- How what is known of a queue changes.
-use Rattle.std.specs.Prelude.{◌≡◌, ℕ, List, [], ◌∷◌, ◌++◌, length, Some, None, get_or, set}
+use Rattle.std.specs.Prelude.{◌≡◌, ℕ, ◌<◌, List, [], ◌∷◌, ◌++◌, length, All, Some, None, get_or, set}
 use Rattle.cfdp_types.specs.declared.key.EntityId.{EntityId}
 use Rattle.indications.specs.declared.bundle.Bundle.{Bundle}
 use Rattle.indications.specs.LaneLists.{of_lane, IsLaneList}
@@ -69,21 +69,25 @@ pub record MaySend (outlet : OutletView) (bundle : Bundle) : Type 0 where
 abbrev pub IsTakenInOrder : PortView → Type 0
 IsTakenInOrder port = (lane : ℕ) → IsSomeLaneList port.user lane (of_lane lane port.taken)
 
+-- all that was taken is of lanes that ever had an outlet
+abbrev pub IsTakenOfLanes : PortView → Type 0
+IsTakenOfLanes port = All (λ (bundle : Bundle). bundle.lane < length port.known) port.taken
+
 -- all that a lane sent which is known is in what was taken, and behind it in these
 abbrev pub IsWholeWith : PortView → List Bundle → Type 0
 IsWholeWith port items =
     (lane : ℕ) (bundles : List Bundle) → get_or port.known lane None ≡ Some bundles
     → of_lane lane (port.taken ++ items) ≡ bundles
 
+-- what was taken is in order, and of lanes that ever had an outlet
+abbrev pub IsOrderly : View → Type 0
+IsOrderly (Port port) = IsTakenInOrder port × IsTakenOfLanes port
+IsOrderly view = Unit {0}
+
 -- what is learned of what the queue holds
 abbrev pub IsLearned : View → List Bundle → Type 0
-IsLearned (Port port) items = IsTakenInOrder port × IsWholeWith port items
+IsLearned (Port port) items = IsOrderly (Port port) × IsWholeWith port items
 IsLearned view items = Unit {0}
-
--- what was taken is in order
-abbrev pub IsOrderly : View → Type 0
-IsOrderly (Port port) = IsTakenInOrder port
-IsOrderly view = Unit {0}
 
 -- what an outlet knows
 abbrev pub outlet_in : View → OutletView

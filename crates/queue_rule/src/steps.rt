@@ -4,7 +4,7 @@ ghost use Rattle.crossbeam_queue.specs.Passes.{view, IsPassOf, ruled_capacity};
 ghost use Rattle.queue_rule.specs.Passes.{IsOutletOf, IsPortOf, StaysOutlet, StaysPort};
 ghost use Rattle.queue_rule.specs.declared.view.View.TheVariants.{Origin, Outlet};
 ghost use Rattle.queue_rule.specs.Views.{outlet_in, port_in, with_sent, with_taken, with_lane, with_known, new_port, next_outlet};
-ghost use Rattle.queue_rule.specs.Views.{MaySend, IsTakenInOrder, IsWholeWith};
+ghost use Rattle.queue_rule.specs.Views.{MaySend, IsTakenInOrder, IsTakenOfLanes, IsWholeWith};
 
 use crate::rule::{Fair, GivesBack, NextLane, OfUser, QueueOfUser, Sends, Takes};
 use crate::view::View;
@@ -46,6 +46,7 @@ pub fn take<R: Wait>(rt: &R, queue: &SharedQueue, pass: &mut QueuePass) -> Optio
     ensures none { IfNone result (port_in (view pass.new) ≡ port_in (view pass.old)) }
     ensures whole { IfNone result (IsWholeWith (port_in (view pass.new)) []) }
     ensures in_order { IsTakenInOrder (port_in (view pass.new)) }
+    ensures of_lanes { IsTakenOfLanes (port_in (view pass.new)) }
 {
     queue.pop_as::<Takes, R>(rt, pass)
 }

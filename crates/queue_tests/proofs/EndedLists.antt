@@ -6,9 +6,8 @@ use Rattle.std.proofs.Math.Bool.{or-false}
 use Rattle.cfdp_types.specs.declared.key.EntityId.{EntityId}
 use Rattle.indications.specs.declared.bundle.Bundle.{Bundle}
 use Rattle.indications.specs.declared.indication.Indication.{Indication}
-use Rattle.indications.specs.declared.indication.Indication.TheVariants.{Abandoned}
 use Rattle.indications.specs.LaneLists.{number_of, told_of, of_lane, has_number, IsBegunGroup, IsWordGroup, IsLaneList}
-use Rattle.queue_tests.specs.Ended.{AreEnded, AllEnded}
+use Rattle.queue_tests.specs.Ended.{told_by, AreEnded, AllEnded}
 use Rattle.indications.proofs.LaneLemmas.{of_lane-more, of_lane-other, told_of-more, told_of-other, told_of-none, has_number-append, has_number-below, IsLaneList-nil, IsLaneList-more}
 
 pub none_ended : (user lane : ℕ) (source : EntityId) → AreEnded user lane source 0 []
@@ -26,7 +25,7 @@ nothing_told user lane source last bundles ended =
 -- one more may be sent
 pub next_list : (user lane : ℕ) (source : EntityId) (last : ℕ) (bundles : List Bundle) (bundle : Bundle)
     → AreEnded user lane source last bundles → bundle.user ≡ user → bundle.lane ≡ lane
-    → bundle.key ≡ record { source = source; seq = last + 1 } → bundle.inds ≡ Abandoned 0 0 ∷ []
+    → bundle.key ≡ record { source = source; seq = last + 1 } → bundle.inds ≡ told_by (last + 1)
     → IsLaneList user lane source (bundles ++ bundle ∷ [])
 next_list user lane source last bundles bundle ended of_user of_lane key told =
     let number : number_of bundle ≡ last + 1 = ap (λ k. k.seq) key in
@@ -42,7 +41,7 @@ next_list user lane source last bundles bundle ended of_user of_lane key told =
 -- and its transaction is over then
 pub next_ended : (user lane : ℕ) (source : EntityId) (last : ℕ) (bundles : List Bundle) (bundle : Bundle)
     → AreEnded user lane source last bundles → bundle.user ≡ user → bundle.lane ≡ lane
-    → bundle.key ≡ record { source = source; seq = last + 1 } → bundle.inds ≡ Abandoned 0 0 ∷ []
+    → bundle.key ≡ record { source = source; seq = last + 1 } → bundle.inds ≡ told_by (last + 1)
     → AreEnded user lane source (last + 1) (bundles ++ bundle ∷ [])
 next_ended user lane source last bundles bundle ended of_user of_lane key told =
     let number : number_of bundle ≡ last + 1 = ap (λ k. k.seq) key in
@@ -55,7 +54,7 @@ next_ended user lane source last bundles bundle ended of_user of_lane key told =
           (omega (arith, number));
       words = λ n has. ⊎_elim
           (λ (this : number_of bundle ≡ n).
-          let all : told_of n (bundles ++ bundle ∷ []) ≡ Abandoned 0 0 ∷ [] =
+          let all : told_of n (bundles ++ bundle ∷ []) ≡ told_by (last + 1) =
           told_of-more n bundles bundle this
           ∙ ap (λ (l : List Indication). l ++ bundle.inds) (subst (λ (m : ℕ). told_of m bundles ≡ []) this nothing) ∙ told in
           subst IsWordGroup (sym all) ((refl, tt, tt), refl))
@@ -70,7 +69,7 @@ next_ended user lane source last bundles bundle ended of_user of_lane key told =
 -- as the bundle itself says
 pub may_go_on : (user lane : ℕ) (source : EntityId) (last : ℕ) (bundles : List Bundle) (bundle : Bundle)
     → AreEnded user lane source last bundles → bundle.user ≡ user → bundle.lane ≡ lane
-    → bundle.key ≡ record { source = source; seq = last + 1 } → bundle.inds ≡ Abandoned 0 0 ∷ []
+    → bundle.key ≡ record { source = source; seq = last + 1 } → bundle.inds ≡ told_by (last + 1)
     → IsLaneList bundle.user bundle.lane bundle.key.source (bundles ++ bundle ∷ [])
 may_go_on user lane source last bundles bundle ended of_user of_lane key told =
     let all : List Bundle = bundles ++ bundle ∷ [] in
@@ -95,7 +94,7 @@ none_all_ended user source lane = none_ended user lane source
 
 pub next_all_ended : (user lane : ℕ) (source : EntityId) (last : ℕ) (bundles : List Bundle) (bundle : Bundle)
     → AllEnded user source last bundles → bundle.user ≡ user → bundle.lane ≡ lane
-    → bundle.key ≡ record { source = source; seq = last + 1 } → bundle.inds ≡ Abandoned 0 0 ∷ []
+    → bundle.key ≡ record { source = source; seq = last + 1 } → bundle.inds ≡ told_by (last + 1)
     → AllEnded user source (last + 1) (bundles ++ bundle ∷ [])
 next_all_ended user lane source last bundles bundle ended of_user is key told other = ⊎_elim
     (λ (this : bundle.lane ≡ other).

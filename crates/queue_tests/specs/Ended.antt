@@ -1,8 +1,14 @@
 -- Lane lists of transactions that are over at once, with rising numbers.
-use Rattle.std.specs.Prelude.{◌≡◌, ℕ, ◌≤◌, true, All, List}
+use Rattle.std.specs.Prelude.{◌≡◌, ℕ, ◌%◌, ◌^◌, ◌≤◌, true, All, List, [], ◌∷◌}
 use Rattle.cfdp_types.specs.declared.key.EntityId.{EntityId}
 use Rattle.indications.specs.declared.bundle.Bundle.{Bundle}
+use Rattle.indications.specs.declared.indication.Indication.{Indication}
+use Rattle.indications.specs.declared.indication.Indication.TheVariants.{Abandoned}
 use Rattle.indications.specs.LaneLists.{number_of, told_of, of_lane, has_number, IsWordGroup, IsLaneList}
+
+-- all that the transaction with a number tells
+abbrev pub told_by : ℕ → List Indication
+told_by number = Abandoned 0 (number % 2 ^ 32) ∷ []
 
 -- all bundles so far have numbers up to this one, and their transactions are over
 pub record AreEnded (user lane : ℕ) (source : EntityId) (last : ℕ) (bundles : List Bundle) : Type 0 where

@@ -1,16 +1,15 @@
 -- Lanes that send transactions which are over at once, and what the queues keep of them.
-use Rattle.std.specs.Prelude.{◌≡◌, ℕ, List, [], ◌∷◌}
+use Rattle.std.specs.Prelude.{◌≡◌, ℕ, List, []}
 use Rattle.indications.specs.declared.bundle.Bundle.{Bundle}
-use Rattle.indications.specs.declared.indication.Indication.TheVariants.{Abandoned}
 use Rattle.user_queues.specs.Queue.{Queue, all_put}
 use Rattle.user_queues.specs.Shared.{OutletEnd, PortEnd}
-use Rattle.queue_tests.specs.Ended.{AreEnded, AllEnded}
+use Rattle.queue_tests.specs.Ended.{told_by, AreEnded, AllEnded}
 
 -- the bundle is the only one of the transaction with this number
 abbrev pub IsOver : Bundle → ℕ → ℕ → Type 0
 IsOver bundle lane number =
     (bundle.user ≡ 0) × (bundle.lane ≡ lane) × (bundle.key ≡ record { source = record { 0 = 1 }; seq = number })
-    × (bundle.inds ≡ Abandoned 0 0 ∷ [])
+    × (bundle.inds ≡ told_by number)
 
 -- the outlet is of this lane of the first user, and sent nothing yet
 abbrev pub IsFreshLane : OutletEnd → ℕ → Type 0

@@ -6,7 +6,7 @@ ghost use Rattle.queue_rule.specs.Views.{with_sent};
 ghost use Rattle.queue_tests.specs.Senders.{SendsOver, BothSend, HoldsOver};
 ghost use Rattle.user_queues.specs.Queue.{EndsInHeld, with_last};
 
-use crate::bundles::bundle_of;
+use crate::bundles::{are_alike, bundle_of};
 use crate::shared::{TwoEnds, ends_of_two};
 use indications::{Bundle, Outlet};
 use std::alloc::{AllocError, Global};
@@ -27,10 +27,10 @@ enum Turn {
 }
 
 // What comes of it.
-#[derive(Clone, Copy, PartialEq)]
+#[derive(Drop)]
 enum Told {
     Offered { is_taken: bool },
-    Taken(Option<(usize, u64)>),
+    Taken(Option<Bundle>),
 }
 
 // The turns, always the same, as if drawn by lot: half of them takes.
@@ -57,16 +57,28 @@ fn new_draws() -> Draws {
     Draws { state: 1 }
 }
 
-fn named(bundle: Option<Bundle>) -> Told {
-    match bundle {
-        None => Told::Taken(None),
-        Some(bundle) => Told::Taken(Some((bundle.lane, bundle.key.seq))),
+// Whether the same came, bundle by bundle.
+fn are_same(told: &[Told], expected: &[Told]) -> bool {
+    told.len() == expected.len()
+        && told
+            .iter()
+            .zip(expected)
+            .all(|(one, other)| is_same(one, other))
+}
+
+fn is_same(told: &Told, expected: &Told) -> bool {
+    match (told, expected) {
+        (Told::Offered { is_taken }, Told::Offered { is_taken: expected }) => is_taken == expected,
+        (Told::Taken(None), Told::Taken(None)) => true,
+        (Told::Taken(Some(bundle)), Told::Taken(Some(expected))) => are_alike(bundle, expected),
+        _ => false,
     }
 }
 
 // A plain list with room for so many.
 fn modelled_turn(
-    held: &mut VecDeque<(usize, u64)>,
+    alloc: Global,
+    held: &mut VecDeque<Bundle>,
     capacity: usize,
     turn: Turn,
     number: u64,
@@ -78,7 +90,7 @@ fn modelled_turn(
     };
     let is_taken = held.len() < capacity;
     if is_taken {
-        held.push_back((lane, number))?;
+        held.push_back(bundle_of(alloc, lane, number)?)?;
     }
     Ok(Told::Offered { is_taken })
 }
@@ -88,7 +100,7 @@ fn modelled(alloc: Global, capacity: usize) -> Result<Vec<Told>, AllocError> {
     let mut held = VecDeque::new(alloc);
     let mut told = Vec::new(alloc);
     for number in 0..COUNT {
-        told.push(modelled_turn(&mut held, capacity, draws.next(), number + 1)?)?;
+        told.push(modelled_turn(alloc, &mut held, capacity, draws.next(), number + 1)?)?;
     }
     Ok(told)
 }
@@ -136,7 +148,7 @@ fn listed_turn(
     match turn {
         Turn::FirstOffers => put_next(alloc, queue, 0, number),
         Turn::SecondOffers => put_next(alloc, queue, 1, number),
-        Turn::Take => Ok(named(queue.take())),
+        Turn::Take => Ok(Told::Taken(queue.take())),
     }
 }
 
@@ -191,7 +203,7 @@ fn shared_turn<R: Wait + Copy>(
     match turn {
         Turn::FirstOffers => offer_next(alloc, &mut ends.first, 0, number),
         Turn::SecondOffers => offer_next(alloc, &mut ends.second, 1, number),
-        Turn::Take => Ok(named(ends.port.take(rt))),
+        Turn::Take => Ok(Told::Taken(ends.port.take(rt))),
     }
 }
 
@@ -212,7 +224,7 @@ fn shared<R: Wait + Copy>(
 
 // Whether a queue of one thread told this.
 fn is_listed(alloc: Global, capacity: usize, expected: &[Told]) -> Result<bool, AllocError> {
-    Ok(listed(alloc, capacity)?.as_slice() == expected)
+    Ok(are_same(listed(alloc, capacity)?.as_slice(), expected))
 }
 
 // Whether a queue that threads share told this.
@@ -226,24 +238,18 @@ fn is_shared<R: Wait + Copy>(
 {
     match ends_of_two(rt, alloc, capacity)? {
         None => Ok(false),
-        Some(mut ends) => Ok(shared(&rt, alloc, &mut ends)?.as_slice() == expected),
+        Some(mut ends) => Ok(are_same(shared(&rt, alloc, &mut ends)?.as_slice(), expected)),
     }
 }
 
-fn count_of(told: &[Told], one: Told) -> usize {
-    let mut count = 0usize;
-    for other in told {
-        if *other == one {
-            count = count.saturating_add(1);
-        }
-    }
-    count
+fn count_of(told: &[Told], one: &Told) -> usize {
+    told.iter().filter(|other| is_same(other, one)).count()
 }
 
 // Whether the queue was often full, and often empty.
 fn is_varied(told: &[Told]) -> bool {
-    count_of(told, Told::Offered { is_taken: false }) > 100
-        && count_of(told, Told::Taken(None)) > 100
+    count_of(told, &Told::Offered { is_taken: false }) > 100
+        && count_of(told, &Told::Taken(None)) > 100
 }
 
 #[test]

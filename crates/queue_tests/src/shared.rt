@@ -5,24 +5,36 @@ ghost use Rattle.queue_rule.specs.Views.{with_sent};
 ghost use Rattle.user_queues.specs.Opened.{IsOpenedFor};
 ghost use Rattle.queue_tests.specs.Senders.{IsFreshLane, AreFresh};
 
-use crate::bundles::bundle_of;
+use crate::bundles::{are_alike, bundle_of};
 use indications::{Bundle, Outlet};
 use std::alloc::{AllocError, Global};
 use std::sync::Wait;
 use std::sync::atomic::{AtomicBool, Ordering};
 use std::test::*;
 use std::thread;
-use std::thread::Threads;
+use std::thread::{Parker, Threads};
+use std::time::Duration;
 use user_queues::{LaneOutlet, UserPort, UserQueue, open};
 
 // How many bundles each lane sends.
 const COUNT: u64 = 100;
 
 // How often each end tries.
-const TURNS: u32 = 1_000_000;
+const TURNS: u32 = 200_000;
+
+// Lets other threads go on for a moment. A thread that only yields may have had all its turns before another one that it
+// waits for had its first.
+fn pause<R: Wait>(rt: &R) {
+    Parker::new().park_timeout(rt, Duration::from_micros(50));
+}
 
 // Offers the bundle again and again, and tells where the queue was full; whether it was taken.
-fn offer<R: Wait + Copy>(outlet: &mut LaneOutlet<R>, bundle: Bundle, was_full: &AtomicBool) -> bool
+fn offer<R: Wait + Copy>(
+    rt: &R,
+    outlet: &mut LaneOutlet<R>,
+    bundle: Bundle,
+    was_full: &AtomicBool,
+) -> bool
     requires of_user { bundle.user ≡ outlet.old.knows.user }
     requires of_lane { bundle.lane ≡ outlet.old.knows.lane }
     requires goes_on { IsLaneList bundle.user bundle.lane bundle.key.source (outlet.old.knows.sent ++ bundle ∷ []) }
@@ -35,13 +47,14 @@ fn offer<R: Wait + Copy>(outlet: &mut LaneOutlet<R>, bundle: Bundle, was_full: &
             Err(back) => bundle = back,
         }
         was_full.store(true, Ordering::SeqCst);
-        thread::yield_now();
+        pause(rt);
     }
     false
 }
 
 // Whether all bundles of a lane were taken.
 fn produce<R: Wait + Copy>(
+    rt: &R,
     alloc: Global,
     outlet: &mut LaneOutlet<R>,
     lane: usize,
@@ -51,7 +64,7 @@ fn produce<R: Wait + Copy>(
 {
     for seq in 0..COUNT {
         let bundle = bundle_of(alloc, lane, seq + 1)?;
-        if !offer(outlet, bundle, was_full) {
+        if !offer(rt, outlet, bundle, was_full) {
             return Ok(false);
         }
     }
@@ -59,33 +72,41 @@ fn produce<R: Wait + Copy>(
 }
 
 // Whether a bundle is the next of its lane, whose last one it is from then on.
-fn comes_next(last: &mut [u64], bundle: &Bundle) -> bool {
+fn comes_next(alloc: Global, last: &mut [u64], bundle: &Bundle) -> Result<bool, AllocError> {
     let Some(last) = last.get_mut(bundle.lane) else {
-        return false;
+        return Ok(false);
     };
-    if bundle.key.seq.checked_sub(1) != Some(*last) {
-        return false;
+    if *last >= COUNT {
+        return Ok(false);
     }
-    *last = bundle.key.seq;
-    true
+    *last += 1;
+    Ok(are_alike(bundle, &bundle_of(alloc, bundle.lane, *last)?))
 }
 
-// Whether all bundles of each lane come, those of a lane in order. The number of the last of each is kept.
-fn consume<R: Wait>(rt: &R, port: &mut UserPort, last: &mut [u64]) -> bool {
+// Whether all bundles of each lane come, those of a lane in order. The number of the last of each is kept. A slow user
+// waits after each.
+fn consume<R: Wait>(
+    rt: &R,
+    alloc: Global,
+    port: &mut UserPort,
+    is_slow: bool,
+    last: &mut [u64],
+) -> Result<bool, AllocError> {
     for _ in 0..TURNS {
-        match port.take(rt) {
-            None => thread::yield_now(),
-            Some(bundle) => {
-                if !comes_next(last, &bundle) {
-                    return false;
-                }
+        let came = port.take(rt);
+        if came.is_none() || is_slow {
+            pause(rt);
+        }
+        if let Some(bundle) = came {
+            if !comes_next(alloc, last, &bundle)? {
+                return Ok(false);
             }
         }
         if last.iter().all(|seq| *seq == COUNT) {
-            return true;
+            return Ok(true);
         }
     }
-    false
+    Ok(false)
 }
 
 // The ends of the queue of the only user, with room for so many bundles.
@@ -190,7 +211,7 @@ fn produce_all<R: Threads + Wait + Copy + Send + Sync>(
         {
             let mut outlet = outlet;
             let lane = outlet.lane();
-            produce(alloc, &mut outlet, lane, was_full)
+            produce(rt, alloc, &mut outlet, lane, was_full)
         },
     )?;
     for sent in sent {
@@ -202,36 +223,38 @@ fn produce_all<R: Threads + Wait + Copy + Send + Sync>(
 }
 
 // Waits until some lane met a full queue; whether one did.
-fn waits_until(was_full: &AtomicBool) -> bool {
+fn waits_until<R: Wait>(rt: &R, was_full: &AtomicBool) -> bool {
     for _ in 0..TURNS {
         if was_full.load(Ordering::SeqCst) {
             return true;
         }
-        thread::yield_now();
+        pause(rt);
     }
     false
 }
 
-// Lanes send to a queue with room for four bundles; whether all come, those of each lane in order. Where the user
-// waits, nothing is taken before some lane met a full queue.
+// Lanes send to a queue with room for four bundles; whether all come, those of each lane in order, and nothing else. A
+// slow user takes nothing before some lane met a full queue.
 fn all_come<R: Threads + Wait + Copy + Send + Sync>(
     rt: R,
     alloc: Global,
-    waits: bool,
+    is_slow: bool,
     last: &mut [u64],
 ) -> Result<bool, AllocError> {
     let Some(UserQueue { mut port, outlets }) = ends(rt, alloc, last.len(), 4)? else {
         return Ok(false);
     };
-    let was_full = AtomicBool::new(!waits);
+    let was_full = AtomicBool::new(!is_slow);
     let (sent, came) = thread::join(
         &rt,
         || -> Result<bool, AllocError>
             requires { All (λ outlet. IsFreshLane outlet outlet.knows.lane) outlets.items }
         { produce_all(&rt, alloc, outlets, &was_full) },
-        || waits_until(&was_full) && consume(&rt, &mut port, last),
+        || -> Result<bool, AllocError> {
+            Ok(waits_until(&rt, &was_full) && consume(&rt, alloc, &mut port, is_slow, last)?)
+        },
     );
-    Ok(sent? && came)
+    Ok(sent? && came? && port.take(&rt).is_none())
 }
 
 #[test]

@@ -9,7 +9,7 @@ use Rattle.entity_routing.specs.Routes.{Routed, route}
 use Rattle.indications.specs.declared.bundle.Bundle.{Bundle}
 use Rattle.lane_table.specs.declared.done.Done.{Done}
 use Rattle.world_table.specs.Histories.{Happening, takes, held_for, IsHistory}
-use Rattle.entity_world.specs.declared.refusal.EntityRefusal.{EntityRefusal}
+use Rattle.entity_refusals.specs.declared.refusal.EntityRefusal.{EntityRefusal}
 use Rattle.entity_lanes.specs.FirstLanes.{first_lane}
 use Rattle.entity_world.specs.Routed.{AreRouted}
 use Rattle.entity_world.specs.Worlds.{MayCome, IsAnswered, IsUnread, history_after}

@@ -15,12 +15,11 @@ use Rattle.entity_config.specs.Reference.{reference_config}
 use Rattle.entity_routing.specs.declared.refusal.RouteRefusal.TheVariants as routes
 use Rattle.entity_routing.specs.declared.world_event.Request.TheVariants as requests
 use Rattle.entity_routing.specs.declared.world_event.WorldEvent.TheVariants as events
-use Rattle.entity_world.specs.declared.refusal.EntityRefusal.TheVariants as answer
+use Rattle.entity_refusals.specs.declared.refusal.EntityRefusal.TheVariants as answer
 use Rattle.script_lines.specs.declared.command.Command.TheVariants as command
 use Rattle.script_io.specs.declared.fault.TheConstants.{INTERRUPTIONS}
 use Rattle.script_io.specs.declared.input.TheConstants.{LINE_OCTETS}
 use Rattle.script_io.specs.Lines.{line_octets}
-use Rattle.script_io.specs.declared.fault.ReplayFault.{ReplayFault}
 use Rattle.script_io.specs.declared.fault.ReplayFault.TheVariants as stop
 use Rattle.script_replay.specs.declared.run.TheConstants.{LINES}
 use Rattle.script_replay.specs.Run.{PlaysLine, Replays, Stops}

@@ -2,8 +2,9 @@
 use Rattle.std.specs.Prelude.{ℕ, ◌==◌, if◌then◌else◌, Bool, List, Option, Some, None, Result, Ok, Err, codes}
 use Rattle.answer_texts.specs.AnswerTexts.{done_text, refusal_text, fault_line, refused_text}
 use Rattle.answer_texts.specs.ToldTexts.{bundle_text}
-use Rattle.entity_world.specs.declared.refusal.EntityRefusal.{EntityRefusal}
-use Rattle.entity_world.specs.declared.refusal.EntityRefusal.TheVariants as answer
+use Rattle.entity_refusals.specs.declared.refusal.EntityRefusal.{EntityRefusal}
+use Rattle.entity_refusals.specs.declared.refusal.EntityRefusal.TheVariants as answer
+use Rattle.entity_refusals.specs.Refusals.{number_of, name_of}
 use Rattle.entity_routing.specs.declared.refusal.RouteRefusal.{RouteRefusal}
 use Rattle.entity_routing.specs.declared.refusal.RouteRefusal.TheVariants.{DecodeFault}
 use Rattle.entity_routing.specs.Refusal.{refusal_number, refusal_name}
@@ -25,6 +26,7 @@ abbrev pub answer_text : Bool → Result Done EntityRefusal → List ℕ
 answer_text is_put (Ok done) = done_text is_put done
 answer_text is_put (Err (answer.Lane refused)) = refused_text refused
 answer_text is_put (Err (answer.Route why)) = route_text why
+answer_text is_put (Err answer.WrongLane) = refusal_text (number_of answer.WrongLane) (name_of answer.WrongLane)
 
 -- what a user took, if anything waited
 abbrev pub taken_text : ℕ → Option Bundle → List ℕ

@@ -21,6 +21,7 @@ pub fn push_answer(
         Ok(done) => push_done(alloc, text, is_put, done),
         Err(EntityRefusal::Lane(refused)) => push_refused(alloc, text, refused),
         Err(EntityRefusal::Route(why)) => push_route_refusal(text, *why),
+        Err(EntityRefusal::WrongLane) => push_refusal(text, 26, "WrongLane"),
     }
 }
 

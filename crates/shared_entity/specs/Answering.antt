@@ -1,23 +1,19 @@
 -- What an entity that threads share may answer.
-use Rattle.std.specs.Prelude.{◌≡◌, ◌⊎◌, ℕ, List, Result, Ok, Err, IfOk, IfErr, IsOk}
+use Rattle.std.specs.Prelude.{◌≡◌, ◌⊎◌, ℕ, Result, Ok, Err, IfOk, IfErr}
 use Rattle.atomic_table.specs.Seated.{TableId}
 use Rattle.cfdp_types.specs.declared.image.Image.{Image}
 use Rattle.cfdp_types.specs.declared.key.TxnKey.{TxnKey}
-use Rattle.pdu_reading.specs.Reading.{reading}
-use Rattle.pdu_reading.specs.declared.fault.DecodeFault.{DecodeFault}
-use Rattle.pdu_values.specs.Pdu.{PduValue}
 use Rattle.txn_core.specs.Transactions.{IsWhy}
 use Rattle.txn_events.specs.declared.event.Event.{Event}
 use Rattle.txn_events.specs.declared.refusal.Refusal.{Refusal}
-use Rattle.txn_events.specs.declared.refusal.Refusal.TheVariants as refusal
 use Rattle.lane_table.specs.Steps.{image_of, plainly}
+use Rattle.lane_images.specs.Images.{IsOwnFile}
 use Rattle.entity_routing.specs.Routes.{Routed}
 use Rattle.entity_routing.specs.declared.place.Place.{Place}
 use Rattle.entity_routing.specs.declared.refusal.RouteRefusal.{RouteRefusal}
-use Rattle.entity_routing.specs.declared.refusal.RouteRefusal.TheVariants as routes
 use Rattle.held_lanes.specs.Held.{HeldValue, IsBehindLock}
-use Rattle.shared_entity.specs.declared.refusal.SharedRefusal.{SharedRefusal}
-use Rattle.shared_entity.specs.declared.refusal.SharedRefusal.TheVariants as answer
+use Rattle.entity_refusals.specs.declared.refusal.EntityRefusal.{EntityRefusal}
+use Rattle.entity_refusals.specs.declared.refusal.EntityRefusal.TheVariants as answer
 
 -- what lies behind a lock is the lane of a place
 pub record IsAt (queue : ℕ → TableId) (place : Place) (held : HeldValue) : Type 0 where
@@ -33,32 +29,25 @@ pub record MayGive {A : Type 0} (queue : ℕ → TableId) (gives : HeldValue →
   pub gave : gives before routed.event answer after
 
 -- an event of a lane is answered by the gate, unless something else lies behind the lane's lock
-pub record MayAnswerAt {A : Type 0} (queue : ℕ → TableId) (gives : HeldValue → Event → A → HeldValue → Type 0) (routed : Routed) (result : Result A SharedRefusal) : Type 0 where
+pub record MayAnswerAt {A : Type 0} (queue : ℕ → TableId) (gives : HeldValue → Event → A → HeldValue → Type 0) (routed : Routed) (result : Result A EntityRefusal) : Type 0 where
   pub given : IfOk result (MayGive queue gives routed)
   pub wrong : IfErr result (λ why. why ≡ answer.WrongLane)
 
 -- an event is, by where it goes
-abbrev pub MayAnswer : {A : Type 0} → (ℕ → TableId) → (HeldValue → Event → A → HeldValue → Type 0) → Result Routed RouteRefusal → Result A SharedRefusal → Type 0
+abbrev pub MayAnswer : {A : Type 0} → (ℕ → TableId) → (HeldValue → Event → A → HeldValue → Type 0) → Result Routed RouteRefusal → Result A EntityRefusal → Type 0
 MayAnswer queue gives (Err why) result = result ≡ Err (answer.Route why)
 MayAnswer queue gives (Ok routed) result = MayAnswerAt queue gives routed result
 
--- octets are a PDU, for which there was no memory
-abbrev pub IsUnread : {A : Type 0} → List ℕ → Result A SharedRefusal → Type 0
-IsUnread octets result = IsOk (reading octets) × (result ≡ Err (answer.Lane (plainly refusal.NoMemory)))
-
--- why octets are not read: they are no PDU, or there was no memory for it
-abbrev pub IsNotRead : Result PduValue DecodeFault → SharedRefusal → Type 0
-IsNotRead (Err fault) why = why ≡ answer.Route (routes.DecodeFault fault)
-IsNotRead (Ok pdu) why = why ≡ answer.Lane (plainly refusal.NoMemory)
-
--- the file of a deposit that waits at the lane of a place, for what lay behind its lock
+-- the file of a deposit that waits at the lane of a place, for what lay behind its lock; it is the good file of a
+-- reception under that very key
 pub record MayBeImage (queue : ℕ → TableId) (place : Place) (key : TxnKey) (stamp : ℕ) (image : Image) : Type 0 where
   pub held : HeldValue
   pub there : IsAt queue place held
   pub is_given : image_of held.lane key stamp ≡ Ok image
+  pub is_own : IsOwnFile key stamp image
 
 -- why a lane gave no image, for what lay behind its lock
-pub record MayLackImage (queue : ℕ → TableId) (place : Place) (key : TxnKey) (stamp : ℕ) (why : SharedRefusal) : Type 0 where
+pub record MayLackImage (queue : ℕ → TableId) (place : Place) (key : TxnKey) (stamp : ℕ) (why : EntityRefusal) : Type 0 where
   pub held : HeldValue
   pub there : IsAt queue place held
   pub refused : Refusal
@@ -66,7 +55,7 @@ pub record MayLackImage (queue : ℕ → TableId) (place : Place) (key : TxnKey)
   pub is_why : IsWhy (image_of held.lane key stamp) refused
 
 -- what is answered where an image is asked for, by where its transaction is
-abbrev pub MayGiveImage : (ℕ → TableId) → TxnKey → ℕ → Result Place RouteRefusal → Result Image SharedRefusal → Type 0
+abbrev pub MayGiveImage : (ℕ → TableId) → TxnKey → ℕ → Result Place RouteRefusal → Result Image EntityRefusal → Type 0
 MayGiveImage queue key stamp (Err why) result = result ≡ Err (answer.Route why)
 MayGiveImage queue key stamp (Ok place) result =
     IfOk result (MayBeImage queue place key stamp)

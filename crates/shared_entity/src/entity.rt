@@ -1,24 +1,22 @@
 ghost use Rattle.std.specs.Prelude.{◌≡◌, IsTrue, Ok, IfOk, IfErr, OnErr};
 ghost use Rattle.lane_table.specs.Steps.{IsKeyed};
-ghost use Rattle.pdu_reading.specs.Reading.{reading};
-ghost use Rattle.shared_entity.specs.Answering.{IsAt, IsNotRead, MayAnswerAt, MayGiveImage};
+ghost use Rattle.shared_entity.specs.Answering.{IsAt, MayAnswerAt, MayGiveImage};
 
 use crate::opening::add_lanes;
 use crate::outlets::OutletRoom;
-use crate::refusal::SharedRefusal;
 use cfdp_types::{Image, PutRequest, TimerKind, TxnKey};
 use entity_config::Config;
+use entity_refusals::{EntityRefusal, read_pdu};
 use entity_routing::{
-    Place, Request, RouteRefusal, key_of_pdu, params_of_put, place_of_key, place_of_own,
-    place_of_pdu,
+    Place, Request, key_of_pdu, params_of_put, place_of_key, place_of_own, place_of_pdu,
 };
 use held_lanes::{Gate, Held, Names, Point};
 use lane_table::Refused;
-use pdu_codec::{DecodeFault, Pdu, decode};
+use pdu_codec::Pdu;
 use std::alloc::{AllocError, Global};
 use std::marker::Model;
 use std::sync::{Mutex, Wait};
-use txn_events::{Event, Refusal, What};
+use txn_events::{Event, What};
 use user_queues::{LaneOutlet, Queues, UserPort, UserQueue};
 
 /// A protocol entity that threads share. Each call says by the configuration which lane an event goes to, takes that
@@ -64,6 +62,7 @@ impl<N: Names, R: Copy> Entity<N, R> {
         requires named { (user : ℕ) (ends : _) → slice_get queues.users.items user ≡ Some ends
             → ends.port.queue ≡ N.queue user }
         requires lanes { N.lanes ≡ sum_by (λ ends. vec_len ends.outlets) queues.users.items }
+        requires users { vec_len queues.users ≡ length config.users }
         ensures config { IfOk result (λ opened. opened.0 ≡ config) }
         ensures ports { IfOk result (λ opened. opened.1.items ≡ map (λ ends. ends.port) queues.users.items) }
         ensures named { IfOk result
@@ -138,7 +137,8 @@ impl<N: Names, R: Wait + Copy> Entity<N, R> {
     ghost use Rattle.lane_table.specs.Steps.{IsKeyed};
     ghost use Rattle.entity_lanes.specs.Asking.{MayRequest};
     ghost use Rattle.entity_routing.specs.Routes.{key_place, routed_key, routed_own, routed_request, routed_reading, routed_put, routed_pdu, put_params};
-    ghost use Rattle.shared_entity.specs.Answering.{IsUnread, MayAnswer, MayAnswerAt, MayGiveImage};
+    ghost use Rattle.entity_refusals.specs.Refusals.{IsUnreadFrom};
+    ghost use Rattle.shared_entity.specs.Answering.{MayAnswer, MayAnswerAt, MayGiveImage};
 
     /// A user asks for something.
     pub fn request<G: Gate<N, R>>(
@@ -147,7 +147,7 @@ impl<N: Names, R: Wait + Copy> Entity<N, R> {
         gate: &G,
         user: usize,
         request: Request,
-    ) -> Result<G::Answer, SharedRefusal>
+    ) -> Result<G::Answer, EntityRefusal>
         requires { MayRequest self.now user request }
         ensures { MayAnswer N.queue (G.gives gate.now) (routed_request self.now user request) result }
     {
@@ -167,11 +167,11 @@ impl<N: Names, R: Wait + Copy> Entity<N, R> {
         rt: &R,
         gate: &G,
         octets: &[u8],
-    ) -> Result<G::Answer, SharedRefusal>
+    ) -> Result<G::Answer, EntityRefusal>
         ensures { MayAnswer N.queue (G.gives gate.now) (routed_reading self.now (reading octets.now)) result
-            ⊎ IsUnread octets.now result }
+            ⊎ IsUnreadFrom octets.now result }
     {
-        let pdu = read(self.alloc, octets)?;
+        let pdu = read_pdu(self.alloc, octets)?;
         self.deliver_pdu(rt, gate, pdu)
     }
 
@@ -181,7 +181,7 @@ impl<N: Names, R: Wait + Copy> Entity<N, R> {
         rt: &R,
         gate: &G,
         pdu: Pdu,
-    ) -> Result<G::Answer, SharedRefusal>
+    ) -> Result<G::Answer, EntityRefusal>
         ensures { MayAnswer N.queue (G.gives gate.now) (routed_pdu self.now pdu) result }
     {
         let place = place_of_pdu(&self.config, &pdu)?;
@@ -195,7 +195,7 @@ impl<N: Names, R: Wait + Copy> Entity<N, R> {
         rt: &R,
         gate: &G,
         key: TxnKey,
-    ) -> Result<G::Answer, SharedRefusal>
+    ) -> Result<G::Answer, EntityRefusal>
         ensures { MayAnswer N.queue (G.gives gate.now) (routed_key self.now key what.Pump) result }
     {
         self.inside(rt, gate, key, What::Pump)
@@ -209,7 +209,7 @@ impl<N: Names, R: Wait + Copy> Entity<N, R> {
         key: TxnKey,
         kind: TimerKind,
         stamp: u32,
-    ) -> Result<G::Answer, SharedRefusal>
+    ) -> Result<G::Answer, EntityRefusal>
         ensures { MayAnswer N.queue (G.gives gate.now) (routed_key self.now key (what.Timer kind stamp)) result }
     {
         self.inside(rt, gate, key, What::Timer(kind, stamp))
@@ -223,19 +223,19 @@ impl<N: Names, R: Wait + Copy> Entity<N, R> {
         key: TxnKey,
         stamp: u32,
         kept: bool,
-    ) -> Result<G::Answer, SharedRefusal>
+    ) -> Result<G::Answer, EntityRefusal>
         ensures { MayAnswer N.queue (G.gives gate.now) (routed_key self.now key (what.Stored stamp kept)) result }
     {
         self.inside(rt, gate, key, What::Stored(stamp, kept))
     }
 
     /// The file of a deposit that waits, by its transaction and its stamp.
-    pub fn image(&self, rt: &R, key: TxnKey, stamp: u32) -> Result<Image, SharedRefusal>
+    pub fn image(&self, rt: &R, key: TxnKey, stamp: u32) -> Result<Image, EntityRefusal>
         ensures { MayGiveImage N.queue key stamp (key_place self.now key) result }
     {
         let place = place_of_key(&self.config, key)?;
         let Some(lock) = self.lock_of(place) else {
-            return Err(SharedRefusal::WrongLane);
+            return Err(EntityRefusal::WrongLane);
         };
         let held = lock.lock(rt);
         image_at(&held, place, key, stamp)
@@ -248,7 +248,7 @@ impl<N: Names, R: Wait + Copy> Entity<N, R> {
         gate: &G,
         key: TxnKey,
         what: What,
-    ) -> Result<G::Answer, SharedRefusal>
+    ) -> Result<G::Answer, EntityRefusal>
         requires { IsKeyed (On key what) }
         ensures { MayAnswer N.queue (G.gives gate.now) (routed_key self.now key what) result }
     {
@@ -264,7 +264,7 @@ impl<N: Names, R: Wait + Copy> Entity<N, R> {
         user: usize,
         key: TxnKey,
         what: What,
-    ) -> Result<G::Answer, SharedRefusal>
+    ) -> Result<G::Answer, EntityRefusal>
         requires { IsKeyed (On key what) }
         ensures { MayAnswer N.queue (G.gives gate.now) (routed_own self.now user key what) result }
     {
@@ -279,7 +279,7 @@ impl<N: Names, R: Wait + Copy> Entity<N, R> {
         gate: &G,
         place: Place,
         put: PutRequest,
-    ) -> Result<G::Answer, SharedRefusal>
+    ) -> Result<G::Answer, EntityRefusal>
         ensures { MayAnswer N.queue (G.gives gate.now) (routed_put place put (put_params self.now put.destination)) result }
     {
         let params = params_of_put(&self.config, put.destination())?;
@@ -293,12 +293,12 @@ impl<N: Names, R: Wait + Copy> Entity<N, R> {
         gate: &G,
         place: Place,
         event: Event,
-    ) -> Result<G::Answer, SharedRefusal>
+    ) -> Result<G::Answer, EntityRefusal>
         requires { IsKeyed event }
         ensures { MayAnswerAt N.queue (G.gives gate.now) (record { place = place; event = event }) result }
     {
         let Some(lock) = self.lock_of(place) else {
-            return Err(SharedRefusal::WrongLane);
+            return Err(EntityRefusal::WrongLane);
         };
         let mut held = lock.lock(rt);
         gate.at(Point::Locked(place.user));
@@ -312,14 +312,14 @@ fn bring<N: Names, R: Wait + Copy, G: Gate<N, R>>(
     held: &mut Held<N, R>,
     place: Place,
     event: &Event,
-) -> Result<G::Answer, SharedRefusal>
+) -> Result<G::Answer, EntityRefusal>
     requires { IsKeyed event.now }
     ensures answer { MayAnswerAt N.queue (G.gives gate.now) (record { place = place; event = event.now }) result }
     ensures gave { IfOk result (λ answer. G.gives gate.now held.old event.now answer held.new) }
     ensures same { OnErr result (held.new ≡ held.old) }
 {
     if !is_at(held, place) {
-        return Err(SharedRefusal::WrongLane);
+        return Err(EntityRefusal::WrongLane);
     }
     Ok(gate.locked(held, event))
 }
@@ -337,29 +337,14 @@ fn image_at<N: Names, R: Copy>(
     place: Place,
     key: TxnKey,
     stamp: u32,
-) -> Result<Image, SharedRefusal>
+) -> Result<Image, EntityRefusal>
     ensures { MayGiveImage N.queue key stamp (Ok place) result }
 {
     if !is_at(held, place) {
-        return Err(SharedRefusal::WrongLane);
+        return Err(EntityRefusal::WrongLane);
     }
     match held.image(key, stamp) {
         Ok(image) => Ok(image),
-        Err(why) => Err(SharedRefusal::Lane(Refused { why, echo: None })),
-    }
-}
-
-// The PDU that octets are read as.
-fn read(alloc: Global, octets: &[u8]) -> Result<Pdu, SharedRefusal>
-    ensures read { IfOk result (λ pdu. reading octets.now ≡ Ok pdu) }
-    ensures refused { IfErr result (IsNotRead (reading octets.now)) }
-{
-    match decode(alloc, octets) {
-        Ok(pdu) => Ok(pdu),
-        Err(DecodeFault::NoMemory) => Err(SharedRefusal::Lane(Refused {
-            why: Refusal::NoMemory,
-            echo: None,
-        })),
-        Err(fault) => Err(SharedRefusal::Route(RouteRefusal::DecodeFault(fault))),
+        Err(why) => Err(EntityRefusal::Lane(Refused { why, echo: None })),
     }
 }

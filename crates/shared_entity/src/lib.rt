@@ -5,10 +5,9 @@ mod entity;
 mod opening;
 mod outlets;
 mod queues;
-mod refusal;
 
 pub use entity::Entity;
+pub use entity_refusals::EntityRefusal;
 pub use entity_routing::{Place, Request, RouteRefusal};
 pub use held_lanes::{Gate, Held, Names, NoGate, Point};
 pub use queues::queues_of;
-pub use refusal::SharedRefusal;

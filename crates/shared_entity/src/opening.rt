@@ -1,5 +1,6 @@
 //! How the lanes of an entity are laid behind their locks.
 ghost use Rattle.std.specs.Prelude.{◌≡◌, ◌+◌, All, OnOk, vec_len};
+ghost use Rattle.entity_lanes.specs.FirstLanes.{first_lane};
 ghost use Rattle.shared_entity.specs.Opening.{IsFresh};
 
 use entity_config::Config;
@@ -28,6 +29,8 @@ pub(crate) fn add_lanes<N: Names, R: Copy>(
 // The lane of an outlet, to which nothing has happened, with the outlet.
 fn held_for<N: Names, R: Copy>(alloc: Global, config: &Config, outlet: LaneOutlet<R>) -> Held<N, R>
     requires { IsFresh N.queue outlet }
+    ensures lane { result.lane ≡ first_lane config.now outlet.knows.user outlet.knows.lane }
+    ensures outlet { result.outlet ≡ outlet }
 {
     Held::new(
         lane_for(alloc, config, outlet.user(), outlet.lane()),

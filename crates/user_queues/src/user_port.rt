@@ -38,7 +38,7 @@ impl UserPort {
     ghost use Rattle.std.specs.List.{list_all};
     ghost use Rattle.user_queues.specs.Opened.{IsNextLane};
     ghost use Rattle.user_queues.specs.Shared.{is_admitted};
-    ghost use Rattle.queue_rule.specs.Views.{new_port, with_taken, with_known, IsTakenInOrder, IsWholeWith};
+    ghost use Rattle.queue_rule.specs.Views.{new_port, with_taken, with_known, IsTakenInOrder, IsTakenOfLanes, IsWholeWith};
 
     /// The port of a queue of a user's own, with room for so many bundles. The user has no lanes yet.
     pub(crate) fn open(alloc: Global, user: usize, room: usize) -> Result<UserPort, AllocError>
@@ -86,6 +86,7 @@ impl UserPort {
         ensures none { IfNone result (self.new ≡ self.old) }
         ensures whole { IfNone result (IsWholeWith self.new.knows []) }
         ensures in_order { IsTakenInOrder self.new.knows }
+        ensures of_lanes { IsTakenOfLanes self.new.knows }
     {
         take(rt, &self.queue, &mut self.pass)
     }

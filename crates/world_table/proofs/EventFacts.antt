@@ -1,5 +1,5 @@
 -- The events of a transaction are of its key.
-use Rattle.std.proofs.Common.{◌≡◌, ℕ, Bool, true, false, if◌then◌else◌, All, List, [], ◌∷◌, Option, Some, None, refl, sym, ap, ◌∙◌, subst}
+use Rattle.std.proofs.Common.{◌≡◌, ℕ, Bool, true, false, if◌then◌else◌, All, List, [], ◌∷◌, Some, None, refl, sym, ap, ◌∙◌, subst}
 use Rattle.std.proofs.lemmas.List.Elements.{All-nil, All-cons}
 use Rattle.std.specs.Option.{option_map}
 use Rattle.cfdp_types.specs.Steps.{is_stamp}
@@ -7,14 +7,12 @@ use Rattle.cfdp_types.specs.declared.key.EntityId.{EntityId}
 use Rattle.cfdp_types.specs.declared.key.TxnKey.{TxnKey}
 use Rattle.txn_events.specs.declared.event.Event.{Event}
 use Rattle.txn_events.specs.declared.event.Event.TheVariants.{Put, On}
-use Rattle.txn_events.specs.declared.event.What.{What}
-use Rattle.txn_events.specs.declared.event.What.TheVariants as what
 use Rattle.lane_table.specs.Logs.{IsOfKey}
 use Rattle.lane_table.specs.Lane.{State, key_at, key_of}
 use Rattle.lane_table.specs.Steps.{IsKeyed, refusal_at, new_transaction, stepped}
 use Rattle.lane_table.specs.Keeping.{events_of, AreTaken}
 use Rattle.lane_table.proofs.RunFacts.{same_by}
-use Rattle.world_table.specs.Histories.{Happening, events_at, AreIdle, IsHistory}
+use Rattle.world_table.specs.Histories.{events_at}
 use Rattle.world_table.specs.HistoryLaws.{IsEventOf, KeepsEventsApart}
 use Rattle.world_table.proofs.HistoryFacts.{runs}
 use Rattle.world_table.proofs.StepKeys.{stamp_is, step_keyed}

@@ -3,7 +3,7 @@
 use crate::telling::deliver;
 use cfdp_types::{EntityId, Image, TxnKey};
 use entity_config::Config;
-use entity_world::{EntityRefusal, World};
+use entity_world::World;
 use std::alloc::{AllocError, Global};
 use std::test::*;
 
@@ -14,20 +14,13 @@ fn push_image(alloc: Global, text: &mut String, image: &Image) -> Result<(), All
     write!(text, "{from} {to} {octets}")
 }
 
-fn push_refusal(text: &mut String, refusal: &EntityRefusal) -> Result<(), AllocError> {
-    match refusal {
-        EntityRefusal::Route(why) => text.push_str(why.name()),
-        EntityRefusal::Lane(refused) => text.push_str(refused.why.name()),
-    }
-}
-
 // The names and octets of a source's transaction 5 in hex, or why there are none.
 fn image_of(alloc: Global, world: &World, source: u64, stamp: u32) -> Result<String, AllocError> {
     let mut text = String::new(alloc);
     let source = EntityId(source);
     match world.image(TxnKey { source, seq: 5 }, stamp) {
         Ok(image) => push_image(alloc, &mut text, &image)?,
-        Err(refusal) => push_refusal(&mut text, &refusal)?,
+        Err(refusal) => text.push_str(refusal.name())?,
     }
     Ok(text)
 }

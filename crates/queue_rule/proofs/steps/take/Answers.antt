@@ -1,6 +1,6 @@
 use Rattle.crossbeam_queue.specs.Passes.{view}
 use Rattle.queue_rule.specs.Views.{port_in}
-use Rattle.queue_rule.proofs.Answered.{may_take, is_whole, is_in_order}
+use Rattle.queue_rule.proofs.Answered.{may_take, is_whole, is_orderly}
 use Rattle.queue_rule.proofs.steps.take.Goals as goal
 
 pub pop_as-requires-clause-rule : goal.pop_as-requires-clause-rule
@@ -14,5 +14,10 @@ returns-clause-whole g c =
 
 pub returns-clause-in_order : goal.returns-clause-in_order
 returns-clause-in_order g c =
-    is_in_order (view c.args.pass.now) (view c.pop_as.new.pass) (port_in (view c.args.pass.now)) c.pop_as.result
-    c.requires.pass.port c.pop_as.ensures.rule
+    (is_orderly (view c.args.pass.now) (view c.pop_as.new.pass) (port_in (view c.args.pass.now)) c.pop_as.result
+    c.requires.pass.port c.pop_as.ensures.rule).0
+
+pub returns-clause-of_lanes : goal.returns-clause-of_lanes
+returns-clause-of_lanes g c =
+    (is_orderly (view c.args.pass.now) (view c.pop_as.new.pass) (port_in (view c.args.pass.now)) c.pop_as.result
+    c.requires.pass.port c.pop_as.ensures.rule).1

@@ -2,7 +2,7 @@ use Rattle.std.proofs.Common.{◌≡◌, List, Ok, Err, refl, sym, ◌∙◌, su
 use Rattle.lane_table.specs.Steps.{plainly}
 use Rattle.world_table.specs.Histories.{Happening}
 use Rattle.entity_routing.specs.Routes.{key_place}
-use Rattle.entity_world.specs.declared.refusal.EntityRefusal.TheVariants.{Lane}
+use Rattle.entity_refusals.specs.declared.refusal.EntityRefusal.TheVariants.{Lane}
 use Rattle.entity_world.specs.Opening.{layout_of}
 use Rattle.entity_world.specs.Worlds.{WorldValue, StandsAfter, IsImage}
 use Rattle.entity_world.proofs.WorldFacts.{lane_of_key}

@@ -2,7 +2,7 @@ use Rattle.std.proofs.Common.{◌<◌, List, Err, ap, length, sym, ◌∙◌, su
 use Rattle.txn_events.specs.declared.event.Event.TheVariants.{Put}
 use Rattle.world_table.specs.Histories.{Happening}
 use Rattle.entity_routing.specs.Routes.{put_params, routed_put}
-use Rattle.entity_world.specs.declared.refusal.EntityRefusal.TheVariants.{Lane}
+use Rattle.entity_refusals.specs.declared.refusal.EntityRefusal.TheVariants.{Lane}
 use Rattle.entity_world.specs.Answering.{Answers}
 use Rattle.entity_world.specs.Opening.{layout_of}
 use Rattle.entity_world.specs.Worlds.{WorldValue, StandsAfter}

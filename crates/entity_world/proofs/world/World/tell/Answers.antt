@@ -1,7 +1,7 @@
 use Rattle.std.proofs.Common.{List, Ok, Err, refl, sym, subst}
 use Rattle.world_table.specs.Histories.{Happening}
 use Rattle.entity_users.proofs.StandFacts.{ok_then}
-use Rattle.entity_world.specs.declared.refusal.EntityRefusal.TheVariants.{Lane}
+use Rattle.entity_refusals.specs.declared.refusal.EntityRefusal.TheVariants.{Lane}
 use Rattle.entity_world.specs.Answering.{AnswersAt}
 use Rattle.entity_world.specs.Opening.{layout_of}
 use Rattle.entity_world.specs.Routed.{IsRoutedTo}

@@ -1,0 +1,42 @@
+ghost use Rattle.std.specs.Prelude.{◌≡◌, Ok, IfOk, IfErr};
+ghost use Rattle.pdu_reading.specs.Reading.{reading};
+ghost use Rattle.entity_refusals.specs.Refusals.{IsNotRead};
+
+use crate::refusal::EntityRefusal;
+use entity_routing::RouteRefusal;
+use lane_table::Refused;
+use pdu_codec::{DecodeFault, Pdu, decode};
+use std::alloc::Global;
+use txn_events::Refusal;
+
+/// The PDU that octets are read as.
+pub fn read_pdu(alloc: Global, octets: &[u8]) -> Result<Pdu, EntityRefusal>
+    ensures read { IfOk result (λ pdu. reading octets.now ≡ Ok pdu) }
+    ensures refused { IfErr result (IsNotRead (reading octets.now)) }
+{
+    match decode(alloc, octets) {
+        Ok(pdu) => Ok(pdu),
+        Err(DecodeFault::NoMemory) => Err(EntityRefusal::Lane(Refused {
+            why: Refusal::NoMemory,
+            echo: None,
+        })),
+        Err(fault) => Err(EntityRefusal::Route(RouteRefusal::DecodeFault(fault))),
+    }
+}
+
+#[cfg(test)]
+mod tests {
+    use super::*;
+    use std::test::*;
+
+    #[test]
+    fn too_short(rt: HostRuntime) -> Result<(), Fail> {
+        let alloc = rt.alloc();
+        let why = read_pdu(alloc, &[0x24]).err().ok_or("it was read")?;
+        assert_eq!(rt; why.number(), 20);
+        assert_eq!(rt; why.name(), "DecodeFault");
+        assert_eq!(rt; EntityRefusal::WrongLane.number(), 26);
+        assert_eq!(rt; EntityRefusal::WrongLane.name(), "WrongLane");
+        Ok(())
+    }
+}
