@@ -1,0 +1,3 @@
+pub mod HeldRows
+pub mod ImageRows
+pub mod AnswerRows

@@ -1,0 +1,132 @@
+//! What the threads of a crowd tell lanes, again and again while a queue is full.
+
+use crate::told::{pause, put};
+use cfdp_types::{TimerKind, TxnKey};
+use entity_routing::{Place, Request};
+use held_lanes::{Gate, Held, Names, Point};
+use indications::Indication;
+use lane_table::Done;
+use shared_entity::{Entity, EntityRefusal};
+use std::alloc::{AllocError, Global};
+use std::sync::Wait;
+use txn_events::{Event, Refusal};
+
+/// How often a thread tries.
+pub(crate) const TURNS: u32 = 1_000_000;
+
+/// What a lane is told.
+#[derive(Drop)]
+pub(crate) enum Act {
+    Put(Place),
+    Suspend(usize, TxnKey),
+    Resume(usize, TxnKey),
+    Cancel(usize, TxnKey),
+    Pump(TxnKey),
+    Deliver([u8; 17]),
+    Acknowledge([u8; 10]),
+    Stored(TxnKey, u32),
+    Timer(TxnKey, TimerKind, u32),
+}
+
+/// What came of it.
+#[derive(Drop)]
+pub(crate) enum Outcome {
+    Taken(Told),
+    Refused(Refusal),
+    Failed,
+}
+
+/// A step, and all that its transaction told until then.
+#[derive(Drop)]
+pub(crate) struct Told {
+    pub(crate) done: Done,
+    pub(crate) trace: Vec<Indication>,
+}
+
+// The lane takes its event, and its trace is read under the same lock.
+#[derive(Drop)]
+struct Tracing {
+    alloc: Global,
+}
+
+impl<N: Names, R: Wait + Copy> Gate<N, R> for Tracing {
+    ghost use Rattle.std.specs.Prelude.{◌≡◌};
+
+    type Answer = Outcome;
+
+    ghost gives = { λ gate old event answer new. new ≡ new };
+
+    fn at(&self, _point: Point) {}
+
+    fn locked(&self, held: &mut Held<N, R>, event: &Event) -> Outcome {
+        match held.step(event) {
+            Ok(done) => match copy_of(self.alloc, held.trace()) {
+                Ok(trace) => Outcome::Taken(Told { done, trace }),
+                Err(AllocError) => Outcome::Failed,
+            },
+            Err(refused) => Outcome::Refused(refused.why),
+        }
+    }
+}
+
+fn copy_of(alloc: Global, trace: &[Indication]) -> Result<Vec<Indication>, AllocError> {
+    let mut copy = Vec::new(alloc);
+    for indication in trace {
+        copy.push(indication.copy()?)?;
+    }
+    Ok(copy)
+}
+
+// What a user asks for, a Put aside.
+fn ask<N: Names, R: Wait + Copy>(
+    rt: &R,
+    gate: &Tracing,
+    entity: &Entity<N, R>,
+    user: usize,
+    request: Request,
+) -> Result<Outcome, EntityRefusal> {
+    if user >= entity.users() || matches!(&request, Request::Put(_, _)) {
+        return Ok(Outcome::Failed);
+    }
+    entity.request(rt, gate, user, request)
+}
+
+fn tell_once<N: Names, R: Wait + Copy>(
+    rt: &R,
+    alloc: Global,
+    entity: &Entity<N, R>,
+    act: &Act,
+) -> Outcome {
+    let gate = Tracing { alloc };
+    let answer = match act {
+        Act::Put(place) => match put(rt, alloc, entity, &gate, *place, 1) {
+            Some(answer) => answer,
+            None => return Outcome::Failed,
+        },
+        Act::Suspend(user, key) => ask(rt, &gate, entity, *user, Request::Suspend(*key)),
+        Act::Resume(user, key) => ask(rt, &gate, entity, *user, Request::Resume(*key)),
+        Act::Cancel(user, key) => ask(rt, &gate, entity, *user, Request::Cancel(*key)),
+        Act::Pump(key) => entity.pump(rt, &gate, *key),
+        Act::Deliver(octets) => entity.deliver(rt, &gate, octets),
+        Act::Acknowledge(octets) => entity.deliver(rt, &gate, octets),
+        Act::Stored(key, stamp) => entity.stored(rt, &gate, *key, *stamp, true),
+        Act::Timer(key, kind, stamp) => entity.timer(rt, &gate, *key, *kind, *stamp),
+    };
+    answer.unwrap_or(Outcome::Failed)
+}
+
+/// Tells a lane, again and again while its user's queue is full.
+pub(crate) fn tell<N: Names, R: Wait + Copy>(
+    rt: &R,
+    alloc: Global,
+    entity: &Entity<N, R>,
+    act: &Act,
+) -> Outcome {
+    for _ in 0..TURNS {
+        match tell_once(rt, alloc, entity, act) {
+            Outcome::Refused(Refusal::QueueFull) => pause(rt),
+            outcome => return outcome,
+        }
+    }
+    Outcome::Failed
+}

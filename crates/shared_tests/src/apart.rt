@@ -1,0 +1,237 @@
+//! A lane that is held back keeps no other waiting.
+
+use crate::runs::{Run, play};
+use crate::told::{Answered, pause, push_answer, push_line, put};
+use entity_config::Config;
+use entity_routing::Place;
+use held_lanes::{Gate, Held, Names, Point};
+use lane_table::{Done, Refused};
+use shared_entity::Entity;
+use std::alloc::{AllocError, Global};
+use std::sync::Wait;
+use std::sync::atomic::{AtomicBool, AtomicU64, Ordering};
+use std::test::*;
+use std::thread;
+use std::thread::Threads;
+use txn_events::Event;
+
+// How often a thread looks.
+const TURNS: u32 = 1_000_000;
+
+// Waits until something has happened, and tells whether it did.
+fn waits_until<R: Wait>(rt: &R, happened: &AtomicBool) -> bool {
+    for _ in 0..TURNS {
+        if happened.load(Ordering::SeqCst) {
+            return true;
+        }
+        pause(rt);
+    }
+    false
+}
+
+// The points that a thread reached, one digit each: 2 for the lock of a lane of the first user, 3 for one of the
+// second, and 1 for a datagram that a worker took, which no call of the entity says.
+#[derive(Drop)]
+struct Points {
+    digits: AtomicU64,
+}
+
+impl Points {
+    fn new() -> Points {
+        Points {
+            digits: AtomicU64::new(0),
+        }
+    }
+
+    fn note(&self, point: Point) {
+        let digit = match point {
+            Point::Taken => 1,
+            Point::Locked(0) => 2,
+            Point::Locked(1) => 3,
+            Point::Locked(_) => 9,
+        };
+        let before = self.digits.load(Ordering::SeqCst);
+        let after = before.wrapping_mul(10).wrapping_add(digit);
+        self.digits.store(after, Ordering::SeqCst);
+    }
+
+    fn read(&self) -> u64 {
+        self.digits.load(Ordering::SeqCst)
+    }
+}
+
+impl<N: Names, R: Wait + Copy> Gate<N, R> for Points {
+    ghost use Rattle.held_lanes.specs.Held.{HasStepped};
+
+    type Answer = Result<Done, Refused>;
+
+    ghost gives = { λ gate old event answer new. HasStepped old event answer new };
+
+    fn at(&self, point: Point) {
+        self.note(point);
+    }
+
+    fn locked(&self, held: &mut Held<N, R>, event: &Event) -> Result<Done, Refused> {
+        held.step(event)
+    }
+}
+
+// Holds a thread with the lock of a lane of the first user, until others were answered and one more tries that lane.
+#[derive(Drop)]
+struct Holding<R: Copy> {
+    rt: R,
+    points: Points,
+    is_held: AtomicBool,
+    are_answered: AtomicBool,
+    is_tried: AtomicBool,
+    was_in_time: AtomicBool,
+    // What the thread that tries the lane reaches, and whether it had the lane while this one held it.
+    tries: Points,
+    was_alone: AtomicBool,
+}
+
+impl<R: Wait + Copy> Holding<R> {
+    fn new(rt: R) -> Holding<R> {
+        Holding {
+            rt,
+            points: Points::new(),
+            is_held: AtomicBool::new(false),
+            are_answered: AtomicBool::new(false),
+            is_tried: AtomicBool::new(false),
+            was_in_time: AtomicBool::new(false),
+            tries: Points::new(),
+            was_alone: AtomicBool::new(false),
+        }
+    }
+
+    fn hold(&self) {
+        self.is_held.store(true, Ordering::SeqCst);
+        let in_time = waits_until(&self.rt, &self.are_answered)
+            && waits_until(&self.rt, &self.is_tried);
+        self.was_in_time.store(in_time, Ordering::SeqCst);
+        for _ in 0..100 {
+            pause(&self.rt);
+        }
+        self.was_alone
+            .store(self.tries.read() == 0, Ordering::SeqCst);
+    }
+}
+
+impl<N: Names, R: Wait + Copy> Gate<N, R> for Holding<R> {
+    ghost use Rattle.held_lanes.specs.Held.{HasStepped};
+
+    type Answer = Result<Done, Refused>;
+
+    ghost gives = { λ gate old event answer new. HasStepped old event answer new };
+
+    fn at(&self, point: Point) {
+        self.points.note(point);
+        if point == Point::Locked(0) {
+            self.hold();
+        }
+    }
+
+    fn locked(&self, held: &mut Held<N, R>, event: &Event) -> Result<Done, Refused> {
+        held.step(event)
+    }
+}
+
+// The Metadata of a file for the first user, and its end.
+const METADATA: [u8; 17] = [0x24, 0, 10, 0, 1, 5, 2, 7, 0, 0, 0, 0, 3, 1, 0x61, 1, 0x62];
+
+const END: [u8; 17] = [0x24, 0, 10, 0, 1, 5, 2, 4, 0, 0, 0, 0, 0, 0, 0, 0, 3];
+
+/// The first user's lane for what comes is held back until both users put a file, and while one more datagram comes
+/// for it.
+pub(crate) fn hold_back<N: Names + Send + Sync, R: Threads + Wait + Copy + Send + Sync>(
+    rt: &R,
+    alloc: Global,
+    text: &mut String,
+    entity: &Entity<N, R>,
+) -> Result<(), AllocError> {
+    let gate = Holding::new(*rt);
+    let (delivered, (put, ended)) = thread::join(
+        rt,
+        || entity.deliver(rt, &gate, &METADATA),
+        || {
+            thread::join(
+                rt,
+                || put_both(rt, alloc, entity, &gate),
+                || try_lane(rt, entity, &gate),
+            )
+        },
+    );
+    text.push_str(put?.as_str())?;
+    push_answer(text, &delivered)?;
+    push_points(text, &gate.points)?;
+    match ended {
+        Some(answer) => push_answer(text, &answer)?,
+        None => push_line(text, "never held")?,
+    }
+    push_points(text, &gate.tries)?;
+    if gate.was_in_time.load(Ordering::SeqCst) {
+        push_line(text, "in time")?;
+    }
+    if gate.was_alone.load(Ordering::SeqCst) {
+        push_line(text, "alone")?;
+    }
+    Ok(())
+}
+
+fn push_points(text: &mut String, points: &Points) -> Result<(), AllocError> {
+    let digits = points.read();
+    writeln!(text, "{digits}")
+}
+
+// Both users put a file while the lane is held.
+fn put_both<N: Names, R: Wait + Copy>(
+    rt: &R,
+    alloc: Global,
+    entity: &Entity<N, R>,
+    gate: &Holding<R>,
+) -> Result<String, AllocError> {
+    let mut text = String::new(alloc);
+    if waits_until(rt, &gate.is_held) {
+        push_noted(rt, alloc, &mut text, entity, Place { user: 1, lane: 0 })?;
+        push_noted(rt, alloc, &mut text, entity, Place { user: 0, lane: 0 })?;
+        gate.are_answered.store(true, Ordering::SeqCst);
+    }
+    Ok(text)
+}
+
+// Adds a line for a Put, and one for the points that its thread reached.
+fn push_noted<N: Names, R: Wait + Copy>(
+    rt: &R,
+    alloc: Global,
+    text: &mut String,
+    entity: &Entity<N, R>,
+    place: Place,
+) -> Result<(), AllocError> {
+    let points = Points::new();
+    match put(rt, alloc, entity, &points, place, 1) {
+        Some(answer) => push_answer(text, &answer)?,
+        None => push_line(text, "no lane")?,
+    }
+    push_points(text, &points)
+}
+
+// The end of the file comes while the lane is held.
+fn try_lane<N: Names, R: Wait + Copy>(
+    rt: &R,
+    entity: &Entity<N, R>,
+    gate: &Holding<R>,
+) -> Option<Answered> {
+    if !waits_until(rt, &gate.is_held) {
+        return None;
+    }
+    gate.is_tried.store(true, Ordering::SeqCst);
+    Some(entity.deliver(rt, &gate.tries, &END))
+}
+
+#[test]
+fn lanes_run_apart(rt: HostRuntime) -> Result<(), Fail> {
+    let alloc = rt.alloc();
+    let text = play(rt, alloc, Config::reference(alloc)?, Run::Apart)?;
+    assert_eq!(rt; text.as_str(), "5\n3\n4\n2\n5\n2\n5\n2\nin time\nalone\n");
+    Ok(())
+}

@@ -1,0 +1,227 @@
+//! What is answered to each call.
+
+use crate::runs::{Run, play};
+use crate::told::{Answered, key, push_answer, push_line, push_put, taken};
+use cfdp_types::{Image, TimerKind, TxnKey};
+use entity_config::Config;
+use entity_routing::{Place, Request};
+use held_lanes::{Names, NoGate};
+use pdu_codec::decode;
+use shared_entity::Entity;
+use std::alloc::{AllocError, Global};
+use std::sync::Wait;
+use std::test::*;
+use user_queues::UserPort;
+
+/// Users put files and ask for what is not theirs.
+pub(crate) fn ask<N: Names, R: Wait + Copy>(
+    rt: &R,
+    alloc: Global,
+    text: &mut String,
+    entity: &Entity<N, R>,
+) -> Result<(), AllocError> {
+    push_put(rt, alloc, text, entity, Place { user: 0, lane: 0 }, 1)?;
+    push_put(rt, alloc, text, entity, Place { user: 1, lane: 0 }, 1)?;
+    push_request(rt, text, entity, 1, Request::Cancel(key(2, 4)))?;
+    push_put(rt, alloc, text, entity, Place { user: 0, lane: 0 }, 1)?;
+    push_put(rt, alloc, text, entity, Place { user: 0, lane: 1 }, 9)
+}
+
+// Adds a line for what a user asks for, a Put aside.
+fn push_request<N: Names, R: Wait + Copy>(
+    rt: &R,
+    text: &mut String,
+    entity: &Entity<N, R>,
+    user: usize,
+    request: Request,
+) -> Result<(), AllocError> {
+    if user >= entity.users() || matches!(&request, Request::Put(_, _)) {
+        return push_line(text, "no user");
+    }
+    push_answer(text, &entity.request(rt, &NoGate, user, request))
+}
+
+/// Each call once.
+pub(crate) fn call<N: Names, R: Wait + Copy>(
+    rt: &R,
+    alloc: Global,
+    text: &mut String,
+    entity: &Entity<N, R>,
+    ports: Vec<UserPort>,
+) -> Result<(), AllocError> {
+    receive(rt, alloc, text, entity)?;
+    for port in ports {
+        push_count(rt, alloc, text, port)?;
+    }
+    push_delivery(
+        rt,
+        alloc,
+        text,
+        entity,
+        "24000a0001060207000000000301610162",
+    )?;
+    push_answer(
+        text,
+        &entity.timer(rt, &NoGate, key(1, 6), TimerKind::Inactivity, 0),
+    )?;
+    push_put(rt, alloc, text, entity, Place { user: 0, lane: 0 }, 1)?;
+    push_answer(text, &entity.pump(rt, &NoGate, key(2, 4)))?;
+    push_request(rt, text, entity, 0, Request::Suspend(key(2, 4)))?;
+    push_request(rt, text, entity, 0, Request::Resume(key(2, 4)))?;
+    push_request(rt, text, entity, 0, Request::Report(key(2, 4)))?;
+    push_request(rt, text, entity, 0, Request::Abandon(key(2, 4)))?;
+    push_request(rt, text, entity, 0, Request::Cancel(key(2, 4)))?;
+    refuse(rt, alloc, text, entity)
+}
+
+// Adds a line for how much a user takes.
+fn push_count<R: Wait>(
+    rt: &R,
+    alloc: Global,
+    text: &mut String,
+    port: UserPort,
+) -> Result<(), AllocError> {
+    let mut port = port;
+    let count = taken(rt, alloc, &mut port)?.len();
+    writeln!(text, "{count}")
+}
+
+// A file comes, and is kept.
+fn receive<N: Names, R: Wait + Copy>(
+    rt: &R,
+    alloc: Global,
+    text: &mut String,
+    entity: &Entity<N, R>,
+) -> Result<(), AllocError> {
+    push_delivery(
+        rt,
+        alloc,
+        text,
+        entity,
+        "24000a0001050207000000000301610162",
+    )?;
+    push_pdu(rt, alloc, text, entity, "3400070001050200000000616263")?;
+    push_delivery(
+        rt,
+        alloc,
+        text,
+        entity,
+        "24000a0001050204006162630000000003",
+    )?;
+    push_image(rt, alloc, text, entity, key(1, 5), 2)?;
+    push_image(rt, alloc, text, entity, key(1, 5), 1)?;
+    push_image(rt, alloc, text, entity, key(7, 5), 2)?;
+    push_answer(text, &entity.stored(rt, &NoGate, key(1, 5), 2, true))
+}
+
+// Datagrams that no lane is told of.
+fn refuse<N: Names, R: Wait + Copy>(
+    rt: &R,
+    alloc: Global,
+    text: &mut String,
+    entity: &Entity<N, R>,
+) -> Result<(), AllocError> {
+    push_delivery(rt, alloc, text, entity, "24")?;
+    push_delivery(
+        rt,
+        alloc,
+        text,
+        entity,
+        "24000a0001050307000000000301610162",
+    )?;
+    push_delivery(
+        rt,
+        alloc,
+        text,
+        entity,
+        "2c000a0002050107000000000301610162",
+    )?;
+    push_delivery(
+        rt,
+        alloc,
+        text,
+        entity,
+        "24000a0009050207000000000301610162",
+    )
+}
+
+// Adds a line for a datagram, in hex.
+fn push_delivery<N: Names, R: Wait + Copy>(
+    rt: &R,
+    alloc: Global,
+    text: &mut String,
+    entity: &Entity<N, R>,
+    digits: &str,
+) -> Result<(), AllocError> {
+    match hex::decode(alloc, digits) {
+        Ok(octets) => push_answer(text, &entity.deliver(rt, &NoGate, octets.as_slice())),
+        Err(_) => push_line(text, "no octets"),
+    }
+}
+
+// The same for a PDU that was read before.
+fn push_pdu<N: Names, R: Wait + Copy>(
+    rt: &R,
+    alloc: Global,
+    text: &mut String,
+    entity: &Entity<N, R>,
+    digits: &str,
+) -> Result<(), AllocError> {
+    match deliver_read(rt, alloc, entity, digits) {
+        Some(answer) => push_answer(text, &answer),
+        None => push_line(text, "no PDU"),
+    }
+}
+
+fn deliver_read<N: Names, R: Wait + Copy>(
+    rt: &R,
+    alloc: Global,
+    entity: &Entity<N, R>,
+    digits: &str,
+) -> Option<Answered> {
+    let octets = hex::decode(alloc, digits).ok()?;
+    let pdu = decode(alloc, octets.as_slice()).ok()?;
+    Some(entity.deliver_pdu(rt, &NoGate, pdu))
+}
+
+// Adds a line for an image: names and octets in hex, or why there is none.
+fn push_image<N: Names, R: Wait + Copy>(
+    rt: &R,
+    alloc: Global,
+    text: &mut String,
+    entity: &Entity<N, R>,
+    key: TxnKey,
+    stamp: u32,
+) -> Result<(), AllocError> {
+    match entity.image(rt, key, stamp) {
+        Ok(image) => push_file(alloc, text, &image),
+        Err(why) => push_line(text, why.name()),
+    }
+}
+
+fn push_file(alloc: Global, text: &mut String, image: &Image) -> Result<(), AllocError> {
+    let from = hex::encode(alloc, image.source_name.as_slice())?;
+    let to = hex::encode(alloc, image.destination_name.as_slice())?;
+    let octets = hex::encode(alloc, image.octets.as_slice())?;
+    writeln!(text, "{from} {to} {octets}")
+}
+
+#[test]
+fn users_ask(rt: HostRuntime) -> Result<(), Fail> {
+    let alloc = rt.alloc();
+    let text = play(rt, alloc, Config::reference(alloc)?, Run::Asking)?;
+    assert_eq!(rt; text.as_str(), "4\n5\nNotYours\nLaneBusy\nUnknownRemote\n");
+    Ok(())
+}
+
+#[test]
+fn each_call(rt: HostRuntime) -> Result<(), Fail> {
+    let alloc = rt.alloc();
+    let text = play(rt, alloc, Config::reference(alloc)?, Run::Calls)?;
+    assert_eq!(rt;
+        text.as_str(),
+        "5\n5\n5\n61 62 616263\nStaleStored\nNoRoute\n5\n4\n0\n6\n6\n4\n4\n4\n4\n4\n4\nOldTransaction\n\
+         DecodeFault\nNotForUs\nWrongDirection\nNoRoute\n"
+    );
+    Ok(())
+}

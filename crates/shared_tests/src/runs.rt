@@ -1,0 +1,90 @@
+//! Runs of an entity that threads share: each opens one, with the queues of its users, and plays.
+ghost use Rattle.std.specs.Prelude.{◌≡◌, ℕ, All, Some, length, slice_get, vec_len};
+ghost use Rattle.std.specs.List.{sum_by};
+ghost use Rattle.entity_routing.specs.Places.{lanes_of};
+ghost use Rattle.user_queues.specs.Opened.{IsOpenedFor};
+
+use crate::{apart, calls, crowd, deliveries, settings};
+use entity_config::Config;
+use held_lanes::Names;
+use shared_entity::{Entity, queues_of};
+use std::alloc::{AllocError, Global};
+use std::marker::Brand;
+use std::sync::Wait;
+use std::thread::Threads;
+use user_queues::{Queues, UserPort};
+
+/// What is played.
+#[derive(Clone, Copy)]
+pub(crate) enum Run {
+    /// Users ask, and are refused.
+    Asking,
+    /// Each call is made once.
+    Calls,
+    /// Two threads deliver, and the entity is closed.
+    Deliveries,
+    /// A lane is held back while others go on.
+    Apart,
+    /// Eight threads work on all lanes.
+    Crowd,
+    /// A queue is filled, and its user takes.
+    Full,
+    /// Files come from entities with parameters of their own.
+    Sources,
+}
+
+/// What a run says, line by line.
+pub(crate) fn play<R: Threads + Wait + Copy + Send + Sync>(
+    rt: R,
+    alloc: Global,
+    config: Config,
+    run: Run,
+) -> Result<String, AllocError> {
+    let queues = queues_of(rt, alloc, &config)?;
+    play_named::<Brand, R>(rt, alloc, config, queues, run)
+}
+
+// The same, over queues that are named.
+fn play_named<N: Names + Send + Sync, R: Threads + Wait + Copy + Send + Sync>(
+    rt: R,
+    alloc: Global,
+    config: Config,
+    queues: Queues<R>,
+    run: Run,
+) -> Result<String, AllocError>
+    requires opened { (user : ℕ) (ends : _) → slice_get queues.users.items user ≡ Some ends
+        → IsOpenedFor user (lanes_of config user) config.entity.capacity ends.port ends.outlets.items }
+    requires named { (user : ℕ) (ends : _) → slice_get queues.users.items user ≡ Some ends
+        → ends.port.queue ≡ N.queue user }
+    requires lanes { N.lanes ≡ sum_by (λ ends. vec_len ends.outlets) queues.users.items }
+    requires users { vec_len queues.users ≡ length config.users }
+{
+    let mut text = String::new(alloc);
+    let (entity, ports) = Entity::<N, R>::open(alloc, config, queues)?;
+    match run {
+        Run::Asking => calls::ask(&rt, alloc, &mut text, &entity)?,
+        Run::Calls => calls::call(&rt, alloc, &mut text, &entity, ports)?,
+        Run::Deliveries => play_first(&rt, alloc, &mut text, entity, ports)?,
+        Run::Apart => apart::hold_back(&rt, alloc, &mut text, &entity)?,
+        Run::Crowd => crowd::crowd(&rt, alloc, &mut text, &entity, ports)?,
+        Run::Full => settings::fill(&rt, alloc, &mut text, &entity, ports)?,
+        Run::Sources => settings::listen(&rt, &mut text, &entity)?,
+    }
+    Ok(text)
+}
+
+// Deliveries to the first user, whose port is the first one.
+fn play_first<N: Names + Send + Sync, R: Threads + Wait + Copy + Send + Sync>(
+    rt: &R,
+    alloc: Global,
+    text: &mut String,
+    entity: Entity<N, R>,
+    ports: Vec<UserPort>,
+) -> Result<(), AllocError>
+    requires { All (λ port. port.queue ≡ N.queue port.knows.user) ports.items }
+{
+    for port in ports {
+        return deliveries::deliver_two(rt, alloc, text, entity, port);
+    }
+    Ok(())
+}
