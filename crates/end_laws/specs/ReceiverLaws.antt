@@ -31,13 +31,15 @@ abbrev pub GivesThePut : Type 0
 GivesThePut = (put : PutValue) (reception : Reception) (log : List Entry) (stamp : ℕ) (image : Image) → IsLegal reception log → AllAgree put log
     → image_at (state_of log) stamp ≡ Ok image → image ≡ image_of_put put
 
--- the file store said that it keeps a file, and the image that it was given last was this one
+-- at some entry of the log the file store said yes to a deposit, and the deposit had given it this image until then
 pub record HasKept (log : List Entry) : Type 0 where
+  -- the entries after its yes, the deposit's stamp, what the yes was answered, and the entries before it
   pub later : List Entry
   pub stamp : ℕ
   pub answer : Answer
   pub front : List Entry
   pub log_is : log ≡ later ++ record { event = what.Stored stamp true; answer = answer } ∷ front
+  -- the file that whoever asks by this stamp was given while the deposit waited
   pub image : Image
   pub image_is : image_at (state_of front) stamp ≡ Ok image
 

@@ -32,7 +32,7 @@ use Rattle.end_laws.specs.Agreement.{image_of_put}
 use Rattle.end_laws.proofs.EntryFacts.{each_contained}
 use Rattle.two_ends.specs.Schedules.{Move, receives, echoes, sender_log, receiver_log, sent_by, ever_sent, IsSchedule}
 use Rattle.two_ends.specs.ScheduleLaws.{HasStored}
-use Rattle.two_ends.proofs.ScheduleFacts.{schedule_before, deposits_are_the_put, tells_what_was_stored}
+use Rattle.two_ends.proofs.ScheduleFacts.{schedule_before, begins_as_schedule, deposits_are_the_put, tells_what_was_stored}
 use Rattle.ends_rows.specs.WorkedSchedules.{key, sending_in, reception_in, sending, reception, to_receiver, metadata_in, part_in, eof_in, finished, finished_acknowledged, Step, at_sender, at_receiver, came, came_back, pump, move_by, moves_by, after, all_sent, sent_again, deposited, stored, told_kept, whole, whole_schedule}
 
 -- ---- the laws, over the worked run
@@ -42,7 +42,10 @@ pub told_schedule : IsSchedule sending reception (after told_kept)
 told_schedule = schedule_before sending reception (move_by sending reception (after told_kept) (came finished_acknowledged)) (after told_kept) whole_schedule
 
 pub stored_schedule : IsSchedule sending reception (after stored)
-stored_schedule = schedule_before sending reception (move_by sending reception (after stored) (came_back finished)) (after stored) told_schedule
+stored_schedule =
+    begins_as_schedule sending reception
+    (move_by sending reception (after told_kept) (came finished_acknowledged) ∷ move_by sending reception (after stored) (came_back finished) ∷ [])
+    (after stored) whole_schedule
 
 pub deposited_schedule : IsSchedule sending reception (after deposited)
 deposited_schedule =
@@ -124,7 +127,7 @@ one_gives = refl
 -- ---- no schedules
 
 -- what is not among these
-absent : (P : PduValue → Type 0) (pdus : List PduValue) (pdu : PduValue) → AllByRecursion P pdus → (P pdu → ⊥) → Contains pdus pdu → ⊥
+pub absent : (P : PduValue → Type 0) (pdus : List PduValue) (pdu : PduValue) → AllByRecursion P pdus → (P pdu → ⊥) → Contains pdus pdu → ⊥
 absent P pdus pdu each not there = not (each_contained P pdus pdu each there)
 
 -- a Finished that no receiver sent: the sender would take it, and tell of a complete delivery

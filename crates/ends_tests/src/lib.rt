@@ -7,6 +7,8 @@ mod entities;
 #[cfg(test)]
 mod link;
 #[cfg(test)]
+mod seen;
+#[cfg(test)]
 mod two_worlds;
 #[cfg(test)]
 mod worked_run;

@@ -1,11 +1,12 @@
 //! Two entities and all that either ever sent.
 
 use crate::entities::{deliver, expire, file_for_one, pump, put, store};
+use crate::seen::{Seen, count};
 use cfdp_types::{Class, Delivery, Deposit, Image, Octets, TimerKind, TimerOp, TxnKey};
 use entity_world::{EntityRefusal, World};
 use indications::{Bundle, Indication};
 use lane_table::{Done, Refused};
-use pdu_codec::{Pdu, encode};
+use pdu_codec::{Body, Pdu, encode};
 use std::alloc::{AllocError, Global};
 
 /// One of the two.
@@ -24,23 +25,24 @@ struct Armed {
     stamp: u32,
 }
 
-// A file that was put: which, and whether the file store keeps it.
+// A PDU that was sent.
+#[derive(Drop)]
+struct Sent {
+    octets: Octets,
+    is_nak: bool,
+}
+
+// A file that was put: which, whether the file store keeps it, whether parts of it were asked for once more, and
+// whether the users at either end were told that it is complete.
 #[derive(Clone, Copy)]
 struct Posted {
     key: TxnKey,
+    class: Class,
     number: u64,
     is_stored: bool,
-}
-
-/// What was seen of a run.
-#[derive(Clone, Copy)]
-pub(crate) struct Seen {
-    /// Files that were handed out to be stored.
-    pub(crate) images: u64,
-    /// Complete deliveries that the sender's users were told of.
-    pub(crate) completes: u64,
-    /// Files that are not the one that was put, and complete deliveries of files that were not stored.
-    pub(crate) wrongs: u64,
+    is_asked_for: bool,
+    is_told_sender: bool,
+    is_told_receiver: bool,
 }
 
 /// An entity that puts files and one that receives them.
@@ -49,7 +51,7 @@ pub(crate) struct Link {
     alloc: Global,
     putting: World,
     receiving: World,
-    sent: Vec<Octets>,
+    sent: Vec<Sent>,
     armed: Vec<Armed>,
     deposits: Vec<Deposit>,
     posted: Vec<Posted>,
@@ -92,16 +94,16 @@ fn is_complete(indication: &Indication) -> bool {
     )
 }
 
-// A number among these, if there are any; every other time one of the last sixteen.
+// A number among these, if there are any; seven times in eight one of the last sixteen.
 fn chosen(count: usize, lot: u32) -> Option<usize> {
     if count == 0 {
         return None;
     }
     let lot = lot as usize;
-    if lot % 2 == 0 && count > 16 {
-        Some(count - 1 - lot / 2 % 16)
+    if lot % 8 != 0 && count > 16 {
+        Some(count - 1 - lot / 8 % 16)
     } else {
-        Some(lot / 2 % count)
+        Some(lot / 8 % count)
     }
 }
 
@@ -116,11 +118,7 @@ impl Link {
             armed: Vec::new(alloc),
             deposits: Vec::new(alloc),
             posted: Vec::new(alloc),
-            seen: Seen {
-                images: 0,
-                completes: 0,
-                wrongs: 0,
-            },
+            seen: Seen::default(),
         }
     }
 
@@ -130,27 +128,28 @@ impl Link {
     }
 
     fn send(&mut self, pdu: &Pdu) -> Result<(), AllocError> {
+        let is_nak = matches!(pdu.body(), Body::Nak(_));
+        if is_nak {
+            count(&mut self.seen.naks);
+        }
         let mut octets = Vec::new(self.alloc);
         encode(pdu, &mut octets)?;
-        self.sent.push(Octets::from_vec(octets))?;
+        let octets = Octets::from_vec(octets);
+        self.sent.push(Sent { octets, is_nak })?;
         Ok(())
     }
 
     // The file that is handed out is looked at.
     fn look(&mut self, deposit: Deposit) -> Result<(), AllocError> {
         self.deposits.push(deposit)?;
-        self.seen.images = self.seen.images.wrapping_add(1);
-        let mut is_right = false;
-        for posted in &self.posted {
-            if posted.key == deposit.key {
-                if let Ok(image) = self.receiving.image(deposit.key, deposit.stamp) {
-                    is_right = is_file(self.alloc, &image, posted.number)?;
-                }
-            }
-        }
-        if !is_right {
-            self.seen.wrongs = self.seen.wrongs.wrapping_add(1);
-        }
+        let posted = self.posted.iter().find(|posted| posted.key == deposit.key);
+        let (Some(posted), Ok(image)) = (posted, self.receiving.image(deposit.key, deposit.stamp))
+        else {
+            count(&mut self.seen.wrongs);
+            return Ok(());
+        };
+        let is_right = is_file(self.alloc, &image, posted.number)?;
+        self.seen.look(posted.class, is_right);
         Ok(())
     }
 
@@ -191,7 +190,10 @@ impl Link {
                         ..
                     },
                 ),
-            ) => self.send(pdu),
+            ) => {
+                count(&mut self.seen.echoes);
+                self.send(pdu)
+            }
             Err(_) => Ok(()),
         }
     }
@@ -214,8 +216,12 @@ impl Link {
             let key = done.key;
             self.posted.push(Posted {
                 key,
+                class,
                 number,
                 is_stored: false,
+                is_asked_for: false,
+                is_told_sender: false,
+                is_told_receiver: false,
             })?;
         }
         self.note(End::Putting, &answer)
@@ -226,10 +232,14 @@ impl Link {
         let Some(place) = chosen(self.posted.len(), lot) else {
             return Ok(());
         };
-        let Some(posted) = self.posted.get(place) else {
+        let Some(posted) = self.posted.get_mut(place) else {
             return Ok(());
         };
         let answer = pump(&mut self.putting, posted.key);
+        if posted.is_asked_for && answer.is_ok() {
+            posted.is_asked_for = false;
+            count(&mut self.seen.sent_again);
+        }
         self.note(End::Putting, &answer)
     }
 
@@ -238,15 +248,30 @@ impl Link {
         let Some(place) = chosen(self.sent.len(), lot) else {
             return Ok(());
         };
-        let Some(octets) = self.sent.get(place) else {
+        let Some(sent) = self.sent.get(place) else {
             return Ok(());
         };
-        let octets = octets.copy()?;
+        let is_nak = sent.is_nak;
+        let octets = sent.octets.copy()?;
         let answer = match end {
             End::Putting => deliver(&mut self.putting, octets),
             End::Receiving => deliver(&mut self.receiving, octets),
         };
+        if let Ok(done) = &answer {
+            if is_nak {
+                self.ask(done.key);
+            }
+        }
         self.note(end, &answer)
+    }
+
+    // Parts of a file are asked for once more: only the sender takes a NAK.
+    fn ask(&mut self, key: TxnKey) {
+        for posted in &mut self.posted {
+            if posted.key == key {
+                posted.is_asked_for = true;
+            }
+        }
     }
 
     /// A timer expires: any that was ever armed.
@@ -267,6 +292,12 @@ impl Link {
             End::Putting => expire(&mut self.putting, key, kind, stamp),
             End::Receiving => expire(&mut self.receiving, key, kind, stamp),
         };
+        if answer.is_ok() {
+            match end {
+                End::Putting => count(&mut self.seen.expired_sender),
+                End::Receiving => count(&mut self.seen.expired_receiver),
+            }
+        }
         self.note(end, &answer)
     }
 
@@ -281,8 +312,12 @@ impl Link {
         let Deposit { key, stamp } = *deposit;
         let kept = lot % 5 != 0;
         let answer = store(&mut self.receiving, key, stamp, kept);
-        if kept && answer.is_ok() {
-            self.keep(key);
+        if answer.is_ok() {
+            if kept {
+                self.keep(key);
+            } else {
+                count(&mut self.seen.rejected);
+            }
         }
         self.note(End::Receiving, &answer)
     }
@@ -295,20 +330,33 @@ impl Link {
         }
     }
 
-    fn is_stored(&self, key: TxnKey) -> bool {
-        self.posted
-            .iter()
-            .any(|posted| posted.key == key && posted.is_stored)
-    }
-
-    fn hear(&mut self, bundle: &Bundle) {
-        for indication in bundle.inds.as_slice() {
-            if is_complete(indication) {
-                self.seen.completes = self.seen.completes.wrapping_add(1);
-                if !self.is_stored(bundle.key) {
-                    self.seen.wrongs = self.seen.wrongs.wrapping_add(1);
+    // A user is told that a file is complete: it has to be stored.
+    fn hear_complete(&mut self, end: End, key: TxnKey) {
+        let mut is_stored = false;
+        for posted in &mut self.posted {
+            if posted.key == key {
+                is_stored = posted.is_stored;
+                match end {
+                    End::Putting => posted.is_told_sender = true,
+                    End::Receiving => posted.is_told_receiver = true,
+                }
+                if posted.is_told_sender && posted.is_told_receiver {
+                    count(&mut self.seen.told_both);
                 }
             }
+        }
+        if !is_stored {
+            count(&mut self.seen.wrongs);
+        }
+    }
+
+    fn hear(&mut self, end: End, bundle: &Bundle) {
+        if bundle.inds.as_slice().iter().any(is_complete) {
+            match end {
+                End::Putting => count(&mut self.seen.told_sender),
+                End::Receiving => count(&mut self.seen.told_receiver),
+            }
+            self.hear_complete(end, bundle.key);
         }
     }
 
@@ -317,13 +365,15 @@ impl Link {
         for user in 0..self.putting.users() {
             if user < self.putting.users() {
                 if let Some(bundle) = self.putting.take(user) {
-                    self.hear(&bundle);
+                    self.hear(End::Putting, &bundle);
                 }
             }
         }
         for user in 0..self.receiving.users() {
             if user < self.receiving.users() {
-                let _bundle = self.receiving.take(user);
+                if let Some(bundle) = self.receiving.take(user) {
+                    self.hear(End::Receiving, &bundle);
+                }
             }
         }
     }

@@ -1,4 +1,5 @@
-//! Whatever the link does, each file that is handed out is the one that was put, and what is told as complete was stored.
+//! Whatever the link does, each file that is handed out is the one that was put, and what is told as complete was
+//! stored. The run is long enough to meet all that a link can do, as its counts show.
 
 use crate::entities::{entity_one, entity_two};
 use crate::link::{End, Link};
@@ -50,7 +51,20 @@ fn two_worlds(rt: HostRuntime) -> Result<(), Fail> {
     }
     let seen = link.seen();
     assert_eq!(rt; seen.wrongs, 0);
-    assert!(rt; seen.images > 20, "{}", seen.images);
-    assert!(rt; seen.completes > 10, "{}", seen.completes);
+    for (what, times, least) in [
+        ("files of class 1", seen.images_one, 5),
+        ("files of class 2", seen.images_two, 12),
+        ("files that were not kept", seen.rejected, 2),
+        ("told at the sender", seen.told_sender, 10),
+        ("told at the receiver", seen.told_receiver, 15),
+        ("told at both", seen.told_both, 10),
+        ("timers of the sender", seen.expired_sender, 6),
+        ("timers of the receiver", seen.expired_receiver, 4),
+        ("NAKs", seen.naks, 4),
+        ("sent again", seen.sent_again, 4),
+        ("echoes", seen.echoes, 100),
+    ] {
+        assert!(rt; times >= least, "{what}: {times}");
+    }
     Ok(())
 }

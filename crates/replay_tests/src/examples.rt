@@ -256,3 +256,61 @@ fn a_cancelled_put(rt: HostRuntime) -> Result<(), Fail> {
         ",
     )
 }
+
+const TWO_ENDS: &str =
+    r#"# Both ends of one transfer, seen from entity 2, which sends: alice puts the three octets "abc" for entity 1 in class 2.
+# What entity 1 does, and what passes between the two, stands in the remarks.
+put alice 0 2 1 a b 616263
+# The Metadata is sent, and lost on the way ...
+pump 2 4
+# ... so are the octets ...
+pump 2 4
+# ... and only the EOF reaches entity 1. It acknowledges the EOF (28000300020401064001) and asks by a NAK for all that
+# is missing.
+pump 2 4
+# The acknowledgement is lost. The NAK comes: the Metadata, and octets 0 to 2.
+pdu 2800190002040108000000000000000300000000000000000000000000000003
+# The Metadata is sent again. It reaches entity 1, which now knows the names, and sends nothing.
+pump 2 4
+# The octets are sent again, and reach it. The file is whole: entity 1 hands it to its file store ...
+pump 2 4
+# ... and here there is nothing left to be sent.
+pump 2 4
+# Entity 1's file store has kept the file, so its Finished says complete and retained.
+pdu 280002000204010502
+# The acknowledgement of the Finished goes back, and entity 1 is done, too. Only now is alice told that the file arrived.
+take alice
+take alice
+take alice
+take alice
+"#;
+
+#[test]
+fn two_ends(rt: HostRuntime) -> Result<(), Fail> {
+    plays(
+        &rt,
+        TWO_ENDS,
+        "
+        ok
+        txn 2 4
+        ok
+        pdu 20000a0002040107000000000301610162
+        ok
+        pdu 3000070002040100000000616263
+        ok
+        pdu 20000a0002040104006162630000000003
+        ok
+        ok
+        pdu 20000a0002040107000000000301610162
+        ok
+        pdu 3000070002040100000000616263
+        refused 8 WrongState
+        ok
+        pdu 20000300020401065102
+        alice 2 4 Transaction
+        alice 2 4 EOF-Sent
+        alice 2 4 Transaction-Finished 0 complete retained
+        none
+        ",
+    )
+}

@@ -1,0 +1,50 @@
+//! What is seen of a run of two entities.
+
+use cfdp_types::Class;
+
+/// How often each thing happened.
+#[derive(Clone, Copy, Default)]
+pub(crate) struct Seen {
+    /// Files of class 1 that were handed out to be stored, and looked at.
+    pub(crate) images_one: u64,
+    /// Those of class 2.
+    pub(crate) images_two: u64,
+    /// Files that the file store did not keep.
+    pub(crate) rejected: u64,
+    /// Complete deliveries that the sender's users were told of.
+    pub(crate) told_sender: u64,
+    /// Complete deliveries that the receiver's users were told of.
+    pub(crate) told_receiver: u64,
+    /// Files that the users at both ends were told of as complete.
+    pub(crate) told_both: u64,
+    /// Timers that expired in time at the sender.
+    pub(crate) expired_sender: u64,
+    /// Those at the receiver.
+    pub(crate) expired_receiver: u64,
+    /// NAKs that the receiver sent.
+    pub(crate) naks: u64,
+    /// PDUs that were sent again because a NAK asked for them.
+    pub(crate) sent_again: u64,
+    /// PDUs that came of transactions that were over, and were echoed.
+    pub(crate) echoes: u64,
+    /// Files that are not the one that was put, and complete deliveries of files that were not stored.
+    pub(crate) wrongs: u64,
+}
+
+/// Once more.
+pub(crate) fn count(times: &mut u64) {
+    *times = times.wrapping_add(1);
+}
+
+impl Seen {
+    /// A file of this class was looked at.
+    pub(crate) fn look(&mut self, class: Class, is_right: bool) {
+        match class {
+            Class::One => count(&mut self.images_one),
+            Class::Two => count(&mut self.images_two),
+        }
+        if !is_right {
+            count(&mut self.wrongs);
+        }
+    }
+}
