@@ -1,9 +1,7 @@
-//! The public calls of the crates that hold types, numbers, sets, PDUs, words, timers, configurations, stores and
-//! scripts: each as its callers see it.
+//! The public calls of the crates that hold types, numbers, sets, words, timers, configurations, stores and scripts: each
+//! as its callers see it.
 #![tactic(auto)]
 
-#[cfg(test)]
-mod codec;
 #[cfg(test)]
 mod configs;
 #[cfg(test)]
@@ -11,11 +9,7 @@ mod events;
 #[cfg(test)]
 mod gaps;
 #[cfg(test)]
-mod headers;
-#[cfg(test)]
 mod lines;
-#[cfg(test)]
-mod pdus;
 #[cfg(test)]
 mod stores;
 #[cfg(test)]

@@ -1,0 +1,9 @@
+//! PDUs as values and as octets, as callers see them: one vector for each kind, length and fault.
+#![tactic(auto)]
+
+#[cfg(test)]
+mod codec;
+#[cfg(test)]
+mod headers;
+#[cfg(test)]
+mod pdus;
