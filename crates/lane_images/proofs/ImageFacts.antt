@@ -119,14 +119,16 @@ legal_of (Some l) number (Some other) log run last is = subst IsLegal (some_is o
 legal_of (Some l) number None log run last is = absurd cc
 legal_of None number found log run last is = absurd cc
 
-own_by : (key : TxnKey) (stamp : ℕ) (image : Image) (log : Log) → IsUnder key log → IsLegal log → image_in log stamp ≡ Ok image → IsOwnFile key stamp image
-own_by key stamp image (sent sending log) under legal is = absurd (no_image refusal.StaleStored image is)
-own_by key stamp image (received reception log) under legal is =
+own_by : (state : State) (key : TxnKey) (stamp : ℕ) (image : Image) (log : Log) → log_of state ≡ Some log → IsUnder key log → IsLegal log
+    → image_in log stamp ≡ Ok image → IsOwnFile state key stamp image
+own_by state key stamp image (sent sending log) log_is under legal is = absurd (no_image refusal.StaleStored image is)
+own_by state key stamp image (received reception log) log_is under legal is =
     let waits = waits_by log stamp image (is_stamp (receiver.state_of log).waiting stamp) refl is in
     let good : IsGiven (receiver.state_of log) stamp = deposits_good reception log stamp legal waits in
     record {
       reception = reception;
       log = log;
+      log_is = log_is;
       key_is = under;
       legal = legal;
       waits = waits;
@@ -141,6 +143,6 @@ gives_own_files state key stamp image sound is =
     let last : state.last ≡ Some key.seq = stamp_is state.last key.seq both.1 in
     let there : log_from state.side state.source (Some key.seq) state.journal ≡ Some given.log =
     ap (λ (o : Option ℕ). log_from state.side state.source o state.journal) (sym last) ∙ given.log_is in
-    own_by key stamp image given.log
+    own_by state key stamp image given.log given.log_is
     (subst (λ (k : TxnKey). IsUnder k given.log) (same_key key state.source both.0) (log_under state.side state.source key.seq state.journal given.log there))
     (legal_of state.last key.seq (log_of state) given.log sound.run last given.log_is) given.given

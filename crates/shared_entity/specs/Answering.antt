@@ -38,13 +38,13 @@ abbrev pub MayAnswer : {A : Type 0} → (ℕ → TableId) → (HeldValue → Eve
 MayAnswer queue gives (Err why) result = result ≡ Err (answer.Route why)
 MayAnswer queue gives (Ok routed) result = MayAnswerAt queue gives routed result
 
--- the file of a deposit that waits at the lane of a place, for what lay behind its lock; it is the good file of a
--- reception under that very key
+-- the file of a deposit that waits at the lane of a place, for what lay behind its lock; it is the good file of that lane's
+-- own reception, under that very key
 pub record MayBeImage (queue : ℕ → TableId) (place : Place) (key : TxnKey) (stamp : ℕ) (image : Image) : Type 0 where
   pub held : HeldValue
   pub there : IsAt queue place held
   pub is_given : image_of held.lane key stamp ≡ Ok image
-  pub is_own : IsOwnFile key stamp image
+  pub is_own : IsOwnFile held.lane key stamp image
 
 -- why a lane gave no image, for what lay behind its lock
 pub record MayLackImage (queue : ℕ → TableId) (place : Place) (key : TxnKey) (stamp : ℕ) (why : EntityRefusal) : Type 0 where

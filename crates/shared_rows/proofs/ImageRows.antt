@@ -1,5 +1,5 @@
 -- Worked images of a lane that receives: of which reception each is.
-use Rattle.std.proofs.Common.{◌≡◌, ℕ, List, [], ◌∷◌, ◌++◌, length, Some, None, Result, Ok, Err, slice_get, refl, sym, ap, ◌∙◌, subst, append_assoc, arith}
+use Rattle.std.proofs.Common.{◌≡◌, ℕ, List, [], ◌∷◌, ◌++◌, length, Option, Some, None, Result, Ok, Err, slice_get, refl, sym, ap, ◌∙◌, subst, append_assoc, arith}
 use Rattle.std.proofs.lemmas.List.{append-nil}
 use Rattle.cfdp_types.specs.Reference.{reference}
 use Rattle.cfdp_types.specs.declared.image.Image.{Image}
@@ -17,7 +17,7 @@ use Rattle.txn_events.specs.declared.answer.Answer.{Answer}
 use Rattle.txn_events.specs.declared.event.Event.{Event}
 use Rattle.txn_events.specs.declared.refusal.Refusal.{Refusal}
 use Rattle.lane_table.specs.Lane as lanes
-use Rattle.lane_table.specs.Logs.{received, to_receiver}
+use Rattle.lane_table.specs.Logs.{Log, sent, received, to_receiver}
 use Rattle.lane_table.specs.Steps.{stepped}
 use Rattle.lane_table.specs.Keeping.{Keeps, bundle_of, sent_after, AreTaken}
 use Rattle.lane_table.proofs.StepFacts.{idle_keeps, idle_sound}
@@ -63,21 +63,21 @@ stands_at = refl
 -- ---- what is given
 
 -- the lane gives the file of the deposit, so that is the good file of a reception under its key
-pub own_file : IsOwnFile (key 5) 2 image
+pub own_file : IsOwnFile storing (key 5) 2 image
 own_file = gives_own_files storing (key 5) 2 image stands.0 image_waits
 
 -- that is: names as the Metadata has them, the EOF's size, and the octets that came
-names_came : (own : IsOwnFile (key 5) 2 image)
+names_came : (own : IsOwnFile storing (key 5) 2 image)
     → (own.given.good.metadata.source_name ≡ 97 ∷ []) × (own.given.good.metadata.destination_name ≡ 98 ∷ [])
 names_came own = (
   sym own.given.source_name ∙ ap (λ (i : Image). i.source_name) own.image_is,
   sym own.given.destination_name ∙ ap (λ (i : Image). i.destination_name) own.image_is,
 )
 
-size_came : (own : IsOwnFile (key 5) 2 image) → own.given.good.eof.size ≡ 3
+size_came : (own : IsOwnFile storing (key 5) 2 image) → own.given.good.eof.size ≡ 3
 size_came own = sym own.given.size ∙ ap (λ (i : Image). length i.octets) own.image_is
 
-octet_came : (own : IsOwnFile (key 5) 2 image) → (state_of own.log).received 1 ≡ Some 98
+octet_came : (own : IsOwnFile storing (key 5) 2 image) → (state_of own.log).received 1 ≡ Some 98
 octet_came own =
     let size : own.given.good.eof.size ≡ 3 = size_came own in
     sym (own.given.octets 1 (omega (arith, size))) ∙ ap (λ (i : Image). slice_get i.octets 1) own.image_is
@@ -85,20 +85,37 @@ octet_came own =
 -- ---- what is not
 
 -- not under another key, or by another stamp
-not_under_another_key : (own : IsOwnFile (key 6) 2 image) → own.reception ≡ reception → ⊥
+not_under_another_key : (own : IsOwnFile storing (key 6) 2 image) → own.reception ≡ reception → ⊥
 not_under_another_key own is =
     let number : 5 ≡ 6 = ap (λ (r : Reception). r.key.seq) (sym is) ∙ ap (λ (k : TxnKey). k.seq) own.key_is in omega (arith, number)
 
-not_by_another_stamp : (own : IsOwnFile (key 5) 3 image) → own.log ≡ log → ⊥
+not_by_another_stamp : (own : IsOwnFile storing (key 5) 3 image) → own.log ≡ log → ⊥
 unfolding initial step state_of runs_of runs_from
 not_by_another_stamp own is =
     let stamp : 2 ≡ 3 = some_is 2 3 (ap (λ (l : List Entry). (state_of l).waiting) (sym is) ∙ own.waits) in omega (arith, stamp)
+
+-- nor of a lane that never had a transaction, and not of a log that is not the lane's own
+no_log : (log : Log) → (let none : Option Log = None in none) ≡ Some log → ⊥
+no_log log e = cc
+
+not_of_a_fresh_lane : IsOwnFile fresh (key 5) 2 image → ⊥
+not_of_a_fresh_lane own = no_log (received own.reception own.log) own.log_is
+
+not_of_a_shorter_log : (own : IsOwnFile storing (key 5) 2 image) → length own.log ≡ 2 → ⊥
+not_of_a_shorter_log own is =
+    let three : 3 ≡ length own.log = ap entries_in (sym stands_at ∙ own.log_is) in
+    let both : 3 ≡ 2 = three ∙ is in omega (arith, both)
+  where
+    entries_in : Option Log → ℕ
+    entries_in (Some (received reception log)) = length log
+    entries_in (Some (sent sending log)) = 0
+    entries_in None = 0
 
 -- nor where no deposit waits
 none_waits : (stamp : ℕ) → None ≡ Some stamp → ⊥
 none_waits stamp e = cc
 
-not_before_the_eof : (own : IsOwnFile (key 5) 2 image) → own.log ≡ log_of reception (to_receiver (metadata One 5 ∷ part One 5 ∷ [])) → ⊥
+not_before_the_eof : (own : IsOwnFile storing (key 5) 2 image) → own.log ≡ log_of reception (to_receiver (metadata One 5 ∷ part One 5 ∷ [])) → ⊥
 unfolding initial step state_of runs_of runs_from
 not_before_the_eof own is = none_waits 2 (ap (λ (l : List Entry). (state_of l).waiting) (sym is) ∙ own.waits)
 
@@ -107,7 +124,7 @@ abbrev octets_in : Result Image Refusal → ℕ
 octets_in (Ok given) = length given.octets
 octets_in (Err why) = 0
 
-not_cut_off : (own : IsOwnFile (key 5) 2 (record image { octets = 97 ∷ 98 ∷ [] })) → own.log ≡ log → ⊥
+not_cut_off : (own : IsOwnFile storing (key 5) 2 (record image { octets = 97 ∷ 98 ∷ [] })) → own.log ≡ log → ⊥
 unfolding initial step state_of runs_of runs_from
 not_cut_off own is =
     let given : 3 ≡ length own.given.image.octets = ap octets_in (ap (λ (l : List Entry). image_at (state_of l) 2) (sym is) ∙ own.given.given) in
@@ -122,7 +139,7 @@ abbrev told_in : Result Answer Refusal → ℕ
 told_in (Ok answer) = length answer.inds
 told_in (Err why) = 0
 
-not_illegal : (own : IsOwnFile (key 5) 2 image) → own.reception ≡ reception → own.log ≡ silenced log → ⊥
+not_illegal : (own : IsOwnFile storing (key 5) 2 image) → own.reception ≡ reception → own.log ≡ silenced log → ⊥
 unfolding initial step state_of answer_at runs_of runs_from
 not_illegal own is logged =
     let legal : IsLegal reception (silenced log) =
