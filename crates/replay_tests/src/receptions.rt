@@ -1,312 +1,158 @@
 //! Files that come in class 1, from entity 1 for alice.
 
-use crate::play::plays;
+use crate::play::all_play;
 use std::test::*;
 
-#[test]
-fn an_empty_file(rt: HostRuntime) -> Result<(), Fail> {
-    plays(
-        &rt,
+// Each with what it is about.
+const SCRIPTS: &[(&str, &str)] = &[
+    (
+        "an empty file",
         "
-        pdu 24000a0001050207000000000001610162
-        pdu 24000a0001050204000000000000000000
-        stored 1 5 1 yes
-        take alice
-        take alice
-        take alice
-        take alice
+        pdu 24000a0001050207000000000001610162: ok
+        pdu 24000a0001050204000000000000000000: ok; deposit 1
+        stored 1 5 1 yes: ok
+        take alice: alice 1 5 Metadata-Recv 1 0 61 62
+        take alice: alice 1 5 EOF-Recv
+        take alice: alice 1 5 Transaction-Finished 0 complete retained
+        take alice: none
         ",
+    ),
+    (
+        "the end first",
         "
-        ok
-        ok
-        deposit 1
-        ok
-        alice 1 5 Metadata-Recv 1 0 61 62
-        alice 1 5 EOF-Recv
-        alice 1 5 Transaction-Finished 0 complete retained
-        none
+        pdu 24000a0001050204006162630000000003: ok
+        pdu 3400070001050200000000616263: ok
+        pdu 24000a0001050207000000000301610162: ok; deposit 2
+        take alice: alice 1 5 EOF-Recv
+        take alice: alice 1 5 File-Segment-Recv 0 3
+        take alice: alice 1 5 Metadata-Recv 1 3 61 62
+        take alice: none
         ",
-    )
-}
+    ),
+    (
+        "a store that refuses",
+        "
+        pdu 24000a0001050207000000000301610162: ok
+        pdu 3400070001050200000000616263: ok
+        pdu 24000a0001050204006162630000000003: ok; deposit 2
+        pdu 24000a0001050207000000000301610162: refused 7 Storing
+        stored 1 5 1 yes: refused 6 StaleStored
+        stored 1 5 2 no: ok
+        pdu 24000a0001050207000000000301610162: refused 2 OldTransaction
+        take alice: alice 1 5 Metadata-Recv 1 3 61 62
+        take alice: alice 1 5 File-Segment-Recv 0 3
+        take alice: alice 1 5 EOF-Recv
+        take alice: alice 1 5 Transaction-Finished 4 incomplete rejected
+        take alice: none
+        ",
+    ),
+    (
+        "asked while storing",
+        "
+        pdu 24000a0001050207000000000001610162: ok
+        pdu 24000a0001050204000000000000000000: ok; deposit 1
+        report alice 1 5: ok
+        cancel alice 1 5: refused 7 Storing
+        abandon alice 1 5: refused 7 Storing
+        timer 1 5 check 1: refused 5 StaleTimer
+        stored 1 5 1 yes: ok
+        stored 1 5 1 yes: refused 2 OldTransaction
+        take alice: alice 1 5 Metadata-Recv 1 0 61 62
+        take alice: alice 1 5 EOF-Recv
+        take alice: alice 1 5 Report storing 0
+        take alice: alice 1 5 Transaction-Finished 0 complete retained
+        take alice: none
+        ",
+    ),
+    (
+        "a part between two",
+        "
+        pdu 340008000105020000000061626364: ok
+        pdu 3400080001050200000008696a6b6c: ok
+        pdu 34000c00010502000000027879657a66677879: ok
+        take alice: alice 1 5 File-Segment-Recv 0 4
+        take alice: alice 1 5 File-Segment-Recv 8 4
+        take alice: alice 1 5 File-Segment-Recv 4 4
+        take alice: none
+        ",
+    ),
+    (
+        "a part over others",
+        "
+        pdu 34000600010502000000006162: ok
+        pdu 34000600010502000000046566: ok
+        pdu 34000c00010502000000006162636465666768: ok
+        take alice: alice 1 5 File-Segment-Recv 0 2
+        take alice: alice 1 5 File-Segment-Recv 4 2
+        take alice: alice 1 5 File-Segment-Recv 2 2; alice 1 5 File-Segment-Recv 6 2
+        take alice: none
+        ",
+    ),
+    (
+        "octets that came first stay",
+        "
+        pdu 24000a0001050207000000000301610162: ok
+        pdu 3400070001050200000000616263: ok
+        pdu 34000700010502000000007a7a7a: ok
+        pdu 24000a0001050204006162630000000003: ok; deposit 3
+        take alice: alice 1 5 Metadata-Recv 1 3 61 62
+        take alice: alice 1 5 File-Segment-Recv 0 3
+        take alice: alice 1 5 EOF-Recv
+        take alice: none
+        ",
+    ),
+    (
+        "file data without octets",
+        "
+        pdu 3400040001050200000000: ok
+        take alice: none
+        ",
+    ),
+    (
+        "messages to the user",
+        "
+        pdu 24001200010502070000000003016101620202686905000200: ok
+        take alice: alice 1 5 Metadata-Recv 1 3 61 62 6869 -
+        ",
+    ),
+    (
+        "reports",
+        "
+        pdu 24000a0001050207000000000301610162: ok
+        pdu 3400070001050200000000616263: ok
+        report alice 1 5: ok
+        suspend alice 1 5: refused 8 WrongState
+        resume alice 1 5: refused 8 WrongState
+        take alice: alice 1 5 Metadata-Recv 1 3 61 62
+        take alice: alice 1 5 File-Segment-Recv 0 3
+        take alice: alice 1 5 Report active 3
+        take alice: none
+        ",
+    ),
+    (
+        "abandoned",
+        "
+        pdu 3400070001050200000000616263: ok
+        abandon alice 1 5: ok
+        abandon alice 1 5: refused 2 OldTransaction
+        take alice: alice 1 5 File-Segment-Recv 0 3
+        take alice: alice 1 5 Abandoned 15 3
+        take alice: none
+        ",
+    ),
+    (
+        "cancelled by its sender",
+        "
+        pdu 24000a0001050207000000000301610162: ok
+        pdu 24000d0001050204f00000000000000000060101: ok
+        take alice: alice 1 5 Metadata-Recv 1 3 61 62
+        take alice: alice 1 5 Transaction-Finished 15 incomplete discarded
+        take alice: none
+        ",
+    ),
+];
 
 #[test]
-fn the_end_first(rt: HostRuntime) -> Result<(), Fail> {
-    plays(
-        &rt,
-        "
-        pdu 24000a0001050204006162630000000003
-        pdu 3400070001050200000000616263
-        pdu 24000a0001050207000000000301610162
-        take alice
-        take alice
-        take alice
-        take alice
-        ",
-        "
-        ok
-        ok
-        ok
-        deposit 2
-        alice 1 5 EOF-Recv
-        alice 1 5 File-Segment-Recv 0 3
-        alice 1 5 Metadata-Recv 1 3 61 62
-        none
-        ",
-    )
-}
-
-#[test]
-fn a_store_that_refuses(rt: HostRuntime) -> Result<(), Fail> {
-    plays(
-        &rt,
-        "
-        pdu 24000a0001050207000000000301610162
-        pdu 3400070001050200000000616263
-        pdu 24000a0001050204006162630000000003
-        pdu 24000a0001050207000000000301610162
-        stored 1 5 1 yes
-        stored 1 5 2 no
-        pdu 24000a0001050207000000000301610162
-        take alice
-        take alice
-        take alice
-        take alice
-        take alice
-        ",
-        "
-        ok
-        ok
-        ok
-        deposit 2
-        refused 7 Storing
-        refused 6 StaleStored
-        ok
-        refused 2 OldTransaction
-        alice 1 5 Metadata-Recv 1 3 61 62
-        alice 1 5 File-Segment-Recv 0 3
-        alice 1 5 EOF-Recv
-        alice 1 5 Transaction-Finished 4 incomplete rejected
-        none
-        ",
-    )
-}
-
-#[test]
-fn asked_while_storing(rt: HostRuntime) -> Result<(), Fail> {
-    plays(
-        &rt,
-        "
-        pdu 24000a0001050207000000000001610162
-        pdu 24000a0001050204000000000000000000
-        report alice 1 5
-        cancel alice 1 5
-        abandon alice 1 5
-        timer 1 5 check 1
-        stored 1 5 1 yes
-        stored 1 5 1 yes
-        take alice
-        take alice
-        take alice
-        take alice
-        take alice
-        ",
-        "
-        ok
-        ok
-        deposit 1
-        ok
-        refused 7 Storing
-        refused 7 Storing
-        refused 5 StaleTimer
-        ok
-        refused 2 OldTransaction
-        alice 1 5 Metadata-Recv 1 0 61 62
-        alice 1 5 EOF-Recv
-        alice 1 5 Report storing 0
-        alice 1 5 Transaction-Finished 0 complete retained
-        none
-        ",
-    )
-}
-
-#[test]
-fn a_part_between_two(rt: HostRuntime) -> Result<(), Fail> {
-    plays(
-        &rt,
-        "
-        pdu 340008000105020000000061626364
-        pdu 3400080001050200000008696a6b6c
-        pdu 34000c00010502000000027879657a66677879
-        take alice
-        take alice
-        take alice
-        take alice
-        ",
-        "
-        ok
-        ok
-        ok
-        alice 1 5 File-Segment-Recv 0 4
-        alice 1 5 File-Segment-Recv 8 4
-        alice 1 5 File-Segment-Recv 4 4
-        none
-        ",
-    )
-}
-
-#[test]
-fn a_part_over_others(rt: HostRuntime) -> Result<(), Fail> {
-    plays(
-        &rt,
-        "
-        pdu 34000600010502000000006162
-        pdu 34000600010502000000046566
-        pdu 34000c00010502000000006162636465666768
-        take alice
-        take alice
-        take alice
-        take alice
-        ",
-        "
-        ok
-        ok
-        ok
-        alice 1 5 File-Segment-Recv 0 2
-        alice 1 5 File-Segment-Recv 4 2
-        alice 1 5 File-Segment-Recv 2 2
-        alice 1 5 File-Segment-Recv 6 2
-        none
-        ",
-    )
-}
-
-#[test]
-fn octets_that_came_first_stay(rt: HostRuntime) -> Result<(), Fail> {
-    plays(
-        &rt,
-        "
-        pdu 24000a0001050207000000000301610162
-        pdu 3400070001050200000000616263
-        pdu 34000700010502000000007a7a7a
-        pdu 24000a0001050204006162630000000003
-        take alice
-        take alice
-        take alice
-        take alice
-        ",
-        "
-        ok
-        ok
-        ok
-        ok
-        deposit 3
-        alice 1 5 Metadata-Recv 1 3 61 62
-        alice 1 5 File-Segment-Recv 0 3
-        alice 1 5 EOF-Recv
-        none
-        ",
-    )
-}
-
-#[test]
-fn file_data_without_octets(rt: HostRuntime) -> Result<(), Fail> {
-    plays(
-        &rt,
-        "
-        pdu 3400040001050200000000
-        take alice
-        ",
-        "
-        ok
-        none
-        ",
-    )
-}
-
-#[test]
-fn messages_to_the_user(rt: HostRuntime) -> Result<(), Fail> {
-    plays(
-        &rt,
-        "
-        pdu 24001200010502070000000003016101620202686905000200
-        take alice
-        ",
-        "
-        ok
-        alice 1 5 Metadata-Recv 1 3 61 62 6869 -
-        ",
-    )
-}
-
-#[test]
-fn reports(rt: HostRuntime) -> Result<(), Fail> {
-    plays(
-        &rt,
-        "
-        pdu 24000a0001050207000000000301610162
-        pdu 3400070001050200000000616263
-        report alice 1 5
-        suspend alice 1 5
-        resume alice 1 5
-        take alice
-        take alice
-        take alice
-        take alice
-        ",
-        "
-        ok
-        ok
-        ok
-        refused 8 WrongState
-        refused 8 WrongState
-        alice 1 5 Metadata-Recv 1 3 61 62
-        alice 1 5 File-Segment-Recv 0 3
-        alice 1 5 Report active 3
-        none
-        ",
-    )
-}
-
-#[test]
-fn abandoned(rt: HostRuntime) -> Result<(), Fail> {
-    plays(
-        &rt,
-        "
-        pdu 3400070001050200000000616263
-        abandon alice 1 5
-        abandon alice 1 5
-        take alice
-        take alice
-        take alice
-        ",
-        "
-        ok
-        ok
-        refused 2 OldTransaction
-        alice 1 5 File-Segment-Recv 0 3
-        alice 1 5 Abandoned 15 3
-        none
-        ",
-    )
-}
-
-#[test]
-fn cancelled_by_its_sender(rt: HostRuntime) -> Result<(), Fail> {
-    plays(
-        &rt,
-        "
-        pdu 24000a0001050207000000000301610162
-        pdu 24000d0001050204f00000000000000000060101
-        take alice
-        take alice
-        take alice
-        ",
-        "
-        ok
-        ok
-        alice 1 5 Metadata-Recv 1 3 61 62
-        alice 1 5 Transaction-Finished 15 incomplete discarded
-        none
-        ",
-    )
+fn files_of_class_one(rt: HostRuntime) -> Result<(), Fail> {
+    all_play(&rt, SCRIPTS)
 }
