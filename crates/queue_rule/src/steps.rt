@@ -2,9 +2,9 @@
 ghost use Rattle.std.specs.Prelude.{◌≡◌, ◌<◌, [], IfErr, IfOk, OnOk, OnErr, IfSome, IfNone};
 ghost use Rattle.crossbeam_queue.specs.Passes.{view, IsPassOf, ruled_capacity};
 ghost use Rattle.queue_rule.specs.Passes.{IsOutletOf, IsPortOf, StaysOutlet, StaysPort};
-ghost use Rattle.queue_rule.specs.declared.view.View.TheVariants.{Origin, Outlet};
+ghost use Rattle.queue_rule.specs.declared.view.View.TheVariants.{Origin, Outlet, Port};
 ghost use Rattle.queue_rule.specs.Views.{outlet_in, port_in, with_sent, with_taken, with_lane, with_known, new_port, next_outlet};
-ghost use Rattle.queue_rule.specs.Views.{MaySend, IsTakenInOrder, IsTakenOfLanes, IsWholeWith};
+ghost use Rattle.queue_rule.specs.Views.{MaySend, IsOrderly, IsWholeWith};
 
 use crate::rule::{Fair, GivesBack, NextLane, OfUser, QueueOfUser, Sends, Takes};
 use crate::view::View;
@@ -45,8 +45,7 @@ pub fn take<R: Wait>(rt: &R, queue: &SharedQueue, pass: &mut QueuePass) -> Optio
     ensures taken { IfSome result (λ bundle. port_in (view pass.new) ≡ with_taken (port_in (view pass.old)) bundle) }
     ensures none { IfNone result (port_in (view pass.new) ≡ port_in (view pass.old)) }
     ensures whole { IfNone result (IsWholeWith (port_in (view pass.new)) []) }
-    ensures in_order { IsTakenInOrder (port_in (view pass.new)) }
-    ensures of_lanes { IsTakenOfLanes (port_in (view pass.new)) }
+    ensures orderly { IsOrderly (Port (port_in (view pass.new))) }
 {
     queue.pop_as::<Takes, R>(rt, pass)
 }

@@ -12,12 +12,7 @@ returns-clause-whole g c =
     is_whole (view c.args.pass.now) (view c.pop_as.new.pass) (port_in (view c.args.pass.now)) c.pop_as.result
     c.requires.pass.port c.pop_as.ensures.rule
 
-pub returns-clause-in_order : goal.returns-clause-in_order
-returns-clause-in_order g c =
-    (is_orderly (view c.args.pass.now) (view c.pop_as.new.pass) (port_in (view c.args.pass.now)) c.pop_as.result
-    c.requires.pass.port c.pop_as.ensures.rule).0
-
-pub returns-clause-of_lanes : goal.returns-clause-of_lanes
-returns-clause-of_lanes g c =
-    (is_orderly (view c.args.pass.now) (view c.pop_as.new.pass) (port_in (view c.args.pass.now)) c.pop_as.result
-    c.requires.pass.port c.pop_as.ensures.rule).1
+pub returns-clause-orderly : goal.returns-clause-orderly
+returns-clause-orderly g c =
+    is_orderly (view c.args.pass.now) (view c.pop_as.new.pass) (port_in (view c.args.pass.now)) c.pop_as.result
+    c.requires.pass.port c.pop_as.ensures.rule
