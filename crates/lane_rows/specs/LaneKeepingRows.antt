@@ -1,5 +1,5 @@
 -- What lanes take over a run and what they send, and the numbers of sending lanes, computed.
-use Rattle.std.proofs.Common.{◌≡◌, ℕ, List, [], ◌∷◌, Some, ap, arith, refl}
+use Rattle.std.proofs.Common.{◌≡◌, ◌≤◌, ℕ, List, [], ◌∷◌, Option, Some, ap, arith, refl}
 use Rattle.cfdp_types.specs.Reference.{reference}
 use Rattle.cfdp_types.specs.declared.key.EntityId.{EntityId}
 use Rattle.cfdp_types.specs.declared.names.Class.TheVariants.{One, Two}
@@ -10,6 +10,7 @@ use Rattle.indications.specs.declared.bundle.Bundle.{Bundle}
 use Rattle.indications.specs.declared.indication.Indication.{Indication}
 use Rattle.indications.specs.declared.indication.Indication.TheVariants as told
 use Rattle.indications.specs.LaneLists.{IsLaneList}
+use Rattle.indications.specs.declared.side.Side.TheVariants as side
 use Rattle.sender_table.specs.Sending as sender
 use Rattle.txn_events.specs.Examples.{header}
 use Rattle.pdu_values.specs.declared.pdu.Body.TheVariants as body
@@ -22,8 +23,9 @@ use Rattle.lane_table.specs.declared.lane_side.LaneSide.TheVariants.{Sending, Re
 use Rattle.lane_table.specs.declared.lane_side.Numbers.{Numbers}
 use Rattle.lane_table.specs.Lane.{number_at, number_after, IsNumberOf, IsNumbered}
 use Rattle.lane_table.specs.Steps.{IsKeyed, stepped}
-use Rattle.lane_table.specs.Keeping.{Keeps, bundle_of, sent_after, events_of, AreTaken}
+use Rattle.lane_table.specs.Keeping.{AreSent, Keeps, bundle_of, sent_after, events_of, AreTaken}
 use Rattle.lane_table.proofs.RunFacts.{sends_lane_lists}
+use Rattle.lane_table.proofs.SentFacts.{some_is}
 use Rattle.lane_table.proofs.StepFacts.{idle_keeps}
 use Rattle.lane_rows.specs.ReceivingLaneRows as receiving
 use Rattle.lane_rows.specs.SendingLaneRows as sending
@@ -133,3 +135,21 @@ second_events = refl
 -- so what it sends is a lane list
 pub puts_list : IsLaneList 0 0 (record { 0 = 2 }) (sent_after sending.fresh puts)
 puts_list = sends_lane_lists sending.fresh.side 0 0 (record { 0 = 2 }) puts (omega (arith), omega (arith)) puts_taken
+
+-- it has no bundle of a number between the one before and the last
+abbrev ended_and_begun : List Bundle
+ended_and_begun = bundle 4 (told.Transaction ∷ told.TransactionFinished 15 Incomplete Unreported ∷ []) ∷ bundle 8 (told.Transaction ∷ []) ∷ []
+
+not_above_the_one_before : AreSent side.Sender 0 0 (record { 0 = 2 }) (Some 8) (Some 3) (told.Transaction ∷ []) ended_and_begun → ⊥
+not_above_the_one_before sent =
+    let up_to : 4 ≤ 3 = (sent.others 4 refl not_the_last).0 in omega (arith, up_to)
+  where
+    not_the_last : (let last : Option ℕ = Some 8 in last) ≡ Some 4 → ⊥
+    not_the_last e = let number : 8 ≡ 4 = some_is 8 4 e in omega (arith, number)
+
+-- nor one of the other end
+no_receiver : side.Receiver ≡ side.Sender → ⊥
+no_receiver e = cc
+
+not_of_the_other_end : AreSent side.Receiver 0 0 (record { 0 = 2 }) (Some 8) (Some 4) (told.Transaction ∷ []) ended_and_begun → ⊥
+not_of_the_other_end sent = no_receiver (sent.sided 4)
