@@ -2,23 +2,27 @@
 //! answers.
 #![tactic(auto)]
 
-use script_io::{BLOCK_OCTETS, conclude};
-use script_replay::{ReplayFault, replay};
+use script_io::{BLOCK_OCTETS, ReplayFault, conclude};
+use script_replay::play_to_end;
 use std::io;
-use std::io::{BufWriter, Write};
+use std::io::BufWriter;
 use std::process::ExitCode;
 
 fn main(rt: HostRuntime) -> ExitCode {
-    let ended = run(&rt);
-    ExitCode::from(conclude(ended, &mut io::writer(&rt), &mut rt.stderr()))
+    ExitCode::from(run(&rt))
 }
 
-// Replays the standard input to the standard output. The answers are gathered, and written by blocks
-// and at any end.
-fn run(rt: &HostRuntime) -> Result<(), ReplayFault> {
-    let buffered = BufWriter::with_capacity(rt.alloc(), BLOCK_OCTETS, io::writer(rt));
-    let mut writer = buffered.map_err(|_| ReplayFault::NoMemory)?;
-    let result = replay(rt.alloc(), &mut rt.reader(), &mut writer);
-    let flushed = writer.flush().map_err(|_| ReplayFault::Write);
-    result.and(flushed)
+// Plays the standard input to the standard output, which is written by blocks, and answers the exit status.
+fn run(rt: &HostRuntime) -> u8 {
+    match BufWriter::with_capacity(rt.alloc(), BLOCK_OCTETS, io::writer(rt)) {
+        Ok(buffered) => {
+            let (status, _) = play_to_end(rt.alloc(), &mut rt.reader(), buffered, &mut rt.stderr());
+            status
+        }
+        Err(_) => conclude(
+            Err(ReplayFault::NoMemory),
+            &mut io::writer(rt),
+            &mut rt.stderr(),
+        ),
+    }
 }

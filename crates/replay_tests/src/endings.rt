@@ -1,7 +1,9 @@
 //! Where scripts end: at their last line, or at the first that they may not have there.
 
 use crate::play::{breaks_off, ends, plays};
-use script_replay::{ReplayFault, replay};
+use script_replay::{ReplayFault, play_to_end, replay};
+use std::io;
+use std::io::{BufWriter, Write};
 use std::process::Abort;
 use std::test::*;
 
@@ -109,6 +111,32 @@ fn upper_case(rt: HostRuntime) -> Result<(), Fail> {
         alice 1 5 File-Segment-Recv 0 1
         ",
     )
+}
+
+// A writer that takes nothing.
+#[derive(Drop)]
+struct FullWriter;
+
+impl Write for FullWriter {
+    fn write(&mut self, _buf: &[u8]) -> io::Result<usize> {
+        Ok(0)
+    }
+
+    fn flush(&mut self) -> io::Result<()> {
+        Ok(())
+    }
+}
+
+// What stands in the buffer at the end can't be handed on.
+#[test]
+fn a_full_writer(rt: HostRuntime) -> Result<(), Fail> {
+    let mut reader = b"take alice".as_slice();
+    let mut errors = Vec::new(rt.alloc());
+    let buffered = BufWriter::with_capacity(rt.alloc(), 64, FullWriter)?;
+    let (status, _) = play_to_end(rt.alloc(), &mut reader, buffered, &mut errors);
+    assert_eq!(rt; status, 1);
+    assert!(rt; errors.as_slice() == b"write fault\n".as_slice());
+    Ok(())
 }
 
 // Each of these is a script whose first line is bad.

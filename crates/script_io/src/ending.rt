@@ -1,5 +1,7 @@
 //! How a run ends.
-ghost use Rattle.std.specs.Prelude.{◌≡◌, is_ok, if◌then◌else◌};
+ghost use Rattle.std.specs.Prelude.{◌≡◌, is_ok, if◌then◌else◌, false};
+ghost use Rattle.std.specs.Io.KnownBytes.{Keeps};
+ghost use Rattle.script_io.specs.Ending.{is_answered, is_told_beside};
 
 use crate::fault::ReplayFault;
 use std::io::Write;
@@ -11,7 +13,9 @@ pub fn conclude<W: Write, E: Write>(
     writer: &mut W,
     errors: &mut E,
 ) -> u8
-    ensures { result ≡ (if is_ok ended then 0 else 1) }
+    ensures status { result ≡ (if is_ok ended then 0 else 1) }
+    ensures writer { is_answered ended ≡ false → Keeps (W.contents writer.old) (W.contents writer.new) }
+    ensures errors { is_told_beside ended ≡ false → Keeps (E.contents errors.old) (E.contents errors.new) }
 {
     let Err(fault) = ended else {
         return 0;

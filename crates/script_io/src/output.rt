@@ -1,5 +1,5 @@
 //! Writing whole texts.
-ghost use Rattle.std.specs.Prelude.{◌≡◌, ◌<◌, ◌≤◌, IfOk, OnOk, OnErr, IfErr, length, take};
+ghost use Rattle.std.specs.Prelude.{◌≡◌, ◌<◌, ◌≤◌, IfOk, OnOk, OnErr, IfErr, IsOk, [], length, take};
 ghost use Rattle.std.specs.Io.KnownBytes.{Appends, Keeps};
 ghost use Rattle.script_io.specs.Output.{AppendsFront};
 
@@ -12,6 +12,7 @@ pub fn write_whole<W: Write>(writer: &mut W, text: &[u8]) -> Result<(), ReplayFa
     ensures err { OnErr result
         (AppendsFront (W.contents writer.old) (W.contents writer.new) text.now) }
     ensures fault { IfErr result (λ fault. fault ≡ ReplayFault.Write) }
+    ensures empty { text.now ≡ [] → IsOk result }
 {
     let mut written = 0;
     while written < text.len() {

@@ -1,3 +1,4 @@
 pub mod RunFacts
+pub mod BufferFacts
 pub mod SessionFacts
 pub mod Rows

@@ -1,5 +1,5 @@
 -- What a whole script prints.
-use Rattle.std.specs.Prelude.{◌≡◌, ℕ, ◌+◌, ◌<◌, ◌≤◌, List, [], ◌∷◌, ◌++◌, length, take, slice_get, Option, Some, Result, Ok, Err, ◌⊎◌}
+use Rattle.std.specs.Prelude.{◌≡◌, ℕ, ◌+◌, ◌<◌, ◌≤◌, List, [], ◌∷◌, ◌++◌, length, take, slice_get, Option, Some, Result, Ok, Err, ◌⊎◌, ⊤}
 use Rattle.std.specs.Io.KnownBytes.{Appends}
 use Rattle.script_io.specs.declared.fault.ReplayFault.{ReplayFault}
 use Rattle.script_io.specs.declared.fault.ReplayFault.TheVariants as fault
@@ -75,7 +75,16 @@ Stops fault.NoMemory lines old new = StopsBehind lines old new
 Stops fault.Write lines old new = StopsIn lines old new
 Stops (fault.BadLine number) lines old new = StopsAt lines number old new
 
+-- the whole script was played, and all that it prints was written
+abbrev pub PlaysWhole : List (List ℕ) → Option (List ℕ) → Option (List ℕ) → Type 0
+PlaysWhole lines old new = (length lines ≤ LINES) × Prints lines old new
+
 -- what a run has written
 abbrev pub Replays : {A : Type 0} → Result A ReplayFault → List (List ℕ) → Option (List ℕ) → Option (List ℕ) → Type 0
-Replays (Ok done) lines old new = (length lines ≤ LINES) × Prints lines old new
+Replays (Ok done) lines old new = PlaysWhole lines old new
 Replays (Err why) lines old new = Stops why lines old new
+
+-- what a run through a buffer has handed on: all that the run wrote, unless the writer failed
+abbrev pub HandsOn : {A : Type 0} → Result A ReplayFault → List (List ℕ) → Option (List ℕ) → Option (List ℕ) → Type 0
+HandsOn (Err fault.Write) lines old new = ⊤
+HandsOn ended lines old new = Replays ended lines old new

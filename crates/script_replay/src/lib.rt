@@ -2,9 +2,11 @@
 #![tactic(auto)]
 
 mod answer;
+mod program;
 mod run;
 mod session;
 
 pub use answer::{push_answer, push_taken};
+pub use program::play_to_end;
 pub use run::{LINES, replay};
 pub use script_io::ReplayFault;
