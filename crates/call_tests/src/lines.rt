@@ -1,4 +1,6 @@
-use script_io::{LINE_OCTETS, NextLine, ReplayFault, conclude, in_blocks, next_line, write_whole};
+use script_io::{
+    BLOCK_OCTETS, LINE_OCTETS, NextLine, ReplayFault, conclude, in_blocks, next_line, write_whole,
+};
 use std::alloc::Global;
 use std::io;
 use std::io::{BufRead, Error, ErrorKind, Read, Write};
@@ -28,12 +30,13 @@ impl Read for SlowReader<'_> {
     }
 }
 
-// A writer that is interrupted some times in a row before each write, takes two octets at a time, and
-// nothing once it is full.
+// A writer that is interrupted some times in a row before each write, takes nothing at first for some writes, then two
+// octets at a time, and nothing once it is full.
 #[derive(Drop)]
 struct SlowWriter {
     times: u32,
     left: u32,
+    idle: u32,
     room: usize,
     taken: Vec<u8>,
 }
@@ -45,6 +48,10 @@ impl Write for SlowWriter {
             return Err(Error::from(ErrorKind::Interrupted));
         }
         self.left = self.times;
+        if self.idle > 0 {
+            self.idle -= 1;
+            return Ok(0);
+        }
         let n = buf.len().min(2).min(self.room);
         self.taken.extend_from_slice(&buf[..n])?;
         self.room -= n;
@@ -102,6 +109,15 @@ fn interrupted_reads(rt: HostRuntime) -> Result<(), Fail> {
     Ok(())
 }
 
+// Each block of a line may be interrupted so often.
+#[test]
+fn interrupted_blocks(rt: HostRuntime) -> Result<(), Fail> {
+    let text = vec![in rt.alloc(); b'x'; BLOCK_OCTETS + 1]?;
+    let mut blocks = in_blocks(rt.alloc(), slow(999_999, false, text.as_slice()))?;
+    assert!(rt; has_lines(rt.alloc(), &mut blocks, &[], Ok(NextLine::Line)));
+    Ok(())
+}
+
 #[test]
 fn broken_reads(rt: HostRuntime) -> Result<(), Fail> {
     let mut blocks = in_blocks(rt.alloc(), slow(0, true, b"ab\ncd"))?;
@@ -143,10 +159,12 @@ fn long_lines(rt: HostRuntime) -> Result<(), Fail> {
     Ok(())
 }
 
-// Whether this comes of writing a text to a writer with so much room, which is interrupted so often.
+// Whether this comes of writing a text to a writer with so much room, which is interrupted so often and takes nothing
+// for so many writes.
 fn writes_so(
     alloc: Global,
     times: u32,
+    idle: u32,
     room: usize,
     expected: Result<(), ReplayFault>,
     taken: &[u8],
@@ -154,6 +172,7 @@ fn writes_so(
     let mut writer = SlowWriter {
         times,
         left: times,
+        idle,
         room,
         taken: Vec::new(alloc),
     };
@@ -162,16 +181,17 @@ fn writes_so(
 
 #[test]
 fn writes(rt: HostRuntime) {
-    for (times, room, expected, taken) in [
-        (0, 9, Ok(()), b"hello".as_slice()),
-        (0, 3, Err(ReplayFault::Write), b"hel"),
-        (0, 0, Err(ReplayFault::Write), b""),
-        (999_999, 9, Ok(()), b"hello"),
-        (1_000_000, 9, Err(ReplayFault::Write), b""),
+    for (times, idle, room, expected, taken) in [
+        (0, 0, 9, Ok(()), b"hello".as_slice()),
+        (0, 0, 3, Err(ReplayFault::Write), b"hel"),
+        (0, 0, 0, Err(ReplayFault::Write), b""),
+        (0, 1, 9, Err(ReplayFault::Write), b""),
+        (999_999, 0, 9, Ok(()), b"hello"),
+        (1_000_000, 0, 9, Err(ReplayFault::Write), b""),
     ] {
         assert!(rt;
-            writes_so(rt.alloc(), times, room, expected, taken),
-            "{times} {room}"
+            writes_so(rt.alloc(), times, idle, room, expected, taken),
+            "{times} {idle} {room}"
         );
     }
 }
