@@ -57,9 +57,9 @@ fn another_source(rt: HostRuntime) -> Result<(), Fail> {
     let alloc = rt.alloc();
     let mut world = two_sources(alloc).ok_or("no configuration")?;
     assert!(rt; deliver(alloc, &mut world, "24000a0003050207000000000301610162"));
-    assert_eq!(rt; taken(alloc, &mut world, 0)?.as_str(), "none\n");
+    assert_eq!(rt; taken(alloc, &mut world, 0, "alice")?.as_str(), "");
     assert_eq!(rt;
-        taken(alloc, &mut world, 1)?.as_str(),
+        taken(alloc, &mut world, 1, "bob")?.as_str(),
         "bob 3 5 Metadata-Recv 3 3 61 62\n"
     );
     Ok(())

@@ -1,8 +1,8 @@
 //! Short ways to tell an entity something, and to see what it tells.
 
+use answer_texts::push_bundle;
 use cfdp_types::Octets;
 use entity_world::{World, WorldEvent};
-use script_replay::push_taken;
 use std::alloc::{AllocError, Global};
 
 /// A datagram comes, in hex: whether it is taken.
@@ -15,12 +15,18 @@ pub(crate) fn deliver(alloc: Global, world: &mut World, digits: &str) -> bool {
     }
 }
 
-/// What the next bundle says that a user takes.
-pub(crate) fn taken(alloc: Global, world: &mut World, user: usize) -> Result<String, AllocError> {
+/// What the next bundle says that a user takes, under the user's name.
+pub(crate) fn taken(
+    alloc: Global,
+    world: &mut World,
+    user: usize,
+    name: &str,
+) -> Result<String, AllocError> {
     let mut text = String::new(alloc);
     if user < world.users() {
-        let bundle = world.take(user);
-        push_taken(alloc, &mut text, user, &bundle)?;
+        if let Some(bundle) = world.take(user) {
+            push_bundle(alloc, &mut text, name, &bundle)?;
+        }
     }
     Ok(text)
 }
