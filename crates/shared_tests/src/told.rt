@@ -47,6 +47,12 @@ pub(crate) fn push_line(text: &mut String, line: &str) -> Result<(), AllocError>
     writeln!(text, "{line}")
 }
 
+// A small file for an entity.
+fn file_for(alloc: Global, destination: u64) -> Option<PutRequest> {
+    let to = EntityId(destination);
+    PutRequest::new(alloc, to, Class::One, b"a", b"b", &[], b"abc").ok()
+}
+
 /// A user puts a file from a lane, or `None` where there is no such lane.
 pub(crate) fn put<N: Names, R: Wait + Copy, G: Gate<N, R>>(
     rt: &R,
@@ -56,12 +62,11 @@ pub(crate) fn put<N: Names, R: Wait + Copy, G: Gate<N, R>>(
     place: Place,
     destination: u64,
 ) -> Option<Result<G::Answer, EntityRefusal>> {
-    let to = EntityId(destination);
-    let put = PutRequest::new(alloc, to, Class::One, b"a", b"b", &[], b"abc").ok()?;
     if place.user >= entity.users() || place.lane >= entity.put_lanes() {
         return None;
     }
-    Some(entity.request(rt, gate, place.user, Request::Put(place.lane, put)))
+    let file = file_for(alloc, destination)?;
+    Some(entity.request(rt, gate, place.user, Request::Put(place.lane, file)))
 }
 
 /// Adds a line for such a put.
