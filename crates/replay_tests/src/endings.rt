@@ -3,7 +3,7 @@
 use crate::play::{breaks_off, ends, plays};
 use script_replay::{ReplayFault, play_to_end, replay};
 use std::io;
-use std::io::{BufWriter, Write};
+use std::io::{Error, ErrorKind, Read, Write};
 use std::process::Abort;
 use std::test::*;
 
@@ -113,13 +113,49 @@ fn upper_case(rt: HostRuntime) -> Result<(), Fail> {
     )
 }
 
-// A writer that takes nothing.
+// A reader that fails behind its text.
 #[derive(Drop)]
-struct FullWriter;
+struct BrokenReader<'a> {
+    rest: &'a [u8],
+}
 
-impl Write for FullWriter {
-    fn write(&mut self, _buf: &[u8]) -> io::Result<usize> {
-        Ok(0)
+impl Read for BrokenReader<'_> {
+    fn read(&mut self, buf: &mut [u8]) -> io::Result<usize> {
+        if self.rest.is_empty() {
+            return Err(Error::from(ErrorKind::TimedOut));
+        }
+        self.rest.read(buf)
+    }
+}
+
+// What stands before the fault is answered, but for a line that may go on.
+#[test]
+fn a_reader_that_fails(rt: HostRuntime) -> Result<(), Fail> {
+    let mut reader = BrokenReader {
+        rest: b"take alice\npump 2 4\ntake bo",
+    };
+    let mut writer = Vec::new(rt.alloc());
+    let mut errors = Vec::new(rt.alloc());
+    let status = play_to_end(rt.alloc(), &mut reader, &mut writer, &mut errors);
+    assert_eq!(rt; status, 1);
+    assert!(rt; writer.as_slice() == b"none\nrefused 1 NoTransaction\n".as_slice());
+    assert!(rt; errors.as_slice() == b"read fault\n".as_slice());
+    Ok(())
+}
+
+// A writer with so much room, which takes nothing once it is full.
+#[derive(Drop)]
+struct SmallWriter {
+    room: usize,
+    taken: Vec<u8>,
+}
+
+impl Write for SmallWriter {
+    fn write(&mut self, buf: &[u8]) -> io::Result<usize> {
+        let n = buf.len().min(self.room);
+        self.taken.extend_from_slice(&buf[..n])?;
+        self.room -= n;
+        Ok(n)
     }
 
     fn flush(&mut self) -> io::Result<()> {
@@ -127,14 +163,17 @@ impl Write for FullWriter {
     }
 }
 
-// What stands in the buffer at the end can't be handed on.
 #[test]
 fn a_full_writer(rt: HostRuntime) -> Result<(), Fail> {
-    let mut reader = b"take alice".as_slice();
+    let mut reader = b"take alice\ntake bob\nbad".as_slice();
+    let mut writer = SmallWriter {
+        room: 7,
+        taken: Vec::new(rt.alloc()),
+    };
     let mut errors = Vec::new(rt.alloc());
-    let buffered = BufWriter::with_capacity(rt.alloc(), 64, FullWriter)?;
-    let (status, _) = play_to_end(rt.alloc(), &mut reader, buffered, &mut errors);
+    let status = play_to_end(rt.alloc(), &mut reader, &mut writer, &mut errors);
     assert_eq!(rt; status, 1);
+    assert!(rt; writer.taken.as_slice() == b"none\nno".as_slice());
     assert!(rt; errors.as_slice() == b"write fault\n".as_slice());
     Ok(())
 }

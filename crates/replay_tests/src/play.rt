@@ -1,9 +1,7 @@
 //! Scripts that are played, and what they print.
 
-use script_io::BLOCK_OCTETS;
 use script_replay::play_to_end;
 use std::alloc::{AllocError, Global};
-use std::io::BufWriter;
 use std::process::Abort;
 use std::test::*;
 
@@ -42,9 +40,9 @@ fn ends_as<R: AllocGlobal + Abort>(
     status: u8,
 ) -> Result<(), Fail> {
     let mut reader = script;
+    let mut writer = Vec::new(rt.alloc());
     let mut errors = Vec::new(rt.alloc());
-    let buffered = BufWriter::with_capacity(rt.alloc(), BLOCK_OCTETS, Vec::new(rt.alloc()))?;
-    let (answer, writer) = play_to_end(rt.alloc(), &mut reader, buffered, &mut errors);
+    let answer = play_to_end(rt.alloc(), &mut reader, &mut writer, &mut errors);
     let text = str::from_utf8(writer.as_slice()).map_err(|_| "no text")?;
     same_lines(rt, title, text, joined(rt.alloc(), printed)?.as_str());
     assert!(rt; errors.is_empty());

@@ -1,15 +1,26 @@
--- Where it is told how a run ended.
-use Rattle.std.specs.Prelude.{Bool, true, false, ⊤, Result, Ok, Err}
+-- What is told of how a run ended, and where.
+use Rattle.std.specs.Prelude.{ℕ, List, [], ◌∷◌, ◌++◌, ⊤, Result, Ok, Err, codes, decimal}
 use Rattle.script_io.specs.declared.fault.ReplayFault.{ReplayFault}
 use Rattle.script_io.specs.declared.fault.ReplayFault.TheVariants as fault
 
--- an end of a run that the writer of the answers is told
-abbrev pub is_answered : Result ⊤ ReplayFault → Bool
-is_answered (Err (fault.BadLine number)) = true
-is_answered ended = false
+-- what is told of a fault
+abbrev pub fault_text : ReplayFault → List ℕ
+fault_text fault.Read = codes "read fault"
+fault_text fault.Write = codes "write fault"
+fault_text (fault.BadLine number) = codes "line " ++ (decimal number ++ codes ": bad line")
+fault_text fault.NoMemory = codes "no memory"
 
--- an end of a run that is told beside the answers
-abbrev pub is_told_beside : Result ⊤ ReplayFault → Bool
-is_told_beside (Ok done) = false
-is_told_beside (Err (fault.BadLine number)) = false
-is_told_beside (Err why) = true
+-- the line that tells it
+abbrev pub fault_line : ReplayFault → List ℕ
+fault_line why = fault_text why ++ 10 ∷ []
+
+-- what the writer of the answers is told of the end of a run
+abbrev pub answered_text : Result ⊤ ReplayFault → List ℕ
+answered_text (Err (fault.BadLine number)) = fault_line (fault.BadLine number)
+answered_text ended = []
+
+-- what is told beside the answers
+abbrev pub beside_text : Result ⊤ ReplayFault → List ℕ
+beside_text (Ok done) = []
+beside_text (Err (fault.BadLine number)) = []
+beside_text (Err why) = fault_line why

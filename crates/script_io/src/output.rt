@@ -1,10 +1,41 @@
-//! Writing whole texts.
+//! Writing whole texts, at once or by blocks.
 ghost use Rattle.std.specs.Prelude.{◌≡◌, ◌<◌, ◌≤◌, IfOk, OnOk, OnErr, IfErr, IsOk, [], length, take};
 ghost use Rattle.std.specs.Io.KnownBytes.{Appends, Keeps};
-ghost use Rattle.script_io.specs.Output.{AppendsFront};
+ghost use Rattle.script_io.specs.Output.{AppendsFront, Buffers};
 
 use crate::fault::{INTERRUPTIONS, ReplayFault};
+use crate::input::BLOCK_OCTETS;
 use std::io::{ErrorKind, Write};
+
+/// Puts a text behind what a buffer holds, which is written first where both together are more than a block.
+pub fn write_buffered<W: Write>(
+    writer: &mut W,
+    buffer: &mut Vec<u8>,
+    text: &[u8],
+) -> Result<(), ReplayFault>
+    ensures { Buffers result (W.contents writer.old) (W.contents writer.new) buffer.old.items text.now
+        buffer.new.items }
+{
+    if text.len() > BLOCK_OCTETS || buffer.len() > BLOCK_OCTETS - text.len() {
+        flush_buffer(writer, buffer)?;
+    }
+    buffer.extend_from_slice(text)?;
+    Ok(())
+}
+
+/// Writes all that a buffer holds, and empties it. What can't be written is given up.
+pub fn flush_buffer<W: Write>(writer: &mut W, buffer: &mut Vec<u8>) -> Result<(), ReplayFault>
+    ensures ok { OnOk result (Appends (W.contents writer.old) (W.contents writer.new) buffer.old.items) }
+    ensures err { OnErr result
+        (AppendsFront (W.contents writer.old) (W.contents writer.new) buffer.old.items) }
+    ensures fault { IfErr result (λ fault. fault ≡ ReplayFault.Write) }
+    ensures empty { buffer.old.items ≡ [] → IsOk result }
+    ensures emptied { buffer.new.items ≡ [] }
+{
+    let written = write_whole(writer, buffer.as_slice());
+    buffer.clear();
+    written
+}
 
 /// Writes the whole text.
 pub fn write_whole<W: Write>(writer: &mut W, text: &[u8]) -> Result<(), ReplayFault>

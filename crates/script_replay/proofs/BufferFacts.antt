@@ -1,61 +1,93 @@
--- What a run wrote into a buffer is handed on, once nothing is left in it.
-use Rattle.std.proofs.Common.{◌≡◌, ℕ, List, [], take, Option, Some, None, Result, Ok, Err, refl, ap, ◌∙◌, append-nil}
-use Rattle.std.specs.Prelude.{IfSome}
-use Rattle.std.specs.Io.KnownBytes.{append_known, Appends, Keeps}
+-- What is left in a run's buffer at its end is written.
+use Rattle.std.proofs.Common.{◌≡◌, ℕ, ◌+◌, ◌≤◌, List, [], ◌++◌, length, take, Option, Some, None, Result, Ok, Err, sym, subst, arith, append-nil}
+use Rattle.std.specs.Prelude.{IfSome, slice_get, ⊤}
+use Rattle.std.specs.Io.KnownBytes.{Appends}
+use Rattle.std.proofs.KnownBytes.{Appends-nil, Appends-trans}
+use Rattle.std.proofs.lemmas.List.{take_all}
+use Rattle.std.proofs.lemmas.Option.{slice_get_within}
+use Rattle.std.proofs.Math.Seq.{take-append-add}
 use Rattle.script_io.specs.declared.fault.ReplayFault.{ReplayFault}
 use Rattle.script_io.specs.declared.fault.ReplayFault.TheVariants as fault
 use Rattle.script_io.specs.Lines.{lines_of}
-use Rattle.script_replay.specs.Run.{Prints, Stops, Replays, HandsOn}
+use Rattle.script_io.specs.Output.{AppendsFront}
+use Rattle.script_replay.specs.declared.session.Session.{Session as Kept}
+use Rattle.script_replay.specs.Sessions.{fresh}
+use Rattle.script_replay.specs.Run.{StopsBehind, PlaysUntil, Replays}
+use Rattle.script_replay.specs.Running.{Stands, Ran, Ends}
+use Rattle.script_replay.proofs.RunFacts.{begins}
 
--- an empty buffer adds nothing to known octets
-pub none_added : (known : Option (List ℕ)) → append_known known [] ≡ known
-none_added None = refl
-none_added (Some octets) = ap Some (append-nil octets)
+abbrev ends : ReplayFault → Result ⊤ ReplayFault
+ends why = Err why
 
-on_to : (old before after : Option (List ℕ)) (text : List ℕ) → Appends old before text → Keeps before after → Appends old after text
-on_to None before after text wrote keeps = tt
-on_to (Some first) None after text wrote keeps = absurd wrote
-on_to (Some first) (Some both) None text wrote keeps = absurd keeps
-on_to (Some first) (Some both) (Some kept) text wrote keeps = keeps ∙ wrote
+-- ---- the buffer is written
 
-module _ (lines : List (List ℕ)) (old before after : Option (List ℕ)) (keeps : Keeps before after) where
-  prints_on : Prints lines old before → Prints lines old after
-  prints_on prints = record {
-    after = prints.after;
-    text = prints.text;
-    plays = prints.plays;
-    written = on_to old before after prints.text prints.written keeps;
-  }
+-- a front that was written, and the rest of a text behind it
+all_written : (old new new' : Option (List ℕ)) (front buffer : List ℕ) → Appends old new front → Appends new new' buffer → Appends old new' (front ++ buffer)
+all_written old new new' front buffer first rest = Appends-trans old new new' front buffer first rest
 
-stops_on : (why : ReplayFault) (lines : List (List ℕ)) (old before after : Option (List ℕ)) → Keeps before after → Stops why lines old before → HandsOn (let ended : Result ℕ ReplayFault = Err why in ended) lines old after
-stops_on fault.Write lines old before after keeps stops = tt
-stops_on fault.Read lines old before after keeps stops =
-    record { count = stops.count; within = stops.within; few = stops.few; prints = prints_on (take stops.count lines) old before after keeps stops.prints }
-stops_on fault.NoMemory lines old before after keeps stops =
-    record { count = stops.count; within = stops.within; few = stops.few; prints = prints_on (take stops.count lines) old before after keeps stops.prints }
-stops_on (fault.BadLine number) lines old before after keeps stops = record {
-  place = stops.place;
-  number_is = stops.number_is;
-  few = stops.few;
-  prints = record {
-    after = stops.prints.after;
-    text = stops.prints.text;
-    plays = stops.prints.plays;
-    written = on_to old before after stops.prints.text stops.prints.written keeps;
-  };
-  bad = stops.bad;
+pub flushed : (ended : Result ⊤ ReplayFault) (lines : List (List ℕ)) (old new new' : Option (List ℕ)) (buffer : List ℕ) → Ends ended lines old new buffer → Appends new new' buffer → Replays ended lines old new'
+flushed (Ok done) lines old new new' buffer stops wrote =
+    record { text = stops.0 ++ buffer; plays = stops.1; written = all_written old new new' stops.0 buffer stops.2 wrote }
+flushed (Err fault.Read) lines old new new' buffer stops wrote =
+    record { text = stops.0 ++ buffer; plays = stops.1; written = all_written old new new' stops.0 buffer stops.2 wrote }
+flushed (Err fault.NoMemory) lines old new new' buffer stops wrote =
+    record { text = stops.0 ++ buffer; plays = stops.1; written = all_written old new new' stops.0 buffer stops.2 wrote }
+flushed (Err (fault.BadLine number)) lines old new new' buffer stops wrote =
+    record { text = stops.0 ++ buffer; plays = stops.1; written = all_written old new new' stops.0 buffer stops.2 wrote }
+flushed (Err fault.Write) lines old new new' buffer stops wrote =
+    let none : Appends new new' [] = subst (λ t. Appends new new' t) stops.0 wrote in
+    let front = stops.1.2 in
+    let same = append-nil (take front.0 stops.1.0) in
+    record { text = stops.1.0; plays = stops.1.1; written = (front.0, subst (λ t. Appends old new' t) same (Appends-trans old new new' (take front.0 stops.1.0) [] front.1 none)) }
+
+-- ---- the writer fails at the end
+
+whole_behind : (lines : List (List ℕ)) (text : List ℕ) → PlaysUntil (let ended : Result ⊤ ReplayFault = Ok tt in ended) lines text → StopsBehind lines text
+whole_behind lines text whole = record {
+  count = length lines;
+  within = omega arith;
+  few = whole.0;
+  prints = record { after = whole.1.after; plays = rw (take_all (length lines) lines (omega arith)) whole.1.plays };
 }
 
-hands_on : {A : Type 0} (ended : Result A ReplayFault) (lines : List (List ℕ)) (old before after : Option (List ℕ)) → Keeps before after
-    → Replays ended lines old before → HandsOn ended lines old after
-hands_on (Ok done) lines old before after keeps wrote = (wrote.0, prints_on lines old before after keeps wrote.1)
-hands_on (Err fault.Write) lines old before after keeps wrote = tt
-hands_on (Err fault.Read) lines old before after keeps wrote = stops_on fault.Read lines old before after keeps wrote
-hands_on (Err fault.NoMemory) lines old before after keeps wrote = stops_on fault.NoMemory lines old before after keeps wrote
-hands_on (Err (fault.BadLine number)) lines old before after keeps wrote = stops_on (fault.BadLine number) lines old before after keeps wrote
+place_within : (lines : List (List ℕ)) (place : ℕ) (line : List ℕ) → slice_get lines place ≡ Some line → place ≤ length lines
+place_within lines place line there = omega (arith, slice_get_within lines place line there)
 
--- by the reader's text
-pub all_handed_on : {A : Type 0} (left : Option (List ℕ)) (ended : Result A ReplayFault) (old before after : Option (List ℕ)) → Keeps before after
-    → IfSome left (λ script. Replays ended (lines_of script) old before) → IfSome left (λ script. HandsOn ended (lines_of script) old after)
-all_handed_on None ended old before after keeps wrote = tt
-all_handed_on (Some script) ended old before after keeps wrote = hands_on ended (lines_of script) old before after keeps wrote
+bad_behind : (lines : List (List ℕ)) (number : ℕ) (text : List ℕ) → PlaysUntil (ends (fault.BadLine number)) lines text → StopsBehind lines text
+bad_behind lines number text stops = record {
+  count = stops.place;
+  within = place_within lines stops.place stops.bad.line stops.bad.there;
+  few = stops.few;
+  prints = record { after = stops.prints.after; plays = stops.prints.plays };
+}
+
+cut_off : (lines : List (List ℕ)) (old new new' : Option (List ℕ)) (front buffer : List ℕ) → Appends old new front → AppendsFront new new' buffer → StopsBehind lines (front ++ buffer) → Replays (Err fault.Write) lines old new'
+cut_off lines old new new' front buffer first rest stops = record {
+  text = front ++ buffer;
+  plays = stops;
+  written = (length front + rest.0, subst (λ t. Appends old new' t) (sym (take-append-add front buffer rest.0)) (Appends-trans old new new' front (take rest.0 buffer) first rest.1));
+}
+
+pub not_flushed : (ended : Result ⊤ ReplayFault) (lines : List (List ℕ)) (old new new' : Option (List ℕ)) (buffer : List ℕ) → Ends ended lines old new buffer → (buffer ≡ [] → ⊥) → AppendsFront new new' buffer → Replays (Err fault.Write) lines old new'
+not_flushed (Ok done) lines old new new' buffer stops some wrote = cut_off lines old new new' stops.0 buffer stops.2 wrote (whole_behind lines (stops.0 ++ buffer) stops.1)
+not_flushed (Err fault.Read) lines old new new' buffer stops some wrote = cut_off lines old new new' stops.0 buffer stops.2 wrote stops.1
+not_flushed (Err fault.NoMemory) lines old new new' buffer stops some wrote = cut_off lines old new new' stops.0 buffer stops.2 wrote stops.1
+not_flushed (Err (fault.BadLine number)) lines old new new' buffer stops some wrote = cut_off lines old new new' stops.0 buffer stops.2 wrote (bad_behind lines number (stops.0 ++ buffer) stops.1)
+not_flushed (Err fault.Write) lines old new new' buffer stops some wrote = absurd (some stops.0)
+
+-- ---- a session that begins plays whatever script the reader holds
+
+pub started : (left : Option (List ℕ)) (kept : Kept) (old new : Option (List ℕ)) (held buffer : List ℕ) (ended : Result ⊤ ReplayFault) → Stands kept fresh → held ≡ []
+    → ((lines : List (List ℕ)) (first : Option (List ℕ)) → Ran lines left 0 kept first old held → Ends ended lines first new buffer)
+    → IfSome left (λ script. Ends ended (lines_of script) old new buffer)
+started None kept old new held buffer ended stands empty runs = tt
+started (Some script) kept old new held buffer ended stands empty runs =
+    runs (lines_of script) old (subst (λ (b : List ℕ). Ran (lines_of script) (Some script) 0 kept old old b) (sym empty) (begins script kept old stands (Appends-nil old)))
+
+pub if_some_then : {A : Type 0} (o : Option A) (P Q : A → Type 0) → IfSome o P → ((x : A) → P x → Q x) → IfSome o Q
+if_some_then None P Q p f = tt
+if_some_then (Some x) P Q p f = f x p
+
+pub if_some_always : {A : Type 0} (o : Option A) (P : A → Type 0) → ((x : A) → P x) → IfSome o P
+if_some_always None P f = tt
+if_some_always (Some x) P f = f x

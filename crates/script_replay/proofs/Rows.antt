@@ -1,6 +1,8 @@
 -- Worked rows: what lines do to a session, which are bad, and what is printed.
-use Rattle.std.proofs.Common.{◌≡◌, ℕ, ◌<◌, ◌+◌, true, false, List, [], ◌∷◌, map, length, Option, Some, None, Ok, Err, codes, inl, inr, refl, arith, ⊎_elim}
+use Rattle.std.proofs.Common.{◌≡◌, ℕ, ◌<◌, ◌+◌, true, false, List, [], ◌∷◌, map, length, take, sym, ap, Option, Some, None, Result, Ok, Err, codes, inl, inr, refl, arith, ⊎_elim}
+use Rattle.std.specs.Prelude.{is_ok, if◌then◌else◌, ⊤}
 use Rattle.std.specs.Fmt.{digits}
+use Rattle.std.proofs.lemmas.List.{length-take}
 use Rattle.cfdp_types.specs.declared.key.TxnKey.{TxnKey}
 use Rattle.txn_events.specs.declared.refusal.Refusal.TheVariants as refusal
 use Rattle.txn_events.specs.Examples.{abc, put_value}
@@ -16,13 +18,17 @@ use Rattle.entity_routing.specs.declared.refusal.RouteRefusal.TheVariants as rou
 use Rattle.entity_routing.specs.declared.world_event.Request.TheVariants as requests
 use Rattle.entity_routing.specs.declared.world_event.WorldEvent.TheVariants as events
 use Rattle.entity_refusals.specs.declared.refusal.EntityRefusal.TheVariants as answer
+use Rattle.script_lines.specs.Commands.{command_of}
+use Rattle.script_lines.specs.declared.command.Command.{Command}
 use Rattle.script_lines.specs.declared.command.Command.TheVariants as command
 use Rattle.script_io.specs.declared.fault.TheConstants.{INTERRUPTIONS}
 use Rattle.script_io.specs.declared.input.TheConstants.{LINE_OCTETS}
-use Rattle.script_io.specs.Lines.{line_octets}
+use Rattle.script_io.specs.declared.fault.ReplayFault.{ReplayFault}
 use Rattle.script_io.specs.declared.fault.ReplayFault.TheVariants as stop
+use Rattle.script_io.specs.Ending.{beside_text}
+use Rattle.script_io.specs.Lines.{line_octets}
 use Rattle.script_replay.specs.declared.run.TheConstants.{LINES}
-use Rattle.script_replay.specs.Run.{PlaysLine, Replays, Stops}
+use Rattle.script_replay.specs.Run.{PlaysLine, Prints, StopsBehind, StopsAt, Replays, EndsRun}
 use Rattle.script_replay.specs.Sessions.{Session, fresh, with_history, is_put, history_taken, Answers, IsBadFor}
 use Rattle.script_replay.specs.Texts.{user_name, route_text, answer_text, taken_text}
 
@@ -141,15 +147,98 @@ interruptions = refl
 -- ---- whole scripts
 
 -- no script with more lines comes to its end
-too_many_lines : (script : List (List ℕ)) (old new : Option (List ℕ)) → LINES < length script → Replays {A = ℕ} (Ok 0) script old new → ⊥
-too_many_lines script old new more ends = let few = ends.0 in omega (arith, more, few)
+too_many_lines : (script : List (List ℕ)) (old new : Option (List ℕ)) → LINES < length script → Replays (Ok tt) script old new → ⊥
+too_many_lines script old new more ends = let few = ends.plays.0 in omega (arith, more, few)
 
 -- no line that is too long is played
 too_long_a_line : (session after : Session) (line text : List ℕ) → line_octets < length line → PlaysLine session line after text → ⊥
 too_long_a_line session after line text long plays = let short = plays.short in omega (arith, long, short)
 
 -- no bad line has a greater number than the one behind the last that there may be
-no_later_bad_line : (script : List (List ℕ)) (number : ℕ) (old new : Option (List ℕ)) → LINES + 1 < number → Stops (stop.BadLine number) script old new → ⊥
-no_later_bad_line script number old new later stops =
+no_later_bad_line : (script : List (List ℕ)) (number : ℕ) (text : List ℕ) → LINES + 1 < number → StopsAt script number text → ⊥
+no_later_bad_line script number text later stops =
     let few = stops.few in
     let is = stops.number_is in omega (arith, later, few, is)
+
+-- a script of two lines, of which the second is a bad one
+abbrev pub script : List (List ℕ)
+script = codes "take bob" ∷ codes "set" ∷ []
+
+taken_by_bob : PlaysLine fresh (codes "take bob") (with_history fresh []) (codes "none\n")
+taken_by_bob = record { command = command.Take 1; short = omega arith; says = refl; answers = nothing_waits }
+
+first_line : Prints (codes "take bob" ∷ []) (codes "none\n")
+first_line = record {
+  after = with_history fresh [];
+  plays = (with_history fresh [], codes "none\n", [], taken_by_bob, (refl, refl), refl);
+}
+
+second_is_bad : StopsAt script 2 (codes "none\n")
+unfolding first_line
+second_is_bad = record {
+  place = 1;
+  number_is = refl;
+  few = omega arith;
+  prints = first_line;
+  bad = record { line = codes "set"; there = refl; bad = inr (inr tt) };
+}
+
+stops_at_it : Replays (Err (stop.BadLine 2)) script (Some []) (Some (codes "none\n"))
+stops_at_it = record { text = codes "none\n"; plays = second_is_bad; written = refl }
+
+-- the same line as a whole script, and where the reader fails behind it, or the writer in its answer
+whole_script : Replays (Ok tt) (codes "take bob" ∷ []) (Some []) (Some (codes "none\n"))
+whole_script = record { text = codes "none\n"; plays = (omega arith, first_line); written = refl }
+
+behind_one_line : StopsBehind script (codes "none\n")
+behind_one_line = record { count = 1; within = omega arith; few = omega arith; prints = first_line }
+
+reader_failed : Replays (Err stop.Read) script (Some []) (Some (codes "none\n"))
+reader_failed = record { text = codes "none\n"; plays = behind_one_line; written = refl }
+
+writer_failed : Replays (Err stop.Write) script (Some []) (Some (codes "no"))
+writer_failed = record { text = codes "none\n"; plays = behind_one_line; written = (2, refl) }
+
+says_none : (said : Command) → command_of (codes "set") ≡ Some said → ⊥
+says_none said says = cc
+
+-- it does not come to its end
+never_whole : (old new : Option (List ℕ)) → Replays (Ok tt) script old new → ⊥
+never_whole old new ends = let second = ends.plays.1.plays.4.3 in absurd (says_none second.command second.says)
+
+-- ---- the ends of runs
+
+told_of_it : EndsRun 1 script (Some []) (Some (codes "none\nline 2: bad line\n")) (Some []) (Some [])
+unfolding digits
+told_of_it = record {
+  ended = Err (stop.BadLine 2);
+  status_is = refl;
+  mid = Some (codes "none\n");
+  replays = stops_at_it;
+  answered = (17, refl);
+  beside = (0, refl);
+}
+
+told_beside : EndsRun 1 script (Some []) (Some (codes "none\n")) (Some []) (Some (codes "read fault\n"))
+told_beside = record {
+  ended = Err stop.Read;
+  status_is = refl;
+  mid = Some (codes "none\n");
+  replays = reader_failed;
+  answered = (0, refl);
+  beside = (11, refl);
+}
+
+ends_well : EndsRun 0 (codes "take bob" ∷ []) (Some []) (Some (codes "none\n")) (Some []) (Some [])
+ends_well = record { ended = Ok tt; status_is = refl; mid = Some (codes "none\n"); replays = whole_script; answered = (0, refl); beside = (0, refl) }
+
+-- nothing is told of a run that ended well, and it has the status 0
+abbrev status_of : Result ⊤ ReplayFault → ℕ
+status_of ended = if is_ok ended then 0 else 1
+
+says_nothing : (ended : Result ⊤ ReplayFault) (n : ℕ) → status_of ended ≡ 0 → codes "read fault\n" ≡ take n (beside_text ended) → ⊥
+says_nothing (Ok done) n status told = let more = ap length told in absurd (omega (arith, more, length-take n (beside_text (Ok done))))
+says_nothing (Err why) n status told = absurd (omega (arith, status))
+
+never_told : (others : List (List ℕ)) (old new : Option (List ℕ)) → EndsRun 0 others old new (Some []) (Some (codes "read fault\n")) → ⊥
+never_told others old new run = says_nothing run.ended run.beside.0 (sym run.status_is) run.beside.1

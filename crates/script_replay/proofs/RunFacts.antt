@@ -1,6 +1,6 @@
 -- A run goes on line by line.
-use Rattle.std.proofs.Common.{◌≡◌, ℕ, zero, suc, ◌+◌, ◌≤◌, ◌<◌, true, List, [], ◌∷◌, ◌++◌, length, take, Option, Some, None, Result, refl, sym, ap, subst, ◌∙◌, arith, ◌⊎◌, inl, inr, append_assoc, append-nil}
-use Rattle.std.specs.Prelude.{slice_get, IfSome}
+use Rattle.std.proofs.Common.{◌≡◌, ℕ, zero, suc, ◌+◌, ◌≤◌, ◌<◌, true, List, [], ◌∷◌, ◌++◌, length, take, Option, Some, None, Result, Ok, Err, refl, sym, ap, subst, ◌∙◌, arith, ◌⊎◌, inl, inr, append_assoc, append-nil}
+use Rattle.std.specs.Prelude.{slice_get, ⊤}
 use Rattle.std.specs.Io.KnownBytes.{Appends}
 use Rattle.std.proofs.KnownBytes.{Appends-nil, Appends-trans}
 use Rattle.std.proofs.lemmas.List.{length-append, take_at}
@@ -11,10 +11,24 @@ use Rattle.script_replay.specs.declared.run.TheConstants.{LINES}
 use Rattle.script_replay.specs.declared.session.Session.{Session as Kept}
 use Rattle.script_lines.specs.Commands.{command_of}
 use Rattle.script_io.specs.Lines.{lines_of, line_octets, GivesLine, GivesEnd, GivesTooLong}
-use Rattle.script_io.specs.Output.{AppendsFront}
+use Rattle.script_io.specs.Output.{AppendsFront, HandsOn, Buffers}
 use Rattle.script_replay.specs.Sessions.{Session, fresh, IsBadFor}
-use Rattle.script_replay.specs.Run.{PlaysLine, Plays, Prints, IsBad, StopsBehind, StopsIn, StopsAt, Stops, Replays}
-use Rattle.script_replay.specs.Running.{Stands, Ran, PlaysTo}
+use Rattle.script_replay.specs.Run.{PlaysLine, Plays, Prints, IsBad, StopsBehind, StopsAt}
+use Rattle.script_replay.specs.Running.{Stands, Ran, Ends, PlaysTo}
+
+-- ---- how a run ends, case by case
+
+abbrev pub WellEnds : List (List ℕ) → Option (List ℕ) → Option (List ℕ) → List ℕ → Type 0
+WellEnds lines old new buffer = Ends (let ended : Result ⊤ ReplayFault = Ok tt in ended) lines old new buffer
+
+abbrev pub BadEnds : ℕ → List (List ℕ) → Option (List ℕ) → Option (List ℕ) → List ℕ → Type 0
+BadEnds number lines old new buffer = Ends (let ended : Result ⊤ ReplayFault = Err (fault.BadLine number) in ended) lines old new buffer
+
+abbrev pub WriteEnds : List (List ℕ) → Option (List ℕ) → Option (List ℕ) → List ℕ → Type 0
+WriteEnds lines old new buffer = Ends (let ended : Result ⊤ ReplayFault = Err fault.Write in ended) lines old new buffer
+
+abbrev pub StopEnds : List (List ℕ) → Option (List ℕ) → Option (List ℕ) → List ℕ → Type 0
+StopEnds lines old new buffer = Ends (let ended : Result ⊤ ReplayFault = Err fault.NoMemory in ended) lines old new buffer
 
 -- ---- lines one after the other
 
@@ -27,6 +41,10 @@ plays_more session mid after (first ∷ done) line text said plays last =
     let rest = plays_more plays.0 mid after done line plays.2 said plays.4 last in
     (plays.0, plays.1, plays.2 ++ said, plays.3, rest, ap (λ t. t ++ said) plays.5 ∙ append_assoc plays.1 plays.2 said)
 
+-- what is handed on, and what is left then
+regroup : (front buffer said handed buffer' : List ℕ) → buffer ++ said ≡ handed ++ buffer' → (front ++ buffer) ++ said ≡ (front ++ handed) ++ buffer'
+regroup front buffer said handed buffer' e = append_assoc front buffer said ∙ ap (λ t. front ++ t) e ∙ sym (append_assoc front handed buffer')
+
 take_done : (done others : List (List ℕ)) (count : ℕ) → length done ≡ count → take count (done ++ others) ≡ done
 take_done done others count e = take_at done others count e
 
@@ -38,20 +56,20 @@ there (x ∷ done) line others (suc count) e = there done line others count (ome
 
 -- ---- a run, by the text that is left
 
-module _ (lines : List (List ℕ)) (rest : List ℕ) (count : ℕ) (kept : Kept) (old new : Option (List ℕ)) (ran : Ran lines (Some rest) count kept old new) where
+module _ (lines : List (List ℕ)) (rest : List ℕ) (count : ℕ) (kept : Kept) (old new : Option (List ℕ)) (buffer : List ℕ) (ran : Ran lines (Some rest) count kept old new buffer) where
   taken : take count lines ≡ ran.done
   taken = ap (take count) ran.others ∙ take_done ran.done (lines_of rest) count ran.counted
 
   within : count ≤ length lines
   within = omega (arith, ap length ran.others, length-append ran.done (lines_of rest), ran.counted)
 
-  prints : Prints (take count lines) old new
-  prints = record { after = ran.session; text = ran.text; plays = rw taken ran.plays; written = ran.written }
+  prints : Prints (take count lines) (ran.front ++ buffer)
+  prints = record { after = ran.session; plays = rw taken ran.plays }
 
-  pub stops_behind : StopsBehind lines old new
+  pub stops_behind : StopsBehind lines (ran.front ++ buffer)
   stops_behind = record { count = count; within = within; few = ran.few; prints = prints }
 
-  pub stops_at : (line : List ℕ) (others : List (List ℕ)) → lines_of rest ≡ line ∷ others → IsBad count ran.session line → StopsAt lines (count + 1) old new
+  pub stops_at : (line : List ℕ) (others : List (List ℕ)) → lines_of rest ≡ line ∷ others → IsBad count ran.session line → StopsAt lines (count + 1) (ran.front ++ buffer)
   unfolding prints
   stops_at line others next bad = record {
     place = count;
@@ -61,10 +79,13 @@ module _ (lines : List (List ℕ)) (rest : List ℕ) (count : ℕ) (kept : Kept)
     bad = record { line = line; there = ap (λ xs. slice_get xs count) (ran.others ∙ ap (λ xs. ran.done ++ xs) next) ∙ there ran.done line others count ran.counted; bad = bad };
   }
 
-  pub ends : lines_of rest ≡ [] → (length lines ≡ count) × Prints lines old new
+  pub bad_ends : (line : List ℕ) (others : List (List ℕ)) → lines_of rest ≡ line ∷ others → IsBad count ran.session line → BadEnds (count + 1) lines old new buffer
+  bad_ends line others next bad = (ran.front, stops_at line others next bad, ran.written)
+
+  pub ends : lines_of rest ≡ [] → WellEnds lines old new buffer
   ends none =
       let all : lines ≡ ran.done = ran.others ∙ ap (λ xs. ran.done ++ xs) none ∙ append-nil ran.done in
-      (ap length all ∙ ran.counted, record { after = ran.session; text = ran.text; plays = rw all ran.plays; written = ran.written })
+      (ran.front, (omega (arith, ap length all, ran.counted, ran.few), record { after = ran.session; plays = rw all ran.plays }), ran.written)
 
   -- a line that was played, with the text that is left then
   more_done : (line : List ℕ) (rest' : List ℕ) → lines_of rest ≡ line ∷ lines_of rest' → lines ≡ (ran.done ++ line ∷ []) ++ lines_of rest'
@@ -73,60 +94,60 @@ module _ (lines : List (List ℕ)) (rest : List ℕ) (count : ℕ) (kept : Kept)
   more_counted : (line : List ℕ) → length (ran.done ++ line ∷ []) ≡ count + 1
   more_counted line = omega (arith, length-append ran.done (line ∷ []), ran.counted)
 
-  pub goes_on : (line rest' said : List ℕ) (after : Session) (kept' : Kept) (new' : Option (List ℕ)) → count < LINES → lines_of rest ≡ line ∷ lines_of rest' → PlaysLine ran.session line after said → Stands kept' after → Appends new new' said →
-      Ran lines (Some rest') (count + 1) kept' old new'
-  goes_on line rest' said after kept' new' fewer next plays stands written = record {
+  pub goes_on : (line rest' said : List ℕ) (after : Session) (kept' : Kept) (new' : Option (List ℕ)) (buffer' : List ℕ) → count < LINES → lines_of rest ≡ line ∷ lines_of rest' → PlaysLine ran.session line after said → Stands kept' after
+      → HandsOn new new' (buffer ++ said) buffer' → Ran lines (Some rest') (count + 1) kept' old new' buffer'
+  goes_on line rest' said after kept' new' buffer' fewer next plays stands written = record {
     done = ran.done ++ line ∷ [];
     session = after;
-    text = ran.text ++ said;
+    front = ran.front ++ written.0;
     counted = more_counted line;
     few = omega arith;
     others = more_done line rest' next;
-    plays = plays_more fresh ran.session after ran.done line ran.text said ran.plays plays;
+    plays = subst (λ t. Plays fresh (ran.done ++ line ∷ []) after t) (regroup ran.front buffer said written.0 buffer' written.2) (plays_more fresh ran.session after ran.done line (ran.front ++ buffer) said ran.plays plays);
     stands = stands;
-    written = Appends-trans old new new' ran.text said ran.written written;
+    written = Appends-trans old new new' ran.front written.0 ran.written written.1;
   }
 
-  pub stops_in : (line rest' said : List ℕ) (after : Session) (new' : Option (List ℕ)) → count < LINES → lines_of rest ≡ line ∷ lines_of rest' → PlaysLine ran.session line after said → AppendsFront new new' said → StopsIn lines old new'
-  stops_in line rest' said after new' fewer next plays front =
-      let done = ran.done ++ line ∷ [] in
-      let all : lines ≡ done ++ lines_of rest' = more_done line rest' next in
-      let behind : take (count + 1) lines ≡ done = ap (take (count + 1)) all ∙ take_done done (lines_of rest') (count + 1) (more_counted line) in
-      record {
-        count = count + 1;
-        within = omega (arith, ap length all, length-append done (lines_of rest'), more_counted line);
-        few = omega arith;
-        prints = record {
-          after = after;
-          text = ran.text ++ said;
-          plays = rw behind (plays_more fresh ran.session after ran.done line ran.text said ran.plays plays);
-          written = (length ran.text + front.0, subst (λ t. Appends old new' t) (sym (take-append-add ran.text said front.0)) (Appends-trans old new new' ran.text (take front.0 said) ran.written front.1));
-        };
-      }
+  -- the writer fails, or there is no memory, before a line's answer stands in the buffer
+  pub write_ends : (new' : Option (List ℕ)) (buffer' : List ℕ) → AppendsFront new new' buffer → buffer' ≡ [] → WriteEnds lines old new' buffer'
+  write_ends new' buffer' front emptied = (
+    emptied,
+    (
+      ran.front ++ buffer,
+      stops_behind,
+      (length ran.front + front.0, subst (λ t. Appends old new' t) (sym (take-append-add ran.front buffer front.0)) (Appends-trans old new new' ran.front (take front.0 buffer) ran.written front.1)),
+    ),
+  )
+
+  pub memory_ends : (new' : Option (List ℕ)) (buffer' : List ℕ) → HandsOn new new' buffer buffer' → StopEnds lines old new' buffer'
+  memory_ends new' buffer' handed =
+      let same : ran.front ++ buffer ≡ (ran.front ++ handed.0) ++ buffer' = ap (λ t. ran.front ++ t) handed.2 ∙ sym (append_assoc ran.front handed.0 buffer') in
+      (ran.front ++ handed.0, subst (StopsBehind lines) same stops_behind, Appends-trans old new new' ran.front handed.0 ran.written handed.1)
 
 -- ---- one turn, by what comes next
 
-pub read_stops : (why : ReplayFault) (lines : List (List ℕ)) (left : Option (List ℕ)) (count : ℕ) (kept : Kept) (old new : Option (List ℕ)) → (why ≡ fault.Read) ⊎ (why ≡ fault.NoMemory) → Ran lines left count kept old new → Stops why lines old new
-read_stops why lines None count kept old new why_is ran = absurd ran.others
-read_stops why lines (Some rest) count kept old new (inl e) ran = subst (λ w. Stops w lines old new) (sym e) (stops_behind lines rest count kept old new ran)
-read_stops why lines (Some rest) count kept old new (inr e) ran = subst (λ w. Stops w lines old new) (sym e) (stops_behind lines rest count kept old new ran)
+pub read_ends : (why : ReplayFault) (lines : List (List ℕ)) (left : Option (List ℕ)) (count : ℕ) (kept : Kept) (old new : Option (List ℕ)) (buffer : List ℕ) → (why ≡ fault.Read) ⊎ (why ≡ fault.NoMemory) → Ran lines left count kept old new buffer
+    → Ends (let ended : Result ⊤ ReplayFault = Err why in ended) lines old new buffer
+read_ends why lines None count kept old new buffer why_is ran = absurd ran.others
+read_ends why lines (Some rest) count kept old new buffer (inl e) ran = subst (λ w. Ends (let ended : Result ⊤ ReplayFault = Err w in ended) lines old new buffer) (sym e) (ran.front, stops_behind lines rest count kept old new buffer ran, ran.written)
+read_ends why lines (Some rest) count kept old new buffer (inr e) ran = subst (λ w. Ends (let ended : Result ⊤ ReplayFault = Err w in ended) lines old new buffer) (sym e) (ran.front, stops_behind lines rest count kept old new buffer ran, ran.written)
 
 -- no line comes
-pub end_is : (lines : List (List ℕ)) (left after : Option (List ℕ)) (count : ℕ) (kept : Kept) (old new : Option (List ℕ)) → GivesEnd left after → Ran lines left count kept old new → (length lines ≡ count) × Prints lines old new
-end_is lines None after count kept old new gives ran = absurd ran.others
-end_is lines (Some rest) None count kept old new gives ran = absurd gives
-end_is lines (Some rest) (Some more) count kept old new gives ran = ends lines rest count kept old new ran gives.0
+pub end_is : (lines : List (List ℕ)) (left after : Option (List ℕ)) (count : ℕ) (kept : Kept) (old new : Option (List ℕ)) (buffer : List ℕ) → GivesEnd left after → Ran lines left count kept old new buffer → WellEnds lines old new buffer
+end_is lines None after count kept old new buffer gives ran = absurd ran.others
+end_is lines (Some rest) None count kept old new buffer gives ran = absurd gives
+end_is lines (Some rest) (Some more) count kept old new buffer gives ran = ends lines rest count kept old new buffer ran gives.0
 
 -- a line that is too long comes
-pub long_stops : (lines : List (List ℕ)) (left : Option (List ℕ)) (count : ℕ) (kept : Kept) (old new : Option (List ℕ)) → GivesTooLong left → Ran lines left count kept old new → StopsAt lines (count + 1) old new
-long_stops lines None count kept old new gives ran = absurd ran.others
-long_stops lines (Some rest) count kept old new gives ran = stops_at lines rest count kept old new ran gives.0 gives.1 gives.2 (inr (inl gives.3))
+pub long_ends : (lines : List (List ℕ)) (left : Option (List ℕ)) (count : ℕ) (kept : Kept) (old new : Option (List ℕ)) (buffer : List ℕ) → GivesTooLong left → Ran lines left count kept old new buffer → BadEnds (count + 1) lines old new buffer
+long_ends lines None count kept old new buffer gives ran = absurd ran.others
+long_ends lines (Some rest) count kept old new buffer gives ran = bad_ends lines rest count kept old new buffer ran gives.0 gives.1 gives.2 (inr (inl gives.3))
 
 -- a line that says nothing known comes
-pub bad_stops : (lines : List (List ℕ)) (left after : Option (List ℕ)) (line : List ℕ) (count : ℕ) (kept : Kept) (old new : Option (List ℕ)) → GivesLine left after line → ((session : Session) → Stands kept session → IsBadFor session (command_of line)) → Ran lines left count kept old new → StopsAt lines (count + 1) old new
-bad_stops lines None after line count kept old new gives bad ran = absurd ran.others
-bad_stops lines (Some rest) None line count kept old new gives bad ran = absurd gives
-bad_stops lines (Some rest) (Some more) line count kept old new gives bad ran = stops_at lines rest count kept old new ran line (lines_of more) gives.0 (inr (inr (bad ran.session ran.stands)))
+pub bad_line_ends : (lines : List (List ℕ)) (left after : Option (List ℕ)) (line : List ℕ) (count : ℕ) (kept : Kept) (old new : Option (List ℕ)) (buffer : List ℕ) → GivesLine left after line → ((session : Session) → Stands kept session → IsBadFor session (command_of line)) → Ran lines left count kept old new buffer → BadEnds (count + 1) lines old new buffer
+bad_line_ends lines None after line count kept old new buffer gives bad ran = absurd ran.others
+bad_line_ends lines (Some rest) None line count kept old new buffer gives bad ran = absurd gives
+bad_line_ends lines (Some rest) (Some more) line count kept old new buffer gives bad ran = bad_ends lines rest count kept old new buffer ran line (lines_of more) gives.0 (inr (inr (bad ran.session ran.stands)))
 
 -- a line that was played comes
 played : (session : Session) (line : List ℕ) (kept' : Kept) (text : List ℕ) → length line ≤ line_octets → PlaysTo true session line kept' text
@@ -134,51 +155,34 @@ played : (session : Session) (line : List ℕ) (kept' : Kept) (text : List ℕ) 
 played session line kept' text short plays =
     (plays.0, plays.1, record { command = plays.2.0; short = short; says = plays.2.1; answers = plays.2.2 })
 
-pub line_goes_on : (lines : List (List ℕ)) (left after : Option (List ℕ)) (line : List ℕ) (count : ℕ) (kept kept' : Kept) (old mid new : Option (List ℕ)) (text : List ℕ) → count < LINES → GivesLine left after line → ((session : Session) → Stands kept session → PlaysTo true session line kept' text) → Appends mid new text →
-    Ran lines left count kept old mid → Ran lines after (count + 1) kept' old new
-line_goes_on lines None after line count kept kept' old mid new text fewer gives plays written ran = absurd ran.others
-line_goes_on lines (Some rest) None line count kept kept' old mid new text fewer gives plays written ran = absurd gives
-line_goes_on lines (Some rest) (Some more) line count kept kept' old mid new text fewer gives plays written ran =
+pub line_goes_on : (lines : List (List ℕ)) (left after : Option (List ℕ)) (line : List ℕ) (count : ℕ) (kept kept' : Kept) (old mid new : Option (List ℕ)) (buffer buffer' text : List ℕ) → count < LINES → GivesLine left after line → ((session : Session) → Stands kept session → PlaysTo true session line kept' text)
+    → HandsOn mid new (buffer ++ text) buffer' → Ran lines left count kept old mid buffer → Ran lines after (count + 1) kept' old new buffer'
+line_goes_on lines None after line count kept kept' old mid new buffer buffer' text fewer gives plays written ran = absurd ran.others
+line_goes_on lines (Some rest) None line count kept kept' old mid new buffer buffer' text fewer gives plays written ran = absurd gives
+line_goes_on lines (Some rest) (Some more) line count kept kept' old mid new buffer buffer' text fewer gives plays written ran =
     let p = played ran.session line kept' text gives.1 (plays ran.session ran.stands) in
-    goes_on lines rest count kept old mid ran line more text p.0 kept' new fewer gives.0 p.2 p.1 written
+    goes_on lines rest count kept old mid buffer ran line more text p.0 kept' new buffer' fewer gives.0 p.2 p.1 written
 
-pub write_stops : (lines : List (List ℕ)) (left after : Option (List ℕ)) (line : List ℕ) (count : ℕ) (kept kept' : Kept) (old mid new : Option (List ℕ)) (text : List ℕ) → count < LINES → GivesLine left after line → ((session : Session) → Stands kept session → PlaysTo true session line kept' text) → AppendsFront mid new text →
-    Ran lines left count kept old mid → StopsIn lines old new
-write_stops lines None after line count kept kept' old mid new text fewer gives plays written ran = absurd ran.others
-write_stops lines (Some rest) None line count kept kept' old mid new text fewer gives plays written ran = absurd gives
-write_stops lines (Some rest) (Some more) line count kept kept' old mid new text fewer gives plays written ran =
-    let p = played ran.session line kept' text gives.1 (plays ran.session ran.stands) in
-    stops_in lines rest count kept old mid ran line more text p.0 new fewer gives.0 p.2 written
+-- its answer can't be put into the buffer
+pub buffer_ends : (why : ReplayFault) (lines : List (List ℕ)) (left : Option (List ℕ)) (count : ℕ) (kept : Kept) (old mid new : Option (List ℕ)) (buffer buffer' text : List ℕ) → Buffers (let ended : Result ⊤ ReplayFault = Err why in ended) mid new buffer text buffer' → Ran lines left count kept old mid buffer
+    → Ends (let ended : Result ⊤ ReplayFault = Err why in ended) lines old new buffer'
+buffer_ends why lines None count kept old mid new buffer buffer' text buffers ran = absurd ran.others
+buffer_ends fault.Write lines (Some rest) count kept old mid new buffer buffer' text buffers ran = write_ends lines rest count kept old mid buffer ran new buffer' buffers.0 buffers.1
+buffer_ends fault.NoMemory lines (Some rest) count kept old mid new buffer buffer' text buffers ran = memory_ends lines rest count kept old mid buffer ran new buffer' buffers
+buffer_ends fault.Read lines (Some rest) count kept old mid new buffer buffer' text buffers ran = absurd buffers
+buffer_ends (fault.BadLine number) lines (Some rest) count kept old mid new buffer buffer' text buffers ran = absurd buffers
 
--- ---- before the first line, and after the last that there may be
+-- ---- before the first line, after the last that there may be, and at the end
 
-pub begins : (script : List ℕ) (kept : Kept) (old : Option (List ℕ)) → Stands kept fresh → Appends old old [] → Ran (lines_of script) (Some script) 0 kept old old
-begins script kept old stands none = record { done = []; session = fresh; text = []; counted = refl; few = omega arith; others = refl; plays = (refl, refl); stands = stands; written = none }
+pub begins : (script : List ℕ) (kept : Kept) (old : Option (List ℕ)) → Stands kept fresh → Appends old old [] → Ran (lines_of script) (Some script) 0 kept old old []
+begins script kept old stands none = record { done = []; session = fresh; front = []; counted = refl; few = omega arith; others = refl; plays = (refl, refl); stands = stands; written = none }
 
-pub nothing_played : (lines : List (List ℕ)) (old : Option (List ℕ)) → StopsBehind lines old old
-nothing_played lines old = record {
-  count = 0;
-  within = omega arith;
-  few = omega arith;
-  prints = record { after = fresh; text = []; plays = (refl, refl); written = Appends-nil old };
-}
+pub nothing_played : (why : ReplayFault) (lines : List (List ℕ)) (old : Option (List ℕ)) (buffer : List ℕ) → why ≡ fault.NoMemory → buffer ≡ [] → Ends (let ended : Result ⊤ ReplayFault = Err why in ended) lines old old buffer
+nothing_played why lines old buffer why_is empty =
+    let none : StopsBehind lines ([] ++ buffer) = record { count = 0; within = omega arith; few = omega arith; prints = record { after = fresh; plays = (refl, empty) } } in
+    subst (λ w. Ends (let ended : Result ⊤ ReplayFault = Err w in ended) lines old old buffer) (sym why_is) ([], none, Appends-nil old)
 
-pub line_too_many : (lines : List (List ℕ)) (left after : Option (List ℕ)) (line : List ℕ) (kept : Kept) (old new : Option (List ℕ)) → GivesLine left after line → Ran lines left LINES kept old new → StopsAt lines (LINES + 1) old new
-line_too_many lines None after line kept old new gives ran = absurd ran.others
-line_too_many lines (Some rest) None line kept old new gives ran = absurd gives
-line_too_many lines (Some rest) (Some more) line kept old new gives ran = stops_at lines rest LINES kept old new ran line (lines_of more) gives.0 (inl (omega arith))
-
-pub if_some_then : {A : Type 0} (o : Option A) (P Q : A → Type 0) → IfSome o P → ((x : A) → P x → Q x) → IfSome o Q
-if_some_then None P Q p f = tt
-if_some_then (Some x) P Q p f = f x p
-
-pub if_some_always : {A : Type 0} (o : Option A) (P : A → Type 0) → ((x : A) → P x) → IfSome o P
-if_some_always None P f = tt
-if_some_always (Some x) P f = f x
-
--- a session that begins plays whatever script the reader holds
-pub started : {A : Type 0} (left : Option (List ℕ)) (kept : Kept) (old new : Option (List ℕ)) (result : Result A ReplayFault) → Stands kept fresh
-    → ((lines : List (List ℕ)) (first : Option (List ℕ)) → Ran lines left 0 kept first old → Replays result lines first new)
-    → IfSome left (λ script. Replays result (lines_of script) old new)
-started None kept old new result stands runs = tt
-started (Some script) kept old new result stands runs = runs (lines_of script) old (begins script kept old stands (Appends-nil old))
+pub line_too_many : (lines : List (List ℕ)) (left after : Option (List ℕ)) (line : List ℕ) (kept : Kept) (old new : Option (List ℕ)) (buffer : List ℕ) → GivesLine left after line → Ran lines left LINES kept old new buffer → BadEnds (LINES + 1) lines old new buffer
+line_too_many lines None after line kept old new buffer gives ran = absurd ran.others
+line_too_many lines (Some rest) None line kept old new buffer gives ran = absurd gives
+line_too_many lines (Some rest) (Some more) line kept old new buffer gives ran = bad_ends lines rest LINES kept old new buffer ran line (lines_of more) gives.0 (inl (omega arith))

@@ -1,8 +1,9 @@
 -- What a whole script prints.
-use Rattle.std.specs.Prelude.{◌≡◌, ℕ, ◌+◌, ◌<◌, ◌≤◌, List, [], ◌∷◌, ◌++◌, length, take, slice_get, Option, Some, Result, Ok, Err, ◌⊎◌, ⊤}
+use Rattle.std.specs.Prelude.{◌≡◌, ℕ, ◌+◌, ◌<◌, ◌≤◌, List, [], ◌∷◌, ◌++◌, length, take, slice_get, Option, Some, Result, Ok, Err, is_ok, if◌then◌else◌, ◌⊎◌, ⊤}
 use Rattle.std.specs.Io.KnownBytes.{Appends}
 use Rattle.script_io.specs.declared.fault.ReplayFault.{ReplayFault}
 use Rattle.script_io.specs.declared.fault.ReplayFault.TheVariants as fault
+use Rattle.script_io.specs.Ending.{answered_text, beside_text}
 use Rattle.script_io.specs.Lines.{line_octets}
 use Rattle.script_io.specs.Output.{AppendsFront}
 use Rattle.script_lines.specs.declared.command.Command.{Command}
@@ -23,19 +24,10 @@ Plays session [] after text = (after ≡ session) × (text ≡ [])
 Plays session (line ∷ lines) after text =
     (mid : Session) × (first : List ℕ) × (others : List ℕ) × PlaysLine session line mid first × Plays mid lines after others × (text ≡ first ++ others)
 
--- the writer gained what is printed for the lines
-pub record Prints (lines : List (List ℕ)) (old new : Option (List ℕ)) : Type 0 where
+-- a whole list of lines, played from the first on, prints this
+pub record Prints (lines : List (List ℕ)) (text : List ℕ) : Type 0 where
   pub after : Session
-  pub text : List ℕ
   pub plays : Plays fresh lines after text
-  pub written : Appends old new text
-
--- the writer gained a front of that
-pub record PrintsFront (lines : List (List ℕ)) (old new : Option (List ℕ)) : Type 0 where
-  pub after : Session
-  pub text : List ℕ
-  pub plays : Plays fresh lines after text
-  pub written : AppendsFront old new text
 
 -- a line that a script may not have at this place, the first being 0, where it stands so
 abbrev pub IsBad : ℕ → Session → List ℕ → Type 0
@@ -46,45 +38,49 @@ pub record IsBadAt (lines : List (List ℕ)) (place : ℕ) (session : Session) :
   pub there : slice_get lines place ≡ Some line
   pub bad : IsBad place session line
 
--- the run stopped behind some lines, and what they print was written
-pub record StopsBehind (lines : List (List ℕ)) (old new : Option (List ℕ)) : Type 0 where
-  pub count : ℕ
-  pub within : count ≤ length lines
-  pub few : count ≤ LINES
-  pub prints : Prints (take count lines) old new
+-- the whole script was played
+abbrev pub PlaysWhole : List (List ℕ) → List ℕ → Type 0
+PlaysWhole lines text = (length lines ≤ LINES) × Prints lines text
 
-pub record StopsIn (lines : List (List ℕ)) (old new : Option (List ℕ)) : Type 0 where
+-- some lines were played
+pub record StopsBehind (lines : List (List ℕ)) (text : List ℕ) : Type 0 where
   pub count : ℕ
   pub within : count ≤ length lines
   pub few : count ≤ LINES
-  pub prints : PrintsFront (take count lines) old new
+  pub prints : Prints (take count lines) text
 
 -- the line with this number, the first being 1, is the first bad one: the lines before it are no more than a script
--- may have, and were played; and what they print was written
-pub record StopsAt (lines : List (List ℕ)) (number : ℕ) (old new : Option (List ℕ)) : Type 0 where
+-- may have, and were played
+pub record StopsAt (lines : List (List ℕ)) (number : ℕ) (text : List ℕ) : Type 0 where
   pub place : ℕ
   pub number_is : number ≡ place + 1
   pub few : place ≤ LINES
-  pub prints : Prints (take place lines) old new
+  pub prints : Prints (take place lines) text
   pub bad : IsBadAt lines place prints.after
 
--- what a run that stopped has written
-abbrev pub Stops : ReplayFault → List (List ℕ) → Option (List ℕ) → Option (List ℕ) → Type 0
-Stops fault.Read lines old new = StopsBehind lines old new
-Stops fault.NoMemory lines old new = StopsBehind lines old new
-Stops fault.Write lines old new = StopsIn lines old new
-Stops (fault.BadLine number) lines old new = StopsAt lines number old new
+-- which lines were played, by how the run ended, and what they print
+abbrev pub PlaysUntil : {A : Type 0} → Result A ReplayFault → List (List ℕ) → List ℕ → Type 0
+PlaysUntil (Ok done) lines text = PlaysWhole lines text
+PlaysUntil (Err (fault.BadLine number)) lines text = StopsAt lines number text
+PlaysUntil (Err why) lines text = StopsBehind lines text
 
--- the whole script was played, and all that it prints was written
-abbrev pub PlaysWhole : List (List ℕ) → Option (List ℕ) → Option (List ℕ) → Type 0
-PlaysWhole lines old new = (length lines ≤ LINES) × Prints lines old new
+-- how much of that was written: all of it, or a front where the writer failed
+abbrev pub Writes : {A : Type 0} → Result A ReplayFault → Option (List ℕ) → Option (List ℕ) → List ℕ → Type 0
+Writes (Err fault.Write) old new text = AppendsFront old new text
+Writes ended old new text = Appends old new text
 
 -- what a run has written
-abbrev pub Replays : {A : Type 0} → Result A ReplayFault → List (List ℕ) → Option (List ℕ) → Option (List ℕ) → Type 0
-Replays (Ok done) lines old new = PlaysWhole lines old new
-Replays (Err why) lines old new = Stops why lines old new
+pub record Replays (ended : Result ⊤ ReplayFault) (lines : List (List ℕ)) (old new : Option (List ℕ)) : Type 0 where
+  pub text : List ℕ
+  pub plays : PlaysUntil ended lines text
+  pub written : Writes ended old new text
 
--- what a run through a buffer has handed on: all that the run wrote, unless the writer failed
-abbrev pub HandsOn : {A : Type 0} → Result A ReplayFault → List (List ℕ) → Option (List ℕ) → Option (List ℕ) → Type 0
-HandsOn (Err fault.Write) lines old new = ⊤
-HandsOn ended lines old new = Replays ended lines old new
+-- a run has ended with this exit status, and what it wrote and told of its end stands at the writer of the answers and
+-- beside it
+pub record EndsRun (status : ℕ) (lines : List (List ℕ)) (old new old_errors new_errors : Option (List ℕ)) : Type 0 where
+  pub ended : Result ⊤ ReplayFault
+  pub status_is : status ≡ (if is_ok ended then 0 else 1)
+  pub mid : Option (List ℕ)
+  pub replays : Replays ended lines old mid
+  pub answered : AppendsFront mid new (answered_text ended)
+  pub beside : AppendsFront old_errors new_errors (beside_text ended)

@@ -4,14 +4,16 @@ use Rattle.std.specs.Io.KnownBytes.{Appends}
 use Rattle.entity_config.specs.declared.setting.Setting.{Setting}
 use Rattle.entity_world.specs.Worlds.{WorldValue, StandsAfter}
 use Rattle.script_io.specs.declared.fault.ReplayFault.{ReplayFault}
+use Rattle.script_io.specs.declared.fault.ReplayFault.TheVariants as fault
 use Rattle.script_io.specs.Lines.{lines_of}
+use Rattle.script_io.specs.Output.{AppendsFront}
 use Rattle.script_lines.specs.declared.command.Command.{Command}
 use Rattle.script_lines.specs.Commands.{command_of}
 use Rattle.script_replay.specs.declared.run.TheConstants.{LINES}
 use Rattle.script_replay.specs.declared.session.Session.{Session as Kept}
 use Rattle.script_replay.specs.declared.session.Session.TheVariants.{Configured, Running, Over}
 use Rattle.script_replay.specs.Sessions.{Session, fresh, IsSet, Answers, IsBadSetting, IsBadFor}
-use Rattle.script_replay.specs.Run.{Plays, Prints, Stops}
+use Rattle.script_replay.specs.Run.{Plays, PlaysUntil, StopsBehind}
 
 -- ---- what the code keeps of a session
 
@@ -61,20 +63,25 @@ abbrev pub IsLeft : List (List ℕ) → List (List ℕ) → Option (List ℕ) �
 IsLeft lines done None = ⊥
 IsLeft lines done (Some rest) = lines ≡ done ++ lines_of rest
 
--- so many lines were played, and what they print was written
-pub record Ran (lines : List (List ℕ)) (left : Option (List ℕ)) (count : ℕ) (kept : Kept) (old new : Option (List ℕ)) : Type 0 where
+-- so many lines were played; a front of what they print was written, and the buffer holds the rest
+pub record Ran (lines : List (List ℕ)) (left : Option (List ℕ)) (count : ℕ) (kept : Kept) (old new : Option (List ℕ)) (buffer : List ℕ) : Type 0 where
   pub done : List (List ℕ)
   pub session : Session
-  pub text : List ℕ
+  pub front : List ℕ
   pub counted : length done ≡ count
   pub few : count ≤ LINES
   pub others : IsLeft lines done left
-  pub plays : Plays fresh done session text
+  pub plays : Plays fresh done session (front ++ buffer)
   pub stands : Stands kept session
-  pub written : Appends old new text
+  pub written : Appends old new front
+
+-- the run has ended: a front of what it prints was written, and the buffer holds the rest; but where the writer failed
+-- the buffer holds nothing
+abbrev pub Ends : {A : Type 0} → Result A ReplayFault → List (List ℕ) → Option (List ℕ) → Option (List ℕ) → List ℕ → Type 0
+Ends (Err fault.Write) lines old new buffer = (buffer ≡ []) × ((text : List ℕ) × StopsBehind lines text × AppendsFront old new text)
+Ends ended lines old new buffer = (front : List ℕ) × PlaysUntil ended lines (front ++ buffer) × Appends old new front
 
 -- after one line more, or at the end, or where the run stops
-abbrev pub GoesOn : Result Bool ReplayFault → List (List ℕ) → Option (List ℕ) → ℕ → Kept → Option (List ℕ) → Option (List ℕ) → Type 0
-GoesOn (Ok true) lines left count kept old new = Ran lines left (count + 1) kept old new
-GoesOn (Ok false) lines left count kept old new = (length lines ≡ count) × Prints lines old new
-GoesOn (Err why) lines left count kept old new = Stops why lines old new
+abbrev pub GoesOn : Result Bool ReplayFault → List (List ℕ) → Option (List ℕ) → ℕ → Kept → Option (List ℕ) → Option (List ℕ) → List ℕ → Type 0
+GoesOn (Ok true) lines left count kept old new buffer = Ran lines left (count + 1) kept old new buffer
+GoesOn ended lines left count kept old new buffer = Ends ended lines old new buffer

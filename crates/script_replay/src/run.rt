@@ -1,21 +1,28 @@
 //! Runs a whole script.
-ghost use Rattle.std.specs.Prelude.{ℕ, ◌<◌, ◌+◌, List, Option, Some, None, IfSome};
+ghost use Rattle.std.specs.Prelude.{◌≡◌, ℕ, ◌<◌, ◌+◌, List, [], Option, Some, None, IfSome};
 ghost use Rattle.script_io.specs.Lines.{lines_of};
 ghost use Rattle.script_replay.specs.declared.session.Session.{Session};
 ghost use Rattle.script_replay.specs.Run.{Replays};
-ghost use Rattle.script_replay.specs.Running.{Ran, GoesOn};
+ghost use Rattle.script_replay.specs.Running.{Ran, Ends, GoesOn};
 
 use crate::session::Session;
-use script_io::{NextLine, ReplayFault, in_blocks, next_line, write_whole};
+use script_io::{NextLine, ReplayFault, flush_buffer, in_blocks, next_line, write_buffered};
 use std::alloc::Global;
 use std::io::{BufRead, Read, Write};
 
 /// The most lines of a script.
 pub const LINES: u32 = 1_000_000;
 
+// The line that is played, and what it prints.
+#[derive(Drop)]
+struct Scratch {
+    line: Vec<u8>,
+    text: String,
+}
+
 /// Runs the script that the reader holds through an entity, and writes what it answers, line by
 /// line. It reads ahead, by blocks: where it ends before the text does, the reader stands further
-/// than the last line that was played.
+/// than the last line that was played. It writes by blocks too: an answer may come later than its line.
 pub fn replay<R: Read, W: Write>(
     alloc: Global,
     reader: &mut R,
@@ -24,9 +31,26 @@ pub fn replay<R: Read, W: Write>(
     ensures { IfSome (R.remaining reader.old)
         (λ script. Replays result (lines_of script) (W.contents writer.old) (W.contents writer.new)) }
 {
+    let mut buffer = Vec::new(alloc);
+    let ended = play_script(alloc, reader, writer, &mut buffer);
+    flush_buffer(writer, &mut buffer)?;
+    ended
+}
+
+// The same with a buffer that holds at the end what was not written yet.
+fn play_script<R: Read, W: Write>(
+    alloc: Global,
+    reader: &mut R,
+    writer: &mut W,
+    buffer: &mut Vec<u8>,
+) -> Result<(), ReplayFault>
+    requires { buffer.old.items ≡ [] }
+    ensures { IfSome (R.remaining reader.old)
+        (λ script. Ends result (lines_of script) (W.contents writer.old) (W.contents writer.new) buffer.new.items) }
+{
     let mut blocks = in_blocks(alloc, reader)?;
     let mut session = Session::new(alloc)?;
-    play_lines(alloc, &mut session, &mut blocks, writer)
+    play_lines(alloc, &mut session, &mut blocks, writer, buffer)
 }
 
 // The same for a session that begins, and a reader that shows its blocks.
@@ -35,26 +59,29 @@ fn play_lines<B: BufRead, W: Write>(
     session: &mut Session,
     reader: &mut B,
     writer: &mut W,
+    buffer: &mut Vec<u8>,
 ) -> Result<(), ReplayFault>
     ensures { (lines : List (List ℕ)) (old : Option (List ℕ))
-        → Ran lines (B.remaining reader.old) 0 session.old old (W.contents writer.old)
-        → Replays result lines old (W.contents writer.new) }
+        → Ran lines (B.remaining reader.old) 0 session.old old (W.contents writer.old) buffer.old.items
+        → Ends result lines old (W.contents writer.new) buffer.new.items }
 {
-    let mut line = Vec::new(alloc);
-    let mut text = String::new(alloc);
+    let mut scratch = Scratch {
+        line: Vec::new(alloc),
+        text: String::new(alloc),
+    };
     for count in 0..LINES {
-        if !turn(alloc, session, &mut line, &mut text, reader, writer, count)? {
+        if !turn(alloc, session, &mut scratch, reader, writer, buffer, count)? {
             return Ok(());
         }
     }
-    ends(reader, &mut line)
+    ends(reader, &mut scratch.line)
 }
 
 // Behind the last line that a script may have no line comes.
 fn ends<B: BufRead>(reader: &mut B, line: &mut Vec<u8>) -> Result<(), ReplayFault>
-    ensures { (lines : List (List ℕ)) (session : Session) (old new : Option (List ℕ))
-        → Ran lines (B.remaining reader.old) LINES session old new
-        → Replays result lines old new }
+    ensures { (lines : List (List ℕ)) (session : Session) (old new : Option (List ℕ)) (buffer : List ℕ)
+        → Ran lines (B.remaining reader.old) LINES session old new buffer
+        → Ends result lines old new buffer }
 {
     match next_line(reader, line)? {
         NextLine::End => Ok(()),
@@ -67,17 +94,19 @@ fn ends<B: BufRead>(reader: &mut B, line: &mut Vec<u8>) -> Result<(), ReplayFaul
 fn turn<B: BufRead, W: Write>(
     alloc: Global,
     session: &mut Session,
-    line: &mut Vec<u8>,
-    text: &mut String,
+    scratch: &mut Scratch,
     reader: &mut B,
     writer: &mut W,
+    buffer: &mut Vec<u8>,
     count: u32,
 ) -> Result<bool, ReplayFault>
     requires { count < LINES }
     ensures { (lines : List (List ℕ)) (old : Option (List ℕ))
-        → Ran lines (B.remaining reader.old) count session.old old (W.contents writer.old)
-        → GoesOn result lines (B.remaining reader.new) count session.new old (W.contents writer.new) }
+        → Ran lines (B.remaining reader.old) count session.old old (W.contents writer.old) buffer.old.items
+        → GoesOn result lines (B.remaining reader.new) count session.new old (W.contents writer.new)
+        buffer.new.items }
 {
+    let Scratch { line, text } = scratch;
     match next_line(reader, line)? {
         NextLine::End => return Ok(false),
         NextLine::TooLong => return Err(ReplayFault::BadLine(count + 1)),
@@ -86,6 +115,6 @@ fn turn<B: BufRead, W: Write>(
     if !session.play(alloc, line.as_slice(), text)? {
         return Err(ReplayFault::BadLine(count + 1));
     }
-    write_whole(writer, text.as_bytes())?;
+    write_buffered(writer, buffer, text.as_bytes())?;
     Ok(true)
 }

@@ -3,7 +3,8 @@
 
 use crate::entities::{entity_one, entity_two};
 use crate::link::{End, Link};
-use std::alloc::AllocError;
+use crate::seen::Seen;
+use std::alloc::{AllocError, Global};
 use std::test::*;
 
 // How many turns there are.
@@ -27,21 +28,20 @@ impl Draws {
 
 fn turn(link: &mut Link, draws: &mut Draws, number: u64) -> Result<(), AllocError> {
     let lot = draws.next();
-    match draws.next() % 64 {
-        0..=1 => link.put(number, lot)?,
-        2..=17 => link.pump(lot)?,
-        18..=37 => link.deliver(End::Receiving, lot)?,
-        38..=53 => link.deliver(End::Putting, lot)?,
-        54 => link.expire(lot)?,
-        _ => link.store(lot)?,
-    }
+    let done = match draws.next() % 64 {
+        0..=1 => link.put(number, lot),
+        2..=17 => link.pump(lot),
+        18..=37 => link.deliver(End::Receiving, lot),
+        38..=53 => link.deliver(End::Putting, lot),
+        54 => link.expire(lot),
+        _ => link.store(lot),
+    };
     link.take();
-    Ok(())
+    done
 }
 
-#[test]
-fn two_worlds(rt: HostRuntime) -> Result<(), Fail> {
-    let alloc = rt.alloc();
+// What is seen of all turns.
+fn all_turns(alloc: Global) -> Result<Seen, Fail> {
     let two = entity_two(alloc).ok_or("no entity 2")?;
     let one = entity_one(alloc).ok_or("no entity 1")?;
     let mut link = Link::new(alloc, two, one);
@@ -49,7 +49,12 @@ fn two_worlds(rt: HostRuntime) -> Result<(), Fail> {
     for number in 0..COUNT {
         turn(&mut link, &mut draws, number)?;
     }
-    let seen = link.seen();
+    Ok(link.seen())
+}
+
+#[test]
+fn two_worlds(rt: HostRuntime) -> Result<(), Fail> {
+    let seen = all_turns(rt.alloc())?;
     assert_eq!(rt; seen.wrongs, 0);
     for (what, times, least) in [
         ("files of class 1", seen.images_one, 5),

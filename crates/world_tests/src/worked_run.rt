@@ -14,19 +14,69 @@ const KEY: TxnKey = TxnKey {
     seq: 4,
 };
 
-const METADATA: &str = "20000a0002040107000000000301610162";
+// What an entity is told of.
+#[derive(Clone, Copy)]
+enum Step {
+    // The user alice puts the octets "abc", named "a", to be kept as "b".
+    Put,
+    Pump,
+    // A datagram comes, in hex.
+    Deliver(&'static str),
+    // The file store keeps the file.
+    Store,
+}
 
-const FILE_DATA: &str = "3000070002040100000000616263";
-
-const EOF: &str = "20000a0002040104006162630000000003";
-
-const EOF_ACK: &str = "28000300020401064001";
-
-const NAK: &str = "2800190002040108000000000000000300000000000000000000000000000003";
-
-const FINISHED: &str = "280002000204010502";
-
-const FINISHED_ACK: &str = "20000300020401065102";
+// The run, step by step: at which entity, and what it prints.
+const RUN: [(u64, Step, &str); 14] = [
+    (2, Step::Put, "ok\ntxn 2 4\n"),
+    (
+        2,
+        Step::Pump,
+        "ok\npdu 20000a0002040107000000000301610162\n",
+    ),
+    (2, Step::Pump, "ok\npdu 3000070002040100000000616263\n"),
+    (
+        2,
+        Step::Pump,
+        "ok\npdu 20000a0002040104006162630000000003\n",
+    ),
+    // The EOF comes alone: all is asked for.
+    (
+        1,
+        Step::Deliver("20000a0002040104006162630000000003"),
+        "ok\npdu 28000300020401064001\n\
+        pdu 2800190002040108000000000000000300000000000000000000000000000003\n",
+    ),
+    (
+        1,
+        Step::Deliver("20000a0002040107000000000301610162"),
+        "ok\n",
+    ),
+    (
+        2,
+        Step::Deliver("2800190002040108000000000000000300000000000000000000000000000003"),
+        "ok\n",
+    ),
+    (
+        2,
+        Step::Pump,
+        "ok\npdu 20000a0002040107000000000301610162\n",
+    ),
+    (2, Step::Pump, "ok\npdu 3000070002040100000000616263\n"),
+    (2, Step::Pump, "refused 8 WrongState\n"),
+    (
+        1,
+        Step::Deliver("3000070002040100000000616263"),
+        "ok\ndeposit 2\n",
+    ),
+    (1, Step::Store, "ok\npdu 280002000204010502\n"),
+    (
+        2,
+        Step::Deliver("280002000204010502"),
+        "ok\npdu 20000300020401065102\n",
+    ),
+    (1, Step::Deliver("20000300020401065102"), "ok\n"),
+];
 
 // What is printed of an answer, to a Put or to something else.
 fn text_of(
@@ -43,29 +93,11 @@ fn text_of(
     Ok(text)
 }
 
-fn pumped(alloc: Global, world: &mut World) -> Result<String, AllocError> {
-    text_of(alloc, false, &pump(world, KEY))
-}
-
 fn given(alloc: Global, world: &mut World, digits: &str) -> Result<String, AllocError> {
     match hex::decode(alloc, digits) {
         Ok(octets) => text_of(alloc, false, &deliver(world, Octets::from_vec(octets))),
         Err(_) => String::from_str(alloc, "no hex"),
     }
-}
-
-fn stored(alloc: Global, world: &mut World) -> Result<String, AllocError> {
-    text_of(alloc, false, &store(world, KEY, 2, true))
-}
-
-// The answer that sends these PDUs.
-fn sends(alloc: Global, pdus: &[&str]) -> Result<String, AllocError> {
-    let mut text = String::from_str(alloc, "ok\n")?;
-    for pdu in pdus {
-        let pdu: &str = pdu;
-        writeln!(text, "pdu {pdu}")?;
-    }
-    Ok(text)
 }
 
 fn next_of(world: &mut World, user: usize) -> Option<Bundle> {
@@ -88,7 +120,6 @@ fn last_told(alloc: Global, world: &mut World, user: usize) -> Result<String, Al
     Ok(text)
 }
 
-// The user alice of entity 2 puts "abc", named "a", to be kept as "b".
 fn put_abc(alloc: Global, world: &mut World) -> Result<String, AllocError> {
     match file_for_one(alloc, Class::Two, b"a", b"b", b"abc") {
         Ok(request) => match put(world, 0, 0, request) {
@@ -99,61 +130,33 @@ fn put_abc(alloc: Global, world: &mut World) -> Result<String, AllocError> {
     }
 }
 
+// What an entity prints for a step.
+fn answer(alloc: Global, world: &mut World, step: Step) -> Result<String, AllocError> {
+    match step {
+        Step::Put => put_abc(alloc, world),
+        Step::Pump => text_of(alloc, false, &pump(world, KEY)),
+        Step::Deliver(digits) => given(alloc, world, digits),
+        Step::Store => text_of(alloc, false, &store(world, KEY, 2, true)),
+    }
+}
+
+fn prints(alloc: Global, world: &mut World, step: Step, printed: &str) -> Result<bool, AllocError> {
+    Ok(answer(alloc, world, step)?.as_str() == printed)
+}
+
 #[test]
 fn lost_at_first(rt: HostRuntime) -> Result<(), Fail> {
     let alloc = rt.alloc();
     let mut two = entity_two(alloc).ok_or("no entity 2")?;
     let mut one = entity_one(alloc).ok_or("no entity 1")?;
-    assert_eq!(rt; put_abc(alloc, &mut two)?.as_str(), "ok\ntxn 2 4\n");
-    assert_eq!(rt;
-        pumped(alloc, &mut two)?.as_str(),
-        sends(alloc, &[METADATA])?.as_str()
-    );
-    assert_eq!(rt;
-        pumped(alloc, &mut two)?.as_str(),
-        sends(alloc, &[FILE_DATA])?.as_str()
-    );
-    assert_eq!(rt;
-        pumped(alloc, &mut two)?.as_str(),
-        sends(alloc, &[EOF])?.as_str()
-    );
-    assert_eq!(rt;
-        given(alloc, &mut one, EOF)?.as_str(),
-        sends(alloc, &[EOF_ACK, NAK])?.as_str()
-    );
-    assert_eq!(rt;
-        given(alloc, &mut one, METADATA)?.as_str(),
-        sends(alloc, &[])?.as_str()
-    );
-    assert_eq!(rt;
-        given(alloc, &mut two, NAK)?.as_str(),
-        sends(alloc, &[])?.as_str()
-    );
-    assert_eq!(rt;
-        pumped(alloc, &mut two)?.as_str(),
-        sends(alloc, &[METADATA])?.as_str()
-    );
-    assert_eq!(rt;
-        pumped(alloc, &mut two)?.as_str(),
-        sends(alloc, &[FILE_DATA])?.as_str()
-    );
-    assert_eq!(rt; pumped(alloc, &mut two)?.as_str(), "refused 8 WrongState\n");
-    assert_eq!(rt;
-        given(alloc, &mut one, FILE_DATA)?.as_str(),
-        "ok\ndeposit 2\n"
-    );
-    assert_eq!(rt;
-        stored(alloc, &mut one)?.as_str(),
-        sends(alloc, &[FINISHED])?.as_str()
-    );
-    assert_eq!(rt;
-        given(alloc, &mut two, FINISHED)?.as_str(),
-        sends(alloc, &[FINISHED_ACK])?.as_str()
-    );
-    assert_eq!(rt;
-        given(alloc, &mut one, FINISHED_ACK)?.as_str(),
-        sends(alloc, &[])?.as_str()
-    );
+    for (entity, step, printed) in RUN {
+        let is_printed = if entity == 2 {
+            prints(alloc, &mut two, step, printed)?
+        } else {
+            prints(alloc, &mut one, step, printed)?
+        };
+        assert!(rt; is_printed, "{entity}: {printed}");
+    }
     let told = "user 2 4 Transaction-Finished 0 complete retained\n";
     assert_eq!(rt; last_told(alloc, &mut two, 0)?.as_str(), told);
     assert_eq!(rt; last_told(alloc, &mut one, 0)?.as_str(), told);

@@ -1,6 +1,6 @@
-use Rattle.std.proofs.Common.{◌≡◌, ℕ, subst, arith, false, Bool, Ok, length, rules}
+use Rattle.std.proofs.Common.{◌≡◌, ℕ, subst, arith, false, Bool, Ok, rules}
+use Rattle.std.proofs.lemmas.Result.{err_from_is_err_and}
 use Rattle.script_replay.specs.declared.run.TheConstants.{LINES}
-use Rattle.script_replay.specs.Run.{Prints}
 use Rattle.script_replay.specs.Running.{Ran, GoesOn}
 use Rattle.script_replay.proofs.run.play_lines.Goals as goal
 
@@ -8,16 +8,19 @@ pub returns-then-not-branch : goal.returns-then-not-branch
 returns-then-not-branch g c = λ lines old ran.
     let contents = g.W.Write.contents in
     let none : c.in_ok-turn.field-0 ≡ false = search rules in
-    let ends : (length lines ≡ c.loop-count.count) × Prints lines old (contents c.turn.new.writer) =
-    subst (λ (good : Bool). GoesOn (Ok good) lines (g.B.Read.remaining c.turn.new.reader) c.loop-count.count c.turn.new.session old (contents c.turn.new.writer)) none
-    (c.in_ok-turn.ensures lines old (c.loop-count.invariant lines old ran)) in
-    (omega (arith, ends.0, c.loop-count-test.true), ends.1)
+    subst (λ (good : Bool). GoesOn (Ok good) lines (g.B.Read.remaining c.turn.new.reader) c.loop-count.count c.turn.new.session old (contents c.turn.new.writer) c.turn.new.buffer.items) none
+    (c.in_ok-turn.ensures lines old (c.loop-count.invariant lines old ran))
 
 pub returns : goal.returns
 returns g c = λ lines old ran.
     let remaining = g.B.Read.remaining in
     let contents = g.W.Write.contents in
     let all : c.loop-count.count ≡ LINES = omega (arith, c.loop-count-test.false, c.loop-count.auto.count-end) in
-    c.ends.ensures lines c.loop-count.session old (contents c.loop-count.writer)
-    (subst (λ (n : ℕ). Ran lines (remaining c.loop-count.reader) n c.loop-count.session old (contents c.loop-count.writer)) all
+    c.ends.ensures lines c.loop-count.session old (contents c.loop-count.writer) c.loop-count.buffer.items
+    (subst (λ (n : ℕ). Ran lines (remaining c.loop-count.reader) n c.loop-count.session old (contents c.loop-count.writer) c.loop-count.buffer.items) all
     (c.loop-count.invariant lines old ran))
+
+pub returns-in_err-turn : goal.returns-in_err-turn
+returns-in_err-turn g c = λ lines old ran.
+    let p = err_from_is_err_and c.from_residual.result c.from_residual.ensures.1 in
+    rw (p.1, p.2) (c.in_err-turn.ensures lines old (c.loop-count.invariant lines old ran))

@@ -7,5 +7,5 @@ abbrev pub invariant-loop-count : goal.invariant-loop-count
 invariant-loop-count g l =
     let remaining = g.B.Read.remaining in
     let contents = g.W.Write.contents in
-    (lines : List (List ℕ)) (old : Option (List ℕ)) → Ran lines (remaining l.fn.reader) 0 l.fn.session old (contents l.fn.writer)
-    → Ran lines (remaining l.reader) l.count l.session old (contents l.writer)
+    (lines : List (List ℕ)) (old : Option (List ℕ)) → Ran lines (remaining l.fn.reader) 0 l.fn.session old (contents l.fn.writer) l.fn.buffer.items
+    → Ran lines (remaining l.reader) l.count l.session old (contents l.writer) l.buffer.items

@@ -1,32 +1,31 @@
-use Rattle.std.proofs.Common.{◌≡◌, subst, inr, true, false, rules, Bool}
+use Rattle.std.proofs.Common.{◌≡◌, ◌++◌, subst, inr, true, false, rules, Bool}
 use Rattle.std.specs.Prelude.{string_bytes, List, ℕ}
-use Rattle.std.specs.Io.KnownBytes.{Appends}
 use Rattle.std.proofs.lemmas.Result.{err_from_is_err_and}
 use Rattle.script_io.specs.declared.input.NextLine.{NextLine}
-use Rattle.script_io.specs.Lines.{GivesNext, GivesLine, GivesTooLong}
-use Rattle.script_io.specs.Output.{AppendsFront}
+use Rattle.script_io.specs.Lines.{GivesNext, GivesLine, GivesTooLong, GivesEnd}
+use Rattle.script_io.specs.Output.{HandsOn}
 use Rattle.script_lines.specs.Commands.{command_of}
 use Rattle.script_replay.specs.Sessions.{IsBadFor}
 use Rattle.script_replay.specs.Running.{PlaysTo}
-use Rattle.script_replay.proofs.RunFacts.{read_stops, long_stops, bad_stops, line_goes_on, write_stops}
+use Rattle.script_replay.proofs.RunFacts.{read_ends, end_is, long_ends, bad_line_ends, line_goes_on, buffer_ends}
 use Rattle.script_replay.proofs.run.turn.Goals as goal
 
 pub returns-in_err-next_line : goal.returns-in_err-next_line
 returns-in_err-next_line g c = λ lines old ran.
     let p = err_from_is_err_and c.from_residual.result c.from_residual.ensures.1 in
-    rw (p.1, p.2) (read_stops _ _ _ _ _ _ _ c.in_err-next_line.ensures.fault ran)
+    rw (p.1, p.2) (read_ends _ lines _ _ _ old _ _ c.in_err-next_line.ensures.fault ran)
 
 pub returns-in-TooLong : goal.returns-in-TooLong
 returns-in-TooLong g c = λ lines old ran.
     let left = g.B.Read.remaining c.args.reader.now in
     let after = g.B.Read.remaining c.next_line.new.reader in
     let gives : GivesTooLong left = subst (λ (n : NextLine). GivesNext n left after c.next_line.new.line.items) c.in-TooLong.is c.in_ok-next_line.ensures.found in
-    long_stops lines left c.args.count c.args.session.now old _ gives ran
+    long_ends lines left c.args.count c.args.session.now old _ _ gives ran
 
 pub returns-in_err-play : goal.returns-in_err-play
 returns-in_err-play g c = λ lines old ran.
     let p = err_from_is_err_and c.from_residual-in_err-play.result c.from_residual-in_err-play.ensures.1 in
-    rw (p.1) (read_stops _ _ _ _ _ _ _ (inr p.2) ran)
+    rw (p.1) (read_ends _ lines _ _ _ old _ _ (inr p.2) ran)
 
 pub returns-then-not-branch : goal.returns-then-not-branch
 returns-then-not-branch g c = λ lines old ran.
@@ -35,30 +34,26 @@ returns-then-not-branch g c = λ lines old ran.
     let line = c.next_line.new.line.items in
     let gives : GivesLine left after line = subst (λ (n : NextLine). GivesNext n left after line) c.in-Line.is c.in_ok-next_line.ensures.found in
     let bad_line : c.in_ok-play.field-0 ≡ false = search rules in
-    bad_stops lines left after line c.args.count c.args.session.now old _ gives
+    bad_line_ends lines left after line c.args.count c.args.session.now old _ _ gives
     (λ session stands.
     subst (λ (l : List ℕ). IsBadFor session (command_of l)) c.as_slice.ensures.value
     (subst (λ (good : Bool). PlaysTo good session c.as_slice.result.now c.play.new.self (string_bytes c.play.new.text)) bad_line
     (c.in_ok-play.ensures session stands))) ran
 
-pub returns-in_err-write_whole : goal.returns-in_err-write_whole
-returns-in_err-write_whole g c = λ lines old ran.
-    let p = err_from_is_err_and c.from_residual-in_err-write_whole.result c.from_residual-in_err-write_whole.ensures.1 in
+pub returns-in-End : goal.returns-in-End
+returns-in-End g c = λ lines old ran.
     let left = g.B.Read.remaining c.args.reader.now in
     let after = g.B.Read.remaining c.next_line.new.reader in
-    let line = c.next_line.new.line.items in
-    let text = string_bytes c.play.new.text in
-    let gives : GivesLine left after line = subst (λ (n : NextLine). GivesNext n left after line) c.in-Line.is c.in_ok-next_line.ensures.found in
-    let good_line : c.in_ok-play.field-0 ≡ true = search rules in
+    let gives : GivesEnd left after = subst (λ (n : NextLine). GivesNext n left after c.next_line.new.line.items) c.in-End.is c.in_ok-next_line.ensures.found in
+    end_is lines left after c.args.count c.args.session.now old _ _ gives ran
+
+pub returns-in_err-write_buffered : goal.returns-in_err-write_buffered
+returns-in_err-write_buffered g c = λ lines old ran.
+    let left = g.B.Read.remaining c.args.reader.now in
     let mid = g.W.Write.contents c.args.writer.now in
-    let new = g.W.Write.contents c.write_whole.new.writer in
-    let front : AppendsFront mid new text = subst (λ (t : List ℕ). AppendsFront mid new t) c.as_bytes.ensures.value c.in_err-write_whole.ensures.err in
-    rw (p.1, p.2, c.in_err-write_whole.ensures.fault)
-    (write_stops lines left after line c.args.count c.args.session.now c.play.new.self old mid new text c.requires gives
-    (λ session stands.
-    subst (λ (l : List ℕ). PlaysTo true session l c.play.new.self text) c.as_slice.ensures.value
-    (subst (λ (good : Bool). PlaysTo good session c.as_slice.result.now c.play.new.self text) good_line (c.in_ok-play.ensures session stands)))
-    front ran)
+    let new = g.W.Write.contents c.write_buffered.new.writer in
+    let p = err_from_is_err_and c.from_residual-in_err-write_buffered.result c.from_residual-in_err-write_buffered.ensures.1 in
+    rw (p.1, p.2) (buffer_ends _ lines left c.args.count c.args.session.now old mid new _ _ _ c.in_err-write_buffered.ensures ran)
 
 pub returns : goal.returns
 returns g c = λ lines old ran.
@@ -69,9 +64,11 @@ returns g c = λ lines old ran.
     let gives : GivesLine left after line = subst (λ (n : NextLine). GivesNext n left after line) c.in-Line.is c.in_ok-next_line.ensures.found in
     let good_line : c.in_ok-play.field-0 ≡ true = search rules in
     let mid = g.W.Write.contents c.args.writer.now in
-    let new = g.W.Write.contents c.write_whole.new.writer in
-    let written : Appends mid new text = subst (λ (t : List ℕ). Appends mid new t) c.as_bytes.ensures.value c.in_ok-write_whole.ensures.ok in
-    line_goes_on lines left after line c.args.count c.args.session.now c.play.new.self old mid new text c.requires gives
+    let new = g.W.Write.contents c.write_buffered.new.writer in
+    let held = c.args.buffer.now.items in
+    let left_held = c.write_buffered.new.buffer.items in
+    let written : HandsOn mid new (held ++ text) left_held = subst (λ (t : List ℕ). HandsOn mid new (held ++ t) left_held) c.as_bytes.ensures.value c.in_ok-write_buffered.ensures in
+    line_goes_on lines left after line c.args.count c.args.session.now c.play.new.self old mid new held left_held text c.requires gives
     (λ session stands.
     subst (λ (l : List ℕ). PlaysTo true session l c.play.new.self text) c.as_slice.ensures.value
     (subst (λ (good : Bool). PlaysTo good session c.as_slice.result.now c.play.new.self text) good_line (c.in_ok-play.ensures session stands)))
