@@ -24,10 +24,8 @@ test:
 
 # how fast and how large a run is; no part of the gate
 bench: build
-	@cd crates/core_bench && rt run -- eof-last 64 > /dev/null
-	@cd crates/queue_bench && rt run -- one-thread 8 64 > /dev/null
-	@cd crates/entity_bench && rt run -- 1 1 > /dev/null
+	@cd crates/benches && rt run -- eof-last 64 > /dev/null
 	python3 bench/bench.py $(program)
-	python3 bench/cores.py crates/core_bench/out/core_bench
-	python3 bench/queues.py crates/queue_bench/out/queue_bench
-	python3 bench/entity.py crates/entity_bench/out/entity_bench
+	python3 bench/cores.py crates/benches/out/benches
+	python3 bench/queues.py crates/benches/out/benches
+	python3 bench/entity.py crates/benches/out/benches

@@ -21,7 +21,7 @@ THREADS = [1, 2, 4]
 def run(program, threads):
     """Runs so many threads, and answers the seconds and how many datagrams were taken."""
     start = time.perf_counter()
-    words = [program, str(threads), str(FILES)]
+    words = [program, "deliveries", str(threads), str(FILES)]
     done = subprocess.run(words, stdout=subprocess.PIPE, check=True, text=True)
     return time.perf_counter() - start, int(done.stdout)
 

@@ -95,15 +95,17 @@ fn is_same(config: &Config, other: &Config) -> bool {
 // The text of the reference where one part is changed.
 fn changed(alloc: Global, old: &str, new: &str) -> Option<String> {
     let (before, after) = REFERENCE.split_once(old)?;
-    let mut text = String::from_str(alloc, before).ok()?;
-    text.push_str(new).ok()?;
-    text.push_str(after).ok()?;
-    Some(text)
+    format!(in alloc; "{before}{new}{after}").ok()
+}
+
+// Why a text is no configuration, if it is none.
+fn fault_of(alloc: Global, text: &str) -> Option<ConfigFault> {
+    read_config(alloc, text).err()
 }
 
 fn has_fault(alloc: Global, text: Option<String>, fault: ConfigFault) -> bool {
     match text {
-        Some(text) => read_config(alloc, text.as_str()).err() == Some(fault),
+        Some(text) => fault_of(alloc, text.as_str()) == Some(fault),
         None => false,
     }
 }

@@ -23,20 +23,3 @@ pub fn read_pdu(alloc: Global, octets: &[u8]) -> Result<Pdu, EntityRefusal>
         Err(fault) => Err(EntityRefusal::Route(RouteRefusal::DecodeFault(fault))),
     }
 }
-
-#[cfg(test)]
-mod tests {
-    use super::*;
-    use std::test::*;
-
-    #[test]
-    fn too_short(rt: HostRuntime) -> Result<(), Fail> {
-        let alloc = rt.alloc();
-        let why = read_pdu(alloc, &[0x24]).err().ok_or("it was read")?;
-        assert_eq!(rt; why.number(), 20);
-        assert_eq!(rt; why.name(), "DecodeFault");
-        assert_eq!(rt; EntityRefusal::WrongLane.number(), 26);
-        assert_eq!(rt; EntityRefusal::WrongLane.name(), "WrongLane");
-        Ok(())
-    }
-}

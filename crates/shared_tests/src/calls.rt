@@ -153,10 +153,20 @@ fn push_delivery<N: Names, R: Wait + Copy>(
     entity: &Entity<N, R>,
     digits: &str,
 ) -> Result<(), AllocError> {
-    match hex::decode(alloc, digits) {
-        Ok(octets) => push_answer(text, &entity.deliver(rt, &NoGate, octets.as_slice())),
-        Err(_) => push_line(text, "no octets"),
+    match deliver(rt, alloc, entity, digits) {
+        Some(answer) => push_answer(text, &answer),
+        None => push_line(text, "no octets"),
     }
+}
+
+fn deliver<N: Names, R: Wait + Copy>(
+    rt: &R,
+    alloc: Global,
+    entity: &Entity<N, R>,
+    digits: &str,
+) -> Option<Answered> {
+    let octets = hex::decode(alloc, digits).ok()?;
+    Some(entity.deliver(rt, &NoGate, octets.as_slice()))
 }
 
 // The same for a PDU that was read before.

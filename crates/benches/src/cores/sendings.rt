@@ -1,0 +1,87 @@
+//! A sender that is asked for parts of its file again and again.
+use crate::cores::datagrams::{KEY, TOWARD_SENDER, arrival};
+use crate::cores::setting::params;
+use crate::fault::Fault;
+use cfdp_types::{Class, EntityId, PutRequest};
+use pdu_codec::Pdu;
+use sender_core::SenderCore;
+use std::alloc::Global;
+use txn_events::What;
+
+/// Octets of the file that is sent.
+const FILE: u32 = 4 * 1024 * 1024;
+
+/// Octets of a segment.
+const SEGMENT: u32 = 256;
+
+/// Requests of a NAK.
+const REQUESTS: u32 = 64;
+
+/// What a NAK asks for.
+#[derive(Clone, Copy)]
+pub(crate) enum Parts {
+    /// Whole segments, each second at most.
+    Segments,
+    /// Single octets, each second at most: as many runs as there can be.
+    Octets,
+}
+
+impl Parts {
+    // Octets of a part.
+    fn size(self) -> u32 {
+        match self {
+            Parts::Segments => SEGMENT,
+            Parts::Octets => 1,
+        }
+    }
+
+    // The NAK with a number: it asks for a part of its own in each stretch of the file.
+    fn nak(self, alloc: Global, number: u32) -> Result<Pdu, Fault> {
+        let stretch = FILE / REQUESTS;
+        let inside = number.saturating_mul(2).saturating_mul(self.size()) % stretch;
+        let mut field = Vec::from_slice(alloc, &[8, 0, 0, 0, 0])?;
+        field.extend_from_slice(&FILE.to_be_bytes())?;
+        for place in 0..REQUESTS {
+            let start = (place * stretch).saturating_add(inside);
+            field.extend_from_slice(&start.to_be_bytes())?;
+            field.extend_from_slice(&start.saturating_add(self.size()).to_be_bytes())?;
+        }
+        arrival(alloc, TOWARD_SENDER, &[field.as_slice()])
+    }
+}
+
+// The sender that the Put of the file opens.
+fn opened(alloc: Global) -> Result<SenderCore, Fault> {
+    let params = params()?;
+    let file = vec![in alloc; 90; FILE as usize]?;
+    let octets = file.as_slice();
+    let request = PutRequest::new(alloc, EntityId(2), Class::Two, b"a", b"b", &[], octets)?;
+    let (mut core, plan) = SenderCore::open(alloc, KEY, &request, params)?;
+    let _ = core.commit(plan);
+    Ok(core)
+}
+
+// Steps a sender.
+fn step(core: &mut SenderCore, event: &What) -> Result<(), Fault> {
+    if core.has_ended() {
+        return Err(Fault::Ended);
+    }
+    let plan = core.plan(event)?;
+    let _ = core.commit(plan);
+    Ok(())
+}
+
+/// A file that is sent, and so many NAKs, each for parts of it all over; one part is sent between two NAKs.
+pub(crate) fn naks(alloc: Global, parts: Parts, count: u32) -> Result<u64, Fault> {
+    let mut core = opened(alloc)?;
+    // Metadata, the file and its EOF
+    for _ in 0..FILE / SEGMENT + 2 {
+        step(&mut core, &What::Pump)?;
+    }
+    for number in 0..count {
+        let nak = parts.nak(alloc, number)?;
+        step(&mut core, &What::Pdu(nak))?;
+        step(&mut core, &What::Pump)?;
+    }
+    Ok(u64::from(count))
+}

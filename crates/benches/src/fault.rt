@@ -1,0 +1,93 @@
+//! Why a scenario is not run to its end.
+use cfdp_types::{HandlerNotAllowed, PutFault};
+use entity_config::ConfigFault;
+use pdu_codec::DecodeFault;
+use std::alloc::{AllocError, AllocFailed};
+use std::io;
+use std::num::{ParseIntError, TryFromIntError};
+use txn_events::Refusal;
+
+/// Why a scenario is not run to its end.
+#[derive(Clone, Copy, Debug)]
+pub(crate) enum Fault {
+    /// The program wants the name of a scenario and its numbers.
+    Usage,
+    /// Memory ran out.
+    NoMemory,
+    /// The program's surroundings fail it.
+    Surroundings,
+    /// What a transaction or an entity goes by is refused.
+    BadSetting,
+    /// A datagram is no PDU.
+    Decode(DecodeFault),
+    /// A core refuses an event.
+    Refused(Refusal),
+    /// A transaction has ended before its events.
+    Ended,
+    /// The file is whole, and is not given to the store.
+    NotGiven,
+    /// A lane gave up on a full queue.
+    NotSent,
+    /// A datagram was not taken.
+    NotTaken,
+}
+
+impl From<AllocError> for Fault {
+    fn from(_error: AllocError) -> Fault {
+        Fault::NoMemory
+    }
+}
+
+impl From<AllocFailed<u8>> for Fault {
+    fn from(_error: AllocFailed<u8>) -> Fault {
+        Fault::NoMemory
+    }
+}
+
+impl From<io::Error> for Fault {
+    fn from(_error: io::Error) -> Fault {
+        Fault::Surroundings
+    }
+}
+
+impl From<TryFromIntError> for Fault {
+    fn from(_error: TryFromIntError) -> Fault {
+        Fault::BadSetting
+    }
+}
+
+impl From<ParseIntError> for Fault {
+    fn from(_error: ParseIntError) -> Fault {
+        Fault::Usage
+    }
+}
+
+impl From<HandlerNotAllowed> for Fault {
+    fn from(_error: HandlerNotAllowed) -> Fault {
+        Fault::BadSetting
+    }
+}
+
+impl From<PutFault> for Fault {
+    fn from(_error: PutFault) -> Fault {
+        Fault::BadSetting
+    }
+}
+
+impl From<ConfigFault> for Fault {
+    fn from(_fault: ConfigFault) -> Fault {
+        Fault::BadSetting
+    }
+}
+
+impl From<DecodeFault> for Fault {
+    fn from(fault: DecodeFault) -> Fault {
+        Fault::Decode(fault)
+    }
+}
+
+impl From<Refusal> for Fault {
+    fn from(refusal: Refusal) -> Fault {
+        Fault::Refused(refusal)
+    }
+}

@@ -1,0 +1,139 @@
+//! Runs one scenario at a size that the caller names, or some of each kind at small sizes, and prints what came of it.
+//! `make bench` measures these runs.
+#![tactic(auto)]
+
+mod cores;
+mod entities;
+mod fault;
+mod queues;
+
+use cores::receptions::{Coming, Order};
+use cores::sendings::Parts;
+use cores::{receptions, sendings, timers};
+use entities::deliveries;
+use entities::deliveries::Size;
+use fault::Fault;
+use queues::{listed, shared};
+use std::env;
+use std::sync::Wait;
+use std::thread::Threads;
+
+/// What is run.
+#[derive(Clone, Copy)]
+enum Scenario {
+    /// A core takes a file.
+    Receives(Coming),
+    /// A core sends a file again.
+    Sends(Parts),
+    /// Timers are armed and expire.
+    Times,
+    /// Bundles go through a queue of one thread.
+    Listed,
+    /// Threads put bundles into a queue, a lane each, and one takes.
+    Shared { lanes: usize },
+    /// Threads deliver to an entity, a lane each.
+    Deliveries,
+}
+
+/// A scenario and its numbers: the size of what a core takes or sends, or of the timers; or for how many bundles a queue has
+/// room, and how many go in through each lane; or how many threads deliver, and how many files each.
+#[derive(Clone, Copy)]
+struct Wanted {
+    scenario: Scenario,
+    first: u32,
+    second: u32,
+}
+
+// Some of each kind.
+const EACH: [Wanted; 3] = [
+    Wanted {
+        scenario: Scenario::Receives(Coming::EofFirst(Order::Mixed)),
+        first: 64,
+        second: 0,
+    },
+    Wanted {
+        scenario: Scenario::Shared { lanes: 4 },
+        first: 8,
+        second: 500,
+    },
+    Wanted {
+        scenario: Scenario::Deliveries,
+        first: 2,
+        second: 1,
+    },
+];
+
+fn main(rt: HostRuntime) -> Result<(), Fault> {
+    if let Some(wanted) = read_words(&rt)? {
+        return Ok(rt.println(run(rt, wanted)?)?);
+    }
+    for wanted in EACH {
+        rt.println(run(rt, wanted)?)?;
+    }
+    Ok(())
+}
+
+// The scenario and the numbers that the program's arguments name, if they name any.
+fn read_words(rt: &HostRuntime) -> Result<Option<Wanted>, Fault> {
+    let mut words = env::args(rt)?.skip(1);
+    let Some(scenario) = words.next() else {
+        return Ok(None);
+    };
+    let scenario = scenario_of(scenario.as_str()).ok_or(Fault::Usage)?;
+    let first = words.next().ok_or(Fault::Usage)?.parse()?;
+    let second = match words.next() {
+        Some(word) => word.parse()?,
+        None => 0,
+    };
+    Ok(Some(Wanted {
+        scenario,
+        first,
+        second,
+    }))
+}
+
+fn scenario_of(name: &str) -> Option<Scenario> {
+    match name {
+        "eof-last" => Some(Scenario::Receives(Coming::EofLast)),
+        "eof-first-rising" => Some(Scenario::Receives(Coming::EofFirst(Order::Rising))),
+        "eof-first-falling" => Some(Scenario::Receives(Coming::EofFirst(Order::Falling))),
+        "eof-first-mixed" => Some(Scenario::Receives(Coming::EofFirst(Order::Mixed))),
+        "single-octets-falling" => Some(Scenario::Receives(Coming::SingleOctets)),
+        "prompts" => Some(Scenario::Receives(Coming::Prompts)),
+        "naks" => Some(Scenario::Sends(Parts::Segments)),
+        "naks-of-octets" => Some(Scenario::Sends(Parts::Octets)),
+        "timers" => Some(Scenario::Times),
+        "one-thread" => Some(Scenario::Listed),
+        "one-producer" => Some(Scenario::Shared { lanes: 1 }),
+        "four-producers" => Some(Scenario::Shared { lanes: 4 }),
+        "deliveries" => Some(Scenario::Deliveries),
+        _ => None,
+    }
+}
+
+// Runs a scenario, and counts what it gave.
+fn run<R: Threads + Wait + AllocGlobal + Copy + Send + Sync>(
+    rt: R,
+    wanted: Wanted,
+) -> Result<u64, Fault> {
+    let Wanted {
+        scenario,
+        first,
+        second,
+    } = wanted;
+    match scenario {
+        Scenario::Receives(coming) => receptions::receive(rt.alloc(), coming, first),
+        Scenario::Sends(parts) => sendings::naks(rt.alloc(), parts, first),
+        Scenario::Times => timers::turns(rt.alloc(), first),
+        Scenario::Listed => listed::come(rt.alloc(), first as usize, second),
+        Scenario::Shared { lanes } => shared::come(rt, rt.alloc(), lanes, first as usize, second),
+        Scenario::Deliveries => deliveries::come(rt, rt.alloc(), size(first, second)?),
+    }
+}
+
+fn size(threads: u32, files: u32) -> Result<Size, Fault> {
+    Ok(Size {
+        threads: threads.try_into()?,
+        files: files.try_into()?,
+    })
+}

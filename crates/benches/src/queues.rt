@@ -1,0 +1,4 @@
+//! Users' queues, of one thread and of several.
+pub(crate) mod bundles;
+pub(crate) mod listed;
+pub(crate) mod shared;

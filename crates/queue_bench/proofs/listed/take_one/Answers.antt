@@ -1,6 +1,0 @@
-use Rattle.queue_tests.proofs.Turns.{holds_taken}
-use Rattle.queue_bench.proofs.listed.take_one.Goals as goal
-
-pub returns : goal.returns
-returns c =
-    holds_taken c.args.queue.now c.take.new.self c.args.number c.take.result c.requires.holds c.take.ensures.none c.take.ensures.front

@@ -1,5 +1,0 @@
-use Rattle.std.proofs.Common.{◌≡◌}
-use Rattle.queue_bench.proofs.shared.offer.Given as goal
-
-abbrev pub invariant-loop : goal.invariant-loop
-invariant-loop g l = (l.outlet ≡ l.initial.outlet) × (l.bundle ≡ l.initial.bundle)
