@@ -17,10 +17,11 @@ build:
 	@rm -f crates/cfdp_replay/build.log
 	@echo "The program: $(program)"
 
-# the gate: every proof from nothing, the must-fail edits, the tests and the programs
+# the gate: every proof from nothing, the must-fail edits, the tests and the programs, and how runs of the program end
 test:
 	@examples/same.sh
 	rt ci
+	@examples/endings.sh $(program)
 
 # how fast and how large a run is; no part of the gate
 bench: build

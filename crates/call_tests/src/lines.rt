@@ -6,10 +6,11 @@ use std::io;
 use std::io::{BufRead, Error, ErrorKind, Read, Write};
 use std::test::*;
 
-// A reader that is interrupted some times in a row before each read, and fails in place of its end where
-// it is broken.
+// A reader that says so, mostly that it was interrupted, some times in a row before each read, and fails in place of its end
+// where it is broken.
 #[derive(Drop)]
 struct SlowReader<'a> {
+    kind: ErrorKind,
     times: u32,
     left: u32,
     is_broken: bool,
@@ -20,7 +21,7 @@ impl Read for SlowReader<'_> {
     fn read(&mut self, buf: &mut [u8]) -> io::Result<usize> {
         if self.left > 0 {
             self.left -= 1;
-            return Err(Error::from(ErrorKind::Interrupted));
+            return Err(Error::from(self.kind));
         }
         if self.is_broken && self.rest.is_empty() {
             return Err(Error::from(ErrorKind::TimedOut));
@@ -30,10 +31,11 @@ impl Read for SlowReader<'_> {
     }
 }
 
-// A writer that is interrupted some times in a row before each write, takes nothing at first for some writes, then two
-// octets at a time, and nothing once it is full.
+// A writer that says so, mostly that it was interrupted, some times in a row before each write, takes nothing at first for some
+// writes, then two octets at a time, and nothing once it is full.
 #[derive(Drop)]
 struct SlowWriter {
+    kind: ErrorKind,
     times: u32,
     left: u32,
     idle: u32,
@@ -45,7 +47,7 @@ impl Write for SlowWriter {
     fn write(&mut self, buf: &[u8]) -> io::Result<usize> {
         if self.left > 0 {
             self.left -= 1;
-            return Err(Error::from(ErrorKind::Interrupted));
+            return Err(Error::from(self.kind));
         }
         self.left = self.times;
         if self.idle > 0 {
@@ -90,6 +92,7 @@ fn lines(rt: HostRuntime) -> Result<(), Fail> {
 
 fn slow(times: u32, is_broken: bool, rest: &[u8]) -> SlowReader<'_> {
     SlowReader {
+        kind: ErrorKind::Interrupted,
         times,
         left: times,
         is_broken,
@@ -122,6 +125,16 @@ fn interrupted_blocks(rt: HostRuntime) -> Result<(), Fail> {
 fn broken_reads(rt: HostRuntime) -> Result<(), Fail> {
     let mut blocks = in_blocks(rt.alloc(), slow(0, true, b"ab\ncd"))?;
     assert!(rt; has_lines(rt.alloc(), &mut blocks, &[b"ab"], Err(ReplayFault::Read)));
+    assert!(rt; has_lines(rt.alloc(), &mut blocks, &[], Err(ReplayFault::Read)));
+    Ok(())
+}
+
+// A reader that failed is not asked again, though it would go on.
+#[test]
+fn read_that_fails_once(rt: HostRuntime) -> Result<(), Fail> {
+    let mut reader = slow(1, false, b"ab\n");
+    reader.kind = ErrorKind::TimedOut;
+    let mut blocks = in_blocks(rt.alloc(), reader)?;
     assert!(rt; has_lines(rt.alloc(), &mut blocks, &[], Err(ReplayFault::Read)));
     Ok(())
 }
@@ -159,44 +172,45 @@ fn long_lines(rt: HostRuntime) -> Result<(), Fail> {
     Ok(())
 }
 
-// Whether this comes of writing a text to a writer with so much room, which is interrupted so often and takes nothing
-// for so many writes.
-fn writes_so(
-    alloc: Global,
-    times: u32,
-    idle: u32,
-    room: usize,
-    expected: Result<(), ReplayFault>,
-    taken: &[u8],
-) -> bool {
-    let mut writer = SlowWriter {
+// A writer with so much room, which says this so often before each write, and takes nothing for so many writes.
+fn writer_with(alloc: Global, kind: ErrorKind, times: u32, idle: u32, room: usize) -> SlowWriter {
+    SlowWriter {
+        kind,
         times,
         left: times,
         idle,
         room,
         taken: Vec::new(alloc),
-    };
-    write_whole(&mut writer, b"hello") == expected && writer.taken.as_slice() == taken
+    }
+}
+
+// Whether this comes of writing a text.
+fn writes_so(writer: &mut SlowWriter, expected: Result<(), ReplayFault>, taken: &[u8]) -> bool {
+    write_whole(writer, b"hello") == expected && writer.taken.as_slice() == taken
 }
 
 #[test]
 fn writes(rt: HostRuntime) {
-    for (times, idle, room, expected, taken) in [
-        (0, 0, 9, Ok(()), b"hello".as_slice()),
-        (0, 0, 3, Err(ReplayFault::Write), b"hel"),
-        (0, 0, 0, Err(ReplayFault::Write), b""),
-        (0, 1, 9, Err(ReplayFault::Write), b""),
-        (999_999, 0, 9, Ok(()), b"hello"),
-        (1_000_000, 0, 9, Err(ReplayFault::Write), b""),
+    let interrupted = ErrorKind::Interrupted;
+    for (kind, times, idle, room, expected, taken) in [
+        (interrupted, 0, 0, 9, Ok(()), b"hello".as_slice()),
+        (interrupted, 0, 0, 3, Err(ReplayFault::Write), b"hel"),
+        (interrupted, 0, 0, 0, Err(ReplayFault::Write), b""),
+        (interrupted, 0, 1, 9, Err(ReplayFault::Write), b""),
+        (interrupted, 999_999, 0, 9, Ok(()), b"hello"),
+        (interrupted, 1_000_000, 0, 9, Err(ReplayFault::Write), b""),
+        (ErrorKind::TimedOut, 1, 0, 9, Err(ReplayFault::Write), b""),
     ] {
+        let mut writer = writer_with(rt.alloc(), kind, times, idle, room);
         assert!(rt;
-            writes_so(rt.alloc(), times, idle, room, expected, taken),
+            writes_so(&mut writer, expected, taken),
             "{times} {idle} {room}"
         );
     }
 }
 
-// Whether the writer gets this at the end of a run, this is told beside it, and this is the exit status.
+// Whether the writer gets this at the end of a run, this is told beside it, and this is the exit status. Both writers take two
+// octets at a time.
 fn ends_so(
     alloc: Global,
     ended: Result<(), ReplayFault>,
@@ -204,11 +218,11 @@ fn ends_so(
     told: &str,
     status: u8,
 ) -> bool {
-    let mut writer = Vec::new(alloc);
-    let mut errors = Vec::new(alloc);
+    let mut writer = writer_with(alloc, ErrorKind::Interrupted, 0, 0, 64);
+    let mut errors = writer_with(alloc, ErrorKind::Interrupted, 0, 0, 64);
     conclude(ended, &mut writer, &mut errors) == status
-        && writer.as_slice() == printed.as_bytes()
-        && errors.as_slice() == told.as_bytes()
+        && writer.taken.as_slice() == printed.as_bytes()
+        && errors.taken.as_slice() == told.as_bytes()
 }
 
 #[test]

@@ -53,7 +53,7 @@ returns-in_err-write_buffered g c = λ lines old ran.
     let mid = g.W.Write.contents c.args.writer.now in
     let new = g.W.Write.contents c.write_buffered.new.writer in
     let p = err_from_is_err_and c.from_residual-in_err-write_buffered.result c.from_residual-in_err-write_buffered.ensures.1 in
-    rw (p.1, p.2) (buffer_ends _ lines left c.args.count c.args.session.now old mid new _ _ _ c.in_err-write_buffered.ensures ran)
+    rw (p.1, p.2) (buffer_ends _ lines left c.args.count c.args.session.now old mid new _ _ _ c.in_err-write_buffered.ensures.handed ran)
 
 pub returns : goal.returns
 returns g c = λ lines old ran.
@@ -67,7 +67,7 @@ returns g c = λ lines old ran.
     let new = g.W.Write.contents c.write_buffered.new.writer in
     let held = c.args.buffer.now.items in
     let left_held = c.write_buffered.new.buffer.items in
-    let written : HandsOn mid new (held ++ text) left_held = subst (λ (t : List ℕ). HandsOn mid new (held ++ t) left_held) c.as_bytes.ensures.value c.in_ok-write_buffered.ensures in
+    let written : HandsOn mid new (held ++ text) left_held = subst (λ (t : List ℕ). HandsOn mid new (held ++ t) left_held) c.as_bytes.ensures.value c.in_ok-write_buffered.ensures.handed in
     line_goes_on lines left after line c.args.count c.args.session.now c.play.new.self old mid new held left_held text c.requires gives
     (λ session stands.
     subst (λ (l : List ℕ). PlaysTo true session l c.play.new.self text) c.as_slice.ensures.value
