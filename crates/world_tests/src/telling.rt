@@ -5,13 +5,21 @@ use cfdp_types::Octets;
 use entity_world::{World, WorldEvent};
 use std::alloc::{AllocError, Global};
 
+/// The octets of a datagram in hex.
+pub(crate) fn octets_of(alloc: Global, digits: &str) -> Option<Octets> {
+    let octets = hex::decode(alloc, digits).ok()?;
+    Some(Octets::from_vec(octets))
+}
+
+fn is_taken(world: &mut World, octets: Octets) -> bool {
+    world.step(&WorldEvent::Deliver(octets)).is_ok()
+}
+
 /// A datagram comes, in hex: whether it is taken.
 pub(crate) fn deliver(alloc: Global, world: &mut World, digits: &str) -> bool {
-    match hex::decode(alloc, digits) {
-        Ok(octets) => world
-            .step(&WorldEvent::Deliver(Octets::from_vec(octets)))
-            .is_ok(),
-        Err(_) => false,
+    match octets_of(alloc, digits) {
+        Some(octets) => is_taken(world, octets),
+        None => false,
     }
 }
 
