@@ -10,7 +10,7 @@ pub struct TxnKey {
 }
 
 /// A received file that waits for the file store's answer.
-#[derive(Clone, Copy, Debug, PartialEq, Eq, PartialOrd, Ord, Hash)]
+#[derive(Clone, Copy, Debug, PartialEq, Eq)]
 pub struct Deposit {
     pub key: TxnKey,
     /// The place in the journal of the event that handed the file out.

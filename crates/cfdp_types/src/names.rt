@@ -1,5 +1,5 @@
 /// The service class of a transaction.
-#[derive(Clone, Copy, Debug, PartialEq, Eq, PartialOrd, Ord, Hash)]
+#[derive(Clone, Copy, Debug, PartialEq, Eq)]
 pub enum Class {
     /// Unacknowledged.
     One,
@@ -8,7 +8,7 @@ pub enum Class {
 }
 
 /// What the entity does when a fault is declared.
-#[derive(Clone, Copy, Debug, PartialEq, Eq, PartialOrd, Ord, Hash)]
+#[derive(Clone, Copy, Debug, PartialEq, Eq)]
 pub enum Handler {
     Cancel,
     Suspend,
@@ -17,7 +17,7 @@ pub enum Handler {
 }
 
 /// The end of a transaction that an entity has, with the class where the handlers depend on it.
-#[derive(Clone, Copy, Debug, PartialEq, Eq, PartialOrd, Ord, Hash)]
+#[derive(Clone, Copy, Debug, PartialEq, Eq)]
 pub enum Role {
     Send,
     RecvOne,
@@ -25,7 +25,7 @@ pub enum Role {
 }
 
 /// The timers of a transaction.
-#[derive(Clone, Copy, Debug, PartialEq, Eq, PartialOrd, Ord, Hash)]
+#[derive(Clone, Copy, Debug, PartialEq, Eq, Hash)]
 pub enum TimerKind {
     Ack,
     Nak,
@@ -34,14 +34,14 @@ pub enum TimerKind {
 }
 
 /// Whether the receiver has the whole file.
-#[derive(Clone, Copy, Debug, PartialEq, Eq, PartialOrd, Ord, Hash)]
+#[derive(Clone, Copy, Debug, PartialEq, Eq)]
 pub enum Delivery {
     Complete,
     Incomplete,
 }
 
 /// What became of the file at the receiver.
-#[derive(Clone, Copy, Debug, PartialEq, Eq, PartialOrd, Ord, Hash)]
+#[derive(Clone, Copy, Debug, PartialEq, Eq)]
 pub enum FileStatus {
     /// Discarded deliberately.
     Discarded,

@@ -110,6 +110,39 @@ impl PutRequest {
         if let Some(fault) = fault_of(source_name, destination_name, messages) {
             return Err(fault);
         }
+        Ok(PutRequest::copied(
+            alloc,
+            destination,
+            class,
+            source_name,
+            destination_name,
+            messages,
+            file,
+        )?)
+    }
+
+    // The same, of names and messages that keep their limits.
+    fn copied(
+        alloc: Global,
+        destination: EntityId,
+        class: Class,
+        source_name: &[u8],
+        destination_name: &[u8],
+        messages: &[&[u8]],
+        file: &[u8],
+    ) -> Result<PutRequest, AllocError>
+        requires source { IsName source_name.now }
+        requires destination { IsName destination_name.now }
+        requires messages { AreMessages (map (λ m. m.now) messages.now) }
+        ensures { IfOk result (λ request. request ≡ record {
+          destination = destination;
+          class = class;
+          source_name = source_name.now;
+          destination_name = destination_name.now;
+          messages = map (λ m. m.now) messages.now;
+          file = file.now;
+        }) }
+    {
         Ok(PutRequest {
             destination,
             class,

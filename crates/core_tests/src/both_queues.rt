@@ -32,7 +32,7 @@ fn push_take<R: Wait + Copy>(
     requires { SharedFits desk.old.lane desk.old.outlet }
     ensures { SharedFits desk.new.lane desk.new.outlet }
 {
-    push_taken(alloc, text, &take_shared(rt, desk)).ok()
+    push_taken(alloc, text, take_shared(rt, desk)).ok()
 }
 
 // What an event gives.
@@ -46,7 +46,7 @@ fn push_event<R: Wait + Copy>(
     ensures { SharedFits desk.new.lane desk.new.outlet }
 {
     let event = event(alloc, line)?;
-    push_stepped(alloc, text, &step_shared(desk, &event)).ok()
+    push_stepped(alloc, text, step_shared(desk, &event)).ok()
 }
 
 // What a line gives, if it is one.

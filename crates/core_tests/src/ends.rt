@@ -83,9 +83,9 @@ fn step(alloc: Global, text: &mut String, end: &mut End, event: &What) -> Result
 fn image(alloc: Global, text: &mut String, end: &End, stamp: u32) -> Result<(), AllocError> {
     match end {
         End::Sends(_) => text.push_str("no receiver"),
-        End::Receives(core) => match core.image(stamp) {
+        End::Receives(core) => match &core.image(stamp) {
             Err(why) => push_refusal(text, why.number(), why.name()),
-            Ok(image) => push_image(alloc, text, &image),
+            Ok(image) => push_image(alloc, text, image),
         },
     }
 }

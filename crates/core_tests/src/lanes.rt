@@ -132,9 +132,9 @@ pub(crate) fn event(alloc: Global, line: &str) -> Option<Event>
 pub(crate) fn push_stepped(
     alloc: Global,
     text: &mut String,
-    answer: &Result<Done, Refused>,
+    answer: Result<Done, Refused>,
 ) -> Result<(), AllocError> {
-    match answer {
+    match &answer {
         Ok(done) => push_step(alloc, text, done),
         Err(refused) => push_refused(alloc, text, refused),
     }
@@ -144,9 +144,9 @@ pub(crate) fn push_stepped(
 pub(crate) fn push_taken(
     alloc: Global,
     text: &mut String,
-    taken: &Option<Bundle>,
+    taken: Option<Bundle>,
 ) -> Result<(), AllocError> {
-    match taken {
+    match &taken {
         None => text.push_str("none"),
         Some(bundle) => push_bundle(alloc, text, "user", bundle),
     }
@@ -155,9 +155,9 @@ pub(crate) fn push_taken(
 // The file of a key and a stamp.
 fn push_file(alloc: Global, text: &mut String, lane: &Lane, words: &str) -> Option<()> {
     let (key, stamp) = split_key(words)?;
-    match lane.image(key, stamp.parse().ok()?) {
+    match &lane.image(key, stamp.parse().ok()?) {
         Err(why) => push_refusal(text, why.number(), why.name()).ok(),
-        Ok(image) => push_image(alloc, text, &image).ok(),
+        Ok(image) => push_image(alloc, text, image).ok(),
     }
 }
 
@@ -179,16 +179,24 @@ fn push_take(alloc: Global, text: &mut String, desk: &mut Desk) -> Option<()>
     requires { Fits desk.old.lane desk.old.number desk.old.queue }
     ensures { Fits desk.new.lane desk.new.number desk.new.queue }
 {
-    push_taken(alloc, text, &take(desk)).ok()
+    push_taken(alloc, text, take(desk)).ok()
 }
 
 // What an event gives.
-fn push_event(alloc: Global, text: &mut String, desk: &mut Desk, line: &str) -> Option<()>
+fn push_event(alloc: Global, text: &mut String, desk: &mut Desk, event: &Event) -> Option<()>
+    requires keyed { IsKeyed event.now }
+    requires fits { Fits desk.old.lane desk.old.number desk.old.queue }
+    ensures { Fits desk.new.lane desk.new.number desk.new.queue }
+{
+    push_stepped(alloc, text, step(desk, event)).ok()
+}
+
+// What a line gives that writes an event.
+fn push_told(alloc: Global, text: &mut String, desk: &mut Desk, line: &str) -> Option<()>
     requires { Fits desk.old.lane desk.old.number desk.old.queue }
     ensures { Fits desk.new.lane desk.new.number desk.new.queue }
 {
-    let event = event(alloc, line)?;
-    push_stepped(alloc, text, &step(desk, &event)).ok()
+    push_event(alloc, text, desk, &event(alloc, line)?)
 }
 
 // What a line gives, if it is one.
@@ -204,7 +212,7 @@ fn push_line(alloc: Global, text: &mut String, desk: &mut Desk, line: &str) -> O
     }
     match line.strip_prefix("image ") {
         Some(words) => push_file(alloc, text, &desk.lane, words),
-        None => push_event(alloc, text, desk, line),
+        None => push_told(alloc, text, desk, line),
     }
 }
 

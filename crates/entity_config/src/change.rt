@@ -9,7 +9,7 @@ use cfdp_types::{Condition, ExpirationLimits, FaultTables, Handler, Params, Role
 use config_reading::Peer;
 
 /// The timers whose expirations are counted.
-#[derive(Clone, Copy, Debug, PartialEq, Eq)]
+#[derive(Clone, Copy)]
 pub(crate) enum Limited {
     Ack,
     Nak,

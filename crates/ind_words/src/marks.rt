@@ -7,7 +7,7 @@ use cfdp_types::Delivery;
 use indications::{Indication, IndicationKind};
 
 /// What the kinds of the indications that were told say of what may be told next.
-#[derive(Clone, Copy, Debug, PartialEq, Eq)]
+#[derive(Clone, Copy)]
 pub struct Marks {
     pub opened: bool,
     pub eof_sent: bool,

@@ -11,7 +11,7 @@ pub struct NotAWord;
 
 /// Reads the indications of one transaction, at its sender or at its receiver, in their order, and
 /// takes those that keep a beginning of a word.
-#[derive(Debug, Drop)]
+#[derive(Drop)]
 pub struct WordReader {
     side: Side,
     marks: Marks,

@@ -7,7 +7,7 @@ ghost use Rattle.ind_words.specs.Offsets.{IsInitial};
 use gap_list::{Gaps, Run};
 use std::alloc::{AllocError, Global};
 
-#[derive(Debug, Drop)]
+#[derive(Drop)]
 pub struct Segments {
     offsets: Gaps,
     // How many more segments there is room for.

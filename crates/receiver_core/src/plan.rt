@@ -4,7 +4,7 @@ use txn_events::Answer;
 
 /// An event that is accepted, with its answer and all memory that it takes. It can be carried out
 /// in the state that it was made in.
-#[derive(Debug, Drop)]
+#[derive(Drop)]
 pub struct Plan {
     pub(crate) next: ControlBlock,
     pub(crate) change: FileChange,

@@ -13,7 +13,7 @@ use std::alloc::Global;
 use txn_events::Answer;
 
 /// The receiving end of one transaction, in either class.
-#[derive(Debug, Drop)]
+#[derive(Drop)]
 pub struct ReceiverCore {
     pub(crate) alloc: Global,
     pub(crate) key: TxnKey,

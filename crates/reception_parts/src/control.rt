@@ -5,7 +5,7 @@ use pdu_values::{Eof, Finished};
 use txn_events::{Stamps, Tries};
 
 /// Where a reception stands, but for the Metadata and the octets that came.
-#[derive(Clone, Copy, Debug, PartialEq, Eq)]
+#[derive(Clone, Copy)]
 pub struct ControlBlock {
     /// The number of events so far.
     pub entries: u32,

@@ -9,7 +9,7 @@ use crate::received_file::ReceivedFile;
 use cfdp_types::{ChecksumType, Condition};
 
 /// What a look at the file so far finds.
-#[derive(Clone, Copy, Debug, PartialEq, Eq)]
+#[derive(Clone, Copy, PartialEq, Eq)]
 pub enum Finding {
     /// There is no EOF, and no fault.
     Nothing,

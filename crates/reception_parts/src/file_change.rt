@@ -2,7 +2,7 @@ use crate::received_file::{NewSegment, ReceivedFile};
 use pdu_values::Metadata;
 
 /// What an event changes in what is kept of the file.
-#[derive(Debug, Drop)]
+#[derive(Drop)]
 pub enum FileChange {
     Nothing,
     /// The first Metadata.

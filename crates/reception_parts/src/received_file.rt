@@ -11,7 +11,7 @@ use pdu_values::FileData;
 use std::alloc::{AllocError, Global};
 
 /// The octets of a file that came so far, each as it came first.
-#[derive(Debug, Drop)]
+#[derive(Drop)]
 pub struct ReceivedFile {
     /// At an offset that did not come stands any octet.
     pub octets: Vec<u8>,
@@ -24,7 +24,7 @@ pub struct ReceivedFile {
 }
 
 /// A segment of a file, and what it adds to what came before.
-#[derive(Debug, Drop)]
+#[derive(Drop)]
 pub struct NewSegment {
     pub file_data: FileData,
     /// One more than its last offset.

@@ -6,7 +6,7 @@ use pdu_values::Finished;
 use std::alloc::{AllocError, Global};
 
 /// What a response of the table gives.
-#[derive(Debug, Drop)]
+#[derive(Drop)]
 pub struct Response {
     /// What the user is told.
     pub inds: Indications,

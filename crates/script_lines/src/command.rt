@@ -14,7 +14,7 @@ use entity_routing::{Request, WorldEvent};
 use std::alloc::{AllocError, Global};
 
 /// What a line of a script says.
-#[derive(Debug, Drop)]
+#[derive(Drop)]
 pub enum Command {
     /// A setting of the configuration.
     Set(Setting),

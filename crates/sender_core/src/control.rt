@@ -6,7 +6,7 @@ use pdu_values::Eof;
 use txn_events::{Stamps, Tries};
 
 /// Where a sender stands, but for the octets that are still to be sent.
-#[derive(Clone, Copy, Debug, PartialEq, Eq)]
+#[derive(Clone, Copy)]
 pub(crate) struct ControlBlock {
     /// The number of events so far.
     pub(crate) entries: u32,

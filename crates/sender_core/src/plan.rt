@@ -3,7 +3,7 @@ use crate::remaining::NakRequests;
 use txn_events::Answer;
 
 /// What an event makes of the offsets that are still to be sent.
-#[derive(Debug, Drop)]
+#[derive(Drop)]
 pub(crate) enum Remainder {
     /// They are the same.
     Same,
@@ -15,7 +15,7 @@ pub(crate) enum Remainder {
 
 /// An event that is accepted, with its answer and all memory that it takes. It can be carried out
 /// in the state that it was made in.
-#[derive(Debug, Drop)]
+#[derive(Drop)]
 pub struct Plan {
     pub(crate) next: ControlBlock,
     pub(crate) remainder: Remainder,

@@ -8,7 +8,7 @@ use pdu_values::SegmentRequest;
 use std::alloc::{AllocError, Global};
 
 /// The offsets of a file that are still to be sent.
-#[derive(Debug, Drop)]
+#[derive(Drop)]
 pub(crate) struct Remaining {
     offsets: Gaps,
     // what lies below it is not to be sent
@@ -16,7 +16,7 @@ pub(crate) struct Remaining {
 }
 
 /// What a NAK asks for below a limit, with room to add it.
-#[derive(Debug, Drop)]
+#[derive(Drop)]
 pub(crate) struct NakRequests {
     requests: Vec<SegmentRequest>,
     limit: u32,

@@ -7,7 +7,7 @@ use std::alloc::{AllocError, Global};
 
 /// What a response of the table gives: what the user is told, the PDU that is sent, and the timer that it
 /// arms.
-#[derive(Debug, Drop)]
+#[derive(Drop)]
 pub(crate) struct Response {
     pub(crate) inds: Indications,
     pub(crate) pdu: Option<Pdu>,

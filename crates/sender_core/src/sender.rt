@@ -15,7 +15,7 @@ use std::alloc::Global;
 use txn_events::Answer;
 
 /// The sending end of one transaction, in either class.
-#[derive(Debug, Drop)]
+#[derive(Drop)]
 pub struct SenderCore {
     pub(crate) alloc: Global,
     pub(crate) key: TxnKey,

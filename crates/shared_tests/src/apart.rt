@@ -1,7 +1,7 @@
 //! A lane that is held back keeps no other waiting.
 
 use crate::runs::{Run, play};
-use crate::told::{Answered, pause, push_answer, push_line, put};
+use crate::told::{pause, push_answer, push_answer_or, push_line, put};
 use entity_config::Config;
 use entity_routing::Place;
 use held_lanes::{Gate, Held, Names, Point};
@@ -152,22 +152,38 @@ pub(crate) fn hold_back<N: Names + Send + Sync, R: Threads + Wait + Copy + Send 
     let gate = Holding::new(*rt);
     let (delivered, (put, ended)) = thread::join(
         rt,
-        || entity.deliver(rt, &gate, &METADATA),
+        || deliver_held(rt, alloc, entity, &gate),
         || {
             thread::join(
                 rt,
                 || put_both(rt, alloc, entity, &gate),
-                || try_lane(rt, entity, &gate),
+                || try_lane(rt, alloc, entity, &gate),
             )
         },
     );
-    text.push_str(put?.as_str())?;
-    push_answer(text, &delivered)?;
-    push_points(text, &gate.points)?;
-    match ended {
-        Some(answer) => push_answer(text, &answer)?,
-        None => push_line(text, "never held")?,
+    push_held(text, &put, &delivered, &ended, &gate)
+}
+
+// Adds what a thread says.
+fn push_said(text: &mut String, said: &Result<String, AllocError>) -> Result<(), AllocError> {
+    match said {
+        Ok(said) => text.push_str(said.as_str()),
+        Err(AllocError) => Err(AllocError),
     }
+}
+
+// What came of it: the Puts, what the thread that held the lane was answered, and the one that tried it.
+fn push_held<R: Copy>(
+    text: &mut String,
+    put: &Result<String, AllocError>,
+    delivered: &Result<String, AllocError>,
+    ended: &Result<String, AllocError>,
+    gate: &Holding<R>,
+) -> Result<(), AllocError> {
+    push_said(text, put)?;
+    push_said(text, delivered)?;
+    push_points(text, &gate.points)?;
+    push_said(text, ended)?;
     push_points(text, &gate.tries)?;
     if gate.was_in_time.load(Ordering::SeqCst) {
         push_line(text, "in time")?;
@@ -208,24 +224,37 @@ fn push_noted<N: Names, R: Wait + Copy>(
     place: Place,
 ) -> Result<(), AllocError> {
     let points = Points::new();
-    match put(rt, alloc, entity, &points, place, 1) {
-        Some(answer) => push_answer(text, &answer)?,
-        None => push_line(text, "no lane")?,
-    }
+    let answer = put(rt, alloc, entity, &points, place, 1);
+    push_answer_or(text, answer, "no lane")?;
     push_points(text, &points)
+}
+
+// The Metadata comes, by which the lane is held.
+fn deliver_held<N: Names, R: Wait + Copy>(
+    rt: &R,
+    alloc: Global,
+    entity: &Entity<N, R>,
+    gate: &Holding<R>,
+) -> Result<String, AllocError> {
+    let mut text = String::new(alloc);
+    push_answer(&mut text, entity.deliver(rt, gate, &METADATA))?;
+    Ok(text)
 }
 
 // The end of the file comes while the lane is held.
 fn try_lane<N: Names, R: Wait + Copy>(
     rt: &R,
+    alloc: Global,
     entity: &Entity<N, R>,
     gate: &Holding<R>,
-) -> Option<Answered> {
+) -> Result<String, AllocError> {
     if !waits_until(rt, &gate.is_held) {
-        return None;
+        return String::from_str(alloc, "never held");
     }
     gate.is_tried.store(true, Ordering::SeqCst);
-    Some(entity.deliver(rt, &gate.tries, &END))
+    let mut text = String::new(alloc);
+    push_answer(&mut text, entity.deliver(rt, &gate.tries, &END))?;
+    Ok(text)
 }
 
 #[test]

@@ -1,7 +1,7 @@
 //! What is answered to each call.
 
 use crate::runs::{Run, play};
-use crate::told::{Answered, key, push_answer, push_line, push_put, taken};
+use crate::told::{Answered, key, push_answer, push_answer_or, push_line, push_put, taken};
 use cfdp_types::{Image, TimerKind, TxnKey};
 use entity_config::Config;
 use entity_routing::{Place, Request};
@@ -38,7 +38,7 @@ fn push_request<N: Names, R: Wait + Copy>(
     if user >= entity.users() || matches!(&request, Request::Put(_, _)) {
         return push_line(text, "no user");
     }
-    push_answer(text, &entity.request(rt, &NoGate, user, request))
+    push_answer(text, entity.request(rt, &NoGate, user, request))
 }
 
 /// Each call once.
@@ -62,10 +62,10 @@ pub(crate) fn call<N: Names, R: Wait + Copy>(
     )?;
     push_answer(
         text,
-        &entity.timer(rt, &NoGate, key(1, 6), TimerKind::Inactivity, 0),
+        entity.timer(rt, &NoGate, key(1, 6), TimerKind::Inactivity, 0),
     )?;
     push_put(rt, alloc, text, entity, Place { user: 0, lane: 0 }, 1)?;
-    push_answer(text, &entity.pump(rt, &NoGate, key(2, 4)))?;
+    push_answer(text, entity.pump(rt, &NoGate, key(2, 4)))?;
     push_request(rt, text, entity, 0, Request::Suspend(key(2, 4)))?;
     push_request(rt, text, entity, 0, Request::Resume(key(2, 4)))?;
     push_request(rt, text, entity, 0, Request::Report(key(2, 4)))?;
@@ -111,7 +111,7 @@ fn receive<N: Names, R: Wait + Copy>(
     push_image(rt, alloc, text, entity, key(1, 5), 2)?;
     push_image(rt, alloc, text, entity, key(1, 5), 1)?;
     push_image(rt, alloc, text, entity, key(7, 5), 2)?;
-    push_answer(text, &entity.stored(rt, &NoGate, key(1, 5), 2, true))
+    push_answer(text, entity.stored(rt, &NoGate, key(1, 5), 2, true))
 }
 
 // Datagrams that no lane is told of.
@@ -153,10 +153,7 @@ fn push_delivery<N: Names, R: Wait + Copy>(
     entity: &Entity<N, R>,
     digits: &str,
 ) -> Result<(), AllocError> {
-    match deliver(rt, alloc, entity, digits) {
-        Some(answer) => push_answer(text, &answer),
-        None => push_line(text, "no octets"),
-    }
+    push_answer_or(text, deliver(rt, alloc, entity, digits), "no octets")
 }
 
 fn deliver<N: Names, R: Wait + Copy>(
@@ -177,10 +174,7 @@ fn push_pdu<N: Names, R: Wait + Copy>(
     entity: &Entity<N, R>,
     digits: &str,
 ) -> Result<(), AllocError> {
-    match deliver_read(rt, alloc, entity, digits) {
-        Some(answer) => push_answer(text, &answer),
-        None => push_line(text, "no PDU"),
-    }
+    push_answer_or(text, deliver_read(rt, alloc, entity, digits), "no PDU")
 }
 
 fn deliver_read<N: Names, R: Wait + Copy>(
@@ -203,8 +197,8 @@ fn push_image<N: Names, R: Wait + Copy>(
     key: TxnKey,
     stamp: u32,
 ) -> Result<(), AllocError> {
-    match entity.image(rt, key, stamp) {
-        Ok(image) => push_file(alloc, text, &image),
+    match &entity.image(rt, key, stamp) {
+        Ok(image) => push_file(alloc, text, image),
         Err(why) => push_line(text, why.name()),
     }
 }

@@ -2,7 +2,7 @@
 ghost use Rattle.std.specs.Prelude.{◌≡◌, All};
 
 use crate::runs::{Run, play};
-use crate::told::{push_line, push_told, taken};
+use crate::told::{is_done, push_line, push_told, taken};
 use entity_config::Config;
 use held_lanes::{Names, NoGate};
 use shared_entity::Entity;
@@ -26,7 +26,7 @@ fn eof_of(seq: u8) -> [u8; 17] {
 
 // Whether a lane took a datagram.
 fn is_taken<N: Names, R: Wait + Copy>(rt: &R, entity: &Entity<N, R>, octets: &[u8]) -> bool {
-    matches!(entity.deliver(rt, &NoGate, octets), Ok(Ok(_)))
+    is_done(entity.deliver(rt, &NoGate, octets))
 }
 
 // Whether both datagrams of a file were taken.

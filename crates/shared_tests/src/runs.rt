@@ -61,16 +61,32 @@ fn play_named<N: Names + Send + Sync, R: Threads + Wait + Copy + Send + Sync>(
 {
     let mut text = String::new(alloc);
     let (entity, ports) = Entity::<N, R>::open(alloc, config, queues)?;
-    match run {
-        Run::Asking => calls::ask(&rt, alloc, &mut text, &entity)?,
-        Run::Calls => calls::call(&rt, alloc, &mut text, &entity, ports)?,
-        Run::Deliveries => play_first(&rt, alloc, &mut text, entity, ports)?,
-        Run::Apart => apart::hold_back(&rt, alloc, &mut text, &entity)?,
-        Run::Crowd => crowd::crowd(&rt, alloc, &mut text, &entity, ports)?,
-        Run::Full => settings::fill(&rt, alloc, &mut text, &entity, ports)?,
-        Run::Sources => settings::listen(&rt, &mut text, &entity)?,
-    }
+    let played = match run {
+        Run::Deliveries => play_first(&rt, alloc, &mut text, entity, ports),
+        _ => play_all(&rt, alloc, &mut text, &entity, ports, run),
+    };
+    played?;
     Ok(text)
+}
+
+// What all users see, with their ports.
+fn play_all<N: Names + Send + Sync, R: Threads + Wait + Copy + Send + Sync>(
+    rt: &R,
+    alloc: Global,
+    text: &mut String,
+    entity: &Entity<N, R>,
+    ports: Vec<UserPort>,
+    run: Run,
+) -> Result<(), AllocError> {
+    match run {
+        Run::Asking => calls::ask(rt, alloc, text, entity),
+        Run::Calls => calls::call(rt, alloc, text, entity, ports),
+        Run::Deliveries => Ok(()),
+        Run::Apart => apart::hold_back(rt, alloc, text, entity),
+        Run::Crowd => crowd::crowd(rt, alloc, text, entity, ports),
+        Run::Full => settings::fill(rt, alloc, text, entity, ports),
+        Run::Sources => settings::listen(rt, text, entity),
+    }
 }
 
 // Deliveries to the first user, whose port is the first one.

@@ -2,7 +2,7 @@
 
 use crate::crowds::TWO_SOURCES;
 use crate::runs::{Run, play};
-use crate::told::{Answered, push_line, push_put, put, taken};
+use crate::told::{Answered, is_done, push_line, push_put, put, taken};
 use cfdp_types::{TimerKind, TimerOp, TxnKey};
 use entity_config::read_config;
 use entity_routing::Place;
@@ -47,7 +47,7 @@ fn is_sent<N: Names, R: Wait + Copy>(rt: &R, alloc: Global, entity: &Entity<N, R
 }
 
 fn pumps<N: Names, R: Wait + Copy>(rt: &R, entity: &Entity<N, R>, key: TxnKey) -> bool {
-    matches!(entity.pump(rt, &NoGate, key), Ok(Ok(_)))
+    is_done(entity.pump(rt, &NoGate, key))
 }
 
 /// A file comes from each of two entities; how long each lane waits for more.
@@ -60,13 +60,13 @@ pub(crate) fn listen<N: Names, R: Wait + Copy>(
         let metadata = [
             0x24, 0, 10, 0, source, 4, 2, 7, 0, 0, 0, 0, 3, 1, 0x61, 1, 0x62,
         ];
-        push_listening(text, &entity.deliver(rt, &NoGate, &metadata))?;
+        push_listening(text, entity.deliver(rt, &NoGate, &metadata))?;
     }
     Ok(())
 }
 
-fn push_listening(text: &mut String, answer: &Answered) -> Result<(), AllocError> {
-    match answer {
+fn push_listening(text: &mut String, answer: Answered) -> Result<(), AllocError> {
+    match &answer {
         Ok(Ok(done)) => push_waits(text, done.timers.as_slice()),
         _ => push_line(text, "refused"),
     }

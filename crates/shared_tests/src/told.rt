@@ -31,8 +31,8 @@ pub(crate) fn key(source: u64, seq: u64) -> TxnKey {
 }
 
 /// Adds a line: the number of the transaction that took a step, or why none did.
-pub(crate) fn push_answer(text: &mut String, answer: &Answered) -> Result<(), AllocError> {
-    match answer {
+pub(crate) fn push_answer(text: &mut String, answer: Answered) -> Result<(), AllocError> {
+    match &answer {
         Ok(Ok(done)) => {
             let seq = done.key.seq;
             writeln!(text, "{seq}")
@@ -40,6 +40,23 @@ pub(crate) fn push_answer(text: &mut String, answer: &Answered) -> Result<(), Al
         Ok(Err(refused)) => push_line(text, refused.why.name()),
         Err(why) => push_line(text, why.name()),
     }
+}
+
+/// Adds such a line, or another where nothing was asked.
+pub(crate) fn push_answer_or(
+    text: &mut String,
+    answer: Option<Answered>,
+    none: &str,
+) -> Result<(), AllocError> {
+    match answer {
+        Some(answer) => push_answer(text, answer),
+        None => push_line(text, none),
+    }
+}
+
+/// Whether a lane took a step.
+pub(crate) fn is_done(answer: Answered) -> bool {
+    matches!(answer, Ok(Ok(_)))
 }
 
 /// Adds a line.
@@ -78,10 +95,8 @@ pub(crate) fn push_put<N: Names, R: Wait + Copy>(
     place: Place,
     destination: u64,
 ) -> Result<(), AllocError> {
-    match put(rt, alloc, entity, &NoGate, place, destination) {
-        Some(answer) => push_answer(text, &answer),
-        None => push_line(text, "no lane"),
-    }
+    let answer = put(rt, alloc, entity, &NoGate, place, destination);
+    push_answer_or(text, answer, "no lane")
 }
 
 /// All that a user takes until nothing is there.

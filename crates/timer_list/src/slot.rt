@@ -2,7 +2,7 @@ use crate::armed::Armed;
 use cfdp_types::{TimerKind, TxnKey};
 
 /// What stands at a place of the list: the place of a timer, or one that nothing uses any more.
-#[derive(Clone, Copy, Debug, PartialEq, Eq, Hash)]
+#[derive(Clone, Copy, PartialEq, Eq, Hash)]
 pub(crate) enum Slot {
     Timer { key: TxnKey, kind: TimerKind },
     /// The number of the place itself.
@@ -10,7 +10,7 @@ pub(crate) enum Slot {
 }
 
 /// How a timer runs.
-#[derive(Clone, Copy, Debug)]
+#[derive(Clone, Copy)]
 pub(crate) struct Run {
     pub stamp: u32,
     pub deadline: u64,

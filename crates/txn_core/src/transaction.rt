@@ -4,7 +4,7 @@ use sender_core::SenderCore;
 use txn_events::{Answer, Refusal, What};
 
 /// The transaction of a lane.
-#[derive(Debug, Drop)]
+#[derive(Drop)]
 pub enum TransactionCore {
     /// Its file is sent.
     Sender(SenderCore),
@@ -14,7 +14,7 @@ pub enum TransactionCore {
 
 /// An event that the transaction takes, with its answer and all memory that carrying it out needs. It
 /// can be carried out in the state that it was made in.
-#[derive(Debug, Drop)]
+#[derive(Drop)]
 pub enum TransactionPlan {
     Sender(sender_core::Plan),
     Receiver(receiver_core::Plan),

@@ -3,7 +3,7 @@ use cfdp_types::Deposit;
 use indications::Indications;
 
 /// What one accepted event gives, at either end.
-#[derive(Debug, Drop)]
+#[derive(Drop)]
 pub struct Answer {
     /// What the user is told, in order.
     pub inds: Indications,

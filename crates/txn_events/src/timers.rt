@@ -14,7 +14,7 @@ use indications::Indication;
 use std::alloc::{AllocError, Global};
 
 /// What a step does with a timer.
-#[derive(Clone, Copy, Debug, PartialEq, Eq)]
+#[derive(Clone, Copy)]
 pub enum TimerChange {
     Arms,
     Keeps,
@@ -22,7 +22,7 @@ pub enum TimerChange {
 }
 
 /// What a step does with each timer.
-#[derive(Clone, Copy, Debug, PartialEq, Eq)]
+#[derive(Clone, Copy)]
 pub struct TimerChanges {
     pub ack: TimerChange,
     pub nak: TimerChange,
@@ -31,7 +31,7 @@ pub struct TimerChanges {
 }
 
 /// For each timer that runs, its stamp: the place in the journal of the event that armed it.
-#[derive(Clone, Copy, Debug, PartialEq, Eq)]
+#[derive(Clone, Copy)]
 pub struct Stamps {
     pub ack: Option<u32>,
     pub nak: Option<u32>,
@@ -40,7 +40,7 @@ pub struct Stamps {
 }
 
 /// For each timer, its expirations since their count began.
-#[derive(Clone, Copy, Debug, PartialEq, Eq)]
+#[derive(Clone, Copy)]
 pub struct Tries {
     pub ack: u32,
     pub nak: u32,
@@ -88,7 +88,7 @@ impl Stamps {
 }
 
 /// Of which timers a step begins the count again, for a reason of its end alone.
-#[derive(Clone, Copy, Debug, PartialEq, Eq)]
+#[derive(Clone, Copy)]
 pub struct CountResets {
     pub ack: bool,
     pub nak: bool,
@@ -180,7 +180,7 @@ fn stamp_after(before: Option<u32>, change: TimerChange, stamp: u32) -> Option<u
 }
 
 /// Whose timers a step changes, how long they run, and its stamp: its place in the journal.
-#[derive(Clone, Copy, Debug)]
+#[derive(Clone, Copy)]
 pub struct TimerContext {
     pub key: TxnKey,
     pub lengths: TimerLengths,

@@ -11,7 +11,7 @@ use txn_events::{Event, Refusal, What};
 
 /// A lane of a user, which runs one transaction after the other: those that its user puts, or those
 /// whose files come from one source. Contracts see what it stands at.
-#[derive(Debug, Drop)]
+#[derive(Drop)]
 pub struct Lane {
     alloc: Global,
     side: LaneSide,

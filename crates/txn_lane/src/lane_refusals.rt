@@ -18,7 +18,7 @@ use pdu_values::{Ack, Acknowledged, Body, Direction, Header, Pdu, TransactionSta
 use txn_events::{Refusal, What, body_opens};
 
 /// What the refusals of a lane go by.
-#[derive(Clone, Copy, Debug)]
+#[derive(Clone, Copy)]
 pub(crate) struct LaneView {
     pub(crate) source: EntityId,
     /// The number of the transaction that it opened last.

@@ -9,7 +9,7 @@ use txn_core::{TransactionCore, TransactionPlan};
 use txn_events::{Answer, Event, Refusal, What};
 
 /// The transaction that a lane runs or ran last.
-#[derive(Debug, Drop)]
+#[derive(Drop)]
 pub(crate) struct Running {
     pub(crate) core: TransactionCore,
     /// Its events that were taken, in order.

@@ -2,16 +2,28 @@
 
 use entity_refusals::read_pdu;
 use entity_world::EntityRefusal;
+use std::alloc::Global;
 use std::test::*;
 
+fn is_read(alloc: Global, datagram: &[u8]) -> bool {
+    read_pdu(alloc, datagram).is_ok()
+}
+
+fn is_told(refusal: &EntityRefusal, number: u8, name: &str) -> bool {
+    refusal.number() == number && refusal.name() == name
+}
+
+fn is_no_pdu(alloc: Global, datagram: &[u8]) -> bool {
+    match read_pdu(alloc, datagram) {
+        Ok(_) => false,
+        Err(refusal) => is_told(&refusal, 20, "DecodeFault"),
+    }
+}
+
 #[test]
-fn read_or_refused(rt: HostRuntime) -> Result<(), Fail> {
-    let why = read_pdu(rt.alloc(), &[0x24]).err().ok_or("it was read")?;
-    assert_eq!(rt; why.number(), 20);
-    assert_eq!(rt; why.name(), "DecodeFault");
-    assert_eq!(rt; EntityRefusal::WrongLane.number(), 26);
-    assert_eq!(rt; EntityRefusal::WrongLane.name(), "WrongLane");
-    let datagram = [0x28, 0, 3, 0, 1, 5, 2, 6, 0x40, 1];
-    assert!(rt; read_pdu(rt.alloc(), &datagram).is_ok());
-    Ok(())
+fn read_or_refused(rt: HostRuntime) {
+    let alloc = rt.alloc();
+    assert!(rt; is_read(alloc, &[0x28, 0, 3, 0, 1, 5, 2, 6, 0x40, 1]));
+    assert!(rt; is_no_pdu(alloc, &[0x24]));
+    assert!(rt; is_told(&EntityRefusal::WrongLane, 26, "WrongLane"));
 }

@@ -1,5 +1,6 @@
 //! The two entities, and what one is told.
 
+use crate::telling::tell;
 use cfdp_types::{Class, EntityId, Octets, PutFault, PutRequest, TimerKind, TxnKey};
 use entity_config::{Config, read_config};
 use entity_world::{EntityRefusal, Request, World, WorldEvent};
@@ -77,7 +78,10 @@ pub(crate) fn put(
     request: PutRequest,
 ) -> Option<Result<Done, EntityRefusal>> {
     if user < world.users() && lane < world.put_lanes() {
-        Some(world.step(&WorldEvent::Request(user, Request::Put(lane, request))))
+        Some(tell(
+            world,
+            WorldEvent::Request(user, Request::Put(lane, request)),
+        ))
     } else {
         None
     }
@@ -85,12 +89,12 @@ pub(crate) fn put(
 
 /// A datagram comes.
 pub(crate) fn deliver(world: &mut World, octets: Octets) -> Result<Done, EntityRefusal> {
-    world.step(&WorldEvent::Deliver(octets))
+    tell(world, WorldEvent::Deliver(octets))
 }
 
 /// The next PDU is to be sent.
 pub(crate) fn pump(world: &mut World, key: TxnKey) -> Result<Done, EntityRefusal> {
-    world.step(&WorldEvent::Pump(key))
+    tell(world, WorldEvent::Pump(key))
 }
 
 /// A timer expires.
@@ -100,7 +104,7 @@ pub(crate) fn expire(
     kind: TimerKind,
     stamp: u32,
 ) -> Result<Done, EntityRefusal> {
-    world.step(&WorldEvent::Timer(key, kind, stamp))
+    tell(world, WorldEvent::Timer(key, kind, stamp))
 }
 
 /// The file store answers.
@@ -110,5 +114,5 @@ pub(crate) fn store(
     stamp: u32,
     kept: bool,
 ) -> Result<Done, EntityRefusal> {
-    world.step(&WorldEvent::Stored(key, stamp, kept))
+    tell(world, WorldEvent::Stored(key, stamp, kept))
 }

@@ -2,7 +2,7 @@
 
 use crate::entities::{deliver, expire, file_for_one, pump, put, store};
 use crate::seen::{Seen, count};
-use cfdp_types::{Class, Delivery, Deposit, Image, Octets, TimerKind, TimerOp, TxnKey};
+use cfdp_types::{Class, Delivery, Deposit, Image, Octets, PutRequest, TimerKind, TimerOp, TxnKey};
 use entity_world::{EntityRefusal, World};
 use indications::{Bundle, Indication};
 use lane_table::{Done, Refused};
@@ -74,6 +74,13 @@ fn names_of(number: u64) -> ([u8; 2], [u8; 3]) {
     ([low, high], [high, b'_', low])
 }
 
+// The Put of a file.
+fn request_of(alloc: Global, class: Class, number: u64) -> Option<PutRequest> {
+    let (from, to) = names_of(number);
+    let file = file_of(alloc, number).ok()?;
+    file_for_one(alloc, class, &from[..], &to[..], file.as_slice()).ok()
+}
+
 fn is_file(alloc: Global, image: &Image, number: u64) -> Result<bool, AllocError> {
     let (from, to) = names_of(number);
     let file = file_of(alloc, number)?;
@@ -139,17 +146,24 @@ impl Link {
         Ok(())
     }
 
+    // Whether a deposit gives the file that was put under a number.
+    fn gives(&self, deposit: Deposit, number: u64) -> Result<bool, AllocError> {
+        match &self.receiving.image(deposit.key, deposit.stamp) {
+            Ok(image) => is_file(self.alloc, image, number),
+            Err(_) => Ok(false),
+        }
+    }
+
     // The file that is handed out is looked at.
     fn look(&mut self, deposit: Deposit) -> Result<(), AllocError> {
         self.deposits.push(deposit)?;
         let posted = self.posted.iter().find(|posted| posted.key == deposit.key);
-        let (Some(posted), Ok(image)) = (posted, self.receiving.image(deposit.key, deposit.stamp))
-        else {
+        let Some(Posted { class, number, .. }) = posted.copied() else {
             count(&mut self.seen.wrongs);
             return Ok(());
         };
-        let is_right = is_file(self.alloc, &image, posted.number)?;
-        self.seen.look(posted.class, is_right);
+        let is_right = self.gives(deposit, number)?;
+        self.seen.look(class, is_right);
         Ok(())
     }
 
@@ -198,21 +212,14 @@ impl Link {
         }
     }
 
-    /// A file is put, unless the lane is busy.
-    pub(crate) fn put(&mut self, number: u64, lot: u32) -> Result<(), AllocError> {
-        let file = file_of(self.alloc, number)?;
-        let (from, to) = names_of(number);
-        let class = if lot % 4 == 0 { Class::One } else { Class::Two };
-        let made = file_for_one(self.alloc, class, &from[..], &to[..], file.as_slice());
-        let Ok(request) = made else {
-            return Ok(());
-        };
-        let user = lot as usize / 4 % 2;
-        let lane = lot as usize / 8 % 2;
-        let Some(answer) = put(&mut self.putting, user, lane, request) else {
-            return Ok(());
-        };
-        if let Ok(done) = &answer {
+    // A Put that is taken is noted, with what its lane answers.
+    fn note_put(
+        &mut self,
+        class: Class,
+        number: u64,
+        answer: &Result<Done, EntityRefusal>,
+    ) -> Result<(), AllocError> {
+        if let Ok(done) = answer {
             let key = done.key;
             self.posted.push(Posted {
                 key,
@@ -224,7 +231,21 @@ impl Link {
                 is_told_receiver: false,
             })?;
         }
-        self.note(End::Putting, &answer)
+        self.note(End::Putting, answer)
+    }
+
+    /// A file is put, unless the lane is busy.
+    pub(crate) fn put(&mut self, number: u64, lot: u32) -> Result<(), AllocError> {
+        let class = if lot % 4 == 0 { Class::One } else { Class::Two };
+        let user = lot as usize / 4 % 2;
+        let lane = lot as usize / 8 % 2;
+        let Some(request) = request_of(self.alloc, class, number) else {
+            return Ok(());
+        };
+        match &put(&mut self.putting, user, lane, request) {
+            None => Ok(()),
+            Some(answer) => self.note_put(class, number, answer),
+        }
     }
 
     /// A transaction may send its next PDU.

@@ -3,7 +3,7 @@
 use crate::telling::{deliver, taken};
 use entity_config::read_config;
 use entity_world::World;
-use std::alloc::Global;
+use std::alloc::{AllocError, Global};
 use std::test::*;
 
 // Entity 2 with two users; the files of entity 1 go to alice, those of entity 3 to bob.
@@ -52,15 +52,21 @@ fn two_sources(alloc: Global) -> Option<World> {
     }
 }
 
+// What both users are told when the other source sends.
+fn told(alloc: Global, world: &mut World) -> Result<String, AllocError> {
+    if !deliver(alloc, world, "24000a0003050207000000000301610162") {
+        return String::from_str(alloc, "refused");
+    }
+    let alice = taken(alloc, world, 0, "alice")?;
+    let bob = taken(alloc, world, 1, "bob")?;
+    format!(in alloc; "{alice}{bob}")
+}
+
 #[test]
 fn another_source(rt: HostRuntime) -> Result<(), Fail> {
     let alloc = rt.alloc();
     let mut world = two_sources(alloc).ok_or("no configuration")?;
-    assert!(rt; deliver(alloc, &mut world, "24000a0003050207000000000301610162"));
-    assert_eq!(rt; taken(alloc, &mut world, 0, "alice")?.as_str(), "");
-    assert_eq!(rt;
-        taken(alloc, &mut world, 1, "bob")?.as_str(),
-        "bob 3 5 Metadata-Recv 3 3 61 62\n"
-    );
+    let text = told(alloc, &mut world)?;
+    assert_eq!(rt; text.as_str(), "bob 3 5 Metadata-Recv 3 3 61 62\n");
     Ok(())
 }

@@ -1,8 +1,10 @@
 //! Short ways to tell an entity something, and to see what it tells.
+ghost use Rattle.entity_world.specs.Worlds.{MayCome};
 
 use answer_texts::push_bundle;
 use cfdp_types::Octets;
-use entity_world::{World, WorldEvent};
+use entity_world::{EntityRefusal, World, WorldEvent};
+use lane_table::Done;
 use std::alloc::{AllocError, Global};
 
 /// The octets of a datagram in hex.
@@ -11,8 +13,15 @@ pub(crate) fn octets_of(alloc: Global, digits: &str) -> Option<Octets> {
     Some(Octets::from_vec(octets))
 }
 
+/// An entity is told of an event.
+pub(crate) fn tell(world: &mut World, event: WorldEvent) -> Result<Done, EntityRefusal>
+    requires { MayCome world.old.config event }
+{
+    world.step(&event)
+}
+
 fn is_taken(world: &mut World, octets: Octets) -> bool {
-    world.step(&WorldEvent::Deliver(octets)).is_ok()
+    tell(world, WorldEvent::Deliver(octets)).is_ok()
 }
 
 /// A datagram comes, in hex: whether it is taken.

@@ -15,6 +15,13 @@ const KEY: TxnKey = TxnKey {
     seq: 4,
 };
 
+// Which of the two.
+#[derive(Clone, Copy)]
+enum Entity {
+    One,
+    Two,
+}
+
 // What an entity is told of.
 #[derive(Clone, Copy)]
 enum Step {
@@ -28,55 +35,63 @@ enum Step {
 }
 
 // The run, step by step: at which entity, and what it prints.
-const RUN: [(u64, Step, &str); 14] = [
-    (2, Step::Put, "ok\ntxn 2 4\n"),
+const RUN: [(Entity, Step, &str); 14] = [
+    (Entity::Two, Step::Put, "ok\ntxn 2 4\n"),
     (
-        2,
+        Entity::Two,
         Step::Pump,
         "ok\npdu 20000a0002040107000000000301610162\n",
     ),
-    (2, Step::Pump, "ok\npdu 3000070002040100000000616263\n"),
     (
-        2,
+        Entity::Two,
+        Step::Pump,
+        "ok\npdu 3000070002040100000000616263\n",
+    ),
+    (
+        Entity::Two,
         Step::Pump,
         "ok\npdu 20000a0002040104006162630000000003\n",
     ),
     // The EOF comes alone: all is asked for.
     (
-        1,
+        Entity::One,
         Step::Deliver("20000a0002040104006162630000000003"),
         "ok\npdu 28000300020401064001\n\
         pdu 2800190002040108000000000000000300000000000000000000000000000003\n",
     ),
     (
-        1,
+        Entity::One,
         Step::Deliver("20000a0002040107000000000301610162"),
         "ok\n",
     ),
     (
-        2,
+        Entity::Two,
         Step::Deliver("2800190002040108000000000000000300000000000000000000000000000003"),
         "ok\n",
     ),
     (
-        2,
+        Entity::Two,
         Step::Pump,
         "ok\npdu 20000a0002040107000000000301610162\n",
     ),
-    (2, Step::Pump, "ok\npdu 3000070002040100000000616263\n"),
-    (2, Step::Pump, "refused 8 WrongState\n"),
     (
-        1,
+        Entity::Two,
+        Step::Pump,
+        "ok\npdu 3000070002040100000000616263\n",
+    ),
+    (Entity::Two, Step::Pump, "refused 8 WrongState\n"),
+    (
+        Entity::One,
         Step::Deliver("3000070002040100000000616263"),
         "ok\ndeposit 2\n",
     ),
-    (1, Step::Store, "ok\npdu 280002000204010502\n"),
+    (Entity::One, Step::Store, "ok\npdu 280002000204010502\n"),
     (
-        2,
+        Entity::Two,
         Step::Deliver("280002000204010502"),
         "ok\npdu 20000300020401065102\n",
     ),
-    (1, Step::Deliver("20000300020401065102"), "ok\n"),
+    (Entity::One, Step::Deliver("20000300020401065102"), "ok\n"),
 ];
 
 // What is printed of an answer, to a Put or to something else.
@@ -141,8 +156,28 @@ fn answer(alloc: Global, world: &mut World, step: Step) -> Result<String, AllocE
     }
 }
 
-fn prints(alloc: Global, world: &mut World, step: Step, printed: &str) -> Result<bool, AllocError> {
-    Ok(answer(alloc, world, step)?.as_str() == printed)
+// The first step at which something else is printed, if there is one.
+fn other_print(
+    alloc: Global,
+    one: &mut World,
+    two: &mut World,
+) -> Result<Option<&'static str>, AllocError> {
+    for (entity, step, printed) in RUN {
+        let said = match entity {
+            Entity::One => answer(alloc, one, step)?,
+            Entity::Two => answer(alloc, two, step)?,
+        };
+        if said.as_str() != printed {
+            return Ok(Some(printed));
+        }
+    }
+    Ok(None)
+}
+
+// Whether the last that a user at either end is told is that the file is complete.
+fn are_told(alloc: Global, one: &mut World, two: &mut World) -> Result<bool, AllocError> {
+    let told = "user 2 4 Transaction-Finished 0 complete retained\n";
+    Ok(last_told(alloc, one, 0)?.as_str() == told && last_told(alloc, two, 0)?.as_str() == told)
 }
 
 #[test]
@@ -150,16 +185,9 @@ fn lost_at_first(rt: HostRuntime) -> Result<(), Fail> {
     let alloc = rt.alloc();
     let mut two = entity_two(alloc).ok_or("no entity 2")?;
     let mut one = entity_one(alloc).ok_or("no entity 1")?;
-    for (entity, step, printed) in RUN {
-        let is_printed = if entity == 2 {
-            prints(alloc, &mut two, step, printed)?
-        } else {
-            prints(alloc, &mut one, step, printed)?
-        };
-        assert!(rt; is_printed, "{entity}: {printed}");
-    }
-    let told = "user 2 4 Transaction-Finished 0 complete retained\n";
-    assert_eq!(rt; last_told(alloc, &mut two, 0)?.as_str(), told);
-    assert_eq!(rt; last_told(alloc, &mut one, 0)?.as_str(), told);
+    let other = other_print(alloc, &mut one, &mut two)?;
+    let are_told = are_told(alloc, &mut one, &mut two)?;
+    assert_eq!(rt; other, None);
+    assert!(rt; are_told);
     Ok(())
 }

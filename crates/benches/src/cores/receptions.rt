@@ -117,7 +117,6 @@ fn opened(alloc: Global, size: u32) -> Result<ReceiverCore, Fault> {
     Ok(core)
 }
 
-// Steps a reception, and answers how many PDUs it sends, and whether it gives the file to its store.
 fn step(core: &mut ReceiverCore, event: &What) -> Result<(u64, bool), Fault> {
     if core.has_ended() {
         return Err(Fault::Ended);
@@ -128,17 +127,33 @@ fn step(core: &mut ReceiverCore, event: &What) -> Result<(u64, bool), Fault> {
     Ok((sent, answer.deposit.is_some()))
 }
 
+// Steps a reception, and answers how many PDUs it sends, and whether it gives the file to its store.
+fn take(core: &mut ReceiverCore, pdu: Pdu) -> Result<(u64, bool), Fault> {
+    step(core, &What::Pdu(pdu))
+}
+
+// Takes all that comes; how many PDUs are sent, and whether the file is given to its store at the end.
+fn take_all(
+    alloc: Global,
+    core: &mut ReceiverCore,
+    file: &[u8],
+    coming: Coming,
+    count: u32,
+) -> Result<(u64, bool), Fault> {
+    let (mut sent, mut is_given) = (0u64, false);
+    for number in 0..coming.pdus(count) {
+        let stepped = take(core, coming.pdu(alloc, file, count, number)?)?;
+        sent = sent.saturating_add(stepped.0);
+        is_given = stepped.1;
+    }
+    Ok((sent, is_given))
+}
+
 /// Receives what comes of a file, and counts the PDUs that are sent.
 pub(crate) fn receive(alloc: Global, coming: Coming, count: u32) -> Result<u64, Fault> {
     let file = file_of(alloc, coming.size(count))?;
     let mut core = opened(alloc, coming.size(count))?;
-    let (mut sent, mut is_given) = (0u64, false);
-    for number in 0..coming.pdus(count) {
-        let pdu = coming.pdu(alloc, file.as_slice(), count, number)?;
-        let stepped = step(&mut core, &What::Pdu(pdu))?;
-        sent = sent.saturating_add(stepped.0);
-        is_given = stepped.1;
-    }
+    let (sent, is_given) = take_all(alloc, &mut core, file.as_slice(), coming, count)?;
     if is_given == coming.is_whole() {
         Ok(sent)
     } else {

@@ -50,18 +50,21 @@ impl Parts {
     }
 }
 
-// The sender that the Put of the file opens.
-fn opened(alloc: Global) -> Result<SenderCore, Fault> {
-    let params = params()?;
+// The Put of the file.
+fn request(alloc: Global) -> Result<PutRequest, Fault> {
     let file = vec![in alloc; 90; FILE as usize]?;
     let octets = file.as_slice();
-    let request = PutRequest::new(alloc, EntityId(2), Class::Two, b"a", b"b", &[], octets)?;
-    let (mut core, plan) = SenderCore::open(alloc, KEY, &request, params)?;
+    Ok(PutRequest::new(alloc, EntityId(2), Class::Two, b"a", b"b", &[], octets)?)
+}
+
+// The sender that it opens.
+fn opened(alloc: Global) -> Result<SenderCore, Fault> {
+    let request = request(alloc)?;
+    let (mut core, plan) = SenderCore::open(alloc, KEY, &request, params()?)?;
     let _ = core.commit(plan);
     Ok(core)
 }
 
-// Steps a sender.
 fn step(core: &mut SenderCore, event: &What) -> Result<(), Fault> {
     if core.has_ended() {
         return Err(Fault::Ended);
@@ -71,17 +74,32 @@ fn step(core: &mut SenderCore, event: &What) -> Result<(), Fault> {
     Ok(())
 }
 
+// Steps a sender.
+fn tell(core: &mut SenderCore, event: What) -> Result<(), Fault> {
+    step(core, &event)
+}
+
+// Sends the Metadata, the file and its EOF.
+fn send(core: &mut SenderCore) -> Result<(), Fault> {
+    for _ in 0..FILE / SEGMENT + 2 {
+        tell(core, What::Pump)?;
+    }
+    Ok(())
+}
+
+// Takes so many NAKs, and sends one part behind each.
+fn send_again(alloc: Global, core: &mut SenderCore, parts: Parts, count: u32) -> Result<(), Fault> {
+    for number in 0..count {
+        tell(core, What::Pdu(parts.nak(alloc, number)?))?;
+        tell(core, What::Pump)?;
+    }
+    Ok(())
+}
+
 /// A file that is sent, and so many NAKs, each for parts of it all over; one part is sent between two NAKs.
 pub(crate) fn naks(alloc: Global, parts: Parts, count: u32) -> Result<u64, Fault> {
     let mut core = opened(alloc)?;
-    // Metadata, the file and its EOF
-    for _ in 0..FILE / SEGMENT + 2 {
-        step(&mut core, &What::Pump)?;
-    }
-    for number in 0..count {
-        let nak = parts.nak(alloc, number)?;
-        step(&mut core, &What::Pdu(nak))?;
-        step(&mut core, &What::Pump)?;
-    }
+    send(&mut core)?;
+    send_again(alloc, &mut core, parts, count)?;
     Ok(u64::from(count))
 }

@@ -98,6 +98,28 @@ fn files<N: Names, R: Wait + Copy>(
     Ok(Some(taken))
 }
 
+// The lanes: one for each thread.
+fn lanes_of(alloc: Global, threads: u8) -> Result<Vec<u8>, AllocError> {
+    let mut lanes = Vec::new(alloc);
+    for lane in 0..threads {
+        lanes.push(lane)?;
+    }
+    Ok(lanes)
+}
+
+// How many datagrams were taken in all lanes.
+fn sum_of(all: &[Result<Option<u64>, AllocError>]) -> Result<u64, Fault> {
+    let mut taken = 0u64;
+    for came in all {
+        match came {
+            Ok(Some(more)) => taken = taken.saturating_add(*more),
+            Ok(None) => return Err(Fault::NotTaken),
+            Err(AllocError) => return Err(Fault::NoMemory),
+        }
+    }
+    Ok(taken)
+}
+
 // Each thread has a lane of its own; how many datagrams were taken.
 fn deliver_all<N: Names + Send + Sync, R: Threads + Wait + Copy + Send + Sync>(
     rt: &R,
@@ -105,23 +127,12 @@ fn deliver_all<N: Names + Send + Sync, R: Threads + Wait + Copy + Send + Sync>(
     entity: &Entity<N, R>,
     size: Size,
 ) -> Result<u64, Fault> {
-    let mut lanes = Vec::new(alloc);
-    for lane in 0..size.threads {
-        lanes.push(lane)?;
-    }
     let all = thread::map_vec(
         rt,
-        lanes,
+        lanes_of(alloc, size.threads)?,
         &|lane: u8| { files(rt, alloc, entity, lane, size.files) },
     )?;
-    let mut taken = 0u64;
-    for came in all {
-        match came? {
-            Some(more) => taken = taken.saturating_add(more),
-            None => return Err(Fault::NotTaken),
-        }
-    }
-    Ok(taken)
+    sum_of(all.as_slice())
 }
 
 /// Delivers, and tells how many datagrams were taken.
