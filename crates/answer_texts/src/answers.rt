@@ -62,7 +62,10 @@ fn push_pdu(alloc: Global, text: &mut String, word: &str, pdu: &Pdu) -> Result<(
     let mut octets = Vec::new(alloc);
     encode(pdu, &mut octets)?;
     let digits = hex::encode(alloc, octets)?;
-    writeln!(text, "{word} {digits}")
+    text.push_str(word)?;
+    text.push_str(" ")?;
+    text.push_str(digits.as_str())?;
+    text.push_str("\n")
 }
 
 /// Adds the line for a refusal with a number and a name.

@@ -1,5 +1,5 @@
 //! The texts of what a user is told. Each function adds to a text; after an `Err` the text is no answer.
-ghost use Rattle.std.specs.Prelude.{◌≡◌, ◌++◌, IfOk, OnOk, string_bytes, codes};
+ghost use Rattle.std.specs.Prelude.{◌≡◌, ◌++◌, IfOk, OnOk, string_bytes, codes, decimal};
 ghost use Rattle.answer_texts.specs.ToldTexts.{bundle_text, line_head, key_text, indication_text, finished_text, metadata_text, segment_text, report_text, fault_text, number_text, messages_text, hex_word, delivery_name, status_name, phase_name};
 
 use cfdp_types::{Condition, Delivery, EntityId, FileStatus, Messages, Octets, TxnKey};
@@ -29,7 +29,10 @@ fn push_head(text: &mut String, name: &str, bundle: &Bundle) -> Result<(), Alloc
 {
     let source = bundle.key.source.0;
     let seq = bundle.key.seq;
-    write!(text, "{name} {source} {seq} ")
+    text.push_str(name)?;
+    push_value(text, source)?;
+    push_value(text, seq)?;
+    text.push_str(" ")
 }
 
 fn push_indication(alloc: Global, text: &mut String, said: &Indication) -> Result<(), AllocError>
@@ -82,7 +85,10 @@ fn push_finished(
     let code = condition.code();
     let delivery = delivery_name(delivery);
     let status = status_name(status);
-    write!(text, "Transaction-Finished {code} {delivery} {status}")
+    text.push_str("Transaction-Finished")?;
+    push_value(text, u64::from(code))?;
+    push_word(text, delivery)?;
+    push_word(text, status)
 }
 
 fn push_metadata(
@@ -99,7 +105,11 @@ fn push_metadata(
     let source = source.0;
     let from = hex_word(alloc, source_name)?;
     let to = hex_word(alloc, destination_name)?;
-    write!(text, "Metadata-Recv {source} {size} {from} {to}")
+    text.push_str("Metadata-Recv")?;
+    push_value(text, source)?;
+    push_value(text, u64::from(size))?;
+    push_word(text, from.as_str())?;
+    push_word(text, to.as_str())
 }
 
 fn push_segment(text: &mut String, offset: u32, octets: u32) -> Result<(), AllocError>
@@ -121,7 +131,9 @@ fn push_report(text: &mut String, phase: Phase, progress: u32) -> Result<(), All
         ≡ string_bytes text.old ++ report_text phase progress) }
 {
     let phase = phase_name(phase);
-    write!(text, "Report {phase} {progress}")
+    text.push_str("Report")?;
+    push_word(text, phase)?;
+    push_value(text, u64::from(progress))
 }
 
 fn push_fault(
@@ -134,14 +146,17 @@ fn push_fault(
         ≡ string_bytes text.old ++ fault_text name.now condition progress) }
 {
     let code = condition.code();
-    write!(text, "{name} {code} {progress}")
+    text.push_str(name)?;
+    push_value(text, u64::from(code))?;
+    push_value(text, u64::from(progress))
 }
 
 fn push_number(text: &mut String, name: &str, number: u32) -> Result<(), AllocError>
     ensures { OnOk result (string_bytes text.new
         ≡ string_bytes text.old ++ number_text name.now number) }
 {
-    write!(text, "{name} {number}")
+    text.push_str(name)?;
+    push_value(text, u64::from(number))
 }
 
 fn push_messages(alloc: Global, text: &mut String, messages: &Messages) -> Result<(), AllocError>
@@ -150,9 +165,25 @@ fn push_messages(alloc: Global, text: &mut String, messages: &Messages) -> Resul
 {
     for message in messages.as_slice() {
         let word = hex_word(alloc, message)?;
-        write!(text, " {word}")?;
+        push_word(text, word.as_str())?;
     }
     Ok(())
+}
+
+// Adds a number behind a space.
+fn push_value(text: &mut String, number: u64) -> Result<(), AllocError>
+    ensures { OnOk result (string_bytes text.new ≡ string_bytes text.old ++ (codes " " ++ decimal number)) }
+{
+    text.push_str(" ")?;
+    write!(text, "{number}")
+}
+
+// Adds a word behind a space.
+fn push_word(text: &mut String, word: &str) -> Result<(), AllocError>
+    ensures { OnOk result (string_bytes text.new ≡ string_bytes text.old ++ (codes " " ++ word.now)) }
+{
+    text.push_str(" ")?;
+    text.push_str(word)
 }
 
 // Octets in hex, or a dash for none.

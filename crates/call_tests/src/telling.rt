@@ -41,6 +41,11 @@ fn copies(alloc: Global) -> Result<bool, AllocError> {
     Ok(copy.has_end() && are_both(copy.as_slice()))
 }
 
+fn in_a_vector(alloc: Global) -> Result<bool, AllocError> {
+    let told = told(alloc)?.into_vec();
+    Ok(are_both(told.as_slice()))
+}
+
 fn copies_of_one(alloc: Global) -> Result<bool, AllocError> {
     let copy = metadata(alloc)?.copy()?;
     Ok(is_metadata(&copy) && !copy.is_end())
@@ -69,6 +74,7 @@ fn calls(rt: HostRuntime) -> Result<(), Fail> {
             && indications_in_order(rt.alloc())?
             && copies(rt.alloc())?
             && copies_of_one(rt.alloc())?
+            && in_a_vector(rt.alloc())?
     );
     Ok(())
 }

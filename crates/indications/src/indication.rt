@@ -131,6 +131,13 @@ impl Indications {
         self.items.as_slice()
     }
 
+    /// The indications as a vector, in order.
+    pub fn into_vec(self) -> Vec<Indication>
+        ensures { result.items ≡ self }
+    {
+        self.items
+    }
+
     /// Whether one of them tells the end of the transaction.
     pub fn has_end(&self) -> bool
         ensures { result ≡ list_any is_end self.now }

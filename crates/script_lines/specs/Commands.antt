@@ -236,17 +236,22 @@ abbrev pub put_of : List (List ℕ) → Option Command
 put_of (user ∷ lane ∷ operands) = put_at user lane operands
 put_of operands = None
 
+-- what happens to a transaction, or is asked for it
+abbrev pub of_transaction : List ℕ → List (List ℕ) → Option Command
+of_transaction kind operands =
+    if bytes_eq kind (codes "stored") then stored_of operands
+    else if bytes_eq kind (codes "timer") then timer_of operands
+    else if bytes_eq kind (codes "pump") then pump_of operands
+    else asked_of kind operands
+
 -- by the first word
 abbrev pub command_by : List ℕ → List (List ℕ) → Option Command
 command_by kind operands =
-    if bytes_eq kind (codes "set") then set_of operands
-    else if bytes_eq kind (codes "pdu") then deliver_of operands
-    else if bytes_eq kind (codes "put") then put_of operands
-    else if bytes_eq kind (codes "pump") then pump_of operands
-    else if bytes_eq kind (codes "timer") then timer_of operands
-    else if bytes_eq kind (codes "stored") then stored_of operands
+    if bytes_eq kind (codes "pdu") then deliver_of operands
     else if bytes_eq kind (codes "take") then take_of operands
-    else asked_of kind operands
+    else if bytes_eq kind (codes "put") then put_of operands
+    else if bytes_eq kind (codes "set") then set_of operands
+    else of_transaction kind operands
 
 abbrev pub command_of_words : List (List ℕ) → Option Command
 command_of_words [] = None

@@ -1,7 +1,7 @@
 //! What a line of a script says.
 ghost use Rattle.std.specs.Prelude.{◌≡◌, IfOk};
 ghost use Rattle.std.specs.Option.{option_copied};
-ghost use Rattle.script_lines.specs.Commands.{command_of, command_by, deliver_of, asked_of, asked_from, request_for, pump_of, timer_of, timer_from, stored_of, stored_from, take_of};
+ghost use Rattle.script_lines.specs.Commands.{command_of, command_by, deliver_of, asked_of, asked_from, request_for, pump_of, timer_of, timer_from, stored_of, stored_from, take_of, of_transaction};
 ghost use Rattle.script_lines.specs.Words.{words_left};
 
 use crate::operands::{answer_of, key_from, kind_of, octets_of, stamp_of, user_of};
@@ -41,22 +41,31 @@ fn by_kind(alloc: Global, kind: &[u8], operands: Rest<'_>) -> Result<Option<Comm
     ensures { IfOk result
         (λ command. command ≡ command_by kind.now (words_left (option_copied operands.entry))) }
 {
-    if kind == b"set".as_slice() {
-        Ok(set(operands))
-    } else if kind == b"pdu".as_slice() {
+    if kind == b"pdu".as_slice() {
         deliver(alloc, operands)
-    } else if kind == b"put".as_slice() {
-        put(alloc, operands)
-    } else if kind == b"pump".as_slice() {
-        Ok(pump(operands))
-    } else if kind == b"timer".as_slice() {
-        Ok(timer(operands))
-    } else if kind == b"stored".as_slice() {
-        Ok(stored(operands))
     } else if kind == b"take".as_slice() {
         Ok(take(operands))
+    } else if kind == b"put".as_slice() {
+        put(alloc, operands)
+    } else if kind == b"set".as_slice() {
+        Ok(set(operands))
     } else {
-        Ok(asked(kind, operands))
+        Ok(of_transaction(kind, operands))
+    }
+}
+
+// What happens to a transaction, or is asked for it.
+fn of_transaction(kind: &[u8], operands: Rest<'_>) -> Option<Command>
+    ensures { result ≡ of_transaction kind.now (words_left (option_copied operands.entry)) }
+{
+    if kind == b"stored".as_slice() {
+        stored(operands)
+    } else if kind == b"timer".as_slice() {
+        timer(operands)
+    } else if kind == b"pump".as_slice() {
+        pump(operands)
+    } else {
+        asked(kind, operands)
     }
 }
 

@@ -1,6 +1,7 @@
 -- A plan's answer is what the log of its end says, for every log that the transaction stands after.
-use Rattle.std.proofs.Common.{◌≡◌, ℕ, Bool, true, false, if◌then◌else◌, List, ◌∷◌, Option, Some, None, IsSome, Result, Ok, refl, sym, ◌∙◌, subst}
+use Rattle.std.proofs.Common.{◌≡◌, ℕ, Bool, true, false, if◌then◌else◌, List, ◌∷◌, Option, Some, None, IsSome, Result, Ok, Err, IsOk, refl, sym, ◌∙◌, subst}
 use Rattle.std.proofs.lemmas.Bool.{false≢true}
+use Rattle.std.specs.Global.{Box}
 use Rattle.cfdp_types.specs.Params.{ParamsValue}
 use Rattle.pdu_values.specs.Pdu.{PduValue}
 use Rattle.lane_table.specs.declared.lane_side.LaneSide.{LaneSide}
@@ -33,12 +34,12 @@ use Rattle.txn_core.specs.declared.transaction.TransactionPlan.TheVariants as pl
 pub answered_planned : (c : TransactionCore) (p : TransactionPlan) (log : Log) (event : Event) → StandsAfter c log → IsPlanOf c p event
     → answered_behind log event ≡ Ok (plan_answer p)
 answered_planned (core.Sender c) (plan.Sender p) (sent sending log) event stands planned =
-    subst (λ s. sent_answers.answer_at s (sendings.state_of s log) (to_sender event) ≡ Ok (sender.plan_answer p)) stands.0
-    (subst (λ state. sent_answers.answer_at (sender.sending_of c) state (to_sender event) ≡ Ok (sender.plan_answer p)) stands.1
+    subst (λ s. sent_answers.answer_at s (sendings.state_of s log) (to_sender event) ≡ Ok (sender.plan_answer p.value)) stands.0
+    (subst (λ state. sent_answers.answer_at (sender.sending_of c) state (to_sender event) ≡ Ok (sender.plan_answer p.value)) stands.1
     planned.answered.accepted)
 answered_planned (core.Receiver c) (plan.Receiver p) (received reception log) (On key event) stands planned =
-    subst (λ r. received_answers.answer_at r (receptions.state_of log) event ≡ Ok (receiver.plan_answer p)) stands.0
-    (subst (λ state. received_answers.answer_at (receiver.reception_of c) state event ≡ Ok (receiver.plan_answer p)) stands.1
+    subst (λ r. received_answers.answer_at r (receptions.state_of log) event ≡ Ok (receiver.plan_answer p.value)) stands.0
+    (subst (λ state. received_answers.answer_at (receiver.reception_of c) state event ≡ Ok (receiver.plan_answer p.value)) stands.1
     planned.answered.accepted)
 answered_planned (core.Receiver c) (plan.Receiver p) log (Put request params) stands planned = absurd planned
 answered_planned (core.Receiver c) (plan.Receiver p) (sent sending log) (On key event) stands planned = absurd stands
@@ -91,33 +92,64 @@ refused_received c (received reception front) key what why refused stands =
     subst (λ r. IsWhy (received_answers.answer_at r (receptions.state_of front) what) why) stands.0 (refused front stands.1)
 refused_received c (sent sending front) key what why refused stands = absurd stands
 
+is_ok_by : {A E : Type 0} (r : Result A E) (answer : A) → r ≡ Ok answer → IsOk r
+is_ok_by (Ok other) answer is = refl
+is_ok_by (Err why) answer is = absurd cc
+
+-- an event that a sender planned is answered
+pub planned_sent : (c : SenderCore) (p : sent_plan.Plan) (log : Log) (key : TxnKey) (what : What)
+    → sender.IsPlanOf c p (sendings.happens what) → StandsAfter (core.Sender c) log → IsOk (answered_behind log (On key what))
+planned_sent c p (sent sending front) key what planned stands =
+    is_ok_by _ (sender.plan_answer p)
+    (subst (λ s. sent_answers.answer_at s (sendings.state_of s front) (sendings.happens what) ≡ Ok (sender.plan_answer p)) stands.0
+    (subst (λ state. sent_answers.answer_at (sender.sending_of c) state (sendings.happens what) ≡ Ok (sender.plan_answer p)) stands.1
+    planned.answered.accepted))
+planned_sent c p (received reception front) key what planned stands = absurd stands
+
+-- an event that a receiver planned is answered
+pub planned_received : (c : ReceiverCore) (p : received_plan.Plan) (log : Log) (key : TxnKey) (what : What)
+    → receiver.IsPlanOf c p what → StandsAfter (core.Receiver c) log → IsOk (answered_behind log (On key what))
+planned_received c p (received reception front) key what planned stands =
+    is_ok_by _ (receiver.plan_answer p)
+    (subst (λ r. received_answers.answer_at r (receptions.state_of front) what ≡ Ok (receiver.plan_answer p)) stands.0
+    (subst (λ state. received_answers.answer_at (receiver.reception_of c) state what ≡ Ok (receiver.plan_answer p)) stands.1
+    planned.answered.accepted))
+planned_received c p (sent sending front) key what planned stands = absurd stands
+
 -- a receiver that shows the same stands after the same logs
 pub same_received : (c next : ReceiverCore) (log : Log) → receiver.shown next ≡ receiver.shown c → receiver.reception_of next ≡ receiver.reception_of c
     → StandsAfter (core.Receiver c) log → StandsAfter (core.Receiver next) log
 same_received c next (received reception front) shown same stands = (same ∙ stands.0, shown ∙ stands.1)
 same_received c next (sent sending front) shown same stands = absurd stands
 
--- a sender that carried out its plan
-pub carried_sent : (c next : SenderCore) (p : sent_plan.Plan) (event : Event) (log : Log) → sender.sending_of next ≡ sender.sending_of c
+-- a sender that carried out the plan of a box
+pub carried_sent : (c next : SenderCore) (b : Box sent_plan.Plan) (p : sent_plan.Plan) (event : Event) (log : Log) → p ≡ b.value
+    → sender.sending_of next ≡ sender.sending_of c
     → ((happened : sendings.Event) (front : List sendings.Entry) → sender.IsPlanOf c p happened → sender.StandsAfter c front
     → sender.StandsAfter next (record { event = happened; answer = sender.plan_answer p } ∷ front))
-    → IsPlanOf (core.Sender c) (plan.Sender p) event → StandsAfter (core.Sender c) log
-    → StandsAfter (core.Sender next) (extended log event (sender.plan_answer p))
-carried_sent c next p event (sent sending front) same carried planned stands =
-    (same ∙ stands.0, carried (to_sender event) front planned stands.1)
-carried_sent c next p event (received reception front) same carried planned stands = absurd stands
+    → IsPlanOf (core.Sender c) (plan.Sender b) event → StandsAfter (core.Sender c) log
+    → StandsAfter (core.Sender next) (extended log event (sender.plan_answer b.value))
+carried_sent c next b p event (sent sending front) is same carried planned stands = (
+  same ∙ stands.0,
+  subst (λ q. sender.StandsAfter next (record { event = to_sender event; answer = sender.plan_answer q } ∷ front)) is
+      (carried (to_sender event) front (subst (λ q. sender.IsPlanOf c q (to_sender event)) (sym is) planned) stands.1),
+)
+carried_sent c next b p event (received reception front) is same carried planned stands = absurd stands
 
--- a receiver that carried out its plan
-pub carried_received : (c next : ReceiverCore) (p : received_plan.Plan) (event : Event) (log : Log)
+-- a receiver that carried out the plan of a box
+pub carried_received : (c next : ReceiverCore) (b : Box received_plan.Plan) (p : received_plan.Plan) (event : Event) (log : Log) → p ≡ b.value
     → receiver.reception_of next ≡ receiver.reception_of c
     → ((happened : What) (front : List receptions.Entry) → receiver.IsPlanOf c p happened → receiver.StandsAfter c front
     → receiver.StandsAfter next (record { event = happened; answer = receiver.plan_answer p } ∷ front))
-    → IsPlanOf (core.Receiver c) (plan.Receiver p) event → StandsAfter (core.Receiver c) log
-    → StandsAfter (core.Receiver next) (extended log event (receiver.plan_answer p))
-carried_received c next p (On key what) (received reception front) same carried planned stands =
-    (same ∙ stands.0, carried what front planned stands.1)
-carried_received c next p (Put request params) log same carried planned stands = absurd planned
-carried_received c next p (On key what) (sent sending front) same carried planned stands = absurd stands
+    → IsPlanOf (core.Receiver c) (plan.Receiver b) event → StandsAfter (core.Receiver c) log
+    → StandsAfter (core.Receiver next) (extended log event (receiver.plan_answer b.value))
+carried_received c next b p (On key what) (received reception front) is same carried planned stands = (
+  same ∙ stands.0,
+  subst (λ q. receiver.StandsAfter next (record { event = what; answer = receiver.plan_answer q } ∷ front)) is
+      (carried what front (subst (λ q. receiver.IsPlanOf c q what) (sym is) planned) stands.1),
+)
+carried_received c next b p (Put request params) log is same carried planned stands = absurd planned
+carried_received c next b p (On key what) (sent sending front) is same carried planned stands = absurd stands
 
 -- the file that a receiver hands out
 pub image_received : (c : ReceiverCore) (log : Log) (stamp : ℕ) (P : Result Image Refusal → Type 0)

@@ -20,13 +20,13 @@ StandsAfter c log = ⊥
 
 -- the answer of a plan
 abbrev pub plan_answer : TransactionPlan → Answer
-plan_answer (plan.Sender p) = sender.plan_answer p
-plan_answer (plan.Receiver p) = receiver.plan_answer p
+plan_answer (plan.Sender p) = sender.plan_answer p.value
+plan_answer (plan.Receiver p) = receiver.plan_answer p.value
 
 -- in the present state the event is answered as planned
 abbrev pub IsPlanOf : TransactionCore → TransactionPlan → Event → Type 0
-IsPlanOf (core.Sender c) (plan.Sender p) event = sender.IsPlanOf c p (to_sender event)
-IsPlanOf (core.Receiver c) (plan.Receiver p) (On key event) = receiver.IsPlanOf c p event
+IsPlanOf (core.Sender c) (plan.Sender p) event = sender.IsPlanOf c p.value (to_sender event)
+IsPlanOf (core.Receiver c) (plan.Receiver p) (On key event) = receiver.IsPlanOf c p.value event
 IsPlanOf c p event = ⊥
 
 -- what the transaction holds is what this log gives, and there is one

@@ -32,7 +32,8 @@ impl TransactionCore {
             (first_answer (Some (sends (sending_by key params request.now))) (Put request.now params)) why) }
     {
         let (core, plan) = SenderCore::open(alloc, key, request, params)?;
-        Ok((TransactionCore::Sender(core), TransactionPlan::Sender(plan)))
+        let core = TransactionCore::Sender(core);
+        Ok((core, TransactionPlan::Sender(Box::new(alloc, plan)?)))
     }
 
     // The reception that a PDU opens.
@@ -51,7 +52,7 @@ impl TransactionCore {
     {
         let (core, plan) = ReceiverCore::open(alloc, key, pdu, params)?;
         let core = TransactionCore::Receiver(core);
-        Ok((core, TransactionPlan::Receiver(plan)))
+        Ok((core, TransactionPlan::Receiver(Box::new(alloc, plan)?)))
     }
 
     // The reception that something opens which happens to its key.

@@ -1,6 +1,7 @@
 use cfdp_types::Image;
 use receiver_core::ReceiverCore;
 use sender_core::SenderCore;
+use std::alloc::Global;
 use txn_events::{Answer, Refusal, What};
 
 /// The transaction of a lane.
@@ -13,11 +14,12 @@ pub enum TransactionCore {
 }
 
 /// An event that the transaction takes, with its answer and all memory that carrying it out needs. It
-/// can be carried out in the state that it was made in.
+/// can be carried out in the state that it was made in. A plan is large and is handed on often, so it
+/// stands in a box.
 #[derive(Drop)]
 pub enum TransactionPlan {
-    Sender(sender_core::Plan),
-    Receiver(receiver_core::Plan),
+    Sender(Box<sender_core::Plan>),
+    Receiver(Box<receiver_core::Plan>),
 }
 
 impl TransactionPlan {
@@ -55,15 +57,21 @@ impl TransactionCore {
 
     /// Plans an event in the present state, which stays as it is: the plan holds all memory that the
     /// event takes, and room is made for the octets that it brings.
-    pub fn plan(&mut self, what: &What) -> Result<TransactionPlan, Refusal>
+    pub fn plan(&mut self, alloc: Global, what: &What) -> Result<TransactionPlan, Refusal>
         ensures same { (log : Log) → StandsAfter self.old log → StandsAfter self.new log }
         ensures planned { (key : KeyValue) → IfOk result (λ plan. IsPlanOf self.new plan (On key what.now)) }
         ensures refused { (key : KeyValue) (log : Log) → StandsAfter self.old log
             → IfErr result (λ why. IsWhy (answered_behind log (On key what.now)) why) }
     {
         match self {
-            TransactionCore::Sender(core) => Ok(TransactionPlan::Sender(core.plan(what)?)),
-            TransactionCore::Receiver(core) => Ok(TransactionPlan::Receiver(core.plan(what)?)),
+            TransactionCore::Sender(core) => {
+                let plan = core.plan(what)?;
+                Ok(TransactionPlan::Sender(Box::new(alloc, plan)?))
+            }
+            TransactionCore::Receiver(core) => {
+                let plan = core.plan(what)?;
+                Ok(TransactionPlan::Receiver(Box::new(alloc, plan)?))
+            }
         }
     }
 
@@ -76,8 +84,12 @@ impl TransactionCore {
             → StandsAfter self.new (extended log event (plan_answer plan)) }
     {
         match (self, plan) {
-            (TransactionCore::Sender(core), TransactionPlan::Sender(plan)) => core.commit(plan),
-            (TransactionCore::Receiver(core), TransactionPlan::Receiver(plan)) => core.commit(plan),
+            (TransactionCore::Sender(core), TransactionPlan::Sender(plan)) => {
+                core.commit(Box::into_inner(plan))
+            }
+            (TransactionCore::Receiver(core), TransactionPlan::Receiver(plan)) => {
+                core.commit(Box::into_inner(plan))
+            }
             _ => unreachable!(),
         }
     }

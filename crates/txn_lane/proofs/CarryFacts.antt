@@ -1,5 +1,5 @@
 -- What a planned step answers, over the result of carrying it out.
-use Rattle.std.proofs.Common.{◌≡◌, [], ◌∷◌, ◌++◌, OnErr, IfOk, IfErr, IsOk, Option, Some, None, Result, Ok, Err, refl, sym, ap, ◌∙◌, subst}
+use Rattle.std.proofs.Common.{◌≡◌, [], ◌∷◌, ◌++◌, OnOk, OnErr, IfOk, IfErr, IsOk, Option, Some, None, Result, Ok, Err, refl, sym, ap, ◌∙◌, subst}
 use Rattle.txn_events.specs.declared.answer.Answer.{Answer}
 use Rattle.txn_events.specs.declared.event.Event.{Event}
 use Rattle.lane_table.specs.Logs.{Transaction, Log, log_by, first_answer, extended}
@@ -22,6 +22,10 @@ on_err P S (Err why) p f = f why p
 pub both_ok : {T E : Type 0} (r : Result T E) (P Q : T → Type 0) → IfOk r P → IfOk r Q → IfOk r (λ x. P x × Q x)
 both_ok (Ok x) P Q p q = (p, q)
 both_ok (Err why) P Q p q = tt
+
+pub ok_always : {T E : Type 0} (r : Result T E) (P : Type 0) → OnOk r P → IfOk r (λ x. P)
+ok_always (Ok x) P p = p
+ok_always (Err why) P p = tt
 
 -- ---- the first event
 

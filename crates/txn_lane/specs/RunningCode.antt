@@ -1,7 +1,9 @@
 -- How the code keeps the transaction that a lane runs, and the step that it plans.
-use Rattle.std.specs.Prelude.{◌≡◌, ◌+◌, ◌<◌, ◌≤◌, false, [], ◌∷◌, ◌++◌, Option, Some, None, Ok, vec_len, vec_capacity}
+use Rattle.std.specs.Prelude.{◌≡◌, ◌+◌, ◌<◌, ◌≤◌, false, [], ◌∷◌, ◌++◌, Option, Some, None, Ok, length, vec_len, vec_capacity}
+use Rattle.cfdp_types.specs.declared.key.TxnKey.{TxnKey}
 use Rattle.txn_events.specs.declared.answer.Answer.{Answer}
 use Rattle.txn_events.specs.declared.event.Event.{Event}
+use Rattle.lane_table.specs.declared.done.Done.{Done}
 use Rattle.lane_table.specs.Logs.{Transaction, Log, log_by, has_ended, first_answer, answered_behind, extended}
 use Rattle.txn_core.specs.Transactions.{StandsAfter, StandsBehind, log_at_first, IsPlanOf, plan_answer}
 use Rattle.txn_lane.specs.declared.running.Running.{Running}
@@ -11,9 +13,8 @@ use Rattle.txn_lane.specs.declared.running.Step.{Step}
 pub record IsStepOf (running : Running) (event : Event) (step : Step) : Type 0 where
   pub event_is : step.event ≡ event
   pub planned : IsPlanOf running.core step.plan event
-  pub told : step.told.items ≡ (plan_answer step.plan).inds
   pub journal_room : vec_len running.journal < vec_capacity running.journal
-  pub trace_room : vec_len running.trace + vec_len step.told ≤ vec_capacity running.trace
+  pub trace_room : vec_len running.trace + length (plan_answer step.plan).inds ≤ vec_capacity running.trace
 
 -- a transaction that stands after some log goes on
 pub record IsGoing (running : Running) : Type 0 where
@@ -37,6 +38,13 @@ pub record IsOpenedBy (opened : Option Transaction) (event : Event) (running : R
 abbrev pub log_of_first : Option Transaction → Event → Answer → Option Log
 log_of_first None event answer = None
 log_of_first (Some transaction) event answer = Some (extended (log_by transaction []) event answer)
+
+-- what is done under a key is what was answered, but for what the user is told
+pub record IsDoneBy (key : TxnKey) (answer : Answer) (done : Done) : Type 0 where
+  pub key_is : done.key ≡ key
+  pub pdus : done.pdus ≡ answer.pdus
+  pub timers : done.timers ≡ answer.timers
+  pub deposit : done.deposit ≡ answer.deposit
 
 -- an event was the first one of a transaction, and was answered so
 pub record IsStarted (opened : Option Transaction) (event : Event) (running : Running) (answer : Answer) : Type 0 where

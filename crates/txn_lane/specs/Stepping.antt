@@ -9,7 +9,10 @@ use Rattle.txn_core.specs.Transactions.{IsWhy}
 use Rattle.lane_table.specs.declared.done.Done.{Done}
 use Rattle.txn_events.specs.declared.event.Event.{Event}
 use Rattle.lane_table.specs.declared.refused.Refused.{Refused}
-use Rattle.txn_lane.specs.Handing.{bundle_for}
+use Rattle.lane_table.specs.Logs.{Transaction}
+use Rattle.txn_lane.specs.declared.running.Running.{Running}
+use Rattle.txn_lane.specs.Handing.{bundle_for, IsHandedOver}
+use Rattle.txn_lane.specs.RunningCode.{IsStarted, IsAdvanced, IsDoneBy}
 use Rattle.lane_table.specs.Keeping.{Keeps, bundle_of}
 use Rattle.lane_table.specs.Lane.{State}
 use Rattle.lane_table.specs.Steps.{IsKeyed, plainly, refused_by_lane, refusal_at, number_in, new_transaction, stepped, IsDone}
@@ -84,6 +87,20 @@ pub record IsFirst (state : State) (event : Event) (number : ℕ) : Type 0 where
 pub record IsLater (state : State) (event : Event) : Type 0 where
   pub passes : Passes state event
   pub opens_none : new_transaction state event ≡ None
+
+-- an event was the first one of a transaction under a key: it was answered and done, and what it tells was handed over
+pub record HasBegun {O : Type 0} (takes : O → Bundle → O → Type 0) (old new : O) (user lane : ℕ) (key : TxnKey) (opened : Option Transaction) (event : Event) (running : Running) (done : Done) : Type 0 where
+  pub answer : Answer
+  pub started : IsStarted opened event running answer
+  pub done_by : IsDoneBy key answer done
+  pub offered : IsHandedOver takes old new (bundle_for user lane key answer.inds)
+
+-- a transaction under a key went on by an event: it was answered and done, and what it tells was handed over
+pub record HasGoneOn {O : Type 0} (takes : O → Bundle → O → Type 0) (old new : O) (user lane : ℕ) (key : TxnKey) (before after : Running) (event : Event) (done : Done) : Type 0 where
+  pub answer : Answer
+  pub advanced : IsAdvanced before after event answer
+  pub done_by : IsDoneBy key answer done
+  pub offered : IsHandedOver takes old new (bundle_for user lane key answer.inds)
 
 -- an event was not taken, and the lane is as it was
 pub record IsNotTaken {O : Type 0} (returns : O → O → Type 0) (state : State) (event : Event) (next : State) (old new : O) (why : Refusal) : Type 0 where

@@ -1,20 +1,22 @@
-//! What a step needs beside its plan, all of it taken before anything changes: copies of its event and
-//! of what it tells, and room for them.
-ghost use Rattle.std.specs.Prelude.{◌≡◌, ◌<◌, ◌≤◌, ◌+◌, [], IfOk, OnOk, vec_len, vec_capacity};
+//! What a step needs beside its plan, all of it taken before anything changes: a copy of its event, the bundle of
+//! what it tells, and room in the journal and the trace.
+ghost use Rattle.std.specs.Prelude.{◌≡◌, ◌<◌, ◌≤◌, ◌+◌, [], IfOk, OnOk, length, vec_len, vec_capacity};
 ghost use Rattle.txn_events.specs.declared.event.Event.TheVariants.{On};
 ghost use Rattle.txn_lane.specs.Handing.{bundle_for};
 
-use crate::handing::{LaneAddress, bundle_for, copies};
+use crate::handing::{LaneAddress, bundle_for};
 use cfdp_types::TxnKey;
 use indications::{Bundle, Indication, Indications};
 use std::alloc::AllocError;
 use txn_events::{Event, What};
 
-/// Copies of an event and of what its end tells of it, with the bundle of that.
+// The room that a transaction begins with in its journal and in its trace: that of a small file which comes in order.
+const FIRST_ROOM: usize = 5;
+
+/// A copy of an event, and the bundle of what its end tells of it.
 #[derive(Drop)]
 pub(crate) struct Copies {
     pub(crate) event: Event,
-    pub(crate) told: Vec<Indication>,
     pub(crate) bundle: Option<Bundle>,
 }
 
@@ -26,23 +28,16 @@ pub(crate) fn copies_to_begin(
     inds: &Indications,
 ) -> Result<(Copies, Vec<Event>, Vec<Indication>), AllocError>
     ensures event { IfOk result (λ begun. begun.0.event ≡ event.now) }
-    ensures told { IfOk result (λ begun. begun.0.told.items ≡ inds.now) }
     ensures bundle { IfOk result (λ begun. begun.0.bundle ≡ bundle_for address.user address.lane key inds.now) }
     ensures empty { IfOk result (λ begun. (begun.1.items ≡ []) × (begun.2.items ≡ [])) }
     ensures journal_room { IfOk result (λ begun. vec_len begun.1 < vec_capacity begun.1) }
-    ensures trace_room { IfOk result (λ begun. vec_len begun.2 + vec_len begun.0.told ≤ vec_capacity begun.2) }
+    ensures trace_room { IfOk result (λ begun. vec_len begun.2 + length inds.now ≤ vec_capacity begun.2) }
 {
-    let told = copies(address.alloc, inds)?;
     let bundle = bundle_for(address.user, address.lane, key, inds)?;
-    let journal = Vec::with_capacity(address.alloc, 1)?;
-    let trace = Vec::with_capacity(address.alloc, told.len())?;
+    let journal = Vec::with_capacity(address.alloc, FIRST_ROOM)?;
+    let trace = Vec::with_capacity(address.alloc, inds.as_slice().len().max(FIRST_ROOM))?;
     let event = event.copy()?;
-    let copies = Copies {
-        event,
-        told,
-        bundle,
-    };
-    Ok((copies, journal, trace))
+    Ok((Copies { event, bundle }, journal, trace))
 }
 
 /// Those of an event of a transaction that goes on, for which room is made in the two lists.
@@ -56,19 +51,13 @@ pub(crate) fn copies_to_go_on(
 ) -> Result<Copies, AllocError>
     ensures same { (journal.new.items ≡ journal.old.items) × (trace.new.items ≡ trace.old.items) }
     ensures event { IfOk result (λ copies. copies.event ≡ On key what.now) }
-    ensures told { IfOk result (λ copies. copies.told.items ≡ inds.now) }
     ensures bundle { IfOk result (λ copies. copies.bundle ≡ bundle_for address.user address.lane key inds.now) }
     ensures journal_room { OnOk result (vec_len journal.new < vec_capacity journal.new) }
-    ensures trace_room { IfOk result (λ copies. vec_len trace.new + vec_len copies.told ≤ vec_capacity trace.new) }
+    ensures trace_room { OnOk result (vec_len trace.new + length inds.now ≤ vec_capacity trace.new) }
 {
-    let told = copies(address.alloc, inds)?;
     let bundle = bundle_for(address.user, address.lane, key, inds)?;
     journal.reserve(1)?;
-    trace.reserve(told.len())?;
+    trace.reserve(inds.as_slice().len())?;
     let event = Event::On(key, what.copy()?);
-    Ok(Copies {
-        event,
-        told,
-        bundle,
-    })
+    Ok(Copies { event, bundle })
 }

@@ -1,10 +1,10 @@
-//! How what a step tells is copied, and handed to the user's queue.
+//! How what a step tells is handed to the user's queue.
 ghost use Rattle.std.specs.Prelude.{◌≡◌, IfOk, OnOk, IfErr, OnErr, IsSome};
 ghost use Rattle.txn_events.specs.declared.refusal.Refusal.TheVariants as refusal;
 ghost use Rattle.txn_lane.specs.Handing.{bundle_for, MayHandOver, IsHandedOver};
 
 use cfdp_types::TxnKey;
-use indications::{Bundle, Indication, Indications, Outlet};
+use indications::{Bundle, Indications, Outlet};
 use std::alloc::{AllocError, Global};
 use txn_events::Refusal;
 
@@ -14,18 +14,6 @@ pub(crate) struct LaneAddress {
     pub(crate) alloc: Global,
     pub(crate) user: usize,
     pub(crate) lane: usize,
-}
-
-/// Copies of what a step tells.
-pub(crate) fn copies(alloc: Global, inds: &Indications) -> Result<Vec<Indication>, AllocError>
-    ensures { IfOk result (λ copies. copies.items ≡ inds.now) }
-{
-    let told = inds.as_slice();
-    let mut copies = Vec::with_capacity(alloc, told.len())?;
-    for indication in told {
-        copies.push(indication.copy()?)?;
-    }
-    Ok(copies)
 }
 
 /// The bundle of what a step tells, if it tells anything.

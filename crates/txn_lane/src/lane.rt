@@ -1,7 +1,7 @@
 use crate::handing::LaneAddress;
 use crate::lane_refusals::{LaneView, is_above, opens_at, plainly, refused_by_key, refused_put};
 use crate::running::Running;
-use crate::stepping::{advance, done, start};
+use crate::stepping::{advance, start};
 use cfdp_types::{EntityId, Image, Params, TxnKey};
 use indications::{Indication, Outlet};
 use lane_table::{Done, LaneSide, Numbers, Refused};
@@ -250,11 +250,11 @@ impl Lane {
     {
         let source = self.source;
         let key = TxnKey { source, seq };
-        let (running, answer) = start(self.address(), &self.side, key, event, outlet)?;
+        let (running, done) = start(self.address(), &self.side, key, event, outlet)?;
         self.before = self.last;
         self.last = Some(seq);
         self.running = Some(running);
-        Ok(done(key, answer))
+        Ok(done)
     }
 
     // Has the transaction that it runs go on.
@@ -276,8 +276,8 @@ impl Lane {
         let Some(running) = &mut self.running else {
             return Err(Refusal::NoTransaction);
         };
-        let answer = advance(running, address, key, what, outlet)?;
-        Ok(done(key, answer))
+        let done = advance(running, address, key, what, outlet)?;
+        Ok(done)
     }
 
     // Where its bundles go, and where memory comes from.

@@ -4,7 +4,7 @@ use crate::copying::{Copies, copies_to_begin, copies_to_go_on};
 use crate::handing::LaneAddress;
 use cfdp_types::TxnKey;
 use indications::{Bundle, Indication};
-use lane_table::LaneSide;
+use lane_table::{Done, LaneSide};
 use txn_core::{TransactionCore, TransactionPlan};
 use txn_events::{Answer, Event, Refusal, What};
 
@@ -23,8 +23,6 @@ pub(crate) struct Running {
 pub(crate) struct Step {
     pub(crate) event: Event,
     pub(crate) plan: TransactionPlan,
-    /// What the plan tells, once more.
-    pub(crate) told: Vec<Indication>,
 }
 
 impl Running {
@@ -33,7 +31,7 @@ impl Running {
     ghost use Rattle.lane_table.specs.Logs.{Log, IsOfKey, opened_by, first_answer, answered_behind, extended};
     ghost use Rattle.txn_core.specs.Transactions.{StandsAfter, IsWhy, plan_answer};
     ghost use Rattle.txn_lane.specs.Handing.{bundle_for};
-    ghost use Rattle.txn_lane.specs.RunningCode.{IsStepOf, IsOpenedBy, IsUnmoved, MayCommit};
+    ghost use Rattle.txn_lane.specs.RunningCode.{IsStepOf, IsOpenedBy, IsUnmoved, MayCommit, IsDoneBy};
 
     /// The transaction that an event opens, before its first event, and that event, with the bundle
     /// of what it tells.
@@ -53,17 +51,13 @@ impl Running {
     {
         let (core, plan) = TransactionCore::open(address.alloc, side, key, event)?;
         let (copies, journal, trace) = copies_to_begin(address, key, event, &plan.answer().inds)?;
-        let Copies {
-            event,
-            told,
-            bundle,
-        } = copies;
+        let Copies { event, bundle } = copies;
         let running = Running {
             core,
             journal,
             trace,
         };
-        Ok((running, Step { event, plan, told }, bundle))
+        Ok((running, Step { event, plan }, bundle))
     }
 
     /// Plans an event, with the bundle of what it tells, and makes room for it.
@@ -80,31 +74,37 @@ impl Running {
         ensures refused { (log : Log) → StandsAfter self.old.core log
             → IfErr result (λ why. IsWhy (answered_behind log (On key what.now)) why) }
     {
-        let plan = self.core.plan(what)?;
+        let plan = self.core.plan(address.alloc, what)?;
         let inds = &plan.answer().inds;
         let copies = copies_to_go_on(address, key, what, inds, &mut self.journal, &mut self.trace)?;
-        let Copies {
-            event,
-            told,
-            bundle,
-        } = copies;
-        Ok((Step { event, plan, told }, bundle))
+        let Copies { event, bundle } = copies;
+        Ok((Step { event, plan }, bundle))
     }
 
-    /// Carries out a step that was planned in the present state.
-    pub(crate) fn commit(&mut self, step: Step) -> Answer
+    /// Carries out a step under a key that was planned in the present state, and says what is to be done.
+    pub(crate) fn commit(&mut self, key: TxnKey, step: Step) -> Done
         requires { MayCommit self.old step }
-        ensures answer { result ≡ plan_answer step.plan }
+        ensures done { IsDoneBy key (plan_answer step.plan) result }
         ensures stands { (log : Log) → StandsAfter self.old.core log
             → StandsAfter self.new.core (extended log step.event (plan_answer step.plan)) }
         ensures journal { self.new.journal.items ≡ self.old.journal.items ++ step.event ∷ [] }
         ensures trace { self.new.trace.items ≡ self.old.trace.items ++ (plan_answer step.plan).inds }
     {
-        let Step { event, plan, told } = step;
-        let answer = self.core.commit(plan);
+        let Step { event, plan } = step;
+        let Answer {
+            inds,
+            pdus,
+            timers,
+            deposit,
+        } = self.core.commit(plan);
         self.journal.push_reserved(event);
-        append_reserved(&mut self.trace, told);
-        answer
+        append_reserved(&mut self.trace, inds.into_vec());
+        Done {
+            key,
+            pdus,
+            timers,
+            deposit,
+        }
     }
 }
 

@@ -3,7 +3,7 @@ use Rattle.std.proofs.lemmas.Result.{err_from_is_err_and, IfOk-weaker, IfErr-wea
 use Rattle.txn_events.specs.declared.event.Event.TheVariants.{On}
 use Rattle.txn_core.specs.Transactions.{plan_answer}
 use Rattle.txn_core.proofs.PlanFacts.{answered_planned}
-use Rattle.txn_lane.proofs.CarryFacts.{on_err, goes_from, unmoved_as, still_going, both_ok}
+use Rattle.txn_lane.proofs.CarryFacts.{on_err, goes_from, unmoved_as, still_going, both_ok, ok_always}
 use Rattle.txn_lane.proofs.stepping.advance.Goals as goal
 
 pub returns-in_err-step-clause-refused : goal.returns-in_err-step-clause-refused
@@ -24,17 +24,24 @@ carry_out-requires-clause-may_offer g c =
     (c.in_ok-step.ensures.same.stands goes.log goes.stands) c.in_ok-step.ensures.planned.planned in
     rw c.in_ok-step.ensures.bundle (c.requires.may goes.log (plan_answer c.in_ok-step.step.plan) goes.stands accepted)
 
-pub returns-clause-taken : goal.returns-clause-taken
-returns-clause-taken g c =
+pub returns-clause-gone_on : goal.returns-clause-gone_on
+returns-clause-gone_on g c =
     let event = On c.args.key c.args.what.now in
+    let step = c.in_ok-step.step in
+    let planned = c.in_ok-step.ensures.planned in
+    let same = c.in_ok-step.ensures.same in
     IfOk-weaker c.carry_out.result _ _
-    (λ given both. record {
-      answered = λ log stood.
-          answered_planned c.plan.new.self.core c.in_ok-step.step.plan log event (c.in_ok-step.ensures.same.stands log stood) c.in_ok-step.ensures.planned.planned
-          ∙ ap Ok (sym both.0);
-      goes_on = goes_from c.args.running.now c.plan.new.self c.carry_out.new.running c.in_ok-step.step.event event given c.in_ok-step.ensures.same c.in_ok-step.ensures.planned.event_is both.1;
+    (λ done all. record {
+      answer = plan_answer step.plan;
+      advanced = record {
+        answered = λ log stood. answered_planned c.plan.new.self.core step.plan log event (same.stands log stood) planned.planned;
+        goes_on = goes_from c.args.running.now c.plan.new.self c.carry_out.new.running step.event event (plan_answer step.plan) same planned.event_is all.1.0;
+      };
+      done_by = all.0;
+      offered = rw c.in_ok-step.ensures.bundle at all.1.1;
     })
-    (both_ok c.carry_out.result _ _ c.carry_out.ensures.answer c.carry_out.ensures.goes_on)
+    (both_ok c.carry_out.result _ _ c.carry_out.ensures.done
+    (both_ok c.carry_out.result _ _ (ok_always c.carry_out.result _ c.carry_out.ensures.goes_on) (ok_always c.carry_out.result _ c.carry_out.ensures.offered)))
 
 pub returns-clause-same : goal.returns-clause-same
 returns-clause-same g c =

@@ -57,8 +57,8 @@ invariant_of-self g c =
     let begins = begins_by i.side i.user i.lane i.source i.last i.before (journal_of i.running) c.args.self.now c.args.event.now c.args.seq
     (sym c.self.view_is) c.self.invariant.sound c.requires.first in
     let says = ap (λ o. first_answer o c.args.event.now) begins.is in
-    let answer = c.in_ok-running.answer in
-    let done = c.in_ok-running.ensures.started in
+    let answer = c.in_ok-running.ensures.begun.answer in
+    let done = c.in_ok-running.ensures.begun.started in
     let next = next_first i.side i.user i.lane i.source i.last i.before (journal_of i.running) c.in_ok-running.running.journal.items c.args.self.now c.args.event.now c.args.seq begins.transaction
     (sym c.self.view_is) begins.opens c.requires.first.number_is done.journal in
     subst (λ s. IsHeld s (Some c.in_ok-running.running)) (sym next)
@@ -73,18 +73,18 @@ returns-clause-taken g c =
     let begins = begins_by i.side i.user i.lane i.source i.last i.before (journal_of i.running) c.args.self.now c.args.event.now c.args.seq
     (sym c.self.view_is) c.self.invariant.sound c.requires.first in
     let says = ap (λ o. first_answer o c.args.event.now) begins.is in
-    let answer = c.in_ok-running.answer in
-    let is = sym says ∙ c.in_ok-running.ensures.started.answered in
+    let answer = c.in_ok-running.ensures.begun.answer in
+    let is = sym says ∙ c.in_ok-running.ensures.begun.started.answered in
     let next = next_first i.side i.user i.lane i.source i.last i.before (journal_of i.running) c.in_ok-running.running.journal.items c.args.self.now c.args.event.now c.args.seq begins.transaction
-    (sym c.self.view_is) begins.opens c.requires.first.number_is c.in_ok-running.ensures.started.journal in
-    let done = c.done.ensures in
+    (sym c.self.view_is) begins.opens c.requires.first.number_is c.in_ok-running.ensures.begun.started.journal in
+    let done = c.in_ok-running.ensures.begun.done_by in
     record {
       free = free_if c.args.self.now c.args.event.now key (log_by begins.transaction []) answer begins.meets is;
       next_is = next;
       done_is =
-          subst (λ s. IsDone s c.done.result) (sym next)
+          subst (λ s. IsDone s c.in_ok-running.done) (sym next)
           (done_then c.args.self.now c.args.event.now key (log_by begins.transaction []) answer begins.meets is
-          c.done.result done.key done.pdus done.timers done.deposit);
+          c.in_ok-running.done done.key_is done.pdus done.timers done.deposit);
     }
 
 pub returns-clause-offered : goal.returns-clause-offered
@@ -94,10 +94,10 @@ returns-clause-offered g c =
     let begins = begins_by i.side i.user i.lane i.source i.last i.before (journal_of i.running) c.args.self.now c.args.event.now c.args.seq
     (sym c.self.view_is) c.self.invariant.sound c.requires.first in
     let says = ap (λ o. first_answer o c.args.event.now) begins.is in
-    let answer = c.in_ok-running.answer in
-    let is = sym says ∙ c.in_ok-running.ensures.started.answered in
+    let answer = c.in_ok-running.ensures.begun.answer in
+    let is = sym says ∙ c.in_ok-running.ensures.begun.started.answered in
     let next = next_first i.side i.user i.lane i.source i.last i.before (journal_of i.running) c.in_ok-running.running.journal.items c.args.self.now c.args.event.now c.args.seq begins.transaction
-    (sym c.self.view_is) begins.opens c.requires.first.number_is c.in_ok-running.ensures.started.journal in
+    (sym c.self.view_is) begins.opens c.requires.first.number_is c.in_ok-running.ensures.begun.started.journal in
     subst (λ s. IsOffered g.O.Outlet.takes c.args.outlet.now c.start.new.outlet (bundle_of s)) (sym next)
     (offered_then g.O.Outlet.takes c.args.outlet.now c.start.new.outlet c.args.self.now c.args.event.now key (log_by begins.transaction []) answer begins.meets is
-    c.address.result.user c.address.result.lane c.address.ensures.user c.address.ensures.lane c.in_ok-running.ensures.offered)
+    c.address.result.user c.address.result.lane c.address.ensures.user c.address.ensures.lane c.in_ok-running.ensures.begun.offered)

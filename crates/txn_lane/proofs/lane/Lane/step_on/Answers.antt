@@ -29,15 +29,15 @@ advance-requires-clause-may g c log answer stood is =
     (g.O.Outlet.user c.args.outlet.now) (g.O.Outlet.lane c.args.outlet.now) c.address-address.result.user c.address-address.result.lane
     c.requires.outlet.of_user c.requires.outlet.of_lane c.address-address.ensures.user c.address-address.ensures.lane
 
-pub invariant_of-self-in_err-answer : goal.invariant_of-self-in_err-answer
-invariant_of-self-in_err-answer g c =
+pub invariant_of-self-in_err-done : goal.invariant_of-self-in_err-done
+invariant_of-self-in_err-done g c =
     let i = c.self.inside in
-    let same = c.in_err-answer.ensures.same in
+    let same = c.in_err-done.ensures.same in
     held_same i.side i.user i.lane i.source i.last i.before i.running c.in-Some.running c.advance.new.running
     c.self.invariant c.in-Some.is same.stands same.journal same.trace
 
-pub returns-in_err-answer-clause-left : goal.returns-in_err-answer-clause-left
-returns-in_err-answer-clause-left g c =
+pub returns-in_err-done-clause-left : goal.returns-in_err-done-clause-left
+returns-in_err-done-clause-left g c =
     let p = err_from_is_err_and c.from_residual.result c.from_residual.ensures.1 in
     let i = c.self.inside in
     let event = On c.args.key c.args.what.now in
@@ -45,8 +45,8 @@ returns-in_err-answer-clause-left g c =
     (sym c.self.view_is) c.self.invariant c.in-Some.is c.requires.later in
     rw (p.1, p.2) (record {
       same = search rules;
-      why_not = why_not g.O.Outlet.returns c.args.outlet.now c.advance.new.outlet c.args.self.now event c.args.key going.found.log c.address-address.result.user c.address-address.result.lane c.in_err-answer.field-0.0 going.meets
-          (c.in_err-answer.ensures.refused going.found.log going.found.stood);
+      why_not = why_not g.O.Outlet.returns c.args.outlet.now c.advance.new.outlet c.args.self.now event c.args.key going.found.log c.address-address.result.user c.address-address.result.lane c.in_err-done.field-0.0 going.meets
+          (c.in_err-done.ensures.refused going.found.log going.found.stood);
     })
 
 pub invariant_of-self-2 : goal.invariant_of-self-2
@@ -55,8 +55,8 @@ invariant_of-self-2 g c =
     let event = On c.args.key c.args.what.now in
     let going = goes_on_by i.side i.user i.lane i.source i.last i.before i.running c.in-Some.running c.args.self.now c.args.key c.args.what.now
     (sym c.self.view_is) c.self.invariant c.in-Some.is c.requires.later in
-    let answer = c.in_ok-answer.answer in
-    let done = c.in_ok-answer.ensures.taken in
+    let answer = c.in_ok-done.ensures.gone_on.answer in
+    let done = c.in_ok-done.ensures.gone_on.advanced in
     let next = next_on i.side i.user i.lane i.source i.last i.before i.running c.in-Some.running c.advance.new.running c.args.self.now c.args.key c.args.what.now
     (sym c.self.view_is) c.in-Some.is c.requires.later.opens_none done.goes_on.journal in
     subst (λ s. IsHeld s (Some c.advance.new.running)) (sym next)
@@ -69,18 +69,18 @@ returns-clause-taken g c =
     let event = On c.args.key c.args.what.now in
     let going = goes_on_by i.side i.user i.lane i.source i.last i.before i.running c.in-Some.running c.args.self.now c.args.key c.args.what.now
     (sym c.self.view_is) c.self.invariant c.in-Some.is c.requires.later in
-    let answer = c.in_ok-answer.answer in
-    let is = c.in_ok-answer.ensures.taken.answered going.found.log going.found.stood in
+    let answer = c.in_ok-done.ensures.gone_on.answer in
+    let is = c.in_ok-done.ensures.gone_on.advanced.answered going.found.log going.found.stood in
     let next = next_on i.side i.user i.lane i.source i.last i.before i.running c.in-Some.running c.advance.new.running c.args.self.now c.args.key c.args.what.now
-    (sym c.self.view_is) c.in-Some.is c.requires.later.opens_none c.in_ok-answer.ensures.taken.goes_on.journal in
-    let done = c.done.ensures in
+    (sym c.self.view_is) c.in-Some.is c.requires.later.opens_none c.in_ok-done.ensures.gone_on.advanced.goes_on.journal in
+    let done = c.in_ok-done.ensures.gone_on.done_by in
     record {
       free = free_if c.args.self.now event c.args.key going.found.log answer going.meets is;
       next_is = next;
       done_is =
-          subst (λ s. IsDone s c.done.result) (sym next)
+          subst (λ s. IsDone s c.in_ok-done.done) (sym next)
           (done_then c.args.self.now event c.args.key going.found.log answer going.meets is
-          c.done.result done.key done.pdus done.timers done.deposit);
+          c.in_ok-done.done done.key_is done.pdus done.timers done.deposit);
     }
 
 pub returns-clause-offered : goal.returns-clause-offered
@@ -89,10 +89,10 @@ returns-clause-offered g c =
     let event = On c.args.key c.args.what.now in
     let going = goes_on_by i.side i.user i.lane i.source i.last i.before i.running c.in-Some.running c.args.self.now c.args.key c.args.what.now
     (sym c.self.view_is) c.self.invariant c.in-Some.is c.requires.later in
-    let answer = c.in_ok-answer.answer in
-    let is = c.in_ok-answer.ensures.taken.answered going.found.log going.found.stood in
+    let answer = c.in_ok-done.ensures.gone_on.answer in
+    let is = c.in_ok-done.ensures.gone_on.advanced.answered going.found.log going.found.stood in
     let next = next_on i.side i.user i.lane i.source i.last i.before i.running c.in-Some.running c.advance.new.running c.args.self.now c.args.key c.args.what.now
-    (sym c.self.view_is) c.in-Some.is c.requires.later.opens_none c.in_ok-answer.ensures.taken.goes_on.journal in
+    (sym c.self.view_is) c.in-Some.is c.requires.later.opens_none c.in_ok-done.ensures.gone_on.advanced.goes_on.journal in
     subst (λ s. IsOffered g.O.Outlet.takes c.args.outlet.now c.advance.new.outlet (bundle_of s)) (sym next)
     (offered_then g.O.Outlet.takes c.args.outlet.now c.advance.new.outlet c.args.self.now event c.args.key going.found.log answer going.meets is
-    c.address-address.result.user c.address-address.result.lane c.address-address.ensures.user c.address-address.ensures.lane c.in_ok-answer.ensures.offered)
+    c.address-address.result.user c.address-address.result.lane c.address-address.ensures.user c.address-address.ensures.lane c.in_ok-done.ensures.gone_on.offered)

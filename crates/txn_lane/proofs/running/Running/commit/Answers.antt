@@ -5,5 +5,5 @@ use Rattle.txn_lane.proofs.running.Running.commit.Goals as goal
 pub returns-clause-stands : goal.returns-clause-stands
 returns-clause-stands c log stood =
     let planned = c.requires.planned.1 in
-    c.commit-answer.ensures.stands c.args.step.event log
+    c.commit-inds.ensures.stands c.args.step.event log
     (subst (IsPlanOf c.args.self.now.core c.args.step.plan) (sym planned.event_is) planned.planned) stood
