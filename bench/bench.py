@@ -26,7 +26,9 @@ PUTS = 8
 SEGMENTS = 2_048
 MIXED = 25_000
 
+# A script runs so often at least, and for so many seconds in all: a short one, whose time varies more, runs more often.
 RUNS = 5
+SECONDS = 10.0
 
 # A line of a script has at most 131,200 octets, so the largest file that a script can put has 65,590: two
 # hexadecimal digits for each octet, behind the 20 octets `put alice 0 1 1 a b `. In the reference
@@ -205,6 +207,14 @@ def run(program, script, output):
     return seconds
 
 
+def best(program, script, output):
+    """Answers the least seconds of some runs of a script."""
+    seconds = [run(program, script, output) for _ in range(RUNS)]
+    while sum(seconds) < SECONDS:
+        seconds.append(run(program, script, output))
+    return min(seconds)
+
+
 def peak(program, script):
     """Runs a script, and answers the peak memory in octets: what the kernel tells when all is read."""
     child = subprocess.Popen([program], stdin=subprocess.PIPE, stdout=subprocess.DEVNULL)
@@ -238,7 +248,7 @@ class Row:
             self.octets = os.path.getsize(script)
             with open(script, "rb") as lines:
                 self.count = sum(1 for _ in lines)
-            self.seconds = min(run(program, script, output) for _ in range(RUNS))
+            self.seconds = best(program, script, output)
             self.printed = os.path.getsize(output)
             if kind != "mixed" and refusals(output) > 0:
                 sys.exit(f"{kind}: {refusals(output)} lines of {self.count} were refused")
@@ -259,6 +269,15 @@ class Row:
         )
 
 
+def stolen():
+    """Answers the seconds that the machine's host took from its processors so far, or none where the kernel doesn't tell."""
+    try:
+        with open("/proc/stat", encoding="ascii") as times:
+            return int(times.readline().split()[8]) / os.sysconf("SC_CLK_TCK")
+    except (OSError, IndexError, ValueError):
+        return 0.0
+
+
 def show_bar(what, met):
     """Prints a bar."""
     print(f"  {'met' if met else 'MISSED'}: {what}", flush=True)
@@ -267,10 +286,14 @@ def show_bar(what, met):
 def compare(program, kind):
     """Measures one size and eight times that size, prints the bars, and answers the seconds of the larger."""
     size, unit, octets, speed = MEASURED[kind]
+    before = stolen()
     one = Row(program, kind, size)
     one.show(f"{kind}: {size:,} {unit}")
     eight = Row(program, kind, 8 * size)
     eight.show(f"{kind}: {8 * size:,} {unit}")
+    lost = stolen() - before
+    if lost >= 0.1:
+        print(f"  the host took {lost:.1f} seconds from the processors meanwhile", flush=True)
     growth = eight.seconds / one.seconds
     show_bar(f"eight times the size takes {growth:.1f} times as long, at most {GROWTH}", growth <= GROWTH)
     most = MEMORY + 4 * 8 * size * octets

@@ -9,7 +9,9 @@ import subprocess
 import sys
 import time
 
+# A scenario runs so often at least, and for so many seconds in all: a short one, whose time varies more, runs more often.
 RUNS = 5
+SECONDS = 3.0
 
 # A scenario of the program, its greater size, how much longer eight times the size may take, and the
 # seconds that it may take, where there is such a bar.
@@ -35,7 +37,10 @@ def run(program, scenario, size):
 
 def best(program, scenario, size):
     """Answers the least seconds of some runs."""
-    return min(run(program, scenario, size) for _ in range(RUNS))
+    seconds = [run(program, scenario, size) for _ in range(RUNS)]
+    while sum(seconds) < SECONDS:
+        seconds.append(run(program, scenario, size))
+    return min(seconds)
 
 
 def show_bar(what, met):
