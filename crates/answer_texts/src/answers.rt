@@ -1,6 +1,6 @@
 //! The texts of answers to events. Each function adds to a text; after an `Err` the text is no answer.
-ghost use Rattle.std.specs.Prelude.{◌≡◌, ◌++◌, OnOk, string_bytes, codes};
-ghost use Rattle.answer_texts.specs.AnswerTexts.{done_text, opened_text, pdus_text, pdu_text, deposit_text, refusal_text, fault_line, echo_text, refused_text};
+ghost use Rattle.std.specs.Prelude.{◌≡◌, ◌++◌, OnOk, string_bytes};
+ghost use Rattle.answer_texts.specs.AnswerTexts.{done_text, opened_text, pdus_text, pdu_text, deposit_text, refusal_text, fault_line, refused_text};
 
 use cfdp_types::{Deposit, TxnKey};
 use lane_table::{Done, Refused};

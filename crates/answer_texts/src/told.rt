@@ -1,8 +1,8 @@
 //! The texts of what a user is told. Each function adds to a text; after an `Err` the text is no answer.
 ghost use Rattle.std.specs.Prelude.{◌≡◌, ◌++◌, IfOk, OnOk, string_bytes, codes, decimal};
-ghost use Rattle.answer_texts.specs.ToldTexts.{bundle_text, line_head, key_text, indication_text, finished_text, metadata_text, segment_text, report_text, fault_text, number_text, messages_text, hex_word, delivery_name, status_name, phase_name};
+ghost use Rattle.answer_texts.specs.ToldTexts.{bundle_text, line_head, indication_text, finished_text, metadata_text, segment_text, report_text, fault_text, number_text, messages_text, hex_word, delivery_name, status_name, phase_name};
 
-use cfdp_types::{Condition, Delivery, EntityId, FileStatus, Messages, Octets, TxnKey};
+use cfdp_types::{Condition, Delivery, EntityId, FileStatus, Messages, Octets};
 use indications::{Bundle, Indication, Phase};
 use std::alloc::{AllocError, Global};
 

@@ -35,7 +35,7 @@ impl Model for World {
 }
 
 impl World {
-    ghost use Rattle.std.specs.Prelude.{◌≡◌, ◌<◌, ◌⊎◌, [], ◌∷◌, List, length, Ok, IfOk, IfErr, IfSome, IfNone, OnErr};
+    ghost use Rattle.std.specs.Prelude.{◌≡◌, ◌<◌, ◌⊎◌, [], ◌∷◌, List, length, Ok, IfOk, IfSome, IfNone, OnErr};
     ghost use Rattle.pdu_reading.specs.Reading.{reading};
     ghost use Rattle.txn_events.specs.declared.event.Event.TheVariants.{On};
     ghost use Rattle.lane_table.specs.Steps.{IsKeyed};

@@ -1,4 +1,4 @@
-ghost use Rattle.std.specs.Prelude.{◌≡◌, IsTrue, Ok, IfOk, IfErr, OnErr};
+ghost use Rattle.std.specs.Prelude.{◌≡◌, IsTrue, Ok, IfOk, OnErr};
 ghost use Rattle.lane_table.specs.Steps.{IsKeyed};
 ghost use Rattle.shared_entity.specs.Answering.{IsAt, MayAnswerAt, MayGiveImage};
 

@@ -36,11 +36,10 @@ impl Model for Lane {
 }
 
 impl Lane {
-    ghost use Rattle.std.specs.Prelude.{◌≡◌, ◌<◌, ◌++◌, is_some, IsSome, Some, None, Ok, List, IfOk, IfErr, OnOk, OnErr};
-    ghost use Rattle.indications.specs.declared.bundle.Bundle.{Bundle};
+    ghost use Rattle.std.specs.Prelude.{◌≡◌, ◌<◌, is_some, Some, None, Ok, IfOk, IfErr, OnOk};
     ghost use Rattle.lane_table.specs.Keeping.{bundle_of};
     ghost use Rattle.txn_lane.specs.Stepping.{IsOutletOf, IsOffered, IsHanded, IsTaken, IsLeft, IsNotTaken, IsFirst, IsLater, Passes};
-    ghost use Rattle.lane_table.specs.Steps.{IsKeyed, IsDone, plainly, refused_by_lane, refused_number, refusal_at, stepped, next_number, number_in, new_transaction, image_of};
+    ghost use Rattle.lane_table.specs.Steps.{IsKeyed, plainly, refused_by_lane, refused_number, next_number, new_transaction, image_of};
     ghost use Rattle.txn_core.specs.Transactions.{IsWhy};
     ghost use Rattle.txn_events.specs.declared.event.Event.TheVariants.{On};
     ghost use Rattle.lane_table.specs.declared.lane_side.LaneSide.TheVariants.{Sending, Receiving};

@@ -1,4 +1,4 @@
-use Rattle.std.proofs.Common.{Ok, inl, inr, refl, sym, ap, ◌∙◌, subst, IsSome}
+use Rattle.std.proofs.Common.{inl, inr, refl, subst, IsSome}
 use Rattle.std.proofs.lemmas.Result.{err_from_is_err_and, IfOk-weaker, IfErr-weaker}
 use Rattle.txn_events.specs.declared.event.Event.TheVariants.{On}
 use Rattle.txn_core.specs.Transactions.{plan_answer}

@@ -1,4 +1,4 @@
-use Rattle.std.proofs.Common.{Ok, inr, sym, ap, ◌∙◌, subst, IsSome}
+use Rattle.std.proofs.Common.{inr, subst, IsSome}
 use Rattle.std.proofs.lemmas.Result.{err_from_is_err_and}
 use Rattle.lane_table.specs.Logs.{opened_by, extended}
 use Rattle.txn_core.specs.Transactions.{StandsAfter, plan_answer}
