@@ -30,3 +30,36 @@ ends 'a folder in place of a script' 1 '' 'read fault'
 status=0
 "$program" <<< 'take alice' > /dev/full 2> told || status=$?
 ends 'a full disk' 1 '' 'write fault'
+
+# begins: plays what is written to descriptor 3, a script that stays open.
+mkfifo script
+begins() {
+    timeout 60 "$program" < script > printed 2> told &
+    playing=$!
+    exec 3> script
+}
+
+# finishes: the run ends though its script may go on, or is ended after a minute.
+finishes() {
+    status=0
+    wait "$playing" || status=$?
+    exec 3>&-
+}
+
+begins
+printf 'take alice\n%.0s' {1..20000} >&3
+tries=300
+until [ -s printed ] || [ $((tries -= 1)) = 0 ]; do sleep 0.1; done
+if ! [ -s printed ]; then
+    echo "$program, a script that goes on: no answer is printed after 20,000 lines"
+    exit 1
+fi
+printf 'no line\n' >&3
+finishes
+printed=$(tail -n 1 printed)
+echo "$printed" > printed
+ends 'a bad line in a script that goes on' 1 'line 20001: bad line' ''
+begins
+printf 'a%.0s' {1..131201} >&3
+finishes
+ends 'too long a line in a script that goes on' 1 'line 1: bad line' ''
