@@ -1,12 +1,14 @@
 //! Runs a whole script.
-ghost use Rattle.std.specs.Prelude.{◌≡◌, ℕ, ◌<◌, ◌+◌, List, [], Option, IfSome};
+ghost use Rattle.std.specs.Prelude.{◌≡◌, ℕ, ◌<◌, ◌≤◌, ◌+◌, List, [], length, max, Option, IfSome, OnOk, string_bytes};
 ghost use Rattle.script_io.specs.Lines.{lines_of};
 ghost use Rattle.script_replay.specs.declared.session.Session.{Session};
 ghost use Rattle.script_replay.specs.Run.{Replays};
 ghost use Rattle.script_replay.specs.Running.{Ran, Ends, GoesOn};
 
 use crate::session::Session;
-use script_io::{NextLine, ReplayFault, flush_buffer, in_blocks, next_line, write_buffered};
+use script_io::{
+    BLOCK_OCTETS, NextLine, ReplayFault, flush_buffer, in_blocks, next_line, write_buffered,
+};
 use std::alloc::Global;
 use std::io::{BufRead, Read, Write};
 
@@ -101,10 +103,12 @@ fn turn<B: BufRead, W: Write>(
     count: u32,
 ) -> Result<bool, ReplayFault>
     requires { count < LINES }
-    ensures { (lines : List (List ℕ)) (old : Option (List ℕ))
+    ensures played { (lines : List (List ℕ)) (old : Option (List ℕ))
         → Ran lines (B.remaining reader.old) count session.old old (W.contents writer.old) buffer.old.items
         → GoesOn result lines (B.remaining reader.new) count session.new old (W.contents writer.new)
         buffer.new.items }
+    ensures bounded { OnOk result (length buffer.new.items
+        ≤ max (length buffer.old.items) (max BLOCK_OCTETS (length (string_bytes scratch.new.text)))) }
 {
     let Scratch { line, text } = scratch;
     match next_line(reader, line)? {

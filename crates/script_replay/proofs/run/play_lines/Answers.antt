@@ -9,7 +9,7 @@ returns-then-not-branch g c = λ lines old ran.
     let contents = g.W.Write.contents in
     let none : c.in_ok-turn.field-0 ≡ false = search rules in
     subst (λ (good : Bool). GoesOn (Ok good) lines (g.B.Read.remaining c.turn.new.reader) c.loop-count.count c.turn.new.session old (contents c.turn.new.writer) c.turn.new.buffer.items) none
-    (c.in_ok-turn.ensures lines old (c.loop-count.invariant lines old ran))
+    (c.in_ok-turn.ensures.played lines old (c.loop-count.invariant lines old ran))
 
 pub returns : goal.returns
 returns g c = λ lines old ran.
@@ -23,4 +23,4 @@ returns g c = λ lines old ran.
 pub returns-in_err-turn : goal.returns-in_err-turn
 returns-in_err-turn g c = λ lines old ran.
     let p = err_from_is_err_and c.from_residual.result c.from_residual.ensures.1 in
-    rw (p.1, p.2) (c.in_err-turn.ensures lines old (c.loop-count.invariant lines old ran))
+    rw (p.1, p.2) (c.in_err-turn.ensures.played lines old (c.loop-count.invariant lines old ran))
