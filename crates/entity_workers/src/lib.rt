@@ -1,10 +1,18 @@
-//! Stores for received files.
+//! Threads round an entity: datagrams are decoded and wait, workers bring them to their lanes, and received files go into a
+//! store.
 #![tactic(auto)]
 
-mod filestore;
-mod folder_store;
-mod memory_store;
+mod carrier;
+mod deposit;
+mod fault;
+mod intake;
+mod message;
+mod workers;
 
-pub use filestore::{Filestore, StoreFault};
-pub use folder_store::FolderStore;
-pub use memory_store::{MemoryStore, StoredFile};
+pub use carrier::Carrier;
+pub use deposit::{DepositRest, deposit_one, finish};
+pub use fault::{IntakeFault, WorkersFault};
+pub use file_stores::{Filestore, FolderStore, MemoryStore, StoreFault, StoredFile};
+pub use intake::{Intake, IntakeEnd, IntakeSend};
+pub use message::Message;
+pub use workers::run_workers;

@@ -1,4 +1,2 @@
-pub mod Numbers
-pub mod WordFacts
 pub mod SettingFacts
 pub mod Rows

@@ -3,8 +3,8 @@ use Rattle.std.proofs.Common.{◌≡◌, ◌≢◌, ℕ, true, List, [], ◌∷�
 use Rattle.std.specs.Option.{option_copied, is_some}
 use Rattle.std.proofs.lemmas.Bool.{false≢true}
 use Rattle.script_lines.specs.Commands.{set_with}
-use Rattle.script_lines.specs.Words.{words_left, only_word}
-use Rattle.script_lines.proofs.WordFacts.{words_of-nonempty}
+use Rattle.line_words.specs.Words.{words_left, only_word}
+use Rattle.line_words.proofs.WordFacts.{words_of-nonempty}
 
 -- more than one word more is none
 none_of : (name n : List ℕ) (words : List (List ℕ)) → words ≢ [] → None ≡ only_word words → None ≡ set_with name n words

@@ -21,27 +21,14 @@ use Rattle.entity_routing.specs.declared.world_event.Request.TheVariants as requ
 use Rattle.entity_routing.specs.declared.world_event.WorldEvent.TheVariants as events
 use Rattle.script_lines.specs.declared.command.Command.{Command}
 use Rattle.script_lines.specs.declared.command.Command.TheVariants as command
-use Rattle.script_lines.specs.Words.{words_of, decimal_of}
-
-infixl 10 ◌>>=◌
-abbrev pub ◌>>=◌ : {A B : Type 0} → Option A → (A → Option B) → Option B
-o >>= f = option_and_then f o
+use Rattle.line_words.specs.Words.{words_of, decimal_of}
+use Rattle.line_words.specs.Operands.{◌>>=◌, number_of, key_from, name_of, class_of, request_for}
 
 -- ---- words
 
--- a number of 64 bits, and one of 32
-abbrev pub number_of : List ℕ → Option ℕ
-number_of word = decimal_of (2 ^ 64 - 1) word
-
+-- a number of 32 bits
 abbrev pub stamp_of : List ℕ → Option ℕ
 stamp_of word = decimal_of (2 ^ 32 - 1) word
-
--- a transaction, by its two numbers
-abbrev pub key_from : List ℕ → List ℕ → Option TxnKey
-key_from source seq = do
-  source_number ← number_of source
-  seq_number ← number_of seq
-  Some (record { source = record { 0 = source_number }; seq = seq_number })
 
 -- a user's number, and one of the user's two sending lanes
 abbrev pub user_of : List ℕ → Option ℕ
@@ -61,25 +48,11 @@ octets_of word = if length word == 0 then None else result_ok (decode_of word)
 abbrev pub file_of : List ℕ → Option (List ℕ)
 file_of word = if bytes_eq word (codes "-") then Some [] else octets_of word
 
--- a word of ASCII
-abbrev pub name_of : List ℕ → Option (List ℕ)
-name_of word = if list_all (λ octet. nat_lt octet 128) word then Some word else None
-
 abbrev pub answer_of : List ℕ → Option Bool
 answer_of word =
     if bytes_eq word (codes "yes") then Some true
     else if bytes_eq word (codes "no") then Some false
     else None
-
--- a class, by its number
-abbrev pub class_by : ℕ → Option Class
-class_by number =
-    if number == 1 then Some One
-    else if number == 2 then Some Two
-    else None
-
-abbrev pub class_of : List ℕ → Option Class
-class_of word = option_and_then class_by (decimal_of 2 word)
 
 abbrev pub kind_of : List ℕ → Option TimerKind
 kind_of word =
@@ -138,16 +111,6 @@ set_of operands = None
 abbrev pub deliver_of : List (List ℕ) → Option Command
 deliver_of (octets ∷ []) = option_map (λ o. command.Event (events.Deliver o)) (octets_of octets)
 deliver_of operands = None
-
--- what the first word asks for, of a transaction
-abbrev pub request_for : List ℕ → TxnKey → Option Request
-request_for kind key =
-    if bytes_eq kind (codes "cancel") then Some (requests.Cancel key)
-    else if bytes_eq kind (codes "suspend") then Some (requests.Suspend key)
-    else if bytes_eq kind (codes "resume") then Some (requests.Resume key)
-    else if bytes_eq kind (codes "report") then Some (requests.Report key)
-    else if bytes_eq kind (codes "abandon") then Some (requests.Abandon key)
-    else None
 
 -- a request of a user, by its four words
 abbrev pub asked_from : List ℕ → List ℕ → List ℕ → List ℕ → Option Command

@@ -1,16 +1,15 @@
 //! What a line of a script says.
 ghost use Rattle.std.specs.Prelude.{◌≡◌, IfOk};
 ghost use Rattle.std.specs.Option.{option_copied};
-ghost use Rattle.script_lines.specs.Commands.{command_of, command_by, deliver_of, asked_of, asked_from, request_for, pump_of, timer_of, timer_from, stored_of, stored_from, take_of, of_transaction};
-ghost use Rattle.script_lines.specs.Words.{words_left};
+ghost use Rattle.script_lines.specs.Commands.{command_of, command_by, deliver_of, asked_of, asked_from, pump_of, timer_of, timer_from, stored_of, stored_from, take_of, of_transaction};
+ghost use Rattle.line_words.specs.Words.{words_left};
 
-use crate::operands::{answer_of, key_from, kind_of, octets_of, stamp_of, user_of};
+use crate::operands::{answer_of, kind_of, octets_of, stamp_of, user_of};
 use crate::put::put;
 use crate::setting::set;
-use crate::words::{Rest, last_word, next_word, split_word};
-use cfdp_types::TxnKey;
 use entity_config::Setting;
-use entity_routing::{Request, WorldEvent};
+use entity_routing::WorldEvent;
+use line_words::{Rest, key_from, last_word, next_word, request_for, split_word};
 use std::alloc::{AllocError, Global};
 
 /// What a line of a script says.
@@ -97,25 +96,6 @@ fn asked_from(kind: &[u8], user: &[u8], source: &[u8], seq: &[u8]) -> Option<Com
     let key = key_from(source, seq)?;
     let request = request_for(kind, key)?;
     Some(Command::Event(WorldEvent::Request(user, request)))
-}
-
-// What the first word asks for, of a transaction.
-fn request_for(kind: &[u8], key: TxnKey) -> Option<Request>
-    ensures { result ≡ request_for kind.now key }
-{
-    if kind == b"cancel".as_slice() {
-        Some(Request::Cancel(key))
-    } else if kind == b"suspend".as_slice() {
-        Some(Request::Suspend(key))
-    } else if kind == b"resume".as_slice() {
-        Some(Request::Resume(key))
-    } else if kind == b"report".as_slice() {
-        Some(Request::Report(key))
-    } else if kind == b"abandon".as_slice() {
-        Some(Request::Abandon(key))
-    } else {
-        None
-    }
 }
 
 fn pump(operands: Rest<'_>) -> Option<Command>

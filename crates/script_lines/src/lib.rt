@@ -5,6 +5,5 @@ mod command;
 mod operands;
 mod put;
 mod setting;
-mod words;
 
 pub use command::{Command, command_of};

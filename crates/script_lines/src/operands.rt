@@ -1,33 +1,16 @@
 //! What single words of a line write.
-ghost use Rattle.std.specs.Prelude.{◌≡◌, IfOk, nat_lt};
-ghost use Rattle.std.specs.List.{list_all};
-ghost use Rattle.std.specs.Option.{option_copied};
-ghost use Rattle.script_lines.specs.Commands.{number_of, stamp_of, key_from, user_of, lane_of, octets_of, file_of, name_of, answer_of, class_of, kind_of, role_of, handler_of};
+ghost use Rattle.std.specs.Prelude.{◌≡◌, IfOk};
+ghost use Rattle.script_lines.specs.Commands.{stamp_of, user_of, lane_of, octets_of, file_of, answer_of, kind_of, role_of, handler_of};
 
-use crate::words::decimal;
-use cfdp_types::{Class, EntityId, Handler, Octets, Role, TimerKind, TxnKey};
+use cfdp_types::{Handler, Octets, Role, TimerKind};
 use hex::FromHexError;
+use line_words::decimal;
 use std::alloc::{AllocError, Global};
-
-pub(crate) fn number_of(word: &[u8]) -> Option<u64>
-    ensures { result ≡ number_of word.now }
-{
-    decimal(word, u64::MAX)
-}
 
 pub(crate) fn stamp_of(word: &[u8]) -> Option<u32>
     ensures { result ≡ stamp_of word.now }
 {
     Some(decimal(word, u64::from(u32::MAX))? as u32)
-}
-
-/// A transaction, by its two numbers.
-pub(crate) fn key_from(source: &[u8], seq: &[u8]) -> Option<TxnKey>
-    ensures { result ≡ key_from source.now seq.now }
-{
-    let source = EntityId(number_of(source)?);
-    let seq = number_of(seq)?;
-    Some(TxnKey { source, seq })
 }
 
 /// A user's number.
@@ -74,19 +57,6 @@ pub(crate) fn file_of(alloc: Global, word: &[u8]) -> Result<Option<Octets>, Allo
     octets_of(alloc, word)
 }
 
-fn is_ascii(word: &[u8]) -> bool
-    ensures { result ≡ list_all (λ octet. nat_lt octet 128) word.now }
-{
-    word.iter().all(|octet| *octet < 128)
-}
-
-/// A word of ASCII.
-pub(crate) fn name_of(word: &[u8]) -> Option<&[u8]>
-    ensures { option_copied result ≡ name_of word.now }
-{
-    if is_ascii(word) { Some(word) } else { None }
-}
-
 pub(crate) fn answer_of(word: &[u8]) -> Option<bool>
     ensures { result ≡ answer_of word.now }
 {
@@ -96,16 +66,6 @@ pub(crate) fn answer_of(word: &[u8]) -> Option<bool>
         Some(false)
     } else {
         None
-    }
-}
-
-pub(crate) fn class_of(word: &[u8]) -> Option<Class>
-    ensures { result ≡ class_of word.now }
-{
-    match decimal(word, 2)? {
-        1 => Some(Class::One),
-        2 => Some(Class::Two),
-        _ => None,
     }
 }
 

@@ -2,13 +2,13 @@
 ghost use Rattle.std.specs.Prelude.{◌≡◌, IfOk};
 ghost use Rattle.std.specs.Option.{option_copied};
 ghost use Rattle.script_lines.specs.Commands.{put_of, put_at, put_words, put_from, put_made};
-ghost use Rattle.script_lines.specs.Words.{words_left};
+ghost use Rattle.line_words.specs.Words.{words_left};
 
 use crate::command::Command;
-use crate::operands::{class_of, file_of, lane_of, name_of, number_of, user_of};
-use crate::words::{Rest, last_word, next_word};
+use crate::operands::{file_of, lane_of, user_of};
 use cfdp_types::{Class, EntityId, Octets, PutFault, PutRequest};
 use entity_routing::{Request, WorldEvent};
+use line_words::{Rest, class_of, last_word, name_of, next_word, number_of};
 use std::alloc::{AllocError, Global};
 
 /// A Put, by what stands behind the first word.

@@ -2,13 +2,13 @@
 ghost use Rattle.std.specs.Prelude.{◌≡◌};
 ghost use Rattle.std.specs.Option.{option_copied};
 ghost use Rattle.script_lines.specs.Commands.{set_of, set_with, set_number, set_handler};
-ghost use Rattle.script_lines.specs.Words.{words_left};
+ghost use Rattle.line_words.specs.Words.{words_left};
 
 use crate::command::Command;
-use crate::operands::{handler_of, number_of, role_of};
-use crate::words::{Rest, decimal, last_word, next_word};
+use crate::operands::{handler_of, role_of};
 use cfdp_types::Condition;
 use entity_config::Setting;
+use line_words::{Rest, decimal, last_word, next_word, number_of};
 
 /// A setting, by what stands behind the first word.
 pub(crate) fn set(operands: Rest<'_>) -> Option<Command>

@@ -1,0 +1,16 @@
+-- What a worker may be answered.
+use Rattle.std.specs.Prelude.{◌≡◌, ℕ, List, Result, Ok}
+use Rattle.atomic_table.specs.Seated.{TableId}
+use Rattle.txn_events.specs.declared.event.Event.{Event}
+use Rattle.pdu_values.specs.Pdu.{PduValue}
+use Rattle.pdu_reading.specs.Reading.{reading}
+use Rattle.config_reading.specs.Values.{ConfigValue}
+use Rattle.entity_routing.specs.Routes.{routed_pdu}
+use Rattle.entity_refusals.specs.declared.refusal.EntityRefusal.{EntityRefusal}
+use Rattle.held_lanes.specs.Held.{HeldValue}
+use Rattle.shared_entity.specs.Answering.{MayAnswer}
+
+-- whatever an entity may answer to a PDU that some octets are read as is accepted
+abbrev pub AcceptsAnswers : {A : Type 0} → (ℕ → TableId) → (HeldValue → Event → A → HeldValue → Type 0) → ConfigValue → (Result A EntityRefusal → Type 0) → Type 0
+AcceptsAnswers queue gives config accepts =
+    (octets : List ℕ) (pdu : PduValue) (answer : _) → reading octets ≡ Ok pdu → MayAnswer queue gives (routed_pdu config pdu) answer → accepts answer

@@ -1,0 +1,59 @@
+-- What a deposit does.
+use Rattle.std.specs.Prelude.{◌≡◌, ◌⊎◌, ℕ, Bool, Option, Some, None, List, Result, Ok, Err, is_ok}
+use Rattle.atomic_table.specs.Seated.{TableId}
+use Rattle.cfdp_types.specs.declared.key.Deposit.{Deposit}
+use Rattle.cfdp_types.specs.declared.image.Image.{Image}
+use Rattle.txn_events.specs.declared.event.What.TheVariants as what
+use Rattle.lane_table.specs.declared.done.Done.{Done}
+use Rattle.lane_table.specs.declared.refused.Refused.{Refused}
+use Rattle.config_reading.specs.Values.{ConfigValue}
+use Rattle.entity_routing.specs.Routes.{key_place, routed_key}
+use Rattle.entity_refusals.specs.declared.refusal.EntityRefusal.{EntityRefusal}
+use Rattle.entity_refusals.specs.declared.refusal.EntityRefusal.TheVariants as answer
+use Rattle.held_lanes.specs.Held.{HasStepped}
+use Rattle.shared_entity.specs.Answering.{MayAnswer, MayGiveImage}
+use Rattle.file_stores.specs.declared.filestore.StoreFault.{StoreFault}
+use Rattle.entity_workers.specs.declared.deposit.DepositRest.{DepositRest}
+
+-- what a step of a lane answers to the entity's own call
+abbrev pub Stepped : Type 0
+Stepped = Result (Result Done Refused) EntityRefusal
+
+-- an entity may answer so to the call that tells a lane whether its file is kept
+abbrev pub MayBeTold : (ℕ → TableId) → ConfigValue → Deposit → Bool → Stepped → Type 0
+MayBeTold queue config deposit kept result =
+    MayAnswer queue HasStepped (routed_key config deposit.key (what.Stored deposit.stamp kept)) result
+
+-- why a lane is not told: the call is refused, or its lane refuses the event
+abbrev pub IsNotTold : (ℕ → TableId) → ConfigValue → Deposit → Bool → EntityRefusal → Type 0
+IsNotTold queue config deposit kept why =
+    MayBeTold queue config deposit kept (Err why)
+    ⊎ ((refused : Refused) × (why ≡ answer.Lane refused) × MayBeTold queue config deposit kept (Ok (Err refused)))
+
+-- the lane of a deposit was told whether its file is kept, or that is left to be done
+abbrev pub IsHandedIn : (ℕ → TableId) → ConfigValue → Deposit → Bool → Result Done DepositRest → Type 0
+IsHandedIn queue config deposit kept (Ok done) = MayBeTold queue config deposit kept (Ok (Ok done))
+IsHandedIn queue config deposit kept (Err rest) =
+    (rest.deposit ≡ deposit) × (rest.answer ≡ Some kept) × IsNotTold queue config deposit kept rest.refusal
+
+-- the store was asked once, for a file that the entity may give for the deposit, and this says whether it keeps it
+pub record HasStored {S : Type 0} (queue : ℕ → TableId) (config : ConfigValue) (deposits : S → List ℕ → List ℕ → Result (Unit {0}) StoreFault → S → Type 0) (deposit : Deposit) (kept : Bool) (before after : S) : Type 0 where
+  pub image : Image
+  pub answer : Result (Unit {0}) StoreFault
+  pub given : MayGiveImage queue deposit.key deposit.stamp (key_place config deposit.key) (Ok image)
+  pub asked : deposits before image.destination_name image.octets answer after
+  pub is : kept ≡ is_ok answer
+
+-- what was done of a deposit of which something is left, by whether the store was asked
+abbrev pub IsBegun : {S : Type 0} → (ℕ → TableId) → ConfigValue → (S → List ℕ → List ℕ → Result (Unit {0}) StoreFault → S → Type 0) → Deposit → S → S → Option Bool → EntityRefusal → Type 0
+IsBegun queue config deposits deposit before after None why =
+    (after ≡ before) × MayGiveImage queue deposit.key deposit.stamp (key_place config deposit.key) (Err why)
+IsBegun queue config deposits deposit before after (Some kept) why =
+    HasStored queue config deposits deposit kept before after × IsNotTold queue config deposit kept why
+
+-- a deposit was made: the store was asked once and the lane was told what it answered; or the rest says what is left
+abbrev pub IsDeposited : {S : Type 0} → (ℕ → TableId) → ConfigValue → (S → List ℕ → List ℕ → Result (Unit {0}) StoreFault → S → Type 0) → Deposit → S → Result Done DepositRest → S → Type 0
+IsDeposited queue config deposits deposit before (Ok done) after =
+    (kept : Bool) × HasStored queue config deposits deposit kept before after × MayBeTold queue config deposit kept (Ok (Ok done))
+IsDeposited queue config deposits deposit before (Err rest) after =
+    (rest.deposit ≡ deposit) × IsBegun queue config deposits deposit before after rest.answer rest.refusal

@@ -1,0 +1,99 @@
+//! A received file goes into a store, and its lane is told whether the store keeps it.
+ghost use Rattle.std.specs.Prelude.{◌≡◌, ◌<◌, MatchOption, MatchResult};
+ghost use Rattle.entity_workers.specs.Depositing.{HasStored, IsHandedIn, IsDeposited};
+ghost use Rattle.entity_routing.specs.Routes.{key_place};
+ghost use Rattle.shared_entity.specs.Answering.{MayGiveImage};
+
+use cfdp_types::Deposit;
+use file_stores::Filestore;
+use held_lanes::{Names, NoGate};
+use lane_table::Done;
+use shared_entity::{Entity, EntityRefusal};
+use std::sync::Wait;
+
+/// What is left to be done of a deposit: all of it, or to tell its lane what the store answered.
+#[derive(Debug, Drop)]
+pub struct DepositRest {
+    pub deposit: Deposit,
+    /// Whether the store keeps the file, once it was asked.
+    pub answer: Option<bool>,
+    /// Why the deposit went no further.
+    pub refusal: EntityRefusal,
+}
+
+/// Takes the file of a deposit to a store, and tells the lane whether the store keeps it.
+pub fn deposit_one<N: Names, R: Wait + Copy, S: Filestore>(
+    rt: &R,
+    entity: &Entity<N, R>,
+    store: &mut S,
+    deposit: Deposit,
+) -> Result<Done, DepositRest>
+    requires { S.tried store.old < u64.MAX }
+    ensures { IsDeposited N.queue entity.now S.deposits deposit store.old result store.new }
+{
+    match store_image(rt, entity, store, deposit) {
+        Ok(answer) => hand_in(rt, entity, deposit, answer),
+        Err(refusal) => Err(DepositRest {
+            deposit,
+            answer: None,
+            refusal,
+        }),
+    }
+}
+
+/// Goes on with a deposit. A store that was asked is not asked again.
+pub fn finish<N: Names, R: Wait + Copy, S: Filestore>(
+    rt: &R,
+    entity: &Entity<N, R>,
+    store: &mut S,
+    rest: DepositRest,
+) -> Result<Done, DepositRest>
+    requires { S.tried store.old < u64.MAX }
+    ensures { MatchOption rest.answer
+        (IsDeposited N.queue entity.now S.deposits rest.deposit store.old result store.new)
+        (λ answer. (store.new ≡ store.old) × IsHandedIn N.queue entity.now rest.deposit answer result) }
+{
+    match rest.answer {
+        Some(answer) => hand_in(rt, entity, rest.deposit, answer),
+        None => deposit_one(rt, entity, store, rest.deposit),
+    }
+}
+
+// Takes the file of a deposit to a store; whether the store keeps it.
+fn store_image<N: Names, R: Wait + Copy, S: Filestore>(
+    rt: &R,
+    entity: &Entity<N, R>,
+    store: &mut S,
+    deposit: Deposit,
+) -> Result<bool, EntityRefusal>
+    requires { S.tried store.old < u64.MAX }
+    ensures { MatchResult result
+        (λ answer. HasStored N.queue entity.now S.deposits deposit answer store.old store.new)
+        (λ why. (store.new ≡ store.old)
+        × MayGiveImage N.queue deposit.key deposit.stamp (key_place entity.now deposit.key) (Err why)) }
+{
+    let image = entity.image(rt, deposit.key, deposit.stamp)?;
+    let answer = store.deposit(image.destination_name.as_slice(), image.octets.as_slice());
+    Ok(answer.is_ok())
+}
+
+// Tells the lane of a deposit whether the store keeps the file.
+fn hand_in<N: Names, R: Wait + Copy>(
+    rt: &R,
+    entity: &Entity<N, R>,
+    deposit: Deposit,
+    answer: bool,
+) -> Result<Done, DepositRest>
+    ensures { IsHandedIn N.queue entity.now deposit answer result }
+{
+    let refusal = match entity.stored(rt, &NoGate, deposit.key, deposit.stamp, answer) {
+        Ok(Ok(done)) => return Ok(done),
+        Ok(Err(refused)) => EntityRefusal::Lane(refused),
+        Err(refusal) => refusal,
+    };
+    Err(DepositRest {
+        deposit,
+        answer: Some(answer),
+        refusal,
+    })
+}

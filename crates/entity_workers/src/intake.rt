@@ -1,0 +1,76 @@
+//! The way in: datagrams are decoded, and wait for the workers.
+ghost use Rattle.std.specs.Prelude.{◌<◌, IfErr, IsErr};
+ghost use Rattle.pdu_reading.specs.Reading.{reading};
+ghost use Rattle.entity_workers.specs.Faults.{IsNotTaken};
+
+use crate::fault::IntakeFault;
+use crate::message::Message;
+use crossbeam_channel::{Receiver, SendError, Sender, bounded};
+use pdu_codec::{DecodeFault, decode};
+use std::alloc::{AllocError, Global};
+use std::sync::Wait;
+
+/// The way in for datagrams: what one end takes, workers receive at the other.
+pub struct Intake;
+
+/// Where datagrams come in.
+#[derive(Drop)]
+pub struct IntakeSend {
+    to: Sender<Message>,
+    alloc: Global,
+}
+
+/// Where workers receive them.
+#[derive(Drop)]
+pub struct IntakeEnd {
+    from: Receiver<Message>,
+}
+
+impl Intake {
+    /// Both ends of an intake in which so many datagrams may wait.
+    pub fn new(alloc: Global, capacity: usize) -> Result<(IntakeSend, IntakeEnd), AllocError>
+        requires { 0 < capacity }
+    {
+        let (to, from) = bounded(alloc, capacity)?;
+        Ok((IntakeSend { to, alloc }, IntakeEnd { from }))
+    }
+}
+
+impl IntakeSend {
+    /// Takes a datagram, and waits for room. What octets are not read as a PDU is told first, then want of memory, and last
+    /// that no worker is left to receive.
+    pub fn send<R: Wait>(&self, rt: &R, octets: &[u8]) -> Result<(), IntakeFault>
+        ensures why { IfErr result (IsNotTaken (reading octets.now)) }
+        ensures unread { IsErr (reading octets.now) → IsErr result }
+    {
+        let message = message_of(self.alloc, octets)?;
+        match self.to.send(rt, message) {
+            Ok(()) => Ok(()),
+            Err(SendError::OutOfMemory(_)) => Err(IntakeFault::NoMemory),
+            Err(SendError::Disconnected(_)) => Err(IntakeFault::Closed),
+        }
+    }
+}
+
+// A datagram with the PDU that it is read as.
+fn message_of(alloc: Global, octets: &[u8]) -> Result<Message, IntakeFault>
+    ensures why { IfErr result (IsNotTaken (reading octets.now)) }
+    ensures unread { IsErr (reading octets.now) → IsErr result }
+{
+    let pdu = match decode(alloc, octets) {
+        Ok(pdu) => pdu,
+        Err(DecodeFault::NoMemory) => return Err(IntakeFault::NoMemory),
+        Err(fault) => return Err(IntakeFault::Decode(fault)),
+    };
+    match Vec::from_slice(alloc, octets) {
+        Ok(octets) => Ok(Message::new(octets, pdu)),
+        Err(_) => Err(IntakeFault::NoMemory),
+    }
+}
+
+impl IntakeEnd {
+    /// The next datagram, or nothing once no sender is left and none waits.
+    pub fn receive<R: Wait>(&self, rt: &R) -> Option<Message> {
+        self.from.recv(rt).ok()
+    }
+}

@@ -1,0 +1,89 @@
+//! Workers take datagrams to the lanes of an entity, each in a thread of its own.
+ghost use Rattle.std.specs.Prelude.{◌≡◌, All, IfOk, vec_len};
+ghost use Rattle.entity_workers.specs.Carrying.{AcceptsAnswers};
+
+use crate::carrier::Carrier;
+use crate::fault::WorkersFault;
+use crate::intake::IntakeEnd;
+use held_lanes::{Gate, Names, Point};
+use shared_entity::Entity;
+use std::alloc::Global;
+use std::sync::Wait;
+use std::thread;
+use std::thread::Threads;
+
+/// Has a worker for each carrier bring datagrams to their lanes until no more can come, and gives the carriers back in their
+/// order. All room is made before the first thread starts. Where one can't be started, those before it run to their end all
+/// the same.
+pub fn run_workers<
+    N: Names + Send + Sync,
+    R: Threads + Wait + Copy + Send + Sync,
+    G: Gate<N, R> + Sync,
+    C: Carrier<G::Answer> + Send + Drop,
+>(
+    rt: &R,
+    alloc: Global,
+    entity: &Entity<N, R>,
+    intake: &IntakeEnd,
+    carriers: Vec<C>,
+    gate: &G,
+) -> Result<Vec<C>, WorkersFault>
+    requires { All (λ carrier. AcceptsAnswers N.queue (G.gives gate.now) entity.now (C.accepts carrier)) carriers.items }
+    ensures { IfOk result (λ back. vec_len back ≡ vec_len carriers) }
+{
+    thread::scope(
+        thread::scope_env(),
+        rt,
+        move |scope| -> Result<Vec<C>, WorkersFault>
+            requires { All (λ carrier. AcceptsAnswers N.queue (G.gives gate.now) entity.now (C.accepts carrier)) carriers.items }
+            ensures { IfOk result (λ back. vec_len back ≡ vec_len carriers) }
+        {
+            let count = carriers.len();
+            let Ok(mut threads) = Vec::with_capacity(alloc, count) else {
+                return Err(WorkersFault::NoMemory);
+            };
+            let Ok(mut back) = Vec::with_capacity(alloc, count) else {
+                return Err(WorkersFault::NoMemory);
+            };
+            let mut carriers = carriers;
+            while let Some(carrier) = carriers.pop() {
+                let started = scope.spawn(
+                    move || -> C
+                        requires { AcceptsAnswers N.queue (G.gives gate.now) entity.now (C.accepts carrier) }
+                    { work(rt, entity, intake, gate, carrier) },
+                );
+                let Ok(thread) = started else {
+                    break;
+                };
+                threads.push_reserved(thread);
+            }
+            while let Some(thread) = threads.pop() {
+                back.push_reserved(thread.join(rt));
+            }
+            if back.len() < count {
+                return Err(WorkersFault::Start);
+            }
+            Ok(back)
+        },
+    )
+}
+
+// Brings datagrams to their lanes until no more can come.
+fn work<N: Names, R: Wait + Copy, G: Gate<N, R>, C: Carrier<G::Answer>>(
+    rt: &R,
+    entity: &Entity<N, R>,
+    intake: &IntakeEnd,
+    gate: &G,
+    mut carrier: C,
+) -> C
+    requires { AcceptsAnswers N.queue (G.gives gate.now) entity.now (C.accepts carrier) }
+{
+    for _ in rt.forever() {
+        let Some(message) = intake.receive(rt) else {
+            break;
+        };
+        gate.at(Point::Taken);
+        carrier.carry(entity.deliver_pdu(rt, gate, message.into_pdu()));
+    }
+    carrier
+}

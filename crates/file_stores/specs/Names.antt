@@ -1,0 +1,38 @@
+-- Names of files in a folder, and what a deposit into it tells.
+use Rattle.std.specs.Prelude.{◌≡◌, ◌↔◌, ℕ, Bool, not, ◌&&◌, ◌||◌, ◌==◌, nat_eq, if◌then◌else◌, IsTrue, IsUtf8, List, ◌++◌, length, codes, decimal, Option, Some, None, Result, Err, OnOk}
+use Rattle.std.specs.List.{list_any}
+use Rattle.std.specs.Str.{bytes_eq}
+use Rattle.std.specs.Cmp.Lexicographic.{pointwise}
+use Rattle.file_stores.specs.declared.filestore.StoreFault.{StoreFault}
+use Rattle.file_stores.specs.declared.filestore.StoreFault.TheVariants.{BadName}
+
+-- the deposits that were tried, and those that failed
+pub record Counts : Type 0 where
+  pub calls : ℕ
+  pub failures : ℕ
+
+-- the name that a part has by its number, while its file is not whole
+abbrev pub part_name : ℕ → List ℕ
+part_name number = codes ".part-" ++ decimal number
+
+-- that name, unless it is the file's own
+abbrev pub part_for : List ℕ → ℕ → Option (List ℕ)
+part_for name number = if bytes_eq (part_name number) name then None else Some (part_name number)
+
+-- the name stays in its folder: it isn't empty, `.` or `..`, and has no slash and no zero octet
+abbrev pub is_plain_name : List ℕ → Bool
+is_plain_name name =
+    not (length name == 0)
+    && not (pointwise nat_eq name (codes "."))
+    && not (pointwise nat_eq name (codes ".."))
+    && not (list_any (λ octet. octet == 47 || octet == 0) name)
+
+-- a name for a file of a folder
+pub record IsFileName (name : List ℕ) : Type 0 where
+  pub plain : IsTrue (is_plain_name name)
+  pub text : IsUtf8 name
+
+-- a bad name fails as such; what a folder holds isn't told
+pub record FolderDeposits (before : Counts) (name octets : List ℕ) (result : Result (Unit {0}) StoreFault) (after : Counts) : Type 0 where
+  pub ok : OnOk result (IsFileName name)
+  pub bad_name : (result ≡ Err BadName) ↔ ¬ (IsFileName name)

@@ -1,0 +1,68 @@
+//! What single words of a line write.
+ghost use Rattle.std.specs.Prelude.{◌≡◌, nat_lt};
+ghost use Rattle.std.specs.List.{list_all};
+ghost use Rattle.std.specs.Option.{option_copied};
+ghost use Rattle.line_words.specs.Operands.{number_of, key_from, name_of, class_of, request_for};
+
+use crate::words::decimal;
+use cfdp_types::{Class, EntityId, TxnKey};
+use entity_routing::Request;
+
+/// A number of 64 bits.
+pub fn number_of(word: &[u8]) -> Option<u64>
+    ensures { result ≡ number_of word.now }
+{
+    decimal(word, u64::MAX)
+}
+
+/// A transaction, by its two numbers.
+pub fn key_from(source: &[u8], seq: &[u8]) -> Option<TxnKey>
+    ensures { result ≡ key_from source.now seq.now }
+{
+    let source = EntityId(number_of(source)?);
+    let seq = number_of(seq)?;
+    Some(TxnKey { source, seq })
+}
+
+fn is_ascii(word: &[u8]) -> bool
+    ensures { result ≡ list_all (λ octet. nat_lt octet 128) word.now }
+{
+    word.iter().all(|octet| *octet < 128)
+}
+
+/// A word of ASCII.
+pub fn name_of(word: &[u8]) -> Option<&[u8]>
+    ensures { option_copied result ≡ name_of word.now }
+{
+    if is_ascii(word) { Some(word) } else { None }
+}
+
+/// A class, by its number.
+pub fn class_of(word: &[u8]) -> Option<Class>
+    ensures { result ≡ class_of word.now }
+{
+    match decimal(word, 2)? {
+        1 => Some(Class::One),
+        2 => Some(Class::Two),
+        _ => None,
+    }
+}
+
+/// What the first word asks for, of a transaction.
+pub fn request_for(kind: &[u8], key: TxnKey) -> Option<Request>
+    ensures { result ≡ request_for kind.now key }
+{
+    if kind == b"cancel".as_slice() {
+        Some(Request::Cancel(key))
+    } else if kind == b"suspend".as_slice() {
+        Some(Request::Suspend(key))
+    } else if kind == b"resume".as_slice() {
+        Some(Request::Resume(key))
+    } else if kind == b"report".as_slice() {
+        Some(Request::Report(key))
+    } else if kind == b"abandon".as_slice() {
+        Some(Request::Abandon(key))
+    } else {
+        None
+    }
+}

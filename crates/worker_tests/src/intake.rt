@@ -1,0 +1,33 @@
+//! What an intake takes.
+use crate::datagrams::METADATA;
+use entity_workers::{Intake, IntakeFault};
+use pdu_codec::DecodeFault;
+use std::sync::Wait;
+use std::test::*;
+
+#[test]
+fn datagrams_wait(rt: HostRuntime) -> Result<(), Fail> {
+    let (send, end) = Intake::new(rt.alloc(), 2)?;
+    assert_eq!(rt; send.send(&rt, METADATA), Ok(()));
+    let message = end.receive(&rt).ok_or("nothing came")?;
+    assert!(rt; message.octets() == METADATA);
+    Ok(())
+}
+
+#[test]
+fn what_is_no_pdu(rt: HostRuntime) -> Result<(), Fail> {
+    let (send, _end) = Intake::new(rt.alloc(), 1)?;
+    let fault = IntakeFault::Decode(DecodeFault::TooShort);
+    assert_eq!(rt; send.send(&rt, &[0x24]), Err(fault));
+    assert_eq!(rt; fault.number(), 1);
+    Ok(())
+}
+
+#[test]
+fn nobody_receives(rt: HostRuntime) -> Result<(), Fail> {
+    let (send, end) = Intake::new(rt.alloc(), 1)?;
+    drop(end);
+    assert_eq!(rt; send.send(&rt, METADATA), Err(IntakeFault::Closed));
+    assert_eq!(rt; IntakeFault::Closed.number(), 2);
+    Ok(())
+}

@@ -1,0 +1,144 @@
+//! Workers receive a file, and a store takes it or not.
+
+use crate::datagrams::{EOF, FILE_DATA, METADATA};
+use crate::keeping::{Fails, Keeper, Wayward, deposits_in, keepers, steps_in};
+use crate::runs::{Run, play};
+use crate::told::{Words, take_all};
+use cfdp_types::{Deposit, EntityId, TxnKey};
+use entity_config::Config;
+use entity_workers::{
+    DepositRest, Filestore, Intake, IntakeSend, MemoryStore, StoredFile, deposit_one, run_workers,
+};
+use held_lanes::{Names, NoGate};
+use lane_table::Done;
+use shared_entity::Entity;
+use std::alloc::{AllocError, Global};
+use std::sync::Wait;
+use std::test::*;
+use std::thread;
+use std::thread::Threads;
+use user_queues::UserPort;
+
+// Sends a file's three datagrams, and lets the sender go.
+fn send_file<R: Wait>(rt: &R, send: IntakeSend) -> bool {
+    [METADATA, FILE_DATA, EOF]
+        .iter()
+        .all(|octets| send.send(rt, octets).is_ok())
+}
+
+// Three workers have the datagrams of a file.
+fn deliver<N: Names + Send + Sync, R: Threads + Wait + Copy + Send + Sync>(
+    rt: &R,
+    alloc: Global,
+    entity: &Entity<N, R>,
+) -> Result<Option<Vec<Keeper>>, AllocError> {
+    let (send, end) = Intake::new(alloc, 4)?;
+    let keepers = keepers(alloc, 3)?;
+    let (sent, back) = thread::join(
+        rt,
+        || send_file(rt, send),
+        || run_workers(rt, alloc, entity, &end, keepers, &NoGate).ok(),
+    );
+    Ok(if sent { back } else { None })
+}
+
+/// Says how many workers came back, how many steps they made, how the file was stored and how its transaction ended.
+pub(crate) fn receive<N: Names + Send + Sync, R: Threads + Wait + Copy + Send + Sync>(
+    rt: &R,
+    alloc: Global,
+    text: &mut String,
+    entity: &Entity<N, R>,
+    ports: Vec<UserPort>,
+    failures: u64,
+) -> Result<(), AllocError> {
+    let Some(back) = deliver(rt, alloc, entity)? else {
+        return text.push_str("fault\n");
+    };
+    let workers = back.len();
+    let steps = steps_in(&back);
+    writeln!(text, "{workers} {steps}")?;
+    let mut store = Wayward::new(alloc, Fails::First(failures));
+    for deposit in deposits_in(&back, alloc)? {
+        if store.calls() < 4 {
+            push_deposit(text, deposit_one(rt, entity, &mut store, deposit))?;
+        }
+    }
+    push_files(text, store.files())?;
+    let mut words = Words::new(alloc);
+    for port in ports {
+        let mut port = port;
+        take_all(rt, alloc, text, &mut port, &mut words)?;
+    }
+    let whole = words.whole();
+    writeln!(text, "{whole:?}")
+}
+
+fn push_deposit(text: &mut String, made: Result<Done, DepositRest>) -> Result<(), AllocError> {
+    match made {
+        Ok(_) => text.push_str("told\n"),
+        Err(rest) => {
+            let answer = rest.answer;
+            let number = rest.refusal.number();
+            writeln!(text, "{answer:?} {number}")
+        }
+    }
+}
+
+fn push_files(text: &mut String, files: &[StoredFile]) -> Result<(), AllocError> {
+    for file in files {
+        let name = str::from_utf8(file.name.as_slice()).unwrap_or("?");
+        let octets = str::from_utf8(file.octets.as_slice()).unwrap_or("?");
+        writeln!(text, "{name} {octets}")?;
+    }
+    Ok(())
+}
+
+/// Says what comes back of a deposit that no lane waits for, and what the store has.
+pub(crate) fn store_stale<N: Names, R: Wait + Copy>(
+    rt: &R,
+    alloc: Global,
+    text: &mut String,
+    entity: &Entity<N, R>,
+) -> Result<(), AllocError> {
+    let mut store = MemoryStore::new(alloc);
+    let key = TxnKey {
+        source: EntityId(1),
+        seq: 5,
+    };
+    let deposit = Deposit { key, stamp: 2 };
+    push_deposit(text, deposit_one(rt, entity, &mut store, deposit))?;
+    let calls = store.calls();
+    writeln!(text, "{calls}")
+}
+
+#[test]
+fn three_workers(rt: HostRuntime) -> Result<(), Fail> {
+    let alloc = rt.alloc();
+    let run = Run::Receiving { failures: 0 };
+    let text = play(rt, alloc, Config::reference(alloc)?, run)?;
+    assert_eq!(rt;
+        text.as_str(),
+        "3 3\ntold\nb abc\n0 Complete Retained\nSome(1)\n"
+    );
+    Ok(())
+}
+
+#[test]
+fn a_store_that_fails(rt: HostRuntime) -> Result<(), Fail> {
+    let alloc = rt.alloc();
+    let run = Run::Receiving { failures: 1 };
+    let text = play(rt, alloc, Config::reference(alloc)?, run)?;
+    assert_eq!(rt;
+        text.as_str(),
+        "3 3\ntold\n4 Incomplete Rejected\nSome(1)\n"
+    );
+    Ok(())
+}
+
+#[test]
+fn nothing_waits(rt: HostRuntime) -> Result<(), Fail> {
+    let alloc = rt.alloc();
+    let text = play(rt, alloc, Config::reference(alloc)?, Run::Stale)?;
+    assert_eq!(rt; text.as_str(), "None 6\n0\n");
+    Ok(())
+}

@@ -1,0 +1,67 @@
+//! Runs of workers round an entity: each opens one, with the queues of its users, and plays.
+ghost use Rattle.std.specs.Prelude.{◌≡◌, ℕ, Some, length, slice_get, vec_len};
+ghost use Rattle.std.specs.List.{sum_by};
+ghost use Rattle.entity_routing.specs.Places.{lanes_of};
+ghost use Rattle.user_queues.specs.Opened.{IsOpenedFor};
+
+use crate::{receiving, soak, taken};
+use entity_config::Config;
+use held_lanes::Names;
+use shared_entity::{Entity, queues_of};
+use std::alloc::{AllocError, Global};
+use std::marker::Brand;
+use std::sync::Wait;
+use std::thread::Threads;
+use user_queues::Queues;
+
+/// What is played.
+#[derive(Clone, Copy)]
+pub(crate) enum Run {
+    /// Three workers receive a file, which a store takes, but for its first calls.
+    Receiving { failures: u64 },
+    /// A deposit that does not wait is made.
+    Stale,
+    /// Two workers are each to take a datagram before either goes on.
+    Taken,
+    /// Four workers receive many files, whose datagrams are lost, doubled and reordered.
+    Soak,
+}
+
+/// What a run says, line by line.
+pub(crate) fn play<R: Threads + Wait + Copy + Send + Sync>(
+    rt: R,
+    alloc: Global,
+    config: Config,
+    run: Run,
+) -> Result<String, AllocError> {
+    let queues = queues_of(rt, alloc, &config)?;
+    play_named::<Brand, R>(rt, alloc, config, queues, run)
+}
+
+// The same, over queues that are named.
+fn play_named<N: Names + Send + Sync, R: Threads + Wait + Copy + Send + Sync>(
+    rt: R,
+    alloc: Global,
+    config: Config,
+    queues: Queues<R>,
+    run: Run,
+) -> Result<String, AllocError>
+    requires opened { (user : ℕ) (ends : _) → slice_get queues.users.items user ≡ Some ends
+        → IsOpenedFor user (lanes_of config user) config.entity.capacity ends.port ends.outlets.items }
+    requires named { (user : ℕ) (ends : _) → slice_get queues.users.items user ≡ Some ends
+        → ends.port.queue ≡ N.queue user }
+    requires lanes { N.lanes ≡ sum_by (λ ends. vec_len ends.outlets) queues.users.items }
+    requires users { vec_len queues.users ≡ length config.users }
+{
+    let mut text = String::new(alloc);
+    let (entity, ports) = Entity::<N, R>::open(alloc, config, queues)?;
+    match run {
+        Run::Receiving { failures } => {
+            receiving::receive(&rt, alloc, &mut text, &entity, ports, failures)?
+        }
+        Run::Stale => receiving::store_stale(&rt, alloc, &mut text, &entity)?,
+        Run::Taken => taken::meet(&rt, alloc, &mut text, &entity)?,
+        Run::Soak => soak::soak(&rt, alloc, &mut text, &entity, ports)?,
+    }
+    Ok(text)
+}

@@ -1,0 +1,466 @@
+//! Four workers receive files from eight entities in both classes, whose datagrams are lost, doubled and reordered, while two
+//! users take and a store fails now and then.
+
+use crate::datagrams::{DATAGRAMS, Sent};
+use crate::keeping::{Answered, Fails, Wayward};
+use crate::runs::{Run, play};
+use crate::told::{Words, end_in, pause};
+use cfdp_types::Deposit;
+use entity_config::read_config;
+use entity_workers::{
+    Carrier, DepositRest, Filestore, Intake, IntakeSend, StoredFile, deposit_one, finish,
+    run_workers,
+};
+use held_lanes::{Names, NoGate};
+use indications::Bundle;
+use lane_table::{Done, Refused};
+use shared_entity::Entity;
+use std::alloc::{AllocError, Global};
+use std::sync::atomic::{AtomicU64, Ordering};
+use std::sync::{Mutex, Wait};
+use std::test::*;
+use std::thread;
+use std::thread::Threads;
+use user_queues::UserPort;
+
+/// Entities that send, with numbers from 11 on; the files of each; and how often each datagram is tried before it is sent
+/// until its file has come.
+const SOURCES: u8 = 8;
+
+const FIRST_SOURCE: u8 = 11;
+
+const FILES: u8 = 6;
+
+const ROUNDS: u8 = 3;
+
+/// What threads tell one another.
+#[derive(Drop)]
+struct Yard {
+    deposits: Mutex<Vec<Deposit>>,
+    // How many transactions of each source ended.
+    ended: Vec<AtomicU64>,
+    // The datagrams that were sent, and whether all were.
+    sent: AtomicU64,
+    over: AtomicU64,
+}
+
+impl Yard {
+    fn new(alloc: Global) -> Result<Yard, AllocError> {
+        let mut ended = Vec::new(alloc);
+        for _ in 0..SOURCES {
+            ended.push(AtomicU64::new(0))?;
+        }
+        Ok(Yard {
+            deposits: Mutex::new(Vec::new(alloc)),
+            ended,
+            sent: AtomicU64::new(0),
+            over: AtomicU64::new(0),
+        })
+    }
+
+    fn ended_of(&self, source: u64) -> Option<&AtomicU64> {
+        let place = source.checked_sub(u64::from(FIRST_SOURCE))?;
+        self.ended.get(usize::try_from(place).ok()?)
+    }
+
+    // Whether a file's transaction has ended: those of a source end one after the other.
+    fn has_ended(&self, sent: Sent) -> bool {
+        match self.ended_of(u64::from(sent.source)) {
+            Some(ended) => ended.load(Ordering::SeqCst) >= u64::from(sent.seq),
+            None => true,
+        }
+    }
+
+    fn count_end(&self, bundle: &Bundle) {
+        if end_in(bundle).is_some() {
+            if let Some(ended) = self.ended_of(bundle.key.source.0) {
+                ended.fetch_add(1, Ordering::SeqCst);
+            }
+        }
+    }
+}
+
+/// Lays deposits down for the thread that stores, and counts answers.
+#[derive(Drop)]
+struct Porter<'a, R> {
+    rt: &'a R,
+    yard: &'a Yard,
+    answers: u64,
+    refusals: u64,
+}
+
+impl<'a, R: Wait> Carrier<Result<Done, Refused>> for Porter<'a, R> {
+    ghost accepts = { λ porter answer. Unit {0} };
+
+    fn carry(&mut self, answer: Answered)
+        requires { Unit {0} }
+    {
+        self.answers = self.answers.saturating_add(1);
+        match answer {
+            Ok(Ok(done)) => self.lay(done),
+            _ => self.refusals = self.refusals.saturating_add(1),
+        }
+    }
+}
+
+impl<'a, R: Wait> Porter<'a, R> {
+    fn lay(&self, done: Done) {
+        if let Some(deposit) = done.deposit {
+            let _laid = self.yard.deposits.lock(self.rt).push(deposit);
+        }
+    }
+}
+
+// As many of them as there are workers.
+fn porters<'a, R: Wait>(
+    rt: &'a R,
+    alloc: Global,
+    yard: &'a Yard,
+) -> Result<Vec<Porter<'a, R>>, AllocError> {
+    let mut porters = Vec::new(alloc);
+    for _ in 0..4 {
+        porters.push(Porter {
+            rt,
+            yard,
+            answers: 0,
+            refusals: 0,
+        })?;
+    }
+    Ok(porters)
+}
+
+// Runs the workers; how many came back, their answers, and the refusals among those.
+fn run_all<N: Names + Send + Sync, R: Threads + Wait + Copy + Send + Sync>(
+    rt: &R,
+    alloc: Global,
+    entity: &Entity<N, R>,
+    intake: &entity_workers::IntakeEnd,
+    porters: Vec<Porter<'_, R>>,
+) -> (usize, u64, u64) {
+    let Ok(back) = run_workers(rt, alloc, entity, intake, porters, &NoGate) else {
+        return (0, 0, 0);
+    };
+    let answers = back.iter().map(|porter| porter.answers);
+    let refusals = back.iter().map(|porter| porter.refusals);
+    (
+        back.len(),
+        answers.fold(0, u64::saturating_add),
+        refusals.fold(0, u64::saturating_add),
+    )
+}
+
+/// A fixed list of numbers, one after the other.
+#[derive(Clone, Copy)]
+struct Numbers {
+    state: u32,
+}
+
+impl Numbers {
+    fn next(&mut self) -> u32 {
+        self.state = self
+            .state
+            .wrapping_mul(1_664_525)
+            .wrapping_add(1_013_904_223);
+        self.state >> 16
+    }
+}
+
+/// Sends datagrams, and counts what becomes of them.
+#[derive(Drop)]
+struct Feeder<'a, R> {
+    rt: &'a R,
+    alloc: Global,
+    yard: &'a Yard,
+    to: IntakeSend,
+    numbers: Numbers,
+    lost: u64,
+    doubled: u64,
+}
+
+impl<'a, R: Wait> Feeder<'a, R> {
+    fn send(&self, sent: Sent, place: u8) -> Result<(), AllocError> {
+        let octets = sent.datagram(self.alloc, place)?;
+        if self.to.send(self.rt, &octets).is_ok() {
+            self.yard.sent.fetch_add(1, Ordering::SeqCst);
+        }
+        Ok(())
+    }
+
+    // A datagram is lost, comes, or comes twice.
+    fn try_once(&mut self, sent: Sent, place: u8) -> Result<(), AllocError> {
+        match self.numbers.next() % 4 {
+            0 => {
+                self.lost = self.lost.saturating_add(1);
+                Ok(())
+            }
+            1 => {
+                self.doubled = self.doubled.saturating_add(1);
+                self.send(sent, place)?;
+                self.send(sent, place)
+            }
+            _ => self.send(sent, place),
+        }
+    }
+
+    // All datagrams of a file of each source are tried, in an order that the numbers give.
+    fn round(&mut self, seq: u8) -> Result<(), AllocError> {
+        let first = (self.numbers.next() % u32::from(DATAGRAMS)) as u8;
+        for step in 0..DATAGRAMS {
+            for number in 0..SOURCES {
+                let source = FIRST_SOURCE + number;
+                let place = (first.wrapping_add(step.wrapping_mul(3))) % DATAGRAMS;
+                self.try_once(Sent { source, seq }, place)?;
+            }
+        }
+        Ok(())
+    }
+
+    // All datagrams of a file come again.
+    fn send_all(&self, sent: Sent) -> Result<(), AllocError> {
+        for place in 0..DATAGRAMS {
+            self.send(sent, place)?;
+        }
+        Ok(())
+    }
+
+    // The files with a number are sent until all have come; whether they have.
+    fn complete(&self, seq: u8) -> Result<bool, AllocError> {
+        for _ in 0..20_000 {
+            let mut is_whole = true;
+            for number in 0..SOURCES {
+                let source = FIRST_SOURCE + number;
+                if !self.yard.has_ended(Sent { source, seq }) {
+                    is_whole = false;
+                    self.send_all(Sent { source, seq })?;
+                }
+            }
+            if is_whole {
+                return Ok(true);
+            }
+            pause(self.rt);
+        }
+        Ok(false)
+    }
+
+    // All files.
+    fn feed(&mut self) -> Result<bool, AllocError> {
+        for seq in 1..=FILES {
+            for _ in 0..ROUNDS {
+                self.round(seq)?;
+            }
+            if !self.complete(seq)? {
+                return Ok(false);
+            }
+        }
+        Ok(true)
+    }
+}
+
+// Feeds all files, and then lets the intake go; whether all came, and what was lost and doubled.
+fn feed_all<R: Wait>(feeder: Feeder<'_, R>) -> (bool, u64, u64) {
+    let mut feeder = feeder;
+    let fed = matches!(feeder.feed(), Ok(true));
+    feeder.yard.over.store(1, Ordering::SeqCst);
+    (fed, feeder.lost, feeder.doubled)
+}
+
+/// Takes what users are told, and stores what is laid down.
+#[derive(Drop)]
+struct Keeping {
+    store: Wayward,
+    rests: Vec<DepositRest>,
+    words: Words,
+}
+
+impl Keeping {
+    // One bundle of each user is taken; whether there was one.
+    fn take<R: Wait>(
+        &mut self,
+        rt: &R,
+        alloc: Global,
+        yard: &Yard,
+        ports: &mut Vec<UserPort>,
+    ) -> Result<bool, AllocError> {
+        let mut took = false;
+        for port in ports.iter_mut() {
+            if let Some(bundle) = port.take(rt) {
+                took = true;
+                self.words.read(alloc, &bundle)?;
+                yard.count_end(&bundle);
+            }
+        }
+        Ok(took)
+    }
+
+    // One deposit is made, or gone on with; whether there was one.
+    fn store<N: Names, R: Wait + Copy>(
+        &mut self,
+        rt: &R,
+        yard: &Yard,
+        entity: &Entity<N, R>,
+    ) -> Result<bool, AllocError> {
+        if self.store.calls() >= 1_000 {
+            return Ok(false);
+        }
+        let laid = yard.deposits.lock(rt).pop();
+        let made = match (laid, self.rests.pop()) {
+            (Some(deposit), rest) => {
+                if let Some(rest) = rest {
+                    self.rests.push(rest)?;
+                }
+                deposit_one(rt, entity, &mut self.store, deposit)
+            }
+            (None, Some(rest)) => finish(rt, entity, &mut self.store, rest),
+            (None, None) => return Ok(false),
+        };
+        if let Err(rest) = made {
+            self.rests.push(rest)?;
+        }
+        Ok(true)
+    }
+
+    // Until all files were fed and nothing is left.
+    fn keep_on<N: Names, R: Wait + Copy>(
+        &mut self,
+        rt: &R,
+        alloc: Global,
+        yard: &Yard,
+        entity: &Entity<N, R>,
+        ports: &mut Vec<UserPort>,
+    ) -> Result<(), AllocError> {
+        for _ in 0..1_000_000 {
+            let is_over = yard.over.load(Ordering::SeqCst) == 1;
+            let took = self.take(rt, alloc, yard, ports)?;
+            let stored = self.store(rt, yard, entity)?;
+            if !took && !stored {
+                if is_over {
+                    return Ok(());
+                }
+                pause(rt);
+            }
+        }
+        Ok(())
+    }
+
+    // How many files are kept that are what was sent under their name.
+    fn right(&self, alloc: Global) -> Result<u64, AllocError> {
+        let mut right = 0u64;
+        for file in self.store.files() {
+            if is_sent(alloc, file)? {
+                right = right.saturating_add(1);
+            }
+        }
+        Ok(right)
+    }
+}
+
+// Whether a file that is kept is what was sent under its name.
+fn is_sent(alloc: Global, file: &StoredFile) -> Result<bool, AllocError> {
+    for number in 0..SOURCES {
+        for seq in 1..=FILES {
+            let source = FIRST_SOURCE + number;
+            let sent = Sent { source, seq };
+            if file.name.as_slice() == sent.name().as_slice() {
+                return Ok(file.octets.as_slice() == sent.file(alloc)?.as_slice());
+            }
+        }
+    }
+    Ok(false)
+}
+
+/// Says how many workers came back, whether each datagram was answered once, whether enough was lost, doubled and refused,
+/// the calls of the store and its failures, the files that are right, and the words that were told.
+pub(crate) fn soak<N: Names + Send + Sync, R: Threads + Wait + Copy + Send + Sync>(
+    rt: &R,
+    alloc: Global,
+    text: &mut String,
+    entity: &Entity<N, R>,
+    ports: Vec<UserPort>,
+) -> Result<(), AllocError> {
+    let yard = Yard::new(alloc)?;
+    let (to, end) = Intake::new(alloc, 64)?;
+    let porters = porters(rt, alloc, &yard)?;
+    let feeder = Feeder {
+        rt,
+        alloc,
+        yard: &yard,
+        to,
+        numbers: Numbers { state: 1 },
+        lost: 0,
+        doubled: 0,
+    };
+    let mut keeping = Keeping {
+        store: Wayward::new(alloc, Fails::Seventh),
+        rests: Vec::new(alloc),
+        words: Words::new(alloc),
+    };
+    let mut ports = ports;
+    let ((fed, ran), kept) = thread::join(
+        rt,
+        || thread::join(
+            rt,
+            || feed_all(feeder),
+            || run_all(rt, alloc, entity, &end, porters),
+        ),
+        || keeping.keep_on(rt, alloc, &yard, entity, &mut ports),
+    );
+    kept?;
+    let (workers, answers, refusals) = ran;
+    let (is_fed, lost, doubled) = fed;
+    let is_each_answered = answers == yard.sent.load(Ordering::SeqCst);
+    writeln!(text, "{workers} {is_fed} {is_each_answered}")?;
+    let is_enough = answers > 800 && lost > 300 && doubled > 300 && refusals > 50;
+    writeln!(text, "{is_enough}")?;
+    let (calls, failures) = (keeping.store.calls(), keeping.store.failures());
+    let right = keeping.right(alloc)?;
+    let whole = keeping.words.whole();
+    writeln!(text, "{calls} {failures} {right} {whole:?}")
+}
+
+const ENTITY: &str = r#"
+[entity]
+id = 2
+id_octets = 1
+seq_octets = 1
+first = 1
+put_lanes = 2
+recv_lanes = 2
+capacity = 8
+segment = 256
+[[user]]
+name = "alice"
+[[user]]
+name = "bob"
+"#;
+
+// Adds a source, whose files go to one user or the other.
+fn push_source(text: &mut String, id: u8) -> Result<(), AllocError> {
+    let user = if id % 4 < 2 { "alice" } else { "bob" };
+    writeln!(
+        text,
+        "[[remote]]\nid = {id}\naddress = \"127.0.0.1:7001\"\nuser = \"{user}\""
+    )?;
+    text.push_str("ack_ms = 1000\nnak_ms = 1000\ncheck_ms = 1000\ninactivity_ms = 1000\n")?;
+    text.push_str("ack_limit = 2\nnak_limit = 2\ncheck_limit = 2\n")
+}
+
+// An entity with all sources.
+fn config_text(alloc: Global) -> Result<String, AllocError> {
+    let mut text = String::from_str(alloc, ENTITY)?;
+    for number in 0..SOURCES {
+        push_source(&mut text, FIRST_SOURCE + number)?;
+    }
+    Ok(text)
+}
+
+#[test]
+fn many_files(rt: HostRuntime) -> Result<(), Fail> {
+    let alloc = rt.alloc();
+    let text = config_text(alloc)?;
+    let config = read_config(alloc, text.as_str())
+        .ok()
+        .ok_or("no configuration")?;
+    let text = play(rt, alloc, config, Run::Soak)?;
+    assert_eq!(rt; text.as_str(), "4 true true\ntrue\n48 6 42 Some(48)\n");
+    Ok(())
+}
