@@ -134,9 +134,7 @@ fn files_in_a_folder(rt: HostRuntime) -> Result<(), Fail> {
     Ok(())
 }
 
-const BAD_NAMES: &[&[u8]] = &[
-    b"", b".", b"..", b"a/b", b"/a", b"a\0b", b"a\xff",
-];
+const BAD_NAMES: &[&[u8]] = &[b"", b".", b"..", b"a/b", b"/a", b"a\0b", b"a\xff"];
 
 // Whether a store refuses each of the bad names.
 fn refuses<S: Files + AllocGlobal + Drop>(store: &mut FolderStore<S>) -> bool {

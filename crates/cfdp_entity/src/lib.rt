@@ -3,4 +3,4 @@
 
 pub use entity_routing::{Place, Request, RouteRefusal, WorldEvent};
 pub use entity_world::{EntityRefusal, World};
-pub use shared_entity::{Entity, Gate, Held, Names, NoGate, Point, queues_of};
+pub use shared_entity::{Entity, Gate, Held, Names, NoGate, Point, Traced, queues_of};

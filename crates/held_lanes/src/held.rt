@@ -29,7 +29,7 @@ impl<N: Names, R: Copy> Model for Held<N, R> {
 impl<N: Names, R: Copy> Held<N, R> {
     ghost use Rattle.std.specs.Prelude.{◌≡◌, Ok, IfOk, IfErr};
     ghost use Rattle.held_lanes.specs.Held.{IsBehindLock};
-    ghost use Rattle.lane_table.specs.Lane.{issued_by};
+    ghost use Rattle.lane_table.specs.Lane.{issued_by, key_of};
     ghost use Rattle.lane_table.specs.Steps.{image_of};
     ghost use Rattle.txn_core.specs.Transactions.{IsWhy};
 
@@ -60,7 +60,21 @@ impl<N: Names, R: Copy> Held<N, R> {
         self.outlet.lane()
     }
 
-    /// All that the user was told of the lane's last transaction, in order.
+    /// The key of the lane's last transaction, if there is one.
+    pub fn key(&self) -> Option<TxnKey>
+        ensures { result ≡ key_of self.now.lane }
+    {
+        self.lane.key()
+    }
+
+    /// The events of that transaction that were taken, in order.
+    pub fn journal(&self) -> &[Event]
+        ensures { result.now ≡ self.now.lane.journal }
+    {
+        self.lane.journal()
+    }
+
+    /// All that the user was told of that transaction, in order.
     pub fn trace(&self) -> &[Indication]
         ensures { result.now ≡ issued_by self.now.lane }
     {

@@ -8,6 +8,8 @@ use Rattle.txn_events.specs.declared.event.Event.{Event}
 use Rattle.txn_events.specs.declared.refusal.Refusal.{Refusal}
 use Rattle.lane_table.specs.Steps.{image_of, plainly}
 use Rattle.lane_images.specs.Images.{IsOwnFile}
+use Rattle.lane_traces.specs.Traces.{how_far, IsHowFar}
+use Rattle.lane_traces.specs.declared.traced.Traced.{Traced}
 use Rattle.entity_routing.specs.Routes.{Routed}
 use Rattle.entity_routing.specs.declared.place.Place.{Place}
 use Rattle.entity_routing.specs.declared.refusal.RouteRefusal.{RouteRefusal}
@@ -60,3 +62,26 @@ MayGiveImage queue key stamp (Err why) result = result ≡ Err (answer.Route why
 MayGiveImage queue key stamp (Ok place) result =
     IfOk result (MayBeImage queue place key stamp)
     × IfErr result (λ why. (why ≡ answer.WrongLane) ⊎ MayLackImage queue place key stamp why)
+
+-- how far a transaction is at the lane of a place, for what lay behind its lock; it holds of that lane's legal log, under
+-- that very key
+pub record MayBeTraced (queue : ℕ → TableId) (place : Place) (key : TxnKey) (traced : Traced) : Type 0 where
+  pub held : HeldValue
+  pub there : IsAt queue place held
+  pub is_given : how_far held.lane key ≡ Ok traced
+  pub is_own : IsHowFar held.lane key traced
+
+-- why a lane didn't tell how far a transaction is, for what lay behind its lock
+pub record MayLackTrace (queue : ℕ → TableId) (place : Place) (key : TxnKey) (why : EntityRefusal) : Type 0 where
+  pub held : HeldValue
+  pub there : IsAt queue place held
+  pub refused : Refusal
+  pub is_refused : why ≡ answer.Lane (plainly refused)
+  pub is_why : how_far held.lane key ≡ Err refused
+
+-- what is answered where it is asked how far a transaction is, by where that is
+abbrev pub MayTrace : (ℕ → TableId) → TxnKey → Result Place RouteRefusal → Result Traced EntityRefusal → Type 0
+MayTrace queue key (Err why) result = result ≡ Err (answer.Route why)
+MayTrace queue key (Ok place) result =
+    IfOk result (MayBeTraced queue place key)
+    × IfErr result (λ why. (why ≡ answer.WrongLane) ⊎ MayLackTrace queue place key why)

@@ -1,6 +1,6 @@
 ghost use Rattle.std.specs.Prelude.{◌≡◌, IsTrue, Ok, IfOk, OnErr};
 ghost use Rattle.lane_table.specs.Steps.{IsKeyed};
-ghost use Rattle.shared_entity.specs.Answering.{IsAt, MayAnswerAt, MayGiveImage};
+ghost use Rattle.shared_entity.specs.Answering.{IsAt, MayAnswerAt, MayGiveImage, MayTrace};
 
 use crate::opening::add_lanes;
 use crate::outlets::OutletRoom;
@@ -12,6 +12,7 @@ use entity_routing::{
 };
 use held_lanes::{Gate, Held, Names, Point};
 use lane_table::Refused;
+use lane_traces::{Traced, how_far};
 use pdu_codec::Pdu;
 use std::alloc::{AllocError, Global};
 use std::marker::Model;
@@ -138,7 +139,7 @@ impl<N: Names, R: Wait + Copy> Entity<N, R> {
     ghost use Rattle.entity_lanes.specs.Asking.{MayRequest};
     ghost use Rattle.entity_routing.specs.Routes.{key_place, routed_key, routed_own, routed_request, routed_reading, routed_put, routed_pdu, put_params};
     ghost use Rattle.entity_refusals.specs.Refusals.{IsUnreadFrom};
-    ghost use Rattle.shared_entity.specs.Answering.{MayAnswer, MayAnswerAt, MayGiveImage};
+    ghost use Rattle.shared_entity.specs.Answering.{MayAnswer, MayAnswerAt, MayGiveImage, MayTrace};
 
     /// A user asks for something.
     pub fn request<G: Gate<N, R>>(
@@ -239,6 +240,18 @@ impl<N: Names, R: Wait + Copy> Entity<N, R> {
         };
         let held = lock.lock(rt);
         image_at(&held, place, key, stamp)
+    }
+
+    /// How far a transaction is, by its key. The lane's lock is held for no longer than its last indication is looked at.
+    pub fn trace(&self, rt: &R, key: TxnKey) -> Result<Traced, EntityRefusal>
+        ensures { MayTrace N.queue key (key_place self.now key) result }
+    {
+        let place = place_of_key(&self.config, key)?;
+        let Some(lock) = self.lock_of(place) else {
+            return Err(EntityRefusal::WrongLane);
+        };
+        let held = lock.lock(rt);
+        trace_at(&held, place, key)
     }
 
     // Something happens to a transaction, in the entity itself.
@@ -345,6 +358,23 @@ fn image_at<N: Names, R: Copy>(
     }
     match held.image(key, stamp) {
         Ok(image) => Ok(image),
+        Err(why) => Err(EntityRefusal::Lane(Refused { why, echo: None })),
+    }
+}
+
+// How far a transaction is at what lies behind a lock, if that is the lane of the place.
+fn trace_at<N: Names, R: Copy>(
+    held: &Held<N, R>,
+    place: Place,
+    key: TxnKey,
+) -> Result<Traced, EntityRefusal>
+    ensures { MayTrace N.queue key (Ok place) result }
+{
+    if !is_at(held, place) {
+        return Err(EntityRefusal::WrongLane);
+    }
+    match how_far(held.key(), held.journal(), held.trace(), key) {
+        Ok(traced) => Ok(traced),
         Err(why) => Err(EntityRefusal::Lane(Refused { why, echo: None })),
     }
 }

@@ -1,3 +1,4 @@
 pub mod HeldRows
 pub mod ImageRows
 pub mod AnswerRows
+pub mod TraceRows

@@ -7,7 +7,7 @@ use entity_config::Config;
 use entity_routing::{Place, Request};
 use held_lanes::{Names, NoGate};
 use pdu_codec::decode;
-use shared_entity::Entity;
+use shared_entity::{Entity, Traced};
 use std::alloc::{AllocError, Global};
 use std::sync::Wait;
 use std::test::*;
@@ -111,7 +111,25 @@ fn receive<N: Names, R: Wait + Copy>(
     push_image(rt, alloc, text, entity, key(1, 5), 2)?;
     push_image(rt, alloc, text, entity, key(1, 5), 1)?;
     push_image(rt, alloc, text, entity, key(7, 5), 2)?;
-    push_answer(text, entity.stored(rt, &NoGate, key(1, 5), 2, true))
+    push_trace(rt, text, entity, key(1, 5))?;
+    push_trace(rt, text, entity, key(1, 6))?;
+    push_trace(rt, text, entity, key(1, 4))?;
+    push_trace(rt, text, entity, key(7, 5))?;
+    push_answer(text, entity.stored(rt, &NoGate, key(1, 5), 2, true))?;
+    push_trace(rt, text, entity, key(1, 5))
+}
+
+// Adds a line for how far a transaction is, or why that isn't told.
+fn push_trace<N: Names, R: Wait + Copy>(
+    rt: &R,
+    text: &mut String,
+    entity: &Entity<N, R>,
+    key: TxnKey,
+) -> Result<(), AllocError> {
+    match entity.trace(rt, key) {
+        Ok(Traced { entries, ended }) => writeln!(text, "{entries} {ended}"),
+        Err(why) => push_line(text, why.name()),
+    }
 }
 
 // Datagrams that no lane is told of.
@@ -224,7 +242,7 @@ fn each_call(rt: HostRuntime) -> Result<(), Fail> {
     let text = play(rt, alloc, Config::reference(alloc)?, Run::Calls)?;
     assert_eq!(rt;
         text.as_str(),
-        "5\n5\n5\n61 62 616263\nStaleStored\nNoRoute\n5\n4\n0\n6\n6\n4\n4\n4\n4\n4\n4\nOldTransaction\n\
+        "5\n5\n5\n61 62 616263\nStaleStored\nNoRoute\n3 false\nNoTransaction\nOldTransaction\nNoRoute\n5\n4 true\n4\n0\n6\n6\n4\n4\n4\n4\n4\n4\nOldTransaction\n\
          DecodeFault\nNotForUs\nWrongDirection\nNoRoute\n"
     );
     Ok(())

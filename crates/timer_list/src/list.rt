@@ -1,4 +1,5 @@
 ghost use Rattle.std.specs.Prelude.{◌≡◌, [], ◌++◌, ◌∷◌, OnOk, OnErr, IfErr, IsErr, IsTrue, false};
+ghost use Rattle.timer_list.specs.Slots.{none_before};
 ghost use Rattle.timer_list.specs.Timers.{after, armed_with, arms_new, disarmed_of, first_due, has_timer, without_due};
 
 use crate::armed::Armed;
@@ -108,6 +109,14 @@ impl TimerList {
         };
         self.slots.take_out(timer.key, timer.kind);
         Some(timer)
+    }
+
+    /// A moment before which no timer expires, in the caller's milliseconds. It is the first at which one does, or the last
+    /// that can be told where none runs, once `due` has found none since timers were taken out or armed anew.
+    pub fn soonest(&self) -> u64
+        ensures { IsTrue (none_before result self.now) }
+    {
+        self.soonest
     }
 
     /// Adds a timer that was taken out as the last of the list, and gives it back where it runs again or

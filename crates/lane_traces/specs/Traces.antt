@@ -1,0 +1,66 @@
+-- How far a lane's transaction is.
+use Rattle.std.specs.Prelude.{◌≡◌, ◌↔◌, ℕ, ◌-◌, ◌==◌, ◌&&◌, min, Bool, true, false, IsTrue, nat_lt, if◌then◌else◌, List, length, slice_get, Option, Some, None, Result, Ok, Err}
+use Rattle.cfdp_types.specs.declared.key.TxnKey.{TxnKey}
+use Rattle.indications.specs.declared.indication.Indication.{Indication}
+use Rattle.indications.specs.Words.{is_end, IsBegunOf, IsWordOf}
+use Rattle.txn_events.specs.declared.event.Event.{Event}
+use Rattle.txn_events.specs.declared.refusal.Refusal.{Refusal}
+use Rattle.txn_events.specs.declared.refusal.Refusal.TheVariants.{NoTransaction, OldTransaction}
+use Rattle.lane_table.specs.Logs.{Log, side_of, issued, IsLegal}
+use Rattle.lane_table.specs.Lane.{State, IsSound, key_of, log_of, issued_by}
+use Rattle.lane_traces.specs.declared.traced.Traced.{Traced}
+
+-- the greatest number of entries that can be told
+abbrev pub most_entries : ℕ
+most_entries = 4294967295
+
+-- the number of events, up to the greatest that can be told
+abbrev pub entries_of : List Event → ℕ
+entries_of journal = min (length journal) most_entries
+
+-- there is an indication, and it is an end
+abbrev pub is_end_told : Option Indication → Bool
+is_end_told None = false
+is_end_told (Some indication) = is_end indication
+
+-- the last that a user was told is an end
+abbrev pub is_over : List Indication → Bool
+is_over told = is_end_told (slice_get told (length told - 1))
+
+-- how far a transaction is, by its events and by what its user was told
+abbrev pub traced_by : List Event → List Indication → Traced
+traced_by journal told = record { entries = entries_of journal; ended = is_over told }
+
+-- a key is another
+abbrev pub is_same_key : TxnKey → TxnKey → Bool
+is_same_key one other = one.source.0 == other.source.0 && one.seq == other.seq
+
+-- a key is of the same source and of a lower number than another
+abbrev pub is_older_than : TxnKey → TxnKey → Bool
+is_older_than last key = last.source.0 == key.source.0 && nat_lt key.seq last.seq
+
+-- how far the transaction of a key is, by the key of the last transaction, its events and what its user was told
+abbrev pub how_far_by : Option TxnKey → List Event → List Indication → TxnKey → Result Traced Refusal
+how_far_by None journal told key = Err NoTransaction
+how_far_by (Some last) journal told key =
+    if is_same_key last key then Ok (traced_by journal told)
+    else if is_older_than last key then Err OldTransaction
+    else Err NoTransaction
+
+-- how far the transaction of a key is at a lane, or why the lane can't tell
+abbrev pub how_far : State → TxnKey → Result Traced Refusal
+how_far state key = how_far_by (key_of state) state.journal (issued_by state) key
+
+-- what is told of how far a transaction is holds of the log that a lane stands at, which is legal, under a key
+pub record IsHowFar (state : State) (key : TxnKey) (traced : Traced) : Type 0 where
+  pub log : Log
+  pub log_is : log_of state ≡ Some log
+  pub key_is : key_of state ≡ Some key
+  pub legal : IsLegal log
+  pub entries : traced.entries ≡ entries_of state.journal
+  pub begun : IsBegunOf (side_of log) (issued log)
+  pub ended : (traced.ended ≡ true) ↔ IsWordOf (side_of log) (issued log)
+
+-- what a sound lane tells of how far a transaction is holds
+abbrev pub TellsHowFar : Type 0
+TellsHowFar = (state : State) (key : TxnKey) (traced : Traced) → IsSound state → how_far state key ≡ Ok traced → IsHowFar state key traced

@@ -1,0 +1,28 @@
+-- How fast octets may leave.
+use Rattle.std.specs.Prelude.{ℕ, ◌+◌, ◌-◌, ◌*◌, ◌/◌, min, max, Bool, nat_le, Option, Some, None}
+use Rattle.program_agenda.specs.declared.pace.Pace.{Pace}
+
+-- a number, or the last that can be told
+abbrev pub told : ℕ → ℕ
+told number = min number 18446744073709551615
+
+-- the time of all that left is over at a moment of milliseconds
+abbrev pub is_free : ℕ → Pace → Bool
+is_free now pace = nat_le pace.over_at (told (now * 1000000))
+
+-- the first moment of milliseconds at which it is
+abbrev pub free_moment : Pace → ℕ
+free_moment pace = told (pace.over_at + 999999) / 1000000
+
+-- how long octets take at a limit of so many a second, in nanoseconds
+abbrev pub time_of : ℕ → ℕ → ℕ
+time_of octets limit = told (octets * 1000000000) / max limit 1
+
+-- octets that leave take their time behind all that left before, or behind the moment ten milliseconds ago
+abbrev pub spent_by : Option ℕ → ℕ → ℕ → Pace → Pace
+spent_by None octets now pace = pace
+spent_by (Some limit) octets now pace =
+    record pace { over_at = told (max pace.over_at (told ((now - 10) * 1000000)) + time_of octets limit) }
+
+abbrev pub spent : ℕ → ℕ → Pace → Pace
+spent octets now pace = spent_by pace.limit octets now pace

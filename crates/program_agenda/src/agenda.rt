@@ -1,0 +1,144 @@
+ghost use Rattle.std.specs.Prelude.{◌≡◌, ◌++◌, ◌∷◌, [], IsTrue, OnOk, OnErr, IfErr, length, ◌<◌, ◌==◌, not};
+ghost use Rattle.timer_list.specs.Timers.{after, first_due, without_due};
+ghost use Rattle.timer_list.specs.Slots.{none_before};
+ghost use Rattle.program_agenda.specs.Turns.{next_key, turned, rested, forgotten, begun, least_rest, front_of, behind_front};
+
+use crate::rotation::Rotation;
+use cfdp_types::{TimerOp, TxnKey};
+use std::alloc::{AllocError, Global};
+use std::collections::VecDeque;
+use std::marker::Model;
+use timer_list::{Armed, TimerList};
+
+/// What a program has to do by itself: timers that expire, files that are under way, deposits that wait. Contracts see the
+/// three lists.
+#[derive(Drop)]
+pub struct Agenda<D: Drop> {
+    timers: TimerList,
+    sendings: Rotation,
+    deposits: VecDeque<D>,
+}
+
+impl<D: Drop> Model for Agenda<D> {
+    ghost use Rattle.program_agenda.specs.Turns.{AgendaValue};
+
+    ghost Value = { AgendaValue D };
+
+    ghost view = { λ a. record { timers = a.timers; sendings = a.sendings; deposits = a.deposits.items } };
+}
+
+impl<D: Drop> Agenda<D> {
+    /// Nothing is to be done.
+    pub fn new(alloc: Global) -> Agenda<D>
+        ensures { result ≡ record { timers = []; sendings = []; deposits = [] } }
+    {
+        Agenda {
+            timers: TimerList::new(alloc),
+            sendings: Rotation::new(alloc),
+            deposits: VecDeque::new(alloc),
+        }
+    }
+
+    /// Takes out the first timer that has expired at a moment.
+    pub fn due(&mut self, now: u64) -> Option<Armed>
+        ensures timer { result ≡ first_due now self.old.timers }
+        ensures left { self.new ≡ record self.old { timers = without_due now self.old.timers } }
+    {
+        self.timers.due(now)
+    }
+
+    /// The transaction of the first file that is not at rest, which goes behind all others.
+    pub fn next_sending(&mut self, now: u64) -> Option<TxnKey>
+        ensures key { result ≡ next_key now self.old.sendings }
+        ensures left { self.new ≡ record self.old { sendings = turned now self.old.sendings } }
+    {
+        self.sendings.next(now)
+    }
+
+    /// Takes out the first deposit.
+    pub fn next_deposit(&mut self) -> Option<D>
+        ensures deposit { result ≡ front_of self.old.deposits }
+        ensures left { self.new ≡ record self.old { deposits = behind_front self.old.deposits } }
+    {
+        self.deposits.pop_front()
+    }
+
+    /// Does to the timers what a step of this moment says.
+    pub fn apply(&mut self, operation: TimerOp, at: u64) -> Result<(), AllocError>
+        ensures ok { OnOk result (self.new ≡ record self.old { timers = after operation at self.old.timers }) }
+        ensures err { OnErr result (self.new ≡ self.old) }
+    {
+        self.timers.apply(operation, at)
+    }
+
+    /// A timer that was taken out runs again, as the last one. It is given back where it runs already, or for want of memory.
+    pub fn put_back(&mut self, timer: Armed) -> Result<(), Armed>
+        ensures ok { OnOk result (self.new ≡ record self.old { timers = self.old.timers ++ timer ∷ [] }) }
+        ensures given_back { IfErr result (λ back. back ≡ timer) }
+        ensures err { OnErr result (self.new ≡ self.old) }
+    {
+        self.timers.put_back(timer)
+    }
+
+    /// Makes room for one file more that is under way.
+    pub fn reserve(&mut self) -> Result<(), AllocError>
+        ensures { self.new ≡ self.old }
+    {
+        self.sendings.reserve()
+    }
+
+    /// One more file is under way, behind all others.
+    pub fn begin(&mut self, key: TxnKey) -> Result<(), AllocError>
+        ensures ok { OnOk result (self.new ≡ record self.old { sendings = begun key self.old.sendings }) }
+        ensures err { OnErr result (self.new ≡ self.old) }
+    {
+        self.sendings.begin(key)
+    }
+
+    /// The file of a transaction rests until a moment.
+    pub fn rest(&mut self, key: TxnKey, until: u64)
+        ensures { self.new ≡ record self.old { sendings = rested key until self.old.sendings } }
+    {
+        self.sendings.rest(key, until);
+    }
+
+    /// The file of a transaction is not under way any more.
+    pub fn forget(&mut self, key: TxnKey)
+        ensures { self.new ≡ record self.old { sendings = forgotten key self.old.sendings } }
+    {
+        self.sendings.forget(key);
+    }
+
+    /// A deposit waits, behind all others. It is given back for want of memory.
+    pub fn keep(&mut self, deposit: D) -> Result<(), D>
+        ensures ok { OnOk result (self.new ≡ record self.old { deposits = self.old.deposits ++ deposit ∷ [] }) }
+        ensures given_back { IfErr result (λ back. back ≡ deposit) }
+        ensures err { OnErr result (self.new ≡ self.old) }
+    {
+        match self.deposits.push_back(deposit) {
+            Ok(()) => Ok(()),
+            Err(back) => Err(back.value),
+        }
+    }
+
+    /// Whether a deposit waits.
+    pub fn has_deposits(&self) -> bool
+        ensures { result ≡ not (length self.now.deposits == 0) }
+    {
+        !self.deposits.is_empty()
+    }
+
+    /// A moment before which no timer expires.
+    pub fn soonest_timer(&self) -> u64
+        ensures { IsTrue (none_before result self.now.timers) }
+    {
+        self.timers.soonest()
+    }
+
+    /// The first moment at which a file is not at rest, or the last that can be told where none is under way.
+    pub fn soonest_sending(&self) -> u64
+        ensures { result ≡ least_rest self.now.sendings }
+    {
+        self.sendings.soonest()
+    }
+}

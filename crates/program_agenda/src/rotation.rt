@@ -1,0 +1,113 @@
+ghost use Rattle.std.specs.Prelude.{◌≡◌, ◌<◌, [], length, IfSome, OnOk, OnErr};
+ghost use Rattle.program_agenda.specs.Turns.{awake_place, key_place, next_key, turned, rested, forgotten, begun, least_rest};
+
+use crate::sending::Sending;
+use cfdp_types::TxnKey;
+use std::alloc::{AllocError, Global};
+use std::marker::Model;
+
+/// The files that are under way, each of which has its turn. Contracts see the list of them, in the order of their turns.
+#[derive(Drop)]
+pub struct Rotation {
+    sendings: Vec<Sending>,
+}
+
+impl Model for Rotation {
+    ghost use Rattle.std.specs.Prelude.{List};
+    ghost use Rattle.program_agenda.specs.declared.sending.Sending.{Sending};
+
+    ghost Value = { List Sending };
+
+    ghost view = { λ r. r.sendings.items };
+}
+
+impl Rotation {
+    /// No file is under way.
+    pub fn new(alloc: Global) -> Rotation
+        ensures { result ≡ [] }
+    {
+        Rotation {
+            sendings: Vec::new(alloc),
+        }
+    }
+
+    /// Makes room for one file more.
+    pub fn reserve(&mut self) -> Result<(), AllocError>
+        ensures { self.new ≡ self.old }
+    {
+        self.sendings.reserve(1)
+    }
+
+    /// One more file is under way, behind all others.
+    pub fn begin(&mut self, key: TxnKey) -> Result<(), AllocError>
+        ensures ok { OnOk result (self.new ≡ begun key self.old) }
+        ensures err { OnErr result (self.new ≡ self.old) }
+    {
+        match self.sendings.push(Sending {
+            key,
+            rests_until: 0,
+        }) {
+            Ok(()) => Ok(()),
+            Err(_) => Err(AllocError),
+        }
+    }
+
+    /// The first file that is not at rest goes behind all others, and its transaction is told.
+    pub fn next(&mut self, now: u64) -> Option<TxnKey>
+        ensures next { result ≡ next_key now self.old }
+        ensures order { self.new ≡ turned now self.old }
+    {
+        let place = awake_place(&self.sendings, now)?;
+        let sending = self.sendings.remove(place);
+        self.sendings.push_reserved(sending);
+        Some(sending.key)
+    }
+
+    /// The file of a transaction rests until a moment.
+    pub fn rest(&mut self, key: TxnKey, until: u64)
+        ensures { self.new ≡ rested key until self.old }
+    {
+        if let Some(place) = key_place(&self.sendings, key) {
+            self.sendings[place] = Sending {
+                key,
+                rests_until: until,
+            };
+        }
+    }
+
+    /// The file of a transaction is not under way any more.
+    pub fn forget(&mut self, key: TxnKey)
+        ensures { self.new ≡ forgotten key self.old }
+    {
+        if let Some(place) = key_place(&self.sendings, key) {
+            self.sendings.remove(place);
+        }
+    }
+
+    /// The first moment at which a file is not at rest, or the last that can be told where none is under way.
+    pub fn soonest(&self) -> u64
+        ensures { result ≡ least_rest self.now }
+    {
+        self.sendings
+            .iter()
+            .fold(u64::MAX, |least, sending| least.min(sending.rests_until))
+    }
+}
+
+// Where the first file that is not at rest stands.
+fn awake_place(sendings: &[Sending], now: u64) -> Option<usize>
+    ensures place { result ≡ awake_place now sendings.now }
+    ensures range { IfSome result (λ place. place < length sendings.now) }
+{
+    sendings
+        .iter()
+        .position(|sending| sending.rests_until <= now)
+}
+
+// Where the file of a transaction stands.
+fn key_place(sendings: &[Sending], key: TxnKey) -> Option<usize>
+    ensures place { result ≡ key_place key sendings.now }
+    ensures range { IfSome result (λ place. place < length sendings.now) }
+{
+    sendings.iter().position(|sending| key == sending.key)
+}

@@ -1,0 +1,107 @@
+//! What comes from outside: datagrams, and lines of commands.
+use crate::desk::Desk;
+use entity_workers::IntakeSend;
+use memchr::memchr;
+use script_io::{INTERRUPTIONS, NextLine, ReplayFault, next_line};
+use std::alloc::Global;
+use std::io::{BufRead, ErrorKind};
+use std::net::UdpSocket;
+use std::sync::Wait;
+
+/// Room for the longest datagram, with one octet more.
+pub const DATAGRAM_OCTETS: usize = 65_536;
+
+/// After how many failed reads in a row no more datagrams are read.
+pub const READ_FAILURES: u32 = 1_000_000;
+
+/// Hands datagrams to the workers until the desk is closed, which is looked at after each of them, or until reading has
+/// failed `READ_FAILURES` times in a row. A datagram that isn't taken is lost.
+pub fn read_datagrams<R: Wait>(
+    rt: &R,
+    socket: &UdpSocket,
+    intake: &IntakeSend,
+    buffer: &mut Vec<u8>,
+    desk: &Desk,
+) {
+    let mut failures = 0u32;
+    for _ in rt.forever() {
+        match socket.recv_from(buffer.as_mut_slice()) {
+            Ok((count, _)) => {
+                failures = 0;
+                if desk.is_closed(rt) {
+                    return;
+                }
+                if let Some(octets) = buffer.as_slice().get(..count) {
+                    let _lost = intake.send(rt, octets);
+                }
+            }
+            Err(_) => {
+                failures = failures.saturating_add(1);
+                if failures >= READ_FAILURES {
+                    return;
+                }
+            }
+        }
+    }
+}
+
+/// Leaves the lines of commands at the desk, until `quit`, the end of the input, a fault of the reader, or until the desk is
+/// closed.
+pub fn read_lines<R: Wait, B: BufRead>(rt: &R, alloc: Global, reader: &mut B, desk: &Desk) {
+    let mut line = Vec::new(alloc);
+    for _ in rt.forever() {
+        let wants_more = match next_line(reader, &mut line) {
+            Ok(NextLine::Line) => leave_line(rt, alloc, line.as_slice(), desk),
+            Ok(NextLine::TooLong) => desk.leave_long_line(rt) && skip_line(rt, reader),
+            Ok(NextLine::End) | Err(ReplayFault::Read) => false,
+            Err(_) => {
+                desk.fail_lines(rt);
+                false
+            }
+        };
+        if !wants_more {
+            break;
+        }
+    }
+    desk.end_lines(rt);
+}
+
+// Leaves one line; whether more are to be read.
+fn leave_line<R: Wait>(rt: &R, alloc: Global, line: &[u8], desk: &Desk) -> bool {
+    match Vec::from_slice(alloc, line) {
+        Ok(octets) => desk.leave_line(rt, octets) && line != b"quit".as_slice(),
+        Err(_) => {
+            desk.fail_lines(rt);
+            false
+        }
+    }
+}
+
+// Reads past the next line feed; whether there was one.
+fn skip_line<R: Wait, B: BufRead>(rt: &R, reader: &mut B) -> bool {
+    let mut interruptions = 0u32;
+    for _ in rt.forever() {
+        match reader.fill_buf() {
+            Ok(block) => {
+                interruptions = 0;
+                let feed = memchr(b'\n', block);
+                let length = block.len();
+                match feed {
+                    Some(at) => {
+                        reader.consume(at + 1);
+                        return true;
+                    }
+                    None if length == 0 => return false,
+                    None => reader.consume(length),
+                }
+            }
+            Err(error) => {
+                interruptions = interruptions.saturating_add(1);
+                if error.kind() != ErrorKind::Interrupted || interruptions >= INTERRUPTIONS {
+                    return false;
+                }
+            }
+        }
+    }
+    false
+}

@@ -1,0 +1,20 @@
+-- Where a PDU goes.
+use Rattle.std.specs.Prelude.{◌≡◌, ℕ, List, Option, Some, find, if◌then◌else◌}
+use Rattle.std.specs.Option.{option_map}
+use Rattle.std.specs.Net.Grammar.{IsSocketText}
+use Rattle.std.specs.declared.net.socket_addr.SocketAddr.{SocketAddr}
+use Rattle.cfdp_types.specs.declared.key.EntityId.{EntityId}
+use Rattle.pdu_values.specs.Pdu.{PduValue, is_toward_sender}
+use Rattle.config_reading.specs.Values.{ConfigValue, has_id}
+
+-- the entity that a PDU goes to: the one that sends the file, or the one that receives it, by the kind of the PDU
+abbrev pub peer_of : PduValue → EntityId
+peer_of pdu = if is_toward_sender pdu.body then pdu.header.source else pdu.header.destination
+
+-- the text that a configuration has for the address of an entity
+abbrev pub address_text : ConfigValue → EntityId → Option (List ℕ)
+address_text config id = option_map (λ peer. peer.address) (find (has_id id) config.peers)
+
+-- the entity listens at this address, by the configuration
+abbrev pub ListensAt : ConfigValue → EntityId → SocketAddr → Type 0
+ListensAt config id address = (text : List ℕ) × (address_text config id ≡ Some text) × IsSocketText text address

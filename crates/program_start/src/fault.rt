@@ -1,0 +1,95 @@
+//! Why a program ends before its work is done, and how it says so.
+ghost use Rattle.std.specs.Prelude.{◌≡◌, ◌++◌, OnOk};
+ghost use Rattle.std.specs.String.{string_bytes};
+ghost use Rattle.program_start.specs.Faults.{plain_text, fault_line};
+
+use script_io::write_whole;
+use std::alloc::{AllocError, Global};
+use std::io::Write;
+
+/// Why a program ends before its work is done.
+#[derive(Clone, Copy, Debug, PartialEq, Eq)]
+pub enum ProgramFault {
+    /// The command line is none that the program takes.
+    Usage,
+    /// A file can't be read.
+    Read,
+    /// The configuration is not taken, with the number of its fault.
+    Config(u8),
+    /// The socket can't be opened at its address.
+    Bind,
+    /// A thread can't be started.
+    Start,
+    /// The output takes no more.
+    Write,
+    /// Memory ran out.
+    NoMemory,
+    /// The entity refuses what the program was started for, with the number and the name of the refusal.
+    Refused(u8, &'static str),
+}
+
+impl From<AllocError> for ProgramFault {
+    ghost use Rattle.std.specs.Prelude.{◌≡◌};
+    ghost use Rattle.program_start.specs.declared.fault.ProgramFault.TheVariants as fault;
+
+    ghost from_gives = { λ _ e. e ≡ fault.NoMemory };
+
+    fn from(_lack: AllocError) -> ProgramFault {
+        ProgramFault::NoMemory
+    }
+}
+
+// The text of a fault that has no number.
+fn plain_text(fault: &ProgramFault) -> &'static str
+    ensures { result.now ≡ plain_text fault.now }
+{
+    match fault {
+        ProgramFault::Usage => "usage",
+        ProgramFault::Read => "read fault",
+        ProgramFault::Config(_) => "config fault",
+        ProgramFault::Bind => "bind fault",
+        ProgramFault::Start => "start fault",
+        ProgramFault::Write => "write fault",
+        ProgramFault::NoMemory => "no memory",
+        ProgramFault::Refused(_, _) => "refused",
+    }
+}
+
+/// Adds the line that a program of this name prints for a fault.
+pub fn push_fault(text: &mut String, program: &str, fault: &ProgramFault) -> Result<(), AllocError>
+    ensures { OnOk result (string_bytes text.new ≡ string_bytes text.old ++ fault_line program.now fault.now) }
+{
+    let plain = plain_text(fault);
+    match fault {
+        ProgramFault::Config(number) => writeln!(text, "{program}: {plain} {number}"),
+        ProgramFault::Refused(number, name) => writeln!(text, "{program}: {plain} {number} {name}"),
+        _ => writeln!(text, "{program}: {plain}"),
+    }
+}
+
+/// Prints that line, or in its place that memory ran out where it did. What the errors' writer doesn't take is lost.
+pub fn tell_fault<E: Write>(alloc: Global, errors: &mut E, program: &str, fault: &ProgramFault) {
+    let mut text = String::new(alloc);
+    let _told = match push_fault(&mut text, program, fault) {
+        Ok(()) => write_whole(errors, text.as_bytes()),
+        Err(_) => write_plainly(errors, program),
+    };
+    let _flushed = errors.flush();
+}
+
+/// Prints a text, all of it and at once.
+pub fn print<W: Write>(writer: &mut W, text: &str) -> Result<(), ProgramFault> {
+    if text.is_empty() {
+        return Ok(());
+    }
+    if write_whole(writer, text.as_bytes()).is_err() || writer.flush().is_err() {
+        return Err(ProgramFault::Write);
+    }
+    Ok(())
+}
+
+// Prints that memory ran out, without taking any.
+fn write_plainly<E: Write>(errors: &mut E, program: &str) -> Result<(), script_io::ReplayFault> {
+    write_whole(errors, program.as_bytes())?;
+    write_whole(errors, b": no memory\n")
+}

@@ -1,0 +1,58 @@
+//! Files that a program reads when it starts, and those that it sends.
+ghost use Rattle.std.specs.Prelude.{◌≡◌, ◌≤◌, ◌+◌, IfOk, vec_len};
+
+use crate::fault::ProgramFault;
+use cfdp_types::limits::FILE_OCTETS;
+use entity_config::{Config, ConfigFault, read_config};
+use std::alloc::Global;
+use std::fs::File;
+use std::io;
+use std::io::{ErrorKind, Read};
+use std::rt::Files;
+
+// What a failed call says: memory ran out, or the file can't be read.
+fn fault_of(error: &io::Error) -> ProgramFault {
+    if error.kind() == ErrorKind::OutOfMemory {
+        ProgramFault::NoMemory
+    } else {
+        ProgramFault::Read
+    }
+}
+
+// The octets of a file, up to so many.
+fn read_up_to<R: Files>(
+    rt: &R,
+    alloc: Global,
+    path: &str,
+    most: u64,
+) -> Result<Vec<u8>, ProgramFault> {
+    let mut octets = Vec::new(alloc);
+    match File::open(rt, path) {
+        Ok(file) => match file.take(most).read_to_end(&mut octets) {
+            Ok(_) => Ok(octets),
+            Err(error) => Err(fault_of(&error)),
+        },
+        Err(error) => Err(fault_of(&error)),
+    }
+}
+
+// How many octets a configuration's file may have: some hundred times what the largest configuration takes.
+const CONFIG_OCTETS: u64 = 16 * 1_024 * 1_024;
+
+/// The configuration that a file has. Octets that are no text are no TOML.
+pub fn load_config<R: Files>(rt: &R, alloc: Global, path: &str) -> Result<Config, ProgramFault> {
+    let octets = read_up_to(rt, alloc, path, CONFIG_OCTETS)?;
+    let Ok(text) = str::from_utf8(octets.as_slice()) else {
+        return Err(ProgramFault::Config(ConfigFault::BadToml.number()));
+    };
+    match read_config(alloc, text) {
+        Ok(config) => Ok(config),
+        Err(ConfigFault::NoMemory) => Err(ProgramFault::NoMemory),
+        Err(fault) => Err(ProgramFault::Config(fault.number())),
+    }
+}
+
+/// The octets of a file that is to be sent: all of them, or one more than an entity sends, which it then refuses.
+pub fn load_file<R: Files>(rt: &R, alloc: Global, path: &str) -> Result<Vec<u8>, ProgramFault> {
+    read_up_to(rt, alloc, path, FILE_OCTETS as u64 + 1)
+}

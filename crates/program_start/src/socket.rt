@@ -1,0 +1,14 @@
+use crate::fault::ProgramFault;
+use std::net::{Net, UdpSocket};
+use wide_socket::widen;
+
+/// The socket that a program listens at, with as large a receive buffer as the system gives.
+pub fn open_socket<R: Net>(rt: &R, address: &str) -> Result<UdpSocket, ProgramFault> {
+    match UdpSocket::bind(rt, address) {
+        Ok(socket) => {
+            let _as_it_may = widen(&socket);
+            Ok(socket)
+        }
+        Err(_) => Err(ProgramFault::Bind),
+    }
+}

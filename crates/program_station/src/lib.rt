@@ -1,0 +1,13 @@
+//! What the threads of a program do with an entity: workers send what its steps give and leave the rest at a desk, and the
+//! main thread works that off in turns.
+#![tactic(auto)]
+
+mod answers;
+mod clock;
+mod forwarder;
+mod station;
+
+pub use answers::flat;
+pub use clock::moment;
+pub use forwarder::{Forwarder, forwarders_of, run_forwarders};
+pub use station::{REST_MS, Station};

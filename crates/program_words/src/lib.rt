@@ -1,0 +1,13 @@
+//! The command lines of the server and of the program that puts a file.
+#![tactic(auto)]
+
+mod fault;
+mod line;
+mod options;
+mod putting;
+mod serving;
+
+pub use fault::WordsFault;
+pub use line::line_of;
+pub use putting::{PutWords, put_help, put_version, put_words};
+pub use serving::{ServerWords, server_help, server_version, server_words};

@@ -1,0 +1,66 @@
+//! What both command lines have.
+ghost use Rattle.std.specs.Prelude.{◌≡◌};
+ghost use Rattle.program_words.specs.Numbers.{number_within};
+
+use crate::fault::WordsFault;
+use cfdp_types::limits::NAME_OCTETS;
+use clap::error::ErrorKind;
+use clap::{Arg, ArgAction, Error};
+use line_words::decimal;
+use std::alloc::Global;
+use std::net::SocketAddrV4;
+
+// The greatest limit that can be asked for.
+const MOST_OCTETS_A_SECOND: u64 = 1_000_000_000;
+
+/// An option with a value that has to be given.
+pub(crate) fn required<'a>(alloc: Global, name: &'static str) -> Arg<'a> {
+    optional(alloc, name).required(true)
+}
+
+/// An option with a value.
+pub(crate) fn optional<'a>(alloc: Global, name: &'static str) -> Arg<'a> {
+    Arg::new(alloc, name).long(name).action(ArgAction::Set)
+}
+
+/// Why a command line is not taken.
+pub(crate) fn fault_of(error: &Error) -> WordsFault {
+    match error.kind() {
+        ErrorKind::OutOfMemory => WordsFault::NoMemory,
+        ErrorKind::DisplayHelp => WordsFault::Help,
+        ErrorKind::DisplayVersion => WordsFault::Version,
+        _ => WordsFault::Usage,
+    }
+}
+
+/// The number that a word writes in decimal digits, if it is within a range.
+pub(crate) fn number_within(word: &str, least: u64, most: u64) -> Option<u64>
+    ensures { result ≡ number_within least most word.now }
+{
+    let number = decimal(word.as_bytes(), most)?;
+    if number < least { None } else { Some(number) }
+}
+
+/// Whether a word is an address as a configuration has them: four numbers and a port, none with leading zeros.
+pub(crate) fn is_address(word: &str) -> bool {
+    if word.parse::<SocketAddrV4>().is_err() {
+        return false;
+    }
+    match word.split_once(':') {
+        Some((_, port)) => port == "0" || !port.starts_with('0'),
+        None => false,
+    }
+}
+
+/// Whether a word may be a file's name: 1 to 255 octets.
+pub(crate) fn is_name(word: &str) -> bool {
+    !word.is_empty() && word.len() <= NAME_OCTETS
+}
+
+/// The limit of octets a second that a word gives, if there is one: nothing where the word is none.
+pub(crate) fn rate_of(word: Option<&str>) -> Option<Option<u64>> {
+    match word {
+        None => Some(None),
+        Some(word) => Some(Some(number_within(word, 1, MOST_OCTETS_A_SECOND)?)),
+    }
+}

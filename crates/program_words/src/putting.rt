@@ -1,0 +1,127 @@
+ghost use Rattle.std.specs.Prelude.{◌≡◌, IfSome, Some, codes};
+ghost use Rattle.clap.specs.Words.{first_value, found_of};
+
+use crate::fault::WordsFault;
+use crate::options::{fault_of, is_address, is_name, number_within, optional, rate_of, required};
+use cfdp_types::limits::CONFIGURED_NUMBER;
+use cfdp_types::{Class, EntityId};
+use clap::{Arg, ArgAction, ArgMatches, Command};
+use std::alloc::{AllocError, Global};
+
+/// What is put, and how.
+#[derive(Clone, Copy, Debug)]
+pub struct PutWords<'a> {
+    /// The path of the configuration's file.
+    pub config: &'a str,
+    /// The address that the program listens at: `A.B.C.D:PORT`.
+    pub bind: &'a str,
+    /// The name of the user who puts.
+    pub user: &'a str,
+    /// The entity that receives.
+    pub remote: EntityId,
+    pub class: Class,
+    /// The file to be read, which is its name at the sender, too: 1 to 255 octets.
+    pub source: &'a str,
+    /// Its name at the receiver: likewise.
+    pub target: &'a str,
+    /// How many octets of the file's PDUs may leave in a second, where that is limited.
+    pub rate: Option<u64>,
+}
+
+const HELP: &str = "Sends one file by CFDP over UDP, and prints what its user is told.
+
+Usage: cfdp_put --config FILE --bind ADDR --user NAME --remote ID --class N [--rate N] SRC DST
+
+  --config FILE   the configuration of the entity, in TOML
+  --bind ADDR     where it listens: A.B.C.D:PORT, all in decimal
+  --user NAME     the user who puts, as the configuration names it
+  --remote ID     the entity that receives, as the configuration numbers it
+  --class N       1 (unacknowledged) or 2 (acknowledged)
+  --rate N        octets a second that leave for the file, 1 to 1000000000 (no limit where it is left out)
+  SRC             the file to be sent
+  DST             its name at the receiver
+  --help          prints this, and ends
+  --version       prints the version, and ends
+
+Status 0: the receiver keeps the whole file, as far as the class tells; 2: it ended otherwise; 1: a fault of the program.
+";
+
+/// What `--help` of the program prints.
+pub fn put_help() -> &'static str {
+    HELP
+}
+
+/// What `--version` of the program prints.
+pub fn put_version() -> &'static str {
+    "cfdp_put 0.1\n"
+}
+
+// A word that stands by its place.
+fn word<'a>(alloc: Global, name: &'static str) -> Arg<'a> {
+    Arg::new(alloc, name).required(true).action(ArgAction::Set)
+}
+
+fn command<'a>(alloc: Global) -> Result<Command<'a>, AllocError> {
+    Command::new(alloc, "cfdp_put")
+        .version("0.1")
+        .arg(required(alloc, "config"))?
+        .arg(required(alloc, "bind"))?
+        .arg(required(alloc, "user"))?
+        .arg(required(alloc, "remote"))?
+        .arg(required(alloc, "class"))?
+        .arg(optional(alloc, "rate"))?
+        .arg(word(alloc, "source"))?
+        .arg(word(alloc, "target"))
+}
+
+fn class_of(word: &str) -> Option<Class> {
+    match number_within(word, 1, 2)? {
+        1 => Some(Class::One),
+        _ => Some(Class::Two),
+    }
+}
+
+// What the matches of a command line say.
+fn words_in<'a>(matches: &ArgMatches<'a>) -> Option<PutWords<'a>>
+    ensures config { IfSome result
+        (λ words. first_value (found_of matches.now) (codes "config") ≡ Some words.config.now) }
+    ensures user { IfSome result
+        (λ words. first_value (found_of matches.now) (codes "user") ≡ Some words.user.now) }
+    ensures source { IfSome result
+        (λ words. first_value (found_of matches.now) (codes "source") ≡ Some words.source.now) }
+    ensures target { IfSome result
+        (λ words. first_value (found_of matches.now) (codes "target") ≡ Some words.target.now) }
+{
+    let config = matches.get_str("config")?;
+    let bind = matches.get_str("bind")?;
+    let user = matches.get_str("user")?;
+    let remote = number_within(matches.get_str("remote")?, 0, CONFIGURED_NUMBER)?;
+    let class = class_of(matches.get_str("class")?)?;
+    let source = matches.get_str("source")?;
+    let target = matches.get_str("target")?;
+    let rate = rate_of(matches.get_str("rate"))?;
+    if !is_address(bind) || !is_name(source) || !is_name(target) {
+        return None;
+    }
+    Some(PutWords {
+        config,
+        bind,
+        user,
+        remote: EntityId(remote),
+        class,
+        source,
+        target,
+        rate,
+    })
+}
+
+/// What a command line of the program says; its first word is the program's own name.
+pub fn put_words<'a>(alloc: Global, line: &'a [String]) -> Result<PutWords<'a>, WordsFault> {
+    let Ok(command) = command(alloc) else {
+        return Err(WordsFault::NoMemory);
+    };
+    match command.try_get_matches_from(line) {
+        Ok(matches) => words_in(&matches).ok_or(WordsFault::Usage),
+        Err(error) => Err(fault_of(&error)),
+    }
+}

@@ -1,0 +1,117 @@
+ghost use Rattle.std.specs.Prelude.{◌≡◌, IfSome, Some, codes};
+ghost use Rattle.clap.specs.Words.{first_value, found_of};
+
+use crate::fault::WordsFault;
+use crate::options::{fault_of, is_address, number_within, optional, rate_of, required};
+use clap::{Arg, ArgAction, ArgMatches, Command};
+use std::alloc::{AllocError, Global};
+
+/// What the server is started with.
+#[derive(Clone, Copy, Debug)]
+pub struct ServerWords<'a> {
+    /// The path of the configuration's file.
+    pub config: &'a str,
+    /// The address that the server listens at: `A.B.C.D:PORT`.
+    pub bind: &'a str,
+    /// The folder for received files.
+    pub folder: &'a str,
+    /// How many workers bring datagrams to their lanes: 1 to 16.
+    pub workers: u64,
+    /// How many octets of files' PDUs may leave in a second, where that is limited.
+    pub rate: Option<u64>,
+    /// Whether each user's indications are printed as they come.
+    pub follow: bool,
+}
+
+const HELP: &str = "Receives and sends files by CFDP over UDP, as one entity.
+
+Usage: cfdp_server --config FILE --bind ADDR --folder DIR [--workers N] [--rate N] [--follow]
+
+  --config FILE   the configuration of the entity, in TOML
+  --bind ADDR     where it listens: A.B.C.D:PORT, all in decimal
+  --folder DIR    where received files are kept
+  --workers N     threads that take datagrams, 1 to 16 (4 where it is left out)
+  --rate N        octets a second that leave for files under way, 1 to 1000000000 (no limit where it is left out)
+  --follow        prints what each user is told as it comes, as if it were taken between the commands
+  --help          prints this, and ends
+  --version       prints the version, and ends
+
+Commands come on the standard input, one a line:
+  put USER LANE CLASS DEST SRC DST
+  cancel|suspend|resume|report|abandon USER SOURCE SEQ
+  take USER
+  trace SOURCE SEQ
+  quit
+";
+
+/// What `--help` of the server prints.
+pub fn server_help() -> &'static str {
+    HELP
+}
+
+/// What `--version` of the server prints.
+pub fn server_version() -> &'static str {
+    "cfdp_server 0.1\n"
+}
+
+fn command<'a>(alloc: Global) -> Result<Command<'a>, AllocError> {
+    Command::new(alloc, "cfdp_server")
+        .version("0.1")
+        .arg(required(alloc, "config"))?
+        .arg(required(alloc, "bind"))?
+        .arg(required(alloc, "folder"))?
+        .arg(optional(alloc, "workers"))?
+        .arg(optional(alloc, "rate"))?
+        .arg(
+            Arg::new(alloc, "follow")
+                .long("follow")
+                .action(ArgAction::SetTrue),
+        )
+}
+
+// How many workers a word asks for: 4 where there is none.
+fn workers_of(word: Option<&str>) -> Option<u64> {
+    match word {
+        None => Some(4),
+        Some(word) => number_within(word, 1, 16),
+    }
+}
+
+// What the matches of a command line say.
+fn words_in<'a>(matches: &ArgMatches<'a>) -> Option<ServerWords<'a>>
+    ensures config { IfSome result
+        (λ words. first_value (found_of matches.now) (codes "config") ≡ Some words.config.now) }
+    ensures bind { IfSome result
+        (λ words. first_value (found_of matches.now) (codes "bind") ≡ Some words.bind.now) }
+    ensures folder { IfSome result
+        (λ words. first_value (found_of matches.now) (codes "folder") ≡ Some words.folder.now) }
+{
+    let config = matches.get_str("config")?;
+    let bind = matches.get_str("bind")?;
+    let folder = matches.get_str("folder")?;
+    let workers = workers_of(matches.get_str("workers"))?;
+    let rate = rate_of(matches.get_str("rate"))?;
+    let follow = matches.get_flag("follow");
+    if !is_address(bind) {
+        return None;
+    }
+    Some(ServerWords {
+        config,
+        bind,
+        folder,
+        workers,
+        rate,
+        follow,
+    })
+}
+
+/// What a command line of the server says; its first word is the program's own name.
+pub fn server_words<'a>(alloc: Global, line: &'a [String]) -> Result<ServerWords<'a>, WordsFault> {
+    let Ok(command) = command(alloc) else {
+        return Err(WordsFault::NoMemory);
+    };
+    match command.try_get_matches_from(line) {
+        Ok(matches) => words_in(&matches).ok_or(WordsFault::Usage),
+        Err(error) => Err(fault_of(&error)),
+    }
+}

@@ -1,0 +1,43 @@
+//! What single words write, by a configuration.
+ghost use Rattle.std.specs.Prelude.{◌≡◌};
+ghost use Rattle.std.specs.Option.{option_copied};
+ghost use Rattle.server_lines.specs.Commands.{user_of, lane_of, file_name_of};
+
+use cfdp_types::limits::NAME_OCTETS;
+use entity_config::Config;
+use line_words::{name_of, number_of};
+
+/// A user's number, by the user's name.
+pub(crate) fn user_of(config: &Config, word: &[u8]) -> Option<usize>
+    ensures { result ≡ user_of config.now word.now }
+{
+    let name = name_of(word)?;
+    match str::from_utf8(name) {
+        Ok(name) => config.user_of(name),
+        Err(_) => None,
+    }
+}
+
+/// One of a user's sending lanes.
+pub(crate) fn lane_of(config: &Config, word: &[u8]) -> Option<usize>
+    ensures { result ≡ lane_of config.now word.now }
+{
+    let lane = number_of(word)? as usize;
+    if lane < config.entity().put_lanes {
+        Some(lane)
+    } else {
+        None
+    }
+}
+
+/// A name that a file may have.
+pub(crate) fn file_name_of(word: &[u8]) -> Option<&[u8]>
+    ensures { option_copied result ≡ file_name_of word.now }
+{
+    let name = name_of(word)?;
+    if name.is_empty() || name.len() > NAME_OCTETS {
+        None
+    } else {
+        Some(name)
+    }
+}
