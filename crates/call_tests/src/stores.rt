@@ -190,7 +190,7 @@ fn fails<R: Files + AllocGlobal + Clone + Drop>(rt: &R, folder: &str) -> Result<
 fn folders_that_keep_nothing(rt: HostRuntime) -> Result<(), Fail> {
     let folder = new_folder(&rt, "gone")?;
     write(&rt, folder.as_str(), "b", b"abc")?;
-    assert!(rt; fails(&rt, "/tmp/entity_workers_gone/b")?);
+    assert!(rt; fails(&rt, "/tmp/file_stores_gone/b")?);
     fs::remove_dir_all(&rt, folder.as_str())?;
     assert!(rt; fails(&rt, folder.as_str())? && fails(&rt, "/proc")?);
     Ok(())
@@ -200,7 +200,7 @@ fn folders_that_keep_nothing(rt: HostRuntime) -> Result<(), Fail> {
 #[test]
 fn place_of_a_folder(rt: HostRuntime) -> Result<(), Fail> {
     let folder = new_folder(&rt, "place")?;
-    fs::create_dir(&rt, "/tmp/entity_workers_place/b")?;
+    fs::create_dir(&rt, "/tmp/file_stores_place/b")?;
     assert!(rt; fails(&rt, folder.as_str())? && has_count(&rt, folder.as_str(), 1)?);
     fs::remove_dir_all(&rt, folder.as_str())?;
     Ok(())

@@ -113,7 +113,7 @@ fn receive<N: Names, R: Wait + Copy>(
     push_image(rt, alloc, text, entity, key(7, 5), 2)?;
     push_trace(rt, text, entity, key(1, 5))?;
     push_trace(rt, text, entity, key(1, 6))?;
-    push_trace(rt, text, entity, key(1, 4))?;
+    push_trace(rt, text, entity, key(1, 3))?;
     push_trace(rt, text, entity, key(7, 5))?;
     push_answer(text, entity.stored(rt, &NoGate, key(1, 5), 2, true))?;
     push_trace(rt, text, entity, key(1, 5))
