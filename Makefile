@@ -1,8 +1,11 @@
 SHELL := /bin/bash
 .SHELLFLAGS := -o pipefail -c
-.PHONY: demo build test bench
+.PHONY: demo build programs transfer install test bench
 
 program := crates/cfdp_replay/out/cfdp_replay
+server := crates/cfdp_server/out/cfdp_server
+put := crates/cfdp_put/out/cfdp_put
+PREFIX ?= /usr/local
 
 # a first look: a file is received whose parts were lost and asked for again; nothing is proved
 demo:
@@ -17,11 +20,35 @@ build:
 	@rm -f crates/cfdp_replay/build.log
 	@echo "The program: $(program)"
 
+# the server and the put, proved and built
+programs:
+	@echo "Proving the server and the put and all that they stand on, and building them: the first time takes as long as"
+	@echo "proving does, half an hour or more."
+	@for one in cfdp_server cfdp_put; do \
+	    (cd crates/$$one && rt run -- --version < /dev/null 2>&1 | tee build.log \
+	        | sed -un 's/^rt: chose --jobs [0-9]* for \(.*\)/    \1 .../p; s/^crate \([a-z_]*\): .*/    \1 is proved/p' \
+	        || { cat build.log; exit 1; }; rm -f build.log) || exit 1; \
+	done
+	@echo "The programs: $(server) and $(put)"
+
+# a file of 4 MiB crosses loopback, through a relay that loses and doubles datagrams
+transfer: programs
+	@examples/transfer.sh $(server) $(put) 2 4194304 7 11
+
+# the server and the put, in place, with a page of the manual for each
+install: programs
+	install -d $(DESTDIR)$(PREFIX)/bin $(DESTDIR)$(PREFIX)/share/man/man1
+	install -m 755 $(server) $(put) $(DESTDIR)$(PREFIX)/bin
+	install -m 644 docs/man/cfdp_server.1 docs/man/cfdp_put.1 $(DESTDIR)$(PREFIX)/share/man/man1
+
 # the gate: every proof from nothing, the must-fail edits, the tests and the programs, and how runs of the program end
 test:
 	@examples/same.sh
 	rt ci
 	@examples/endings.sh $(program)
+	@examples/transfer.sh $(server) $(put) 2 4194304 7 11
+	@examples/transfer.sh $(server) $(put) 1 1048576 0 0
+	@examples/manual.sh $(server) $(put)
 
 # how fast and how large a run is; no part of the gate
 bench: build

@@ -1,11 +1,13 @@
 //! Why a program ends before its work is done, and how it says so.
-ghost use Rattle.std.specs.Prelude.{◌≡◌, ◌++◌, OnOk};
+ghost use Rattle.std.specs.Prelude.{◌≡◌, ◌++◌, OnOk, codes};
 ghost use Rattle.std.specs.String.{string_bytes};
-ghost use Rattle.program_start.specs.Faults.{plain_text, fault_line};
+ghost use Rattle.program_start.specs.Faults.{plain_text, refusal_text, fault_line};
 
+use entity_routing::RouteRefusal;
 use script_io::write_whole;
 use std::alloc::{AllocError, Global};
 use std::io::Write;
+use txn_events::Refusal;
 
 /// Why a program ends before its work is done.
 #[derive(Clone, Copy, Debug, PartialEq, Eq)]
@@ -24,8 +26,12 @@ pub enum ProgramFault {
     Write,
     /// Memory ran out.
     NoMemory,
-    /// The entity refuses what the program was started for, with the number and the name of the refusal.
-    Refused(u8, &'static str),
+    /// The lane refuses what the program was started for.
+    Refused(Refusal),
+    /// The configuration has no lane for it.
+    NotRouted(RouteRefusal),
+    /// What lies behind the lane's lock is another lane.
+    WrongLane,
 }
 
 impl From<AllocError> for ProgramFault {
@@ -51,7 +57,9 @@ fn plain_text(fault: &ProgramFault) -> &'static str
         ProgramFault::Start => "start fault",
         ProgramFault::Write => "write fault",
         ProgramFault::NoMemory => "no memory",
-        ProgramFault::Refused(_, _) => "refused",
+        ProgramFault::Refused(_) | ProgramFault::NotRouted(_) | ProgramFault::WrongLane => {
+            "refused"
+        }
     }
 }
 
@@ -62,9 +70,19 @@ pub fn push_fault(text: &mut String, program: &str, fault: &ProgramFault) -> Res
     let plain = plain_text(fault);
     match fault {
         ProgramFault::Config(number) => writeln!(text, "{program}: {plain} {number}"),
-        ProgramFault::Refused(number, name) => writeln!(text, "{program}: {plain} {number} {name}"),
+        ProgramFault::Refused(why) => push_refusal(text, program, why.number(), why.name()),
+        ProgramFault::NotRouted(why) => push_refusal(text, program, why.number(), why.name()),
+        ProgramFault::WrongLane => push_refusal(text, program, 26, "WrongLane"),
         _ => writeln!(text, "{program}: {plain}"),
     }
+}
+
+// Adds the line for a refusal.
+fn push_refusal(text: &mut String, program: &str, number: u8, name: &str) -> Result<(), AllocError>
+    ensures { OnOk result (string_bytes text.new
+        ≡ string_bytes text.old ++ (program.now ++ (codes ": " ++ (codes "refused" ++ (refusal_text number name.now ++ codes "\n"))))) }
+{
+    writeln!(text, "{program}: refused {number} {name}")
 }
 
 /// Prints that line, or in its place that memory ran out where it did. What the errors' writer doesn't take is lost.

@@ -3,7 +3,7 @@ use crate::answers::flat;
 use crate::clock::moment;
 use cfdp_types::EntityId;
 use entity_config::Config;
-use entity_workers::{Carrier, IntakeEnd, run_workers};
+use entity_workers::{Carrier, IntakeEnd, WorkersFault, run_workers};
 use held_lanes::{Names, NoGate};
 use lane_table::{Done, Refused};
 use program_desk::{Desk, Step};
@@ -69,8 +69,8 @@ pub fn forwarders_of<'a, R>(
     Ok(forwarders)
 }
 
-/// Runs a worker for each forwarder until no datagram comes any more; whether all could be started. Where they could not, those
-/// that were go on as long, and the desk is told in the end. The way in is closed behind them, so that nobody waits for room
+/// Runs a worker for each forwarder until no datagram comes any more, or tells why not all could be started. Those that were go on
+/// as long, and the desk is told in the end. The way in is closed behind them, so that nobody waits for room
 /// there.
 pub fn run_forwarders<N: Names + Send + Sync, R: Threads + Wait + Clock + Copy + Send + Sync>(
     rt: &R,
@@ -79,10 +79,12 @@ pub fn run_forwarders<N: Names + Send + Sync, R: Threads + Wait + Clock + Copy +
     end: IntakeEnd,
     forwarders: Vec<Forwarder<'_, R>>,
     desk: &Desk,
-) -> bool {
-    if run_workers(rt, alloc, entity, &end, forwarders, &NoGate).is_ok() {
-        return true;
+) -> Result<(), WorkersFault> {
+    match run_workers(rt, alloc, entity, &end, forwarders, &NoGate) {
+        Ok(_) => Ok(()),
+        Err(fault) => {
+            desk.desert(rt);
+            Err(fault)
+        }
     }
-    desk.desert(rt);
-    false
 }

@@ -92,7 +92,7 @@ fn words_in<'a>(matches: &ArgMatches<'a>) -> Option<ServerWords<'a>>
     let workers = workers_of(matches.get_str("workers"))?;
     let rate = rate_of(matches.get_str("rate"))?;
     let follow = matches.get_flag("follow");
-    if !is_address(bind) {
+    if !is_address(bind) || folder.is_empty() {
         return None;
     }
     Some(ServerWords {

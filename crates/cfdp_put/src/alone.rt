@@ -1,0 +1,128 @@
+//! Puts that nobody answers, and those that don't begin.
+use crate::putting::put_one;
+use crate::settings::{PUTTER, with_lines, words};
+use std::fs;
+use std::test::*;
+
+const SOON: [(&str, &str); 4] = [
+    ("ack_ms = 1000", "ack_ms = 50"),
+    ("nak_ms = 1000", "nak_ms = 50"),
+    ("check_ms = 1000", "check_ms = 50"),
+    ("inactivity_ms = 1000", "inactivity_ms = 50"),
+];
+
+// Nobody is at the remote's address.
+#[test]
+fn nobody(rt: HostRuntime) -> Result<(), Fail> {
+    let alloc = rt.alloc();
+    fs::write(&rt, "nobody", with_lines(alloc, PUTTER, &SOON)?.as_str())?;
+    fs::write(&rt, "n", "abc")?;
+    let line = words(
+        alloc,
+        "cfdp_put --config nobody --bind 127.0.0.1:0 --user alice --remote 2 --class 2 n b",
+    )?;
+    let mut written = Vec::new(alloc);
+    let mut errors = Vec::new(alloc);
+    let status = put_one(rt, line.as_slice(), &mut written, &mut errors);
+    assert_eq!(rt; status, 2);
+    assert_eq!(rt;
+        str::from_utf8(written.as_slice()),
+        Ok(
+            "alice 1 4 Transaction\nalice 1 4 EOF-Sent\nalice 1 4 Transaction-Finished 1 incomplete unreported\n"
+        )
+    );
+    assert!(rt; errors.is_empty());
+    Ok(())
+}
+
+// Command lines and files that a put does not begin with, and what is said of each.
+const FAULTS: [(&str, &str); 12] = [
+    ("cfdp_put", "cfdp_put: usage\n"),
+    (
+        "cfdp_put --config nowhere --bind 127.0.0.1:0 --user alice --remote 2 --class 3 f b",
+        "cfdp_put: usage\n",
+    ),
+    (
+        "cfdp_put --config nowhere --bind 127.0.0.1 --user alice --remote 2 --class 2 f b",
+        "cfdp_put: usage\n",
+    ),
+    (
+        "cfdp_put --config nowhere --bind 127.0.0.1:0 --user alice --remote 2 --class 2 f",
+        "cfdp_put: usage\n",
+    ),
+    (
+        "cfdp_put --config nowhere --bind 127.0.0.1:0 --user carol --remote 2 --class 2 f b",
+        "cfdp_put: read fault\n",
+    ),
+    (
+        "cfdp_put --config faults-bad --bind 127.0.0.1:0 --user carol --remote 2 --class 2 f b",
+        "cfdp_put: config fault 4\n",
+    ),
+    (
+        "cfdp_put --config faults --bind 127.0.0.1:0 --user carol --remote 2 --class 2 nowhere b",
+        "cfdp_put: usage\n",
+    ),
+    (
+        "cfdp_put --config faults --bind 192.0.2.1:7001 --user bob --remote 9 --class 2 nowhere b",
+        "cfdp_put: read fault\n",
+    ),
+    (
+        "cfdp_put --config faults --bind 192.0.2.1:7001 --user bob --remote 9 --class 2 f b",
+        "cfdp_put: bind fault\n",
+    ),
+    (
+        "cfdp_put --config faults --bind 127.0.0.1:0 --user bob --remote 9 --class 2 f b",
+        "cfdp_put: refused 25 UnknownRemote\n",
+    ),
+    (
+        "cfdp_put --config=faults --bind=127.0.0.1:0 --user=bob --remote=2 --class=1 --rate=0 f b",
+        "cfdp_put: usage\n",
+    ),
+    (
+        "cfdp_put --config faults --config faults --bind 127.0.0.1:0 --user bob --remote 2 --class 1 f b",
+        "cfdp_put: usage\n",
+    ),
+];
+
+// Each fault in the order in which they are looked for.
+#[test]
+fn faults(rt: HostRuntime) -> Result<(), Fail> {
+    let alloc = rt.alloc();
+    let first = ("first = 1", "first = -1");
+    fs::write(&rt, "faults", PUTTER)?;
+    fs::write(
+        &rt,
+        "faults-bad",
+        with_lines(alloc, PUTTER, &[first])?.as_str(),
+    )?;
+    fs::write(&rt, "f", "abc")?;
+    for (line, text) in FAULTS {
+        let line = words(alloc, line)?;
+        let mut written = Vec::new(alloc);
+        let mut errors = Vec::new(alloc);
+        let status = put_one(rt, line.as_slice(), &mut written, &mut errors);
+        assert_eq!(rt; str::from_utf8(errors.as_slice()), Ok(text));
+        assert_eq!(rt; status, 1);
+        assert!(rt; written.is_empty());
+    }
+    Ok(())
+}
+
+// The help and the version are printed, and that is all.
+#[test]
+fn help(rt: HostRuntime) -> Result<(), Fail> {
+    let alloc = rt.alloc();
+    for (line, text) in [
+        ("cfdp_put --help", "Sends one file by CFDP over UDP"),
+        ("cfdp_put --version", "cfdp_put 0.1\n"),
+    ] {
+        let line = words(alloc, line)?;
+        let mut written = Vec::new(alloc);
+        let mut errors = Vec::new(alloc);
+        let status = put_one(rt, line.as_slice(), &mut written, &mut errors);
+        assert_eq!(rt; status, 0);
+        assert!(rt; errors.is_empty());
+        assert!(rt; str::from_utf8(written.as_slice()).is_ok_and(|told| told.starts_with(text)));
+    }
+    Ok(())
+}

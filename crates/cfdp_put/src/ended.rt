@@ -1,0 +1,51 @@
+//! What the program ends with, by what its user is told.
+ghost use Rattle.std.specs.Prelude.{◌≡◌};
+ghost use Rattle.cfdp_put.specs.Ended.{end_status, status_in, status_of};
+
+use cfdp_types::{Condition, Delivery, TxnKey};
+use indications::{Bundle, Indication};
+
+/// The exit status where a bundle tells the end of a transaction: 0 where the receiver has the whole file, and 2 otherwise.
+pub(crate) fn status_of(bundle: &Bundle, key: TxnKey) -> Option<u8>
+    ensures { result ≡ status_of bundle.now key }
+{
+    if bundle.key == key {
+        status_in(bundle.inds.as_slice())
+    } else {
+        None
+    }
+}
+
+// The same by the first end that is told.
+fn status_in(told: &[Indication]) -> Option<u8>
+    ensures { result ≡ status_in told.now }
+{
+    match told {
+        [] => None,
+        [first, later @ ..] => match end_status(first) {
+            Some(status) => Some(status),
+            None => status_in(later),
+        },
+    }
+}
+
+// The same by one indication.
+fn end_status(told: &Indication) -> Option<u8>
+    ensures { result ≡ end_status told.now }
+{
+    match told {
+        Indication::TransactionFinished {
+            condition,
+            delivery,
+            ..
+        } => {
+            if *condition == Condition::NO_ERROR && *delivery == Delivery::Complete {
+                Some(0)
+            } else {
+                Some(2)
+            }
+        }
+        Indication::Abandoned { .. } => Some(2),
+        _ => None,
+    }
+}

@@ -1,0 +1,31 @@
+use entity_workers::{Filestore, StoreFault};
+
+/// A store that keeps nothing: who sends a file here hears that it was rejected.
+#[derive(Debug, Drop)]
+pub(crate) struct RefusingStore {
+    pub(crate) refused: u64,
+}
+
+impl Filestore for RefusingStore {
+    ghost use Rattle.std.specs.Prelude.{◌≡◌, Err};
+    ghost use Rattle.file_stores.specs.declared.filestore.StoreFault.TheVariants as fault;
+
+    ghost tried = { λ store. store.refused };
+
+    ghost failed = { λ store. store.refused };
+
+    ghost deposits = { λ _ _ _ result _. result ≡ Err fault.Failed };
+
+    fn deposit(&mut self, _name: &[u8], _octets: &[u8]) -> Result<(), StoreFault> {
+        self.refused += 1;
+        Err(StoreFault::Failed)
+    }
+
+    fn calls(&self) -> u64 {
+        self.refused
+    }
+
+    fn failures(&self) -> u64 {
+        self.refused
+    }
+}

@@ -1,0 +1,200 @@
+//! The main thread of the program, which works in turns, beside the threads of each program.
+use crate::ended::status_of;
+use crate::refusing::RefusingStore;
+use answer_texts::push_bundle;
+use cfdp_types::{PutRequest, TxnKey};
+use entity_routing::Request;
+use held_lanes::{Names, NoGate};
+use program_desk::{Desk, Step};
+use program_link::PduSender;
+use program_start::{ProgramFault, print};
+use program_station::{REST_MS, Station, flat, moment};
+use program_threads::{MainThread, WayIn, run_beside};
+use shared_entity::{Entity, EntityRefusal};
+use std::alloc::{AllocError, Global};
+use std::io::Write;
+use std::net::UdpSocket;
+use std::sync::Wait;
+use std::thread;
+use std::thread::Threads;
+use std::time::{Clock, Duration};
+use user_queues::UserPort;
+
+// How many steps may wait for the main thread.
+const STEPS: usize = 1_024;
+
+// How long the main thread sleeps at most, in milliseconds.
+const LONGEST_SLEEP_MS: u64 = 60_000;
+
+/// What is put, by which user, and how fast its octets may leave.
+#[derive(Drop)]
+pub(crate) struct Wanted {
+    pub(crate) user: usize,
+    pub(crate) put: PutRequest,
+    pub(crate) octets_a_second: Option<u64>,
+}
+
+// What the main thread has.
+#[derive(Drop)]
+struct Putter<'a, N: Names, R: Copy, W: Drop> {
+    rt: &'a R,
+    alloc: Global,
+    desk: &'a Desk,
+    /// The steps that are to be noted, the last one first.
+    steps: Vec<Step>,
+    station: Station<'a, N, R, RefusingStore>,
+    ports: Vec<UserPort>,
+    user: usize,
+    /// What is put, until it is.
+    put: Option<PutRequest>,
+    writer: W,
+}
+
+/// Puts over an opened entity and its socket until the transaction has ended; the exit status then.
+pub(crate) fn put_over<
+    N: Names + Send + Sync,
+    R: Threads + Wait + Clock + Copy + Drop + Send + Sync,
+    W: Write + Drop,
+>(
+    rt: &R,
+    alloc: Global,
+    entity: &Entity<N, R>,
+    ports: Vec<UserPort>,
+    socket: &UdpSocket,
+    wanted: Wanted,
+    writer: W,
+) -> Result<u8, ProgramFault> {
+    let desk = Desk::new(alloc, STEPS, 1)?;
+    put_at(rt, alloc, entity, ports, socket, &desk, wanted, writer)
+}
+
+// The same at a desk, all of whose room is made; so is that of the threads before the first one starts. The worker wakes the
+// main thread at each step, since that alone takes what the user is told.
+fn put_at<
+    'x,
+    N: Names + Send + Sync,
+    R: Threads + Wait + Clock + Copy + Drop + Send + Sync,
+    W: Write + Drop,
+>(
+    rt: &'x R,
+    alloc: Global,
+    entity: &'x Entity<N, R>,
+    ports: Vec<UserPort>,
+    socket: &'x UdpSocket,
+    desk: &'x Desk,
+    wanted: Wanted,
+    writer: W,
+) -> Result<u8, ProgramFault> {
+    let putter = putter_over(rt, alloc, entity, ports, socket, desk, wanted, writer)?;
+    let way_in = WayIn::new(rt, alloc, 1, entity.config(), socket, desk, true)?;
+    run_beside(rt, alloc, entity, socket, desk, way_in, putter)
+}
+
+fn putter_over<'x, N: Names, R: Wait + Clock + Copy, W: Drop>(
+    rt: &'x R,
+    alloc: Global,
+    entity: &'x Entity<N, R>,
+    ports: Vec<UserPort>,
+    socket: &'x UdpSocket,
+    desk: &'x Desk,
+    wanted: Wanted,
+    writer: W,
+) -> Result<Putter<'x, N, R, W>, AllocError> {
+    let sender = PduSender::new(alloc, socket, entity.config())?;
+    let steps = Vec::with_capacity(alloc, desk.step_room())?;
+    let Wanted {
+        user,
+        put,
+        octets_a_second,
+    } = wanted;
+    let store = RefusingStore { refused: 0 };
+    Ok(Putter {
+        rt,
+        alloc,
+        desk,
+        steps,
+        station: Station::new(rt, alloc, entity, sender, store, octets_a_second),
+        ports,
+        user,
+        put: Some(put),
+        writer,
+    })
+}
+
+impl<'a, N: Names, R: Wait + Clock + Copy, W: Write + Drop> MainThread for Putter<'a, N, R, W> {
+    /// Puts, and works until the transaction has ended.
+    fn work(self) -> Result<u8, ProgramFault> {
+        let mut putter = self;
+        put_and_work(&mut putter)
+    }
+}
+
+fn put_and_work<N: Names, R: Wait + Clock + Copy, W: Write + Drop>(
+    putter: &mut Putter<'_, N, R, W>,
+) -> Result<u8, ProgramFault> {
+    let (rt, desk) = (putter.rt, putter.desk);
+    let key = putter.begin()?;
+    let mut text = String::new(putter.alloc);
+    for _ in rt.forever() {
+        let has_settled = putter.station.settle_left(desk, &mut putter.steps);
+        if !putter.station.is_settled() {
+            thread::sleep(rt, Duration::from_millis(REST_MS));
+            continue;
+        }
+        text.clear();
+        let status = putter.take_one(key, &mut text)?;
+        print(&mut putter.writer, text.as_str())?;
+        if let Some(status) = status {
+            return Ok(status);
+        }
+        let now = moment(rt);
+        let has_worked = putter.station.turn(now);
+        if !has_settled && text.is_empty() && !has_worked {
+            let until = putter.station.next_moment(now);
+            desk.wait(rt, now, until.min(now.saturating_add(LONGEST_SLEEP_MS)));
+        }
+    }
+    Ok(2)
+}
+
+impl<'a, N: Names, R: Wait + Clock + Copy, W: Drop> Putter<'a, N, R, W> {
+    // Asks the entity for the Put.
+    fn begin(&mut self) -> Result<TxnKey, ProgramFault> {
+        let entity = self.station.entity();
+        self.station.reserve()?;
+        let Some(put) = self.put.take() else {
+            return Err(ProgramFault::Usage);
+        };
+        if self.user >= entity.users() || entity.put_lanes() == 0 {
+            return Err(ProgramFault::Usage);
+        }
+        match flat(entity.request(self.rt, &NoGate, self.user, Request::Put(0, put))) {
+            Ok(done) => {
+                let key = done.key;
+                self.station.begin(key);
+                self.station.settle_own(done);
+                Ok(key)
+            }
+            Err(EntityRefusal::Lane(refused)) => Err(ProgramFault::Refused(refused.why)),
+            Err(EntityRefusal::Route(why)) => Err(ProgramFault::NotRouted(why)),
+            Err(EntityRefusal::WrongLane) => Err(ProgramFault::WrongLane),
+        }
+    }
+
+    // Takes the bundle at the front of the user's queue, if there is one, and adds its lines; the exit status where it tells
+    // the end of the transaction.
+    fn take_one(&mut self, key: TxnKey, text: &mut String) -> Result<Option<u8>, ProgramFault> {
+        let config = self.station.entity().config();
+        let name = config.name_of(self.user).unwrap_or("");
+        for port in self.ports.iter_mut() {
+            if port.user() == self.user {
+                let Some(bundle) = port.take(self.rt) else {
+                    return Ok(None);
+                };
+                push_bundle(self.alloc, text, name, &bundle)?;
+                return Ok(status_of(&bundle, key));
+            }
+        }
+        Ok(None)
+    }
+}

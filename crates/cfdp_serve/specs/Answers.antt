@@ -1,0 +1,24 @@
+-- What the server prints of an entity's answers.
+use Rattle.std.specs.Prelude.{Bool, List, ℕ, ◌++◌, if◌then◌else◌, codes, decimal}
+use Rattle.answer_texts.specs.AnswerTexts.{opened_text, deposit_text, refusal_text, fault_line, refused_text}
+use Rattle.entity_refusals.specs.Refusals.{number_of, name_of}
+use Rattle.entity_refusals.specs.declared.refusal.EntityRefusal.{EntityRefusal}
+use Rattle.entity_refusals.specs.declared.refusal.EntityRefusal.TheVariants as answer
+use Rattle.entity_routing.specs.declared.refusal.RouteRefusal.TheVariants as routes
+use Rattle.lane_table.specs.declared.done.Done.{Done}
+use Rattle.lane_traces.specs.declared.traced.Traced.{Traced}
+use Rattle.pdu_reading.specs.Fault.{fault_number}
+
+-- the lines for what was taken: those of a script, but for the PDUs
+abbrev pub taken_text : Bool → Done → List ℕ
+taken_text is_put done = codes "ok\n" ++ (opened_text is_put done.key ++ deposit_text done.deposit)
+
+-- the lines for what was refused: those of a script
+abbrev pub refusal_line : EntityRefusal → List ℕ
+refusal_line (answer.Lane refused) = refused_text refused
+refusal_line (answer.Route (routes.DecodeFault fault)) = fault_line (fault_number fault)
+refusal_line why = refusal_text (number_of why) (name_of why)
+
+-- the line for how far a transaction is
+abbrev pub traced_text : Traced → List ℕ
+traced_text traced = codes "trace " ++ (decimal traced.entries ++ (if traced.ended then codes " ended\n" else codes " open\n"))

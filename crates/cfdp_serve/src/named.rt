@@ -1,0 +1,65 @@
+//! The entity of a run, over queues that bear the run's name.
+ghost use Rattle.std.specs.Prelude.{◌≡◌, ℕ, Some, length, slice_get, vec_len};
+ghost use Rattle.std.specs.List.{sum_by};
+ghost use Rattle.entity_routing.specs.Places.{lanes_of};
+ghost use Rattle.user_queues.specs.Opened.{IsOpenedFor};
+
+use crate::threads::serve_over;
+use entity_config::Config;
+use held_lanes::Names;
+use program_start::ProgramFault;
+use program_words::ServerWords;
+use shared_entity::{Entity, queues_of};
+use std::alloc::Global;
+use std::io::{Read, Write};
+use std::marker::Brand;
+use std::net::UdpSocket;
+use std::rt::Files;
+use std::sync::Wait;
+use std::thread::Threads;
+use std::time::Clock;
+use user_queues::Queues;
+
+/// Opens an entity with its queues, and serves.
+pub(crate) fn serve_named<
+    R: Threads + Wait + Clock + Files + AllocGlobal + Copy + Drop + Send + Sync,
+    I: Read + Send + Drop,
+    W: Write + Drop,
+>(
+    rt: &R,
+    alloc: Global,
+    config: Config,
+    socket: &UdpSocket,
+    words: &ServerWords<'_>,
+    reader: I,
+    writer: W,
+) -> Result<u8, ProgramFault> {
+    let queues = queues_of(*rt, alloc, &config)?;
+    serve_opened::<Brand, R, I, W>(rt, alloc, config, queues, socket, words, reader, writer)
+}
+
+fn serve_opened<
+    N: Names + Send + Sync,
+    R: Threads + Wait + Clock + Files + AllocGlobal + Copy + Drop + Send + Sync,
+    I: Read + Send + Drop,
+    W: Write + Drop,
+>(
+    rt: &R,
+    alloc: Global,
+    config: Config,
+    queues: Queues<R>,
+    socket: &UdpSocket,
+    words: &ServerWords<'_>,
+    reader: I,
+    writer: W,
+) -> Result<u8, ProgramFault>
+    requires opened { (user : ℕ) (ends : _) → slice_get queues.users.items user ≡ Some ends
+        → IsOpenedFor user (lanes_of config user) config.entity.capacity ends.port ends.outlets.items }
+    requires named { (user : ℕ) (ends : _) → slice_get queues.users.items user ≡ Some ends
+        → ends.port.queue ≡ N.queue user }
+    requires lanes { N.lanes ≡ sum_by (λ ends. vec_len ends.outlets) queues.users.items }
+    requires users { vec_len queues.users ≡ length config.users }
+{
+    let (entity, ports) = Entity::<N, R>::open(alloc, config, queues)?;
+    serve_over(rt, alloc, &entity, ports, socket, words, reader, writer)
+}

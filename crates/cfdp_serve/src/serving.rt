@@ -1,0 +1,68 @@
+//! How the server starts.
+use crate::named::serve_named;
+use program_start::{ProgramFault, load_config, open_socket, print, tell_fault};
+use program_words::{WordsFault, server_help, server_version, server_words};
+use std::alloc::Global;
+use std::io::{Read, Write};
+use std::net::Net;
+use std::rt::Files;
+use std::sync::Wait;
+use std::thread::Threads;
+use std::time::Clock;
+
+/// Runs the server by its command line, whose first word is the program's own name, until `quit` or the end of the commands
+/// that `reader` gives. The answers go to `writer`, and why it ended too early to `errors`. The result is the exit status: 0,
+/// or 1 where it ended too early. Where the output takes no more, it ends once the reader has given one more line or its end.
+pub fn serve<
+    R: Threads + Wait + Net + Clock + Files + AllocGlobal + Copy + Drop + Send + Sync,
+    I: Read + Send + Drop,
+    W: Write + Drop,
+    E: Write,
+>(rt: R, words: &[String], reader: I, writer: W, errors: &mut E) -> u8 {
+    let alloc: Global = rt.alloc();
+    match start(&rt, alloc, words, reader, writer) {
+        Ok(status) => status,
+        Err(fault) => {
+            tell_fault(alloc, errors, "cfdp_server", &fault);
+            1
+        }
+    }
+}
+
+/// Prints why the words of the command line can't be had; the result is the exit status.
+pub fn tell_words_fault<E: Write>(alloc: Global, errors: &mut E, fault: WordsFault) -> u8 {
+    tell_fault(alloc, errors, "cfdp_server", &fault_of(fault));
+    1
+}
+
+// The fault of a program whose words have one.
+fn fault_of(fault: WordsFault) -> ProgramFault {
+    match fault {
+        WordsFault::NoMemory => ProgramFault::NoMemory,
+        _ => ProgramFault::Usage,
+    }
+}
+
+fn start<
+    R: Threads + Wait + Net + Clock + Files + AllocGlobal + Copy + Drop + Send + Sync,
+    I: Read + Send + Drop,
+    W: Write + Drop,
+>(rt: &R, alloc: Global, words: &[String], reader: I, writer: W) -> Result<u8, ProgramFault> {
+    let mut writer = writer;
+    match server_words(alloc, words) {
+        Ok(words) => {
+            let config = load_config(rt, alloc, words.config)?;
+            let socket = open_socket(rt, words.bind)?;
+            serve_named(rt, alloc, config, &socket, &words, reader, writer)
+        }
+        Err(WordsFault::Help) => {
+            print(&mut writer, server_help())?;
+            Ok(0)
+        }
+        Err(WordsFault::Version) => {
+            print(&mut writer, server_version())?;
+            Ok(0)
+        }
+        Err(fault) => Err(fault_of(fault)),
+    }
+}

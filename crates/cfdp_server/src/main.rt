@@ -1,0 +1,22 @@
+//! Receives and sends files by CFDP over UDP, as one entity, and does what lines of commands on the standard input say.
+#![tactic(auto)]
+
+use cfdp_serve::{serve, tell_words_fault};
+use program_words::line_of;
+use std::io;
+use std::process::ExitCode;
+
+// Serves by the words of the command line.
+fn main(rt: HostRuntime) -> ExitCode {
+    let status = match line_of(&rt) {
+        Ok(words) => serve(
+            rt,
+            words.as_slice(),
+            rt.reader(),
+            io::writer(&rt),
+            &mut rt.stderr(),
+        ),
+        Err(fault) => tell_words_fault(rt.alloc(), &mut rt.stderr(), fault),
+    };
+    ExitCode::from(status)
+}

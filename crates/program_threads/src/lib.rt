@@ -1,0 +1,9 @@
+//! The threads of a program round the entity that they share: one reads datagrams, workers deliver, and the main thread does
+//! its own work beside them.
+#![tactic(auto)]
+
+mod beside;
+mod way_in;
+
+pub use beside::{MainThread, run_beside, run_commanded};
+pub use way_in::WayIn;

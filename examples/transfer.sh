@@ -1,0 +1,81 @@
+#!/usr/bin/env bash
+# Moves a file between two processes over loopback, and compares what came with what was sent.
+# usage: examples/transfer.sh SERVER PUT CLASS OCTETS LOSE_EACH DOUBLE_EACH
+# Between them stands a relay that loses and doubles datagrams by a fixed pattern (0: none). All of it ends by itself.
+set -euo pipefail
+here=$(dirname "$(realpath "$0")")/transfer
+server=$(realpath "$1") put=$(realpath "$2")
+class=$3 octets=$4 lose=$5 double=$6
+cd "$(mktemp -d)"
+started=()
+leave() {
+    for one in "${started[@]}"; do kill "$one" 2> /dev/null || true; done
+    rm -rf "$PWD"
+}
+trap leave EXIT
+
+# tells TEXT: the run did not go as it should.
+tells() {
+    echo "transfer in class $class: $1"
+    tail -n 5 relayed served printed told 2> /dev/null || true
+    exit 1
+}
+
+# four ports that are free, for the server, the put, and both ends of the relay
+read -r at_server at_put to_put to_server < <(python3 - <<'PORTS'
+import socket
+found = [socket.socket(socket.AF_INET, socket.SOCK_DGRAM) for _ in range(4)]
+for one in found:
+    one.bind(("127.0.0.1", 0))
+print(*[one.getsockname()[1] for one in found])
+PORTS
+)
+sed "s/@PEER@/$to_put/" "$here/ground.toml" > ground.toml
+sed "s/@PEER@/$to_server/" "$here/spacecraft.toml" > spacecraft.toml
+mkdir received
+python3 -c 'import random, sys
+sys.stdout.buffer.write(random.Random(7).randbytes(int(sys.argv[1])))' "$octets" > image
+mkfifo commands ends
+
+timeout 300 python3 "$here/relay.py" "$to_put" "$at_put" "$to_server" "$at_server" "$lose" "$double" < ends > relayed &
+relay=$!
+started+=("$relay")
+exec 4> ends
+timeout 300 "$server" --config ground.toml --bind "127.0.0.1:$at_server" --folder received --follow < commands > served 2> faults &
+serving=$!
+started+=("$serving")
+exec 3> commands
+
+# the relay listens, and the server answers
+for _ in $(seq 100); do
+    grep -qs ready relayed && break
+    sleep 0.1
+done
+echo 'trace 2 1' >&3
+for _ in $(seq 100); do
+    [ -s served ] && break
+    sleep 0.1
+done
+[ -s served ] || tells "the server doesn't answer: $(cat faults)"
+
+status=0
+timeout 240 "$put" --config spacecraft.toml --bind "127.0.0.1:$at_put" --user alice --remote 2 --class "$class" \
+    --rate 20000000 image image.received > printed 2> told || status=$?
+
+# what the server tells last of the file, and then the file itself
+for _ in $(seq 300); do
+    grep -qs 'Transaction-Finished' served && break
+    sleep 0.1
+done
+echo quit >&3
+exec 3>&-
+wait "$serving" || tells "the server ended with status $?: $(cat faults)"
+exec 4>&-
+wait "$relay" || true
+echo "class $class, $octets octets: $(tail -n 1 relayed)"
+echo "the put ended with status $status: $(tail -n 1 printed)"
+echo "the server told: $(grep 'Transaction-Finished' served || echo nothing of an end)"
+cmp image received/image.received || tells "the file that came is another"
+# a sender in class 1 never hears how its file came
+[ "$status" = "$([ "$class" = 2 ] && echo 0 || echo 2)" ] || tells "the put's status is $status"
+echo "the file came whole"
