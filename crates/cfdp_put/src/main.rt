@@ -3,8 +3,6 @@
 
 #[cfg(test)]
 mod alone;
-#[cfg(test)]
-mod both;
 mod ended;
 mod named;
 mod putting;
