@@ -60,7 +60,7 @@ done
 
 status=0
 timeout 240 "$put" --config spacecraft.toml --bind "127.0.0.1:$at_put" --user alice --remote 2 --class "$class" \
-    --rate 20000000 image image.received > printed 2> told || status=$?
+    --rate 4000000 image image.received > printed 2> told || status=$?
 
 # what the server tells last of the file, and then the file itself
 for _ in $(seq 300); do
