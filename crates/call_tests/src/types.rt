@@ -204,9 +204,18 @@ fn puts(rt: HostRuntime) -> Result<(), Fail> {
     Ok(())
 }
 
+#[test]
+fn puts_with_closure(rt: HostRuntime) -> Result<(), Fail> {
+    let put = put_of(rt.alloc())?.with_closure(true);
+    assert!(rt; put.closure() && put.copy()?.closure());
+    assert!(rt; has_its_parts(&put.with_closure(false)));
+    Ok(())
+}
+
 fn has_its_parts(put: &PutRequest) -> bool {
     put.destination() == EntityId(1)
         && put.class() == Class::Two
+        && !put.closure()
         && put.source_name().as_slice() == b"a".as_slice()
         && put.destination_name().as_slice() == b"b".as_slice()
         && put.messages().as_slice().len() == 2

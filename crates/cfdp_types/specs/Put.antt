@@ -11,6 +11,8 @@ use Rattle.cfdp_types.specs.declared.put_request.PutFault.TheVariants.{NoName, N
 pub record PutValue : Type 0 where
   pub destination : EntityId
   pub class : Class
+  -- whether the receiver is asked to say what became of the file; class 2 always is
+  pub closure : Bool
   pub source_name : List ℕ
   pub destination_name : List ℕ
   pub messages : List (List ℕ)

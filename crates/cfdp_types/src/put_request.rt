@@ -49,6 +49,7 @@ impl From<AllocError> for PutFault {
 pub struct PutRequest {
     destination: EntityId,
     class: Class,
+    closure: bool,
     source_name: Octets,
     destination_name: Octets,
     messages: Messages,
@@ -63,6 +64,7 @@ impl Model for PutRequest {
     ghost view = { λ p. record {
       destination = p.destination;
       class = p.class;
+      closure = p.closure;
       source_name = p.source_name;
       destination_name = p.destination_name;
       messages = p.messages;
@@ -72,6 +74,7 @@ impl Model for PutRequest {
     ghost invariant = { λ p. IsPut (record {
       destination = p.destination;
       class = p.class;
+      closure = p.closure;
       source_name = p.source_name;
       destination_name = p.destination_name;
       messages = p.messages;
@@ -80,7 +83,7 @@ impl Model for PutRequest {
 }
 
 impl PutRequest {
-    ghost use Rattle.std.specs.Prelude.{◌≡◌, None, Some, Err, IfErr, IfOk, map};
+    ghost use Rattle.std.specs.Prelude.{◌≡◌, false, None, Some, Err, IfErr, IfOk, map};
     ghost use Rattle.cfdp_types.specs.Put.{AreMessages, IsName, IsPut, put_fault};
 
     /// Copies what the user gave.
@@ -96,6 +99,7 @@ impl PutRequest {
         ensures kept { IfOk result (λ request. request ≡ record {
           destination = destination;
           class = class;
+          closure = false;
           source_name = source_name.now;
           destination_name = destination_name.now;
           messages = map (λ m. m.now) messages.now;
@@ -137,6 +141,7 @@ impl PutRequest {
         ensures { IfOk result (λ request. request ≡ record {
           destination = destination;
           class = class;
+          closure = false;
           source_name = source_name.now;
           destination_name = destination_name.now;
           messages = map (λ m. m.now) messages.now;
@@ -146,6 +151,7 @@ impl PutRequest {
         Ok(PutRequest {
             destination,
             class,
+            closure: false,
             source_name: Octets::from_slice(alloc, source_name)?,
             destination_name: Octets::from_slice(alloc, destination_name)?,
             messages: Messages::from_slices(alloc, messages)?,
@@ -160,11 +166,28 @@ impl PutRequest {
         Ok(PutRequest {
             destination: self.destination,
             class: self.class,
+            closure: self.closure,
             source_name: self.source_name.copy()?,
             destination_name: self.destination_name.copy()?,
             messages: self.messages.copy()?,
             file: self.file.copy()?,
         })
+    }
+
+    /// The same request, with the receiver asked or not to say at the end what became of the file. That
+    /// changes nothing in class 2, whose receivers always do.
+    pub fn with_closure(self, closure: bool) -> PutRequest
+        ensures { result ≡ record self { closure = closure } }
+    {
+        PutRequest {
+            destination: self.destination,
+            class: self.class,
+            closure,
+            source_name: self.source_name,
+            destination_name: self.destination_name,
+            messages: self.messages,
+            file: self.file,
+        }
     }
 
     /// The entity that is to receive the file.
@@ -179,6 +202,13 @@ impl PutRequest {
         ensures { result ≡ self.now.class }
     {
         self.class
+    }
+
+    /// Whether the receiver is asked to say at the end what became of the file.
+    pub fn closure(&self) -> bool
+        ensures { result ≡ self.now.closure }
+    {
+        self.closure
     }
 
     /// The name of the file here.

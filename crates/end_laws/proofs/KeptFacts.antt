@@ -29,7 +29,7 @@ use Rattle.txn_events.specs.declared.event.What.TheVariants as what
 use Rattle.txn_events.specs.declared.refusal.Refusal.TheVariants as refusal
 use Rattle.receiver_table.specs.Reception.{Reception, Entry, State, initial, step, state_of, is_suspended, is_closing, finished_in, finished_among}
 use Rattle.receiver_table.specs.Refusals.{refusal_at, is_stale_store}
-use Rattle.receiver_table.specs.Answers.{Response, nothing, tells, ◌and_then◌, response_to, with_event, handler_of, finish_response, cancel_response, fault_response, status_of, is_unsupported, is_beyond, is_whole, agrees, waits_for_rest, looks_at_eof, examines, acknowledges, on_eof, ends_as_finished, on_body, is_below, on_nak_timer, on_check_timer, on_timer, on_resume, pdu_to_sender, ack_of, nak_of, requests_of, scope_of, last_end, if_there, if_so, bodies_of}
+use Rattle.receiver_table.specs.Answers.{Response, nothing, tells, ◌and_then◌, response_to, with_event, handler_of, asks_closure, finish_response, cancel_response, fault_response, status_of, is_unsupported, is_beyond, is_whole, agrees, waits_for_rest, looks_at_eof, examines, acknowledges, on_eof, ends_as_finished, on_body, is_below, on_nak_timer, on_check_timer, on_timer, on_resume, pdu_to_sender, ack_of, nak_of, requests_of, scope_of, last_end, if_there, if_so, bodies_of}
 use Rattle.receiver_laws.specs.LegalReceptions.{IsLegal}
 use Rattle.receiver_laws.proofs.ReceptionDeposits.{deposits_good}
 use Rattle.end_laws.specs.ReceiverLaws.{HasKept, IsSaidByReceiver, SaysWhatIsKept}
@@ -51,17 +51,21 @@ denies_if false x y first second = second
 denies_both : (x y : Response) → DeniesIn x → DeniesIn y → DeniesIn (x and_then y)
 denies_both x y first second = older_both (λ f. f.delivery ≡ Complete → ⊥) x.finished y.finished first second
 
-incomplete_denies : (reception : Reception) (code : ℕ) (status : FileStatus) (class : Class) → reception.header.class ≡ class
-    → DeniesIn (finish_response reception code Incomplete status)
-incomplete_denies reception code status One is = rw is tt
-incomplete_denies reception code status Two is = rw is (λ complete. absurd cc)
+denies_asked : (asked : Bool) (f : Finished) → (f.delivery ≡ Complete → ⊥) → Denies (if asked then Some f else None)
+denies_asked true f denies = denies
+denies_asked false f denies = tt
 
-cancel_denies : (reception : Reception) (code : ℕ) → DeniesIn (cancel_response reception code)
-cancel_denies reception code = incomplete_denies reception code (status_of code) reception.header.class refl
+incomplete_denies : (reception : Reception) (state : State) (code : ℕ) (status : FileStatus) (class : Class) → reception.header.class ≡ class
+    → DeniesIn (finish_response reception state code Incomplete status)
+incomplete_denies reception state code status One is = rw is (denies_asked (asks_closure state) _ (λ complete. absurd cc))
+incomplete_denies reception state code status Two is = rw is (λ complete. absurd cc)
+
+cancel_denies : (reception : Reception) (state : State) (code : ℕ) → DeniesIn (cancel_response reception state code)
+cancel_denies reception state code = incomplete_denies reception state code (status_of code) reception.header.class refl
 
 fault_denies : (reception : Reception) (state : State) (kinds : List TimerKind) (code : ℕ) (h : Handler) → handler_of reception code ≡ h
     → DeniesIn (fault_response reception state kinds code)
-fault_denies reception state kinds code handler.Cancel is = rw is (cancel_denies reception code)
+fault_denies reception state kinds code handler.Cancel is = rw is (cancel_denies reception state code)
 fault_denies reception state kinds code handler.Suspend is = rw is tt
 fault_denies reception state kinds code handler.Ignore is = rw is tt
 fault_denies reception state kinds code handler.Abandon is = rw is tt
@@ -159,10 +163,14 @@ kept_now reception front stamp answer legal =
     let given = deposits_good reception front stamp legal.3 (store_waits reception (state_of front) stamp true taken.0) in
     record { later = []; stamp = stamp; answer = answer; front = front; log_is = refl; image = given.image; image_is = given.given }
 
-finish_kept : (reception : Reception) (log : List Entry) (class : Class) → reception.header.class ≡ class → HasKept log
-    → SaysKept log (finish_response reception condition.no_error Complete Retained).finished
-finish_kept reception log One is kept = rw is tt
-finish_kept reception log Two is kept = rw is (λ complete. kept)
+asked_kept : (log : List Entry) (asked : Bool) (f : Finished) → HasKept log → SaysKept log (if asked then Some f else None)
+asked_kept log true f kept = λ complete. kept
+asked_kept log false f kept = tt
+
+finish_kept : (reception : Reception) (now : State) (log : List Entry) (class : Class) → reception.header.class ≡ class → HasKept log
+    → SaysKept log (finish_response reception now condition.no_error Complete Retained).finished
+finish_kept reception now log One is kept = rw is (asked_kept log (asks_closure now) _ kept)
+finish_kept reception now log Two is kept = rw is (λ complete. kept)
 
 timer_says : (reception : Reception) (entry : Entry) (front : List Entry) (now : State) (kind : TimerKind) → SaysKept front (state_of front).finished
     → SaysKept (entry ∷ front) (on_timer reception (state_of front) now kind).finished
@@ -190,11 +198,11 @@ row_says reception (what.Pdu pdu) answer front now legal says =
     denied _ (on_body reception (state_of front) now pdu.body).finished (body_denies reception (state_of front) now pdu.body)
 row_says reception (what.Timer kind stamp) answer front now legal says = timer_says reception _ front now kind says
 row_says reception (what.Stored stamp true) answer front now legal says =
-    finish_kept reception _ reception.header.class refl (kept_now reception front stamp answer legal)
+    finish_kept reception now _ reception.header.class refl (kept_now reception front stamp answer legal)
 row_says reception (what.Stored stamp false) answer front now legal says =
     denied _ (fault_response reception now [] condition.filestore_rejection).finished (fault_denies reception now [] condition.filestore_rejection _ refl)
 row_says reception what.Cancel answer front now legal says =
-    denied _ (cancel_response reception condition.cancel_request).finished (cancel_denies reception condition.cancel_request)
+    denied _ (cancel_response reception now condition.cancel_request).finished (cancel_denies reception now condition.cancel_request)
 row_says reception what.Resume answer front now legal says =
     denied _ (on_resume reception now).finished (examine_denies reception (record now { paused = false }))
 row_says reception what.Suspend answer front now legal says = tt

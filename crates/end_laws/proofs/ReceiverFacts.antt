@@ -152,20 +152,20 @@ gives_the_put put reception log stamp image legal agree is =
 -- ---- deposits
 
 -- the file store's answer hands nothing out
-finish_hands_out : (reception : Reception) (code : ℕ) (delivery : Delivery) (status : FileStatus) (class : Class) → reception.header.class ≡ class
-    → (finish_response reception code delivery status).deposit ≡ false
-finish_hands_out reception code delivery status One is = rw is refl
-finish_hands_out reception code delivery status Two is = rw is refl
+finish_hands_out : (reception : Reception) (state : State) (code : ℕ) (delivery : Delivery) (status : FileStatus) (class : Class) → reception.header.class ≡ class
+    → (finish_response reception state code delivery status).deposit ≡ false
+finish_hands_out reception state code delivery status One is = rw is refl
+finish_hands_out reception state code delivery status Two is = rw is refl
 
 fault_hands_out : (reception : Reception) (state : State) (kinds : List TimerKind) (code : ℕ) (h : Handler) → handler_of reception code ≡ h
     → (fault_response reception state kinds code).deposit ≡ false
-fault_hands_out reception state kinds code handler.Cancel is = rw is (finish_hands_out reception code Incomplete (status_of code) reception.header.class refl)
+fault_hands_out reception state kinds code handler.Cancel is = rw is (finish_hands_out reception state code Incomplete (status_of code) reception.header.class refl)
 fault_hands_out reception state kinds code handler.Suspend is = rw is refl
 fault_hands_out reception state kinds code handler.Ignore is = rw is refl
 fault_hands_out reception state kinds code handler.Abandon is = rw is refl
 
 stored_hands_out : (reception : Reception) (front now : State) (stamp : ℕ) (kept : Bool) → (response_to reception front now (what.Stored stamp kept)).deposit ≡ false
-stored_hands_out reception front now stamp true = finish_hands_out reception condition.no_error Complete Retained reception.header.class refl
+stored_hands_out reception front now stamp true = finish_hands_out reception now condition.no_error Complete Retained reception.header.class refl
 stored_hands_out reception front now stamp false = fault_hands_out reception now [] condition.filestore_rejection _ refl
 
 handed : (so : Bool) (own deposit : Deposit) → (if so then Some own else None) ≡ Some deposit → so ≡ true

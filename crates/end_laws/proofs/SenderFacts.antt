@@ -32,7 +32,7 @@ use Rattle.txn_events.specs.declared.event.What.{What}
 use Rattle.txn_events.specs.declared.event.What.TheVariants as what
 use Rattle.sender_table.specs.Sending.{Sending, Event, put, happens, Entry, State, initial, step, state_of, is_closing, eof_in, eof_among}
 use Rattle.sender_table.specs.Refusals.{refusal_at, runs_to_send}
-use Rattle.sender_table.specs.Answers.{Response, response_to, with_event, header_of, cancel_response, fault_response, sends_eof, sends_next, on_pump, on_body, on_timer, last_eof, ends_unreported, condition_of, accepted_at, answer_at}
+use Rattle.sender_table.specs.Answers.{Response, response_to, with_event, header_of, cancel_response, fault_response, sends_eof, sends_next, on_pump, on_body, on_timer, last_eof, ends_unreported, condition_of, acks_of, accepted_at, answer_at}
 use Rattle.sender_laws.specs.LegalSendings.{IsLegal}
 use Rattle.end_laws.specs.Agreement.{AgreesWith, HasOctetsOf, HasSizeOf}
 use Rattle.end_laws.specs.SenderLaws.{IsSaidBySender, SendsItsPut, IsFinished, TellsWhatCame}
@@ -77,12 +77,13 @@ faults_plain sending state kind code handler.Suspend is error = rw is (tt, refl)
 faults_plain sending state kind code handler.Ignore is error = rw is (tt, refl)
 faults_plain sending state kind code handler.Abandon is error = rw is (tt, refl)
 
-eof_plain : (sending : Sending) (class : Class) → sending.request.class ≡ class → Plain sending.request (sends_eof sending)
-eof_plain sending One is = rw is (((refl, λ none. refl), tt), refl)
-eof_plain sending Two is = rw is (((refl, λ none. refl), tt), refl)
+eof_plain : (sending : Sending) (class : Class) (asked : Bool) → sending.request.class ≡ class → sending.request.closure ≡ asked → Plain sending.request (sends_eof sending)
+eof_plain sending One true is asks = rw (is, asks) (((refl, λ none. refl), tt), refl)
+eof_plain sending One false is asks = rw (is, asks) (((refl, λ none. refl), tt), refl)
+eof_plain sending Two asked is asks = rw is (((refl, λ none. refl), tt), refl)
 
 next_plain : (sending : Sending) (runs : List Run) → Plain sending.request (sends_next sending runs)
-next_plain sending [] = eof_plain sending sending.request.class refl
+next_plain sending [] = eof_plain sending sending.request.class sending.request.closure refl refl
 next_plain sending (run ∷ runs) =
     (((refl, part_is sending.request.file run.start (min sending.params.segment_octets (run.end - run.start))), tt), refl)
 
@@ -106,22 +107,28 @@ timer_plain sending front now Ack agrees =
     (faults_plain sending now Ack condition.positive_ack_limit _ refl (λ none. omega (arith, none))))
 timer_plain sending front now Inactivity agrees = faults_plain sending now Inactivity condition.inactivity _ refl (λ none. omega (arith, none))
 timer_plain sending front now Nak agrees = (tt, refl)
-timer_plain sending front now Check agrees = (tt, refl)
+timer_plain sending front now Check agrees =
+    plain_if sending.request (nat_lt (front.tries Check + 1) sending.params.limits.check) _ _ (tt, refl)
+    (faults_plain sending now Check condition.check_limit _ refl (λ none. omega (arith, none)))
 
 -- a Finished PDU alone is answered with what may tell of a complete delivery
-body_said : (request : PutValue) (front : State) (b : Body) → AllByRecursion (IsSaid request) (on_body front b).bodies
-body_said request front (body.Finished f) = ((refl, tt), tt)
-body_said request front (body.Ack a) = (plain_if request (is_closing front) (ends_unreported a.condition) _ (tt, refl) (tt, refl)).0
-body_said request front (body.Metadata m) = tt
-body_said request front (body.FileData d) = tt
-body_said request front (body.Eof e) = tt
-body_said request front (body.Prompt p) = tt
-body_said request front (body.Nak n) = tt
-body_said request front (body.KeepAlive k) = tt
+acks_said : (request : PutValue) (class : Class) (f : Finished) → AllByRecursion (IsSaid request) (acks_of class f)
+acks_said request One f = tt
+acks_said request Two f = ((refl, tt), tt)
+
+body_said : (sending : Sending) (front : State) (b : Body) → AllByRecursion (IsSaid sending.request) (on_body sending front b).bodies
+body_said sending front (body.Finished f) = acks_said sending.request sending.request.class f
+body_said sending front (body.Ack a) = (plain_if sending.request (is_closing front) (ends_unreported a.condition) _ (tt, refl) (tt, refl)).0
+body_said sending front (body.Metadata m) = tt
+body_said sending front (body.FileData d) = tt
+body_said sending front (body.Eof e) = tt
+body_said sending front (body.Prompt p) = tt
+body_said sending front (body.Nak n) = tt
+body_said sending front (body.KeepAlive k) = tt
 
 what_plain : (sending : Sending) (front now : State) (event : What) → IfSome front.eof (HasSizeOf sending.request.file)
     → AllByRecursion (IsSaid sending.request) (response_to sending front now (happens event)).bodies
-what_plain sending front now (what.Pdu pdu) agrees = body_said sending.request front pdu.body
+what_plain sending front now (what.Pdu pdu) agrees = body_said sending front pdu.body
 what_plain sending front now (what.Timer kind stamp) agrees = (timer_plain sending front now kind agrees).0
 what_plain sending front now what.Pump agrees = (pump_plain sending front).0
 what_plain sending front now what.Cancel agrees =
@@ -192,9 +199,9 @@ values_are : (delivery : Delivery) (code other : ℕ) (status kept : FileStatus)
     → (other ≡ code) × (delivery ≡ Complete) × (kept ≡ status)
 values_are delivery code other status kept e = (cc, cc, cc)
 
-finished_told : (front : State) (header : Header) (f : Finished) (code : ℕ) (status : FileStatus)
-    → IsTold (happens (what.Pdu (record { header = header; body = body.Finished f }))) (on_body front (body.Finished f)) code status
-finished_told front header f code status tells contained =
+finished_told : (sending : Sending) (front : State) (header : Header) (f : Finished) (code : ℕ) (status : FileStatus)
+    → IsTold (happens (what.Pdu (record { header = header; body = body.Finished f }))) (on_body sending front (body.Finished f)) code status
+finished_told sending front header f code status tells contained =
     let values = values_are f.delivery code f.condition status f.status (only_one _ _ contained) in
     record {
       header = header;
@@ -206,24 +213,24 @@ finished_told front header f code status tells contained =
           ∙ ap (λ s. record { condition = code; delivery = Complete; status = s; location = f.location }) values.2);
     }
 
-body_told : (request : PutValue) (front : State) (header : Header) (b : Body) (code : ℕ) (status : FileStatus)
-    → IsTold (happens (what.Pdu (record { header = header; body = b }))) (on_body front b) code status
-body_told request front header (body.Finished f) code status tells contained = finished_told front header f code status tells contained
-body_told request front header (body.Ack a) code status tells contained =
-    never_told (on_body front (body.Ack a)).inds
-    (plain_if request (is_closing front) (ends_unreported a.condition) (record { inds = []; bodies = []; arms = [] }) (tt, refl) (tt, refl)).1 tells
-body_told request front header (body.Metadata m) code status tells contained = absurd (false≢true tells)
-body_told request front header (body.FileData d) code status tells contained = absurd (false≢true tells)
-body_told request front header (body.Eof e) code status tells contained = absurd (false≢true tells)
-body_told request front header (body.Prompt p) code status tells contained = absurd (false≢true tells)
-body_told request front header (body.Nak n) code status tells contained = absurd (false≢true tells)
-body_told request front header (body.KeepAlive k) code status tells contained = absurd (false≢true tells)
+body_told : (sending : Sending) (front : State) (header : Header) (b : Body) (code : ℕ) (status : FileStatus)
+    → IsTold (happens (what.Pdu (record { header = header; body = b }))) (on_body sending front b) code status
+body_told sending front header (body.Finished f) code status tells contained = finished_told sending front header f code status tells contained
+body_told sending front header (body.Ack a) code status tells contained =
+    never_told (on_body sending front (body.Ack a)).inds
+    (plain_if sending.request (is_closing front) (ends_unreported a.condition) (record { inds = []; bodies = []; arms = [] }) (tt, refl) (tt, refl)).1 tells
+body_told sending front header (body.Metadata m) code status tells contained = absurd (false≢true tells)
+body_told sending front header (body.FileData d) code status tells contained = absurd (false≢true tells)
+body_told sending front header (body.Eof e) code status tells contained = absurd (false≢true tells)
+body_told sending front header (body.Prompt p) code status tells contained = absurd (false≢true tells)
+body_told sending front header (body.Nak n) code status tells contained = absurd (false≢true tells)
+body_told sending front header (body.KeepAlive k) code status tells contained = absurd (false≢true tells)
 
 event_told : (sending : Sending) (front now : State) (event : Event) (code : ℕ) (status : FileStatus) → IfSome front.eof (HasSizeOf sending.request.file)
     → IsTold event (response_to sending front now event) code status
 event_told sending front now put code status agrees tells contained = absurd (false≢true tells)
 event_told sending front now (happens (what.Pdu pdu)) code status agrees tells contained =
-    body_told sending.request front pdu.header pdu.body code status tells contained
+    body_told sending front pdu.header pdu.body code status tells contained
 event_told sending front now (happens (what.Timer kind stamp)) code status agrees tells contained =
     never_told (on_timer sending front now kind).inds (timer_plain sending front now kind agrees).1 tells
 event_told sending front now (happens what.Pump) code status agrees tells contained =

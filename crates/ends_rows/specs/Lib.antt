@@ -5,3 +5,4 @@ pub mod SayingRows
 pub mod KeptRows
 pub mod LaneEndRows
 pub mod MoveRows
+pub mod ClosureSchedules

@@ -1,5 +1,5 @@
 -- What single words of a line write.
-use Rattle.std.specs.Prelude.{ℕ, ◌-◌, ◌^◌, ◌==◌, nat_lt, if◌then◌else◌, List, Option, Some, None, codes, option_and_then}
+use Rattle.std.specs.Prelude.{ℕ, ◌-◌, ◌^◌, ◌==◌, nat_lt, if◌then◌else◌, Bool, true, false, List, [], ◌∷◌, Option, Some, None, codes, option_and_then}
 use Rattle.std.specs.List.{list_all}
 use Rattle.std.specs.Str.{bytes_eq}
 use Rattle.cfdp_types.specs.declared.key.TxnKey.{TxnKey}
@@ -37,6 +37,12 @@ class_by number =
 
 abbrev pub class_of : List ℕ → Option Class
 class_of word = option_and_then class_by (decimal_of 2 word)
+
+-- whether closure is asked for, by what stands behind all else of a put: nothing, or the one word that asks
+abbrev pub closure_of : List (List ℕ) → Option Bool
+closure_of [] = Some false
+closure_of (word ∷ []) = if bytes_eq word (codes "closure") then Some true else None
+closure_of words = None
 
 -- what the first word asks for, of a transaction
 abbrev pub request_for : List ℕ → TxnKey → Option Request

@@ -4,5 +4,5 @@
 mod operands;
 mod words;
 
-pub use operands::{class_of, key_from, name_of, number_of, request_for};
+pub use operands::{class_of, closure_of, key_from, name_of, number_of, request_for};
 pub use words::{Rest, decimal, last_word, next_word, split_word};

@@ -2,9 +2,10 @@
 ghost use Rattle.std.specs.Prelude.{◌≡◌, nat_lt};
 ghost use Rattle.std.specs.List.{list_all};
 ghost use Rattle.std.specs.Option.{option_copied};
-ghost use Rattle.line_words.specs.Operands.{number_of, key_from, name_of, class_of, request_for};
+ghost use Rattle.line_words.specs.Words.{words_left};
+ghost use Rattle.line_words.specs.Operands.{number_of, key_from, name_of, class_of, closure_of, request_for};
 
-use crate::words::decimal;
+use crate::words::{Rest, decimal, next_word};
 use cfdp_types::{Class, EntityId, TxnKey};
 use entity_routing::Request;
 
@@ -44,6 +45,20 @@ pub fn class_of(word: &[u8]) -> Option<Class>
     match decimal(word, 2)? {
         1 => Some(Class::One),
         2 => Some(Class::Two),
+        _ => None,
+    }
+}
+
+/// Whether closure is asked for, by what stands behind all else of a put; nothing where that is anything but the one word
+/// `closure`.
+pub fn closure_of(rest: Rest<'_>) -> Option<bool>
+    ensures { result ≡ closure_of (words_left (option_copied rest.entry)) }
+{
+    let Some((word, rest)) = next_word(rest) else {
+        return Some(false);
+    };
+    match next_word(rest) {
+        None if word == b"closure".as_slice() => Some(true),
         _ => None,
     }
 }

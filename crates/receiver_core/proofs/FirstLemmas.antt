@@ -41,7 +41,7 @@ pub first_is : (control : ControlBlock) (received : ℕ → Option ℕ) → cont
 unfolding initial
 first_is control received is none =
     ap (λ s. state_from s None received) is
-    ∙ same_state (state_from first None received) _ refl none refl refl refl refl refl refl none_runs none_expired refl
+    ∙ same_state (state_from first None received) _ refl none refl refl refl refl refl refl refl none_runs none_expired refl
 
 same_class : (class : Class) → is_same_class class class ≡ true
 same_class One = refl

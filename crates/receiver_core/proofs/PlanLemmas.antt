@@ -49,12 +49,13 @@ use Rattle.reception_parts.proofs.ResponseLemmas.{response_is}
 
 -- ---- states
 
-made : ℕ → (ℕ → Option ℕ) → ℕ → Option Metadata → Option Eof → Option ℕ → Option Finished → Bool → (TimerKind → Option ℕ) → (TimerKind → ℕ) → Bool → State
-made entries received progress metadata eof waiting finished paused armed tries ended = record {
+made : ℕ → (ℕ → Option ℕ) → ℕ → Option Metadata → Option Bool → Option Eof → Option ℕ → Option Finished → Bool → (TimerKind → Option ℕ) → (TimerKind → ℕ) → Bool → State
+made entries received progress metadata closure eof waiting finished paused armed tries ended = record {
   entries = entries;
   received = received;
   progress = progress;
   metadata = metadata;
+  closure = closure;
   eof = eof;
   waiting = waiting;
   finished = finished;
@@ -64,18 +65,18 @@ made entries received progress metadata eof waiting finished paused armed tries 
   ended = ended;
 }
 
-same_made : (a b : State) → a.entries ≡ b.entries → a.received ≡ b.received → a.progress ≡ b.progress → a.metadata ≡ b.metadata → a.eof ≡ b.eof → a.waiting ≡ b.waiting
+same_made : (a b : State) → a.entries ≡ b.entries → a.received ≡ b.received → a.progress ≡ b.progress → a.metadata ≡ b.metadata → a.closure ≡ b.closure → a.eof ≡ b.eof → a.waiting ≡ b.waiting
     → a.finished ≡ b.finished → a.paused ≡ b.paused → a.armed ≡ b.armed → a.tries ≡ b.tries → a.ended ≡ b.ended
-    → made a.entries a.received a.progress a.metadata a.eof a.waiting a.finished a.paused a.armed a.tries a.ended
-    ≡ made b.entries b.received b.progress b.metadata b.eof b.waiting b.finished b.paused b.armed b.tries b.ended
-same_made a b x1 x2 x3 x4 x5 x6 x7 x8 x9 x10 x11 = cc
+    → made a.entries a.received a.progress a.metadata a.closure a.eof a.waiting a.finished a.paused a.armed a.tries a.ended
+    ≡ made b.entries b.received b.progress b.metadata b.closure b.eof b.waiting b.finished b.paused b.armed b.tries b.ended
+same_made a b x1 x2 x3 x4 x5 x6 x7 x8 x9 x10 x11 x12 = cc
 
 -- states whose segments are the same
-pub same_state : (a b : State) → a.entries ≡ b.entries → ((i : ℕ) → a.received i ≡ b.received i) → a.progress ≡ b.progress → a.metadata ≡ b.metadata → a.eof ≡ b.eof
+pub same_state : (a b : State) → a.entries ≡ b.entries → ((i : ℕ) → a.received i ≡ b.received i) → a.progress ≡ b.progress → a.metadata ≡ b.metadata → a.closure ≡ b.closure → a.eof ≡ b.eof
     → a.waiting ≡ b.waiting → a.finished ≡ b.finished → a.paused ≡ b.paused → ((kind : TimerKind) → a.armed kind ≡ b.armed kind)
     → ((kind : TimerKind) → a.tries kind ≡ b.tries kind) → a.ended ≡ b.ended → a ≡ b
 unfolding made
-same_state a b x1 x2 x3 x4 x5 x6 x7 x8 x9 x10 x11 = same_made a b x1 (fun_ext x2) x3 x4 x5 x6 x7 x8 (fun_ext x9) (fun_ext x10) x11
+same_state a b x1 x2 x3 x4 x5 x6 x7 x8 x9 x10 x11 x12 = same_made a b x1 (fun_ext x2) x3 x4 x5 x6 x7 x8 x9 (fun_ext x10) (fun_ext x11) x12
 
 or_false : (b : Bool) → (b || false) ≡ b
 or_false true = refl
@@ -102,7 +103,7 @@ unfolding step
 is_with_event core event c now is change =
     same_state (now_state core now c) _ is.entries
     (λ i. ap (λ d. older_or (received_of core.file i) (octet_at d i)) change.file_data)
-    is.progress change.metadata is.eof is.waiting is.finished is.paused
+    is.progress change.metadata is.closure is.eof is.waiting is.finished is.paused
     (λ kind. ap (λ a. stamp_of a kind) is.armed)
     (λ kind. is.tries kind ∙ tries_same (shown core) event [] [] [] None (adds c) kind change.more)
     (is.ended ∙ sym (or_false core.control.ended))
@@ -182,6 +183,7 @@ follows core event now response c plan is change planned =
     (λ i. ap (λ x. received_after core.file x i) planned.change_is ∙ ap (λ d. older_or (received_of core.file i) (octet_at d i)) change.file_data)
     (next.progress ∙ is.progress)
     (ap (λ x. metadata_after core.metadata x) planned.change_is ∙ change.metadata)
+    (next.closure ∙ is.closure)
     (next.eof ∙ is.eof)
     (next.waiting ∙ ap (λ d. waiting_after core.control.waiting event d) (sym planned.deposit))
     (next.finished ∙ ap (λ f. newer_or f core.control.finished) finished)

@@ -318,6 +318,7 @@ impl ReceiverCore {
         if kept {
             self.finish_response(
                 inds,
+                now,
                 Condition::NO_ERROR,
                 Delivery::Complete,
                 FileStatus::Retained,
@@ -361,7 +362,7 @@ impl ReceiverCore {
         let inds = Indications::new(self.alloc);
         match event {
             What::Stored(_, kept) => self.on_stored(now, *kept),
-            What::Cancel => self.cancel_response(inds, Condition::CANCEL_REQUEST),
+            What::Cancel => self.cancel_response(inds, now, Condition::CANCEL_REQUEST),
             What::Suspend => {
                 let condition = Condition::SUSPEND_REQUEST;
                 Response::telling_more(inds, Indication::Suspended { condition })

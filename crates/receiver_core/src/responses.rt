@@ -37,28 +37,36 @@ impl ReceiverCore {
     pub(crate) fn finish_response(
         &self,
         inds: Indications,
+        now: &ControlBlock,
         condition: Condition,
         delivery: Delivery,
         status: FileStatus,
     ) -> Result<Response, AllocError>
-        ensures response { IfOk result (λ response. IsResponse response
-            (tells inds and_then table.finish_response (reception_of self.now) condition delivery status)) }
+        ensures response { (m : Option Metadata) (octets : ℕ → Option ℕ) → IfOk result
+            (λ response. IsResponse response (tells inds and_then table.finish_response (reception_of self.now)
+            (state_from now.now m octets) condition delivery status)) }
         ensures plain { IfOk result (λ response. response.resumes ≡ false) }
     {
         let mut response = Response::of(inds);
+        let finished = Finished {
+            condition,
+            delivery,
+            status,
+            location: self.location_of(condition),
+        };
         match self.header.class {
-            Class::One => response.inds.push(Indication::TransactionFinished {
-                condition,
-                delivery,
-                status,
-            })?,
-            Class::Two => {
-                response.finished = Some(Finished {
+            Class::One => {
+                response.inds.push(Indication::TransactionFinished {
                     condition,
                     delivery,
                     status,
-                    location: self.location_of(condition),
-                });
+                })?;
+                if now.asks_closure() {
+                    response.finished = Some(finished);
+                }
+            }
+            Class::Two => {
+                response.finished = Some(finished);
                 response.arms = Some(TimerKind::Ack);
             }
         }
@@ -69,13 +77,21 @@ impl ReceiverCore {
     pub(crate) fn cancel_response(
         &self,
         inds: Indications,
+        now: &ControlBlock,
         condition: Condition,
     ) -> Result<Response, AllocError>
-        ensures response { IfOk result (λ response. IsResponse response
-            (tells inds and_then table.cancel_response (reception_of self.now) condition)) }
+        ensures response { (m : Option Metadata) (octets : ℕ → Option ℕ) → IfOk result
+            (λ response. IsResponse response (tells inds and_then table.cancel_response (reception_of self.now)
+            (state_from now.now m octets) condition)) }
         ensures plain { IfOk result (λ response. response.resumes ≡ false) }
     {
-        self.finish_response(inds, condition, Delivery::Incomplete, status_of(condition))
+        self.finish_response(
+            inds,
+            now,
+            condition,
+            Delivery::Incomplete,
+            status_of(condition),
+        )
     }
 
     fn handler_of(&self, condition: Condition) -> Handler
@@ -102,7 +118,7 @@ impl ReceiverCore {
     {
         let progress = now.progress;
         match self.handler_of(condition) {
-            Handler::Cancel => self.cancel_response(inds, condition),
+            Handler::Cancel => self.cancel_response(inds, now, condition),
             Handler::Suspend => Response::telling_more(inds, Indication::Suspended { condition }),
             Handler::Ignore => {
                 let told = Indication::Fault {

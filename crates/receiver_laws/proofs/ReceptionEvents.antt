@@ -1,5 +1,5 @@
 -- What each event that is taken is answered keeps what fits together.
-use Rattle.std.proofs.Common.{◌≡◌, ℕ, ◌+◌, Bool, true, false, cond, not, ◌||◌, ◌&&◌, eqb, List, [], ◌∷◌, length, Option, Some, None, refl, sym, ap, subst, ◌∙◌, inl, inr}
+use Rattle.std.proofs.Common.{◌≡◌, ℕ, ◌+◌, Bool, true, false, cond, not, ◌||◌, ◌&&◌, if◌then◌else◌, eqb, List, [], ◌∷◌, length, Option, Some, None, refl, sym, ap, subst, ◌∙◌, inl, inr}
 use Rattle.std.specs.Prelude.{is_some}
 use Rattle.std.specs.List.{list_any}
 use Rattle.std.proofs.lemmas.Bool.{cond_both, ltb-false, not-false, true≢false}
@@ -31,9 +31,9 @@ use Rattle.indications.specs.declared.indication.Indication.TheVariants as told
 use Rattle.indications.specs.Words.{is_end, MayFinish, IsFilled}
 use Rattle.receiver_table.specs.Reception.{Reception, State, step, is_closing, is_storing, is_suspended, waiting_after, metadata_of, eof_of, file_data_of, octet_at}
 use Rattle.receiver_table.specs.Refusals.{refusal_at, is_stale_store, waits_for_store, is_pdu_misplaced, is_misplaced, is_body_too_large, is_too_large, is_full}
-use Rattle.receiver_table.specs.Answers.{Response, nothing, tells, with_event, finish_response, fault_response, cancel_response, examines, acknowledges, on_eof, on_prompt, ends_as_finished, on_body, is_below, on_timer, on_stored, response_to, ◌and_then◌}
+use Rattle.receiver_table.specs.Answers.{Response, nothing, tells, with_event, asks_closure, finish_response, fault_response, cancel_response, examines, acknowledges, on_eof, on_prompt, ends_as_finished, on_body, is_below, on_timer, on_stored, response_to, ◌and_then◌}
 use Rattle.cfdp_types.proofs.StepLemmas.{older_or-none}
-use Rattle.receiver_laws.proofs.ReceptionFacts.{Fits, Goes, RowGoes, GoodWith, IsGoodFile, BringsNothing, Still, still_goes, Announces, LateRow, open_goes, good_kept, is_complete, reached_then}
+use Rattle.receiver_laws.proofs.ReceptionFacts.{Fits, Goes, RowGoes, GoodWith, IsGoodFile, BringsNothing, Still, still_goes, Announces, LateRow, open_goes, good_kept, finish_kept, is_complete, reached_then}
 use Rattle.receiver_laws.proofs.ReceptionLate.{late_one, plain_suspended, incomplete_late, fault_late, examined_late}
 use Rattle.receiver_laws.proofs.ReceptionTelling.{metadata_goes, data_goes, eof_goes}
 
@@ -349,13 +349,42 @@ sent_complete front event before f was opened brings idle good =
       completes = λ e. absurd cc;
     }
 
-complete_goes : (reception : Reception) (front : State) (event : What) (code : ℕ) (status : FileStatus) (before : List Indication) (class : Class)
+-- class 1 tells it and sends it too, where the sender asks for that
+both_complete : (front : State) (event : What) (before : List Indication) (code : ℕ) (status : FileStatus) (f : Finished) → Fits front before
+    → front.ended ≡ false → front.finished ≡ None → BringsNothing front event
+    → is_some (waiting_after front.waiting event None) ≡ false → IsGoodFile front.metadata front.eof front.received
+    → RowGoes front event before (told.TransactionFinished code Complete status ∷ []) (Some f) false
+both_complete front event before code status f was runs opened brings idle good =
+    let goes = still_goes front event before _ None was brings (told_complete front before code status was runs opened good) in
+    let b = body_of_event event in
+    let kept : GoodWith front event = good_kept front.metadata (metadata_of b) front.eof (eof_of b) front.received (file_data_of b) brings.no_data good in
+    record {
+      follows = goes.follows;
+      metadata_told = goes.metadata_told;
+      eof_told = λ none. absurd cc;
+      octets_told = goes.octets_told;
+      waits = λ some. elim (some) [ inl handed ↦ absurd cc | inr waiting ↦ absurd (true≢false (sym waiting ∙ idle)) ];
+      closes = λ other is complete. (kept, finish_kept before (told.TransactionFinished code Complete status ∷ []) (may_complete front before was opened good) (λ i. refl));
+      completes = goes.completes;
+    }
+
+-- by whether it is asked for
+one_complete : (front : State) (event : What) (before : List Indication) (code : ℕ) (status : FileStatus) (f : Finished) (asked : Bool) → Fits front before
+    → front.ended ≡ false → front.finished ≡ None → BringsNothing front event
+    → is_some (waiting_after front.waiting event None) ≡ false → IsGoodFile front.metadata front.eof front.received
+    → RowGoes front event before (told.TransactionFinished code Complete status ∷ []) (if asked then Some f else None) false
+one_complete front event before code status f true was runs opened brings idle good =
+    both_complete front event before code status f was runs opened brings idle good
+one_complete front event before code status f false was runs opened brings idle good =
+    still_goes front event before _ None was brings (told_complete front before code status was runs opened good)
+
+complete_goes : (reception : Reception) (front now : State) (event : What) (code : ℕ) (status : FileStatus) (before : List Indication) (class : Class)
     → reception.header.class ≡ class → Fits front before → front.ended ≡ false → front.finished ≡ None → BringsNothing front event
     → is_some (waiting_after front.waiting event None) ≡ false → IsGoodFile front.metadata front.eof front.received
-    → Goes front event before (finish_response reception code Complete status)
-complete_goes reception front event code status before One e was runs opened brings idle good =
-    rw e (still_goes front event before _ None was brings (told_complete front before code status was runs opened good))
-complete_goes reception front event code status before Two e was runs opened brings idle good =
+    → Goes front event before (finish_response reception now code Complete status)
+complete_goes reception front now event code status before One e was runs opened brings idle good =
+    rw e (one_complete front event before code status _ (asks_closure now) was runs opened brings idle good)
+complete_goes reception front now event code status before Two e was runs opened brings idle good =
     rw e (sent_complete front event before _ was opened brings idle good)
 
 stored_goes : (reception : Reception) (front : State) (stamp : ℕ) (kept : Bool) (before : List Indication) → Fits front before
@@ -365,7 +394,7 @@ stored_goes : (reception : Reception) (front : State) (stamp : ℕ) (kept : Bool
 stored_goes reception front stamp true before was runs waiting =
     let event = what.Stored stamp true in
     let w = was.waits waiting in
-    complete_goes reception front event condition.no_error Retained before reception.header.class refl was runs (w.2)
+    complete_goes reception front (with_event front event) event condition.no_error Retained before reception.header.class refl was runs (w.2)
     (bodiless_brings front event refl (λ still. waiting)) refl (w.0)
 stored_goes reception front stamp false before was runs waiting =
     let event = what.Stored stamp false in
@@ -378,10 +407,10 @@ stored_goes reception front stamp false before was runs waiting =
 
 cancel_goes : (reception : Reception) (front : State) (before : List Indication) → Fits front before → front.ended ≡ false
     → is_some front.waiting ≡ false
-    → is_closing front ≡ false → Goes front what.Cancel before (cancel_response reception condition.cancel_request)
+    → is_closing front ≡ false → Goes front what.Cancel before (cancel_response reception (with_event front what.Cancel) condition.cancel_request)
 cancel_goes reception front before was runs idle placed =
-    bodiless_goes front what.Cancel before (cancel_response reception condition.cancel_request) was runs (opened_is front.finished front.ended runs placed) idle refl
-    (incomplete_late reception condition.cancel_request _ _ before (was.ended ∙ runs))
+    bodiless_goes front what.Cancel before (cancel_response reception (with_event front what.Cancel) condition.cancel_request) was runs (opened_is front.finished front.ended runs placed) idle refl
+    (incomplete_late reception (with_event front what.Cancel) condition.cancel_request _ _ before (was.ended ∙ runs))
 
 -- suspended only where it is not
 may_suspend : (two paused ended : Bool) (finished : Option Finished) → ended ≡ false

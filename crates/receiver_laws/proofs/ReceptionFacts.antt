@@ -39,6 +39,7 @@ with_file metadata eof received = record {
   received = received;
   progress = 0;
   metadata = metadata;
+  closure = None;
   eof = eof;
   waiting = None;
   finished = None;

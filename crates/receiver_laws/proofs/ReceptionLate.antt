@@ -1,5 +1,5 @@
 -- Rows that tell nothing of the file: faults, the look at the file, and single indications.
-use Rattle.std.proofs.Common.{◌≡◌, ℕ, ◌<◌, ◌≤◌, Bool, true, false, not, ◌||◌, ◌&&◌, eqb, List, [], ◌∷◌, length, Option, Some, None, refl, sym, ap, ◌∙◌, arith}
+use Rattle.std.proofs.Common.{◌≡◌, ℕ, ◌<◌, ◌≤◌, Bool, true, false, not, ◌||◌, ◌&&◌, if◌then◌else◌, eqb, List, [], ◌∷◌, length, Option, Some, None, refl, sym, ap, ◌∙◌, arith}
 use Rattle.std.specs.Prelude.{is_some}
 use Rattle.std.specs.List.{list_any}
 use Rattle.std.proofs.lemmas.Bool.{cond_both, and_parts, eqb-true, ltb-false, not-false}
@@ -23,7 +23,7 @@ use Rattle.indications.specs.declared.indication.Indication.{Indication}
 use Rattle.indications.specs.declared.indication.Indication.TheVariants as told
 use Rattle.indications.specs.Words.{is_end, is_metadata, is_eof, is_paused, tells_of, IsNext}
 use Rattle.receiver_table.specs.Reception.{Reception, State, is_suspended, is_received}
-use Rattle.receiver_table.specs.Answers.{Response, nothing, stores, handler_of, finish_response, fault_response, octets_from, missing_below, is_unsupported, is_beyond, is_whole, agrees, waits_for_rest, looks_at_eof, examines, acknowledges, ◌and_then◌}
+use Rattle.receiver_table.specs.Answers.{Response, nothing, stores, handler_of, asks_closure, finish_response, fault_response, octets_from, missing_below, is_unsupported, is_beyond, is_whole, agrees, waits_for_rest, looks_at_eof, examines, acknowledges, ◌and_then◌}
 use Rattle.receiver_laws.proofs.ReceptionFacts.{Late, LateRow, IsGoodFile, is_complete}
 
 -- nothing is told
@@ -92,21 +92,41 @@ late_finished good before f incomplete = record {
   hands_out = λ handed. absurd cc;
 }
 
--- a delivery that is not complete
-finishes_late : (reception : Reception) (code : ℕ) (status : FileStatus) (good : Type 0) (before : List Indication) (class : Class)
-    → reception.header.class ≡ class → list_any is_end before ≡ false → LateRow good before (finish_response reception code Incomplete status)
-finishes_late reception code status good before One e runs = rw e (late_one good before _ runs tt (plain_finished code status))
-finishes_late reception code status good before Two e runs = rw e (late_finished good before _ refl)
+-- one indication, and what is sent and says nothing of a complete delivery
+late_told : (good : Type 0) (before : List Indication) (x : Indication) (sent : Option Finished) → list_any is_end before ≡ false → IsNext before x
+    → IsPlain x → ((f : Finished) → sent ≡ Some f → f.delivery ≡ Complete → ⊥) → Late good before (x ∷ []) sent false
+late_told good before x sent runs next plain denies = record {
+  follows = (runs, next, tt);
+  no_metadata = found_no _ plain.no_metadata;
+  no_eof = found_no _ plain.no_eof;
+  no_octets = λ i. found_no _ (plain.no_octets i);
+  no_complete = found_no _ plain.no_complete;
+  no_finish = denies;
+  hands_out = λ handed. absurd cc;
+}
 
-pub incomplete_late : (reception : Reception) (code : ℕ) (status : FileStatus) (good : Type 0) (before : List Indication)
-    → list_any is_end before ≡ false → LateRow good before (finish_response reception code Incomplete status)
-incomplete_late reception code status good before runs = finishes_late reception code status good before reception.header.class refl runs
+-- a Finished PDU without a delivery, where it is asked for
+asked_denies : (asked : Bool) (f other : Finished) → f.delivery ≡ Incomplete → (if asked then Some f else None) ≡ Some other → other.delivery ≡ Complete → ⊥
+unfolding delivery_in
+asked_denies true f other incomplete is complete = let e : Incomplete ≡ Complete = sym incomplete ∙ ap delivery_in is ∙ complete in absurd cc
+asked_denies false f other incomplete is complete = absurd cc
+
+-- a delivery that is not complete
+finishes_late : (reception : Reception) (state : State) (code : ℕ) (status : FileStatus) (good : Type 0) (before : List Indication) (class : Class)
+    → reception.header.class ≡ class → list_any is_end before ≡ false → LateRow good before (finish_response reception state code Incomplete status)
+finishes_late reception state code status good before One e runs =
+    rw e (late_told good before _ _ runs tt (plain_finished code status) (λ f. asked_denies (asks_closure state) _ f refl))
+finishes_late reception state code status good before Two e runs = rw e (late_finished good before _ refl)
+
+pub incomplete_late : (reception : Reception) (state : State) (code : ℕ) (status : FileStatus) (good : Type 0) (before : List Indication)
+    → list_any is_end before ≡ false → LateRow good before (finish_response reception state code Incomplete status)
+incomplete_late reception state code status good before runs = finishes_late reception state code status good before reception.header.class refl runs
 
 -- a fault by its handler
 handled_late : (reception : Reception) (state : State) (kinds : List TimerKind) (code : ℕ) (good : Type 0) (before : List Indication) (by : Handler)
     → handler_of reception code ≡ by → is_paused before ≡ false → list_any is_end before ≡ false
     → LateRow good before (fault_response reception state kinds code)
-handled_late reception state kinds code good before handler.Cancel e goes runs = rw e (incomplete_late reception code _ good before runs)
+handled_late reception state kinds code good before handler.Cancel e goes runs = rw e (incomplete_late reception state code _ good before runs)
 handled_late reception state kinds code good before handler.Suspend e goes runs = rw e (late_one good before _ runs goes (plain_suspended code))
 handled_late reception state kinds code good before handler.Ignore e goes runs = rw e (late_one good before _ runs tt (plain_fault code state.progress))
 handled_late reception state kinds code good before handler.Abandon e goes runs = rw e (late_one good before _ runs tt (plain_abandoned code state.progress))

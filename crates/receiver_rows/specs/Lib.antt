@@ -5,3 +5,4 @@ pub mod FaultRows
 pub mod NakRows
 pub mod UserRows
 pub mod TimerRows
+pub mod ClosureRows

@@ -107,27 +107,34 @@ abbrev pub location_of : Reception → ℕ → Option EntityId
 location_of reception code =
     if code == condition.no_error || code == condition.unsupported_checksum_type then None else Some reception.params.local
 
--- the end of the file's delivery: class 1 tells the user at once, class 2 sends a Finished PDU and waits for its ACK
-abbrev pub finish_response : Reception → ℕ → Delivery → FileStatus → Response
-finish_response reception code delivery file_status = by_class reception.header.class
+-- the first Metadata asks that the sender is told at the end what became of the file
+abbrev pub asks_closure : State → Bool
+asks_closure state = unwrap_or state.closure false
+
+-- the end of the file's delivery: class 1 tells the user at once, and the sender where it asks for that; class 2 sends a
+-- Finished PDU and waits for its ACK
+abbrev pub finish_response : Reception → State → ℕ → Delivery → FileStatus → Response
+finish_response reception state code delivery file_status = by_class reception.header.class
   where
+    finished : Finished
+    finished = record { condition = code; delivery = delivery; status = file_status; location = location_of reception code }
+
     by_class : Class → Response
-    by_class One = tells (told.TransactionFinished code delivery file_status ∷ [])
-    by_class Two = record nothing {
-      finished = Some (record { condition = code; delivery = delivery; status = file_status; location = location_of reception code });
-      arms = Ack ∷ [];
+    by_class One = record (tells (told.TransactionFinished code delivery file_status ∷ [])) {
+      finished = if asks_closure state then Some finished else None;
     }
+    by_class Two = record nothing { finished = Some finished; arms = Ack ∷ [] }
 
 -- a fault with handler Cancel
-abbrev pub cancel_response : Reception → ℕ → Response
-cancel_response reception code = finish_response reception code Incomplete (status_of code)
+abbrev pub cancel_response : Reception → State → ℕ → Response
+cancel_response reception state code = finish_response reception state code Incomplete (status_of code)
 
 -- a fault, by its handler: the timer that declared it is armed again where it is ignored
 abbrev pub fault_response : Reception → State → List TimerKind → ℕ → Response
 fault_response reception state kinds code = by_handler (handler_of reception code)
   where
     by_handler : Handler → Response
-    by_handler handler.Cancel = cancel_response reception code
+    by_handler handler.Cancel = cancel_response reception state code
     by_handler handler.Suspend = tells (told.Suspended code ∷ [])
     by_handler handler.Ignore = record (tells (told.Fault code state.progress ∷ [])) { arms = kinds }
     by_handler handler.Abandon = tells (told.Abandoned code state.progress ∷ [])
@@ -280,7 +287,7 @@ on_timer reception front now Inactivity = fault_response reception now (Inactivi
 
 -- the file store keeps the file, or not
 abbrev pub on_stored : Reception → State → Bool → Response
-on_stored reception now true = finish_response reception condition.no_error Complete Retained
+on_stored reception now true = finish_response reception now condition.no_error Complete Retained
 on_stored reception now false = fault_response reception now [] condition.filestore_rejection
 
 -- what the transaction does
@@ -301,7 +308,7 @@ abbrev pub response_to : Reception → State → State → What → Response
 response_to reception front now (what.Pdu pdu) = on_body reception front now pdu.body
 response_to reception front now (what.Timer kind stamp) = on_timer reception front now kind
 response_to reception front now (what.Stored stamp kept) = on_stored reception now kept
-response_to reception front now what.Cancel = cancel_response reception condition.cancel_request
+response_to reception front now what.Cancel = cancel_response reception now condition.cancel_request
 response_to reception front now what.Suspend = tells (told.Suspended condition.suspend_request ∷ [])
 response_to reception front now what.Resume = on_resume reception now
 response_to reception front now what.Report = tells (told.Report (phase_of now) now.progress ∷ [])

@@ -47,6 +47,8 @@ pub record State : Type 0 where
   pub progress : ℕ
   -- the first Metadata
   pub metadata : Option Metadata
+  -- whether the first Metadata asks that the sender is told at the end what became of the file
+  pub closure : Option Bool
   -- the first EOF without an error
   pub eof : Option Eof
   -- the stamp of the deposit that waits for the file store's answer
@@ -82,6 +84,11 @@ is_suspended state = state.paused && not (is_some state.finished) && not state.e
 abbrev pub metadata_of : Option Body → Option Metadata
 metadata_of (Some (body.Metadata m)) = Some m
 metadata_of _ = None
+
+-- what the Metadata that an event brings says of closure
+abbrev pub closure_of : Option Body → Option Bool
+closure_of (Some (body.Metadata m)) = Some m.closure
+closure_of _ = None
 
 -- an EOF without an error
 abbrev pub eof_of : Option Body → Option Eof
@@ -162,6 +169,7 @@ initial = record {
   received = λ i. None;
   progress = 0;
   metadata = None;
+  closure = None;
   eof = None;
   waiting = None;
   finished = None;
@@ -180,6 +188,7 @@ step state entry =
       received = λ i. older_or (state.received i) (octet_at (file_data_of b) i);
       progress = max state.progress (extent_of (file_data_of b));
       metadata = older_or state.metadata (metadata_of b);
+      closure = older_or state.closure (closure_of b);
       eof = older_or state.eof (eof_of b);
       waiting = waiting_after state.waiting entry.event entry.answer.deposit;
       finished = newer_or (finished_among entry.answer.pdus) state.finished;

@@ -13,6 +13,7 @@ state_from control metadata received = record {
   received = received;
   progress = control.progress;
   metadata = metadata;
+  closure = control.closure;
   eof = control.eof;
   waiting = control.waiting;
   finished = control.finished;
@@ -35,6 +36,7 @@ abbrev pub first : ControlBlock
 first = record {
   entries = 0;
   progress = 0;
+  closure = None;
   eof = None;
   waiting = None;
   finished = None;

@@ -9,7 +9,7 @@ use Rattle.indications.specs.Words.{paused_after}
 use Rattle.indications.specs.Words.{is_end}
 use Rattle.txn_events.specs.declared.event.What.{What}
 use Rattle.txn_events.specs.Events.{body_of_event}
-use Rattle.receiver_table.specs.Reception.{is_storing, is_suspended, waiting_after, eof_of, extent_of, file_data_of}
+use Rattle.receiver_table.specs.Reception.{is_storing, is_suspended, waiting_after, closure_of, eof_of, extent_of, file_data_of}
 use Rattle.reception_parts.specs.ControlBlock.{bare}
 use Rattle.reception_parts.specs.declared.response.Response as response_type
 use Rattle.reception_parts.specs.declared.control.ControlBlock.{ControlBlock}
@@ -23,6 +23,7 @@ is_quiet next = next.ended || is_storing (bare next) || is_suspended (bare next)
 pub record IsWithEvent (control : ControlBlock) (event : What) (more : Bool) (now : ControlBlock) : Type 0 where
   pub entries : now.entries ≡ control.entries + 1
   pub progress : now.progress ≡ max control.progress (extent_of (file_data_of (body_of_event event)))
+  pub closure : now.closure ≡ older_or control.closure (closure_of (body_of_event event))
   pub eof : now.eof ≡ older_or control.eof (eof_of (body_of_event event))
   pub waiting : now.waiting ≡ waiting_after control.waiting event None
   pub finished : now.finished ≡ control.finished
@@ -35,6 +36,7 @@ pub record IsWithEvent (control : ControlBlock) (event : What) (more : Bool) (no
 pub record IsNext (control : ControlBlock) (now : ControlBlock) (event : What) (response : response_type.Response) (deposit : Option Deposit) (more : Bool) (next : ControlBlock) : Type 0 where
   pub entries : next.entries ≡ now.entries
   pub progress : next.progress ≡ now.progress
+  pub closure : next.closure ≡ now.closure
   pub eof : next.eof ≡ now.eof
   pub waiting : next.waiting ≡ waiting_after control.waiting event deposit
   pub finished : next.finished ≡ newer_or response.finished control.finished

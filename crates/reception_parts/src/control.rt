@@ -11,6 +11,8 @@ pub struct ControlBlock {
     pub entries: u32,
     /// One more than the greatest offset that came, 0 if none did.
     pub progress: u32,
+    /// Whether the first Metadata asks that the sender is told at the end what became of the file.
+    pub closure: Option<bool>,
     /// The first EOF without an error.
     pub eof: Option<Eof>,
     /// The stamp of the deposit that waits for the file store's answer.
@@ -29,7 +31,7 @@ impl ControlBlock {
     ghost use Rattle.std.specs.Prelude.{◌≡◌, is_some};
     ghost use Rattle.cfdp_types.specs.Steps.{is_stamp};
     ghost use Rattle.receiver_table.specs.Reception.{is_closing, is_storing, is_suspended};
-    ghost use Rattle.receiver_table.specs.Answers.{phase_of, scope_of};
+    ghost use Rattle.receiver_table.specs.Answers.{asks_closure, phase_of, scope_of};
     ghost use Rattle.reception_parts.specs.ControlBlock.{bare, first};
 
     /// Before the first event.
@@ -39,6 +41,7 @@ impl ControlBlock {
         ControlBlock {
             entries: 0,
             progress: 0,
+            closure: None,
             eof: None,
             waiting: None,
             finished: None,
@@ -47,6 +50,13 @@ impl ControlBlock {
             armed: Stamps::NONE,
             tries: Tries::NONE,
         }
+    }
+
+    /// Whether the sender is to be told at the end what became of the file.
+    pub fn asks_closure(&self) -> bool
+        ensures { result ≡ asks_closure (bare self.now) }
+    {
+        self.closure.unwrap_or(false)
     }
 
     /// Whether a Finished PDU was sent, and the end was not told.

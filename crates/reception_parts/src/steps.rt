@@ -4,7 +4,7 @@ ghost use Rattle.cfdp_types.specs.declared.names.TimerKind.{TimerKind};
 ghost use Rattle.cfdp_types.specs.Steps.{has_kind};
 ghost use Rattle.txn_events.specs.Events.{body_of_event};
 ghost use Rattle.txn_events.specs.Timers.{AreFew, effects, effect_of_change};
-ghost use Rattle.receiver_table.specs.Reception.{eof_of, extent_of, file_data_of, waiting_after};
+ghost use Rattle.receiver_table.specs.Reception.{closure_of, eof_of, extent_of, file_data_of, waiting_after};
 ghost use Rattle.receiver_table.specs.Refusals.{is_too_large};
 ghost use Rattle.receiver_table.specs.Answers.{effect_of, is_sign_of_life};
 ghost use Rattle.reception_parts.specs.ControlBlock.{bare};
@@ -16,6 +16,19 @@ use crate::response::Response;
 use cfdp_types::{Condition, Deposit, TimerKind};
 use pdu_values::{Body, Eof, Prompt};
 use txn_events::{CountResets, TimerChange, TimerChanges, What, paused_after};
+
+// What the Metadata that an event brings says of closure.
+fn closure_in(event: &What) -> Option<bool>
+    ensures { result ≡ closure_of (body_of_event event.now) }
+{
+    match event {
+        What::Pdu(pdu) => match pdu.body() {
+            Body::Metadata(metadata) => Some(metadata.closure),
+            _ => None,
+        },
+        _ => None,
+    }
+}
 
 // The EOF without an error that an event brings.
 fn eof_in(event: &What) -> Option<Eof>
@@ -90,6 +103,10 @@ pub fn with_event(control: &ControlBlock, event: &What, more: bool) -> ControlBl
     ControlBlock {
         entries: control.entries + 1,
         progress: control.progress.max(extent_of(event)),
+        closure: match control.closure {
+            None => closure_in(event),
+            Some(closure) => Some(closure),
+        },
         eof: match control.eof {
             None => eof_in(event),
             Some(eof) => Some(eof),

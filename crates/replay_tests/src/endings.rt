@@ -291,6 +291,7 @@ fn puts_that_are_none(rt: HostRuntime) {
         &[
             "put alice 0 1 1 a ",
             "put alice 0 1 1 a b - -",
+            "put alice 0 1 1 a b - ",
             "put alice 0 1 1 a b ",
             "put alice 0 1 1 a b 616",
             "put alice 0 1 1 a b --",

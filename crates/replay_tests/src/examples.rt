@@ -314,3 +314,49 @@ fn two_ends(rt: HostRuntime) -> Result<(), Fail> {
         ",
     )
 }
+
+const CLOSURE: &str =
+    r#"# The user alice puts the three octets "abc" for entity 1 in class 1, and asks to be told at the end what became of
+# them. That is transaction 4 of entity 2. Its Metadata carries the request ...
+put alice 0 1 1 a b 616263 closure
+pump 2 4
+# ... the octets and the EOF follow. Nothing is left to be sent, but the transaction waits.
+pump 2 4
+pump 2 4
+report alice 2 4
+# The receiver's answer takes its time: the timer that was armed with the EOF runs out once.
+timer 2 4 check 3
+# The Finished comes: the file is kept. It is not acknowledged, and the transaction is over.
+pdu 2c0002000204010502
+take alice
+take alice
+take alice
+take alice
+take alice
+"#;
+
+#[test]
+fn closure(rt: HostRuntime) -> Result<(), Fail> {
+    plays(
+        &rt,
+        CLOSURE,
+        "
+        ok
+        txn 2 4
+        ok
+        pdu 24000a0002040107400000000301610162
+        ok
+        pdu 3400070002040100000000616263
+        ok
+        pdu 24000a0002040104006162630000000003
+        ok
+        ok
+        ok
+        alice 2 4 Transaction
+        alice 2 4 EOF-Sent
+        alice 2 4 Report active 3
+        alice 2 4 Transaction-Finished 0 complete retained
+        none
+        ",
+    )
+}

@@ -133,7 +133,7 @@ narrow_sources = refl
 -- ---- requests
 
 abbrev put : ℕ → PutValue
-put destination = record { destination = record { 0 = destination }; class = One; source_name = 97 ∷ []; destination_name = 98 ∷ []; messages = []; file = [] }
+put destination = record { destination = record { 0 = destination }; class = One; closure = false; source_name = 97 ∷ []; destination_name = 98 ∷ []; messages = []; file = [] }
 
 alice_cancels : route reference_config (events.Request 0 (requests.Cancel (key 2 4))) ≡ Ok (record { place = record { user = 0; lane = 0 }; event = On (key 2 4) what.Cancel })
 alice_cancels = refl

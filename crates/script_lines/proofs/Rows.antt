@@ -84,6 +84,7 @@ puts : map command_of (codes "put alice 0 1 1 a b 616263" ∷ codes "put bob 01 
     ≡ Some (command.Event (events.Request 0 (requests.Put 0 (record {
       destination = record { 0 = 1 };
       class = One;
+      closure = false;
       source_name = codes "a";
       destination_name = codes "b";
       messages = [];
@@ -92,6 +93,7 @@ puts : map command_of (codes "put alice 0 1 1 a b 616263" ∷ codes "put bob 01 
     ∷ Some (command.Event (events.Request 1 (requests.Put 1 (record {
       destination = record { 0 = 18446744073709551615 };
       class = Two;
+      closure = false;
       source_name = codes "x";
       destination_name = codes "y";
       messages = [];
@@ -101,11 +103,32 @@ puts : map command_of (codes "put alice 0 1 1 a b 616263" ∷ codes "put bob 01 
 unfolding decode_pairs
 puts = refl
 
+-- the last word of a Put may ask for closure
+puts_with_closure : command_of (codes "put alice 0 1 1 a b 616263 closure")
+    ≡ Some (command.Event (events.Request 0 (requests.Put 0 (record {
+      destination = record { 0 = 1 };
+      class = One;
+      closure = true;
+      source_name = codes "a";
+      destination_name = codes "b";
+      messages = [];
+      file = codes "abc";
+    }))))
+unfolding decode_pairs
+puts_with_closure = refl
+
+bad_closures : map command_of (codes "put alice 0 1 1 a b - Closure" ∷ codes "put alice 0 1 1 a b - closure " ∷ codes "put alice 0 1 1 a b - closure closure"
+    ∷ codes "put alice 0 1 1 a b -  closure" ∷ codes "put alice 0 1 1 a b closure" ∷ [])
+    ≡ replicate 5 None
+unfolding decode_pairs
+bad_closures = refl
+
 -- a name may have every octet below 128 but those of a space and a line feed
 puts_any_name : command_of (codes "put alice 0 1 1 " ++ 127 ∷ codes " " ++ 1 ∷ 13 ∷ codes " -")
     ≡ Some (command.Event (events.Request 0 (requests.Put 0 (record {
       destination = record { 0 = 1 };
       class = One;
+      closure = false;
       source_name = 127 ∷ [];
       destination_name = 1 ∷ 13 ∷ [];
       messages = [];

@@ -1,14 +1,11 @@
 -- What a line of a script says.
-use Rattle.std.specs.Prelude.{ℕ, ◌-◌, ◌^◌, ◌==◌, Bool, true, false, nat_lt, if◌then◌else◌, List, [], ◌∷◌, length, Option, Some, None, is_some, codes, option_and_then}
+use Rattle.std.specs.Prelude.{ℕ, ◌-◌, ◌^◌, ◌==◌, Bool, true, false, if◌then◌else◌, List, [], ◌∷◌, length, Option, Some, None, is_some, codes, option_and_then}
 use Rattle.std.specs.Option.{option_map}
 use Rattle.std.specs.Result.{result_ok}
-use Rattle.std.specs.List.{list_all}
 use Rattle.std.specs.Str.{bytes_eq}
 use Rattle.hex.specs.Hex.{decode_of}
 use Rattle.cfdp_types.specs.Put.{PutValue, put_fault}
-use Rattle.cfdp_types.specs.declared.key.TxnKey.{TxnKey}
 use Rattle.cfdp_types.specs.declared.names.Class.{Class}
-use Rattle.cfdp_types.specs.declared.names.Class.TheVariants.{One, Two}
 use Rattle.cfdp_types.specs.declared.names.Handler.{Handler}
 use Rattle.cfdp_types.specs.declared.names.Handler.TheVariants as handler
 use Rattle.cfdp_types.specs.declared.names.Role.{Role}
@@ -22,7 +19,7 @@ use Rattle.entity_routing.specs.declared.world_event.WorldEvent.TheVariants as e
 use Rattle.script_lines.specs.declared.command.Command.{Command}
 use Rattle.script_lines.specs.declared.command.Command.TheVariants as command
 use Rattle.line_words.specs.Words.{words_of, decimal_of}
-use Rattle.line_words.specs.Operands.{◌>>=◌, number_of, key_from, name_of, class_of, request_for}
+use Rattle.line_words.specs.Operands.{◌>>=◌, number_of, key_from, name_of, class_of, closure_of, request_for}
 
 -- ---- words
 
@@ -166,6 +163,7 @@ put_made destination class source_name destination_name file =
     else Some (record {
       destination = record { 0 = destination };
       class = class;
+      closure = false;
       source_name = source_name;
       destination_name = destination_name;
       messages = [];
@@ -183,7 +181,10 @@ put_from class destination source_name destination_name file = do
   put_made to of_class from_name to_name octets
 
 abbrev pub put_words : List (List ℕ) → Option PutValue
-put_words (class ∷ destination ∷ source_name ∷ destination_name ∷ file ∷ []) = put_from class destination source_name destination_name file
+put_words (class ∷ destination ∷ source_name ∷ destination_name ∷ file ∷ operands) = do
+  closure ← closure_of operands
+  put ← put_from class destination source_name destination_name file
+  Some (record put { closure = closure })
 put_words operands = None
 
 -- a Put of a user's lane
@@ -194,7 +195,7 @@ put_at user lane operands = do
   put ← put_words operands
   Some (command.Event (events.Request of_user (requests.Put of_lane put)))
 
--- put USER LANE CLASS DEST SRC DST FILE
+-- put USER LANE CLASS DEST SRC DST FILE, and closure where it is asked for
 abbrev pub put_of : List (List ℕ) → Option Command
 put_of (user ∷ lane ∷ operands) = put_at user lane operands
 put_of operands = None

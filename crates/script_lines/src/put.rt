@@ -8,7 +8,7 @@ use crate::command::Command;
 use crate::operands::{file_of, lane_of, user_of};
 use cfdp_types::{Class, EntityId, Octets, PutFault, PutRequest};
 use entity_routing::{Request, WorldEvent};
-use line_words::{Rest, class_of, last_word, name_of, next_word, number_of};
+use line_words::{Rest, class_of, closure_of, name_of, next_word, number_of};
 use std::alloc::{AllocError, Global};
 
 /// A Put, by what stands behind the first word.
@@ -63,17 +63,23 @@ fn put_words(alloc: Global, operands: Rest<'_>) -> Result<Option<PutRequest>, Al
     let Some((destination_name, operands)) = next_word(operands) else {
         return Ok(None);
     };
-    let Some(file) = last_word(operands) else {
+    let Some((file, operands)) = next_word(operands) else {
         return Ok(None);
     };
-    put_from(
+    let Some(closure) = closure_of(operands) else {
+        return Ok(None);
+    };
+    match put_from(
         alloc,
         class,
         destination,
         source_name,
         destination_name,
         file,
-    )
+    )? {
+        Some(put) => Ok(Some(put.with_closure(closure))),
+        None => Ok(None),
+    }
 }
 
 fn put_from(

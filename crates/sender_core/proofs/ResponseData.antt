@@ -1,5 +1,5 @@
 -- What the responses of the table send of the file.
-use Rattle.std.proofs.Common.{◌≡◌, ℕ, ◌+◌, ◌-◌, ◌<◌, ◌≤◌, min, max, Bool, true, false, not, ◌&&◌, ◌||◌, nat_lt, if◌then◌else◌, List, [], ◌∷◌, length, take, drop, Option, Some, None, eqb, refl, sym, ap, ◌∙◌, arith, inl, inr, cond}
+use Rattle.std.proofs.Common.{◌≡◌, ℕ, ◌+◌, ◌-◌, ◌<◌, ◌≤◌, min, max, Bool, true, false, not, ◌&&◌, ◌||◌, nat_lt, if◌then◌else◌, List, [], ◌∷◌, map, length, take, drop, Option, Some, None, eqb, refl, sym, ap, ◌∙◌, arith, inl, inr, cond}
 use Rattle.std.specs.List.{list_any}
 use Rattle.std.proofs.lemmas.List.{length-take, length-drop}
 use Rattle.std.proofs.lemmas.Bool.{cases_Bool, ltb-true}
@@ -21,9 +21,10 @@ use Rattle.pdu_values.specs.Pdu.{PduValue}
 use Rattle.pdu_values.specs.declared.pdu.Body.{Body}
 use Rattle.pdu_values.specs.declared.pdu.Body.TheVariants as body
 use Rattle.pdu_values.specs.declared.bodies.Eof.{Eof}
+use Rattle.pdu_values.specs.declared.bodies.Finished.{Finished}
 use Rattle.sender_table.specs.Sending.{Sending, State, happens, covers, extent_of, asks_for, requests_of, is_closing}
 use Rattle.sender_table.specs.Refusals.{runs_to_send}
-use Rattle.sender_table.specs.Answers.{Response, cancel_response, fault_response, sends_eof, sends_next, on_pump, on_body, on_timer, response_to, last_eof, ends_unreported, nothing}
+use Rattle.sender_table.specs.Answers.{Response, cancel_response, fault_response, sends_eof, sends_next, on_pump, on_body, on_timer, response_to, last_eof, ends_unreported, nothing, acks_of, header_of}
 use Rattle.sender_core.specs.Remaining.{with_requests}
 use Rattle.sender_core.specs.Core.{pdus_of_response, remains_after}
 use Rattle.sender_core.proofs.CoreLemmas.{IsLowest, lowest}
@@ -48,17 +49,22 @@ no_data_faults sending state kind code handler.Suspend is = rw is (record { cove
 no_data_faults sending state kind code handler.Ignore is = rw is (record { covers = λ i. refl; extent = refl })
 no_data_faults sending state kind code handler.Abandon is = rw is (record { covers = λ i. refl; extent = refl })
 
-no_data_eof : (sending : Sending) (class : Class) → sending.request.class ≡ class → NoData (pdus_of_response sending (sends_eof sending))
-no_data_eof sending One is = rw is (record { covers = λ i. refl; extent = refl })
-no_data_eof sending Two is = rw is (record { covers = λ i. refl; extent = refl })
+no_data_eof : (sending : Sending) (class : Class) (asked : Bool) → sending.request.class ≡ class → sending.request.closure ≡ asked → NoData (pdus_of_response sending (sends_eof sending))
+no_data_eof sending One true is asks = rw (is, asks) (record { covers = λ i. refl; extent = refl })
+no_data_eof sending One false is asks = rw (is, asks) (record { covers = λ i. refl; extent = refl })
+no_data_eof sending Two asked is asks = rw is (record { covers = λ i. refl; extent = refl })
 
 no_data_again : (sending : Sending) (o : Option Eof) → NoData (pdus_of_response sending (record nothing { bodies = last_eof o; arms = Ack ∷ [] }))
 no_data_again sending None = record { covers = λ i. refl; extent = refl }
 no_data_again sending (Some e) = record { covers = λ i. refl; extent = refl }
 
-no_data_body : (sending : Sending) (state : State) (b : Body) → NoData (pdus_of_response sending (on_body state b))
+no_data_acks : (sending : Sending) (f : Finished) (class : Class) → NoData (map (λ b. record { header = header_of sending; body = b }) (acks_of class f))
+no_data_acks sending f One = record { covers = λ i. refl; extent = refl }
+no_data_acks sending f Two = record { covers = λ i. refl; extent = refl }
+
+no_data_body : (sending : Sending) (state : State) (b : Body) → NoData (pdus_of_response sending (on_body sending state b))
 no_data_body sending state (body.Ack a) = chosen sending (is_closing state) (ends_unreported a.condition) nothing (record { covers = λ i. refl; extent = refl }) (record { covers = λ i. refl; extent = refl })
-no_data_body sending state (body.Finished f) = record { covers = λ i. refl; extent = refl }
+no_data_body sending state (body.Finished f) = no_data_acks sending f sending.request.class
 no_data_body sending state (body.Metadata m) = record { covers = λ i. refl; extent = refl }
 no_data_body sending state (body.FileData d) = record { covers = λ i. refl; extent = refl }
 no_data_body sending state (body.Eof e) = record { covers = λ i. refl; extent = refl }
@@ -73,7 +79,9 @@ no_data_timer sending state Ack =
     (no_data_faults sending state Ack condition.positive_ack_limit _ refl))
 no_data_timer sending state Inactivity = no_data_faults sending state Inactivity condition.inactivity _ refl
 no_data_timer sending state Nak = record { covers = λ i. refl; extent = refl }
-no_data_timer sending state Check = record { covers = λ i. refl; extent = refl }
+no_data_timer sending state Check =
+    chosen sending (nat_lt (state.tries Check + 1) sending.params.limits.check) _ _ (record { covers = λ i. refl; extent = refl })
+    (no_data_faults sending state Check condition.check_limit _ refl)
 
 abbrev pub is_pump : What → Bool
 is_pump what.Pump = true
@@ -99,7 +107,7 @@ part_extent file start n =
     ]
 
 next_extent : (sending : Sending) (runs : List Run) → extent_of (pdus_of_response sending (sends_next sending runs)) ≤ length sending.request.file
-next_extent sending [] = rw (no_data_eof sending _ refl).extent (omega arith)
+next_extent sending [] = rw (no_data_eof sending _ _ refl refl).extent (omega arith)
 next_extent sending (run ∷ runs) = part_extent sending.request.file run.start (min sending.params.segment_octets (run.end - run.start))
 
 pump_extent : (sending : Sending) (state : State) (b : Bool) → state.metadata_remains ≡ b → extent_of (pdus_of_response sending (on_pump sending state)) ≤ length sending.request.file
@@ -154,7 +162,7 @@ left_by_metadata sending state i remains =
 
 pub left_by_eof : (sending : Sending) (state : State) (i : ℕ) → state.metadata_remains ≡ false → runs_to_send sending state ≡ [] → state.remains i ≡ remains_after sending state what.Pump i
 left_by_eof sending state i remains none =
-    nothing_new (state.remains i) _ (nat_lt i (length sending.request.file)) false (rw (remains, none) ((no_data_eof sending _ refl).covers i)) refl
+    nothing_new (state.remains i) _ (nat_lt i (length sending.request.file)) false (rw (remains, none) ((no_data_eof sending _ _ refl refl).covers i)) refl
 
 and_false : (b : Bool) → (b && false) ≡ false
 and_false true = refl

@@ -1,12 +1,13 @@
 //! The PDUs that a sender sends.
-ghost use Rattle.std.specs.Prelude.{◌≡◌, ◌<◌, ◌≤◌, ◌^◌, ◌+◌, false, length, take, drop, IfOk};
+ghost use Rattle.std.specs.Prelude.{◌≡◌, ◌<◌, ◌≤◌, ◌^◌, ◌+◌, ◌&&◌, not, length, take, drop, IfOk};
 ghost use Rattle.pdu_values.specs.Spelling.{HeaderFits, file_data_limit};
 ghost use Rattle.pdu_values.specs.declared.pdu.Body.TheVariants as body;
 ghost use Rattle.pdu_values.specs.declared.bodies.Acknowledged.TheVariants as acknowledged;
 ghost use Rattle.pdu_values.specs.declared.bodies.TransactionStatus.TheVariants.{Terminated};
 ghost use Rattle.sender_table.specs.Answers.{header_of};
+ghost use Rattle.txn_events.specs.Events.{is_two};
 
-use cfdp_types::{ChecksumType, Condition, Octets, Params, PutRequest, TxnKey};
+use cfdp_types::{ChecksumType, Class, Condition, Octets, Params, PutRequest, TxnKey};
 use pdu_values::{
     Ack, Acknowledged, Direction, FileData, Header, Metadata, Pdu, TransactionStatus, octets_for,
 };
@@ -37,7 +38,7 @@ pub(crate) fn metadata(header: Header, request: &PutRequest) -> Result<Pdu, Allo
     ensures { IfOk result (λ pdu. pdu ≡ record {
       header = header;
       body = body.Metadata (record {
-        closure = false;
+        closure = not (is_two request.now.class) && request.now.closure;
         checksum_type = 0;
         size = length request.now.file;
         source_name = request.now.source_name;
@@ -47,7 +48,7 @@ pub(crate) fn metadata(header: Header, request: &PutRequest) -> Result<Pdu, Allo
     }) }
 {
     let metadata = Metadata {
-        closure: false,
+        closure: request.class() == Class::One && request.closure(),
         checksum_type: ChecksumType::MODULAR,
         size: request.file().as_slice().len() as u32,
         source_name: request.source_name().copy()?,

@@ -11,7 +11,7 @@ use txn_events::{Refusal, What, is_of_other_class, is_stale_timer, needs_room};
 impl SenderCore {
     ghost use Rattle.std.specs.Prelude.{◌≡◌, nat_lt, length};
     ghost use Rattle.sender_core.specs.Core.{shown, sending_of};
-    ghost use Rattle.sender_table.specs.Refusals.{runs_to_send, has_more_to_send, has_no_place, is_pdu_misplaced, is_misplaced, is_full, refusal_of};
+    ghost use Rattle.sender_table.specs.Refusals.{runs_to_send, has_more_to_send, has_no_place, has_kind_of, is_pdu_misplaced, is_misplaced, is_full, refusal_of};
 
     // Whether octets of the file are to be sent.
     fn has_octets(&self) -> bool
@@ -38,12 +38,18 @@ impl SenderCore {
         }
     }
 
+    // Whether the class has PDUs of this kind.
+    fn has_kind_of(&self, body: &Body) -> bool
+        ensures { result ≡ has_kind_of (sending_of self.now) body.now }
+    {
+        self.request.class() == Class::Two
+            || (self.request.closure() && matches!(body, Body::Finished(_)))
+    }
+
     fn is_pdu_misplaced(&self, pdu: &Pdu) -> bool
         ensures { result ≡ is_pdu_misplaced (sending_of self.now) (shown self.now) pdu.now.body }
     {
-        self.request.class() != Class::Two
-            || !pdu.is_toward_sender()
-            || self.has_no_place(pdu.body())
+        !self.has_kind_of(pdu.body()) || !pdu.is_toward_sender() || self.has_no_place(pdu.body())
     }
 
     fn is_misplaced(&self, event: &What) -> bool

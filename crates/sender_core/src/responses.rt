@@ -22,7 +22,7 @@ impl SenderCore {
     ghost use Rattle.sender_table.specs.Sending.{happens};
     ghost use Rattle.std.specs.Option.{option_to_list};
     ghost use Rattle.sender_core.specs.Core.{shown, sending_of, IsResponse, eof_again};
-    ghost use Rattle.sender_table.specs.Answers.{cancel_eof, whole_eof, cancel_response, fault_response, sends_eof, sends_next, on_pump, on_ack, on_body, on_ack_timer, on_timer, waiting_timer, response_to, ends_unreported};
+    ghost use Rattle.sender_table.specs.Answers.{cancel_eof, whole_eof, cancel_response, fault_response, sends_eof, sends_next, on_pump, on_ack, on_body, on_ack_timer, on_check_timer, on_timer, waiting_timer, response_to, ends_unreported};
 
     // Nothing is known of the file at the receiver.
     fn ends_unreported(&self, condition: Condition) -> Result<Response, AllocError>
@@ -118,21 +118,22 @@ impl SenderCore {
         let pdu = Pdu::eof(self.header, self.whole_eof());
         let mut inds = Indications::new(self.alloc);
         inds.push(Indication::EofSent)?;
-        match self.request.class() {
+        let arms = match self.request.class() {
             Class::One => {
-                inds.push(unreported(Condition::NO_ERROR))?;
-                Ok(Response {
-                    inds,
-                    pdu: Some(pdu),
-                    arms: None,
-                })
+                if self.request.closure() {
+                    Some(TimerKind::Check)
+                } else {
+                    inds.push(unreported(Condition::NO_ERROR))?;
+                    None
+                }
             }
-            Class::Two => Ok(Response {
-                inds,
-                pdu: Some(pdu),
-                arms: Some(TimerKind::Ack),
-            }),
-        }
+            Class::Two => Some(TimerKind::Ack),
+        };
+        Ok(Response {
+            inds,
+            pdu: Some(pdu),
+            arms,
+        })
     }
 
     // The size of the file.
@@ -203,7 +204,8 @@ impl SenderCore {
 
     fn on_body(&self, body: &Body) -> Result<Response, AllocError>
         ensures { IfOk result
-            (λ response. IsResponse (sending_of self.now) response (on_body (shown self.now) body.now)) }
+            (λ response. IsResponse (sending_of self.now) response
+            (on_body (sending_of self.now) (shown self.now) body.now)) }
     {
         match body {
             Body::Ack(ack) => self.on_ack(*ack),
@@ -212,10 +214,10 @@ impl SenderCore {
         }
     }
 
-    // The receiver says how it went, and is told that this came.
+    // The receiver says how it went, and in class 2 is told that this came.
     fn on_finished(&self, finished: Finished) -> Result<Response, AllocError>
         ensures { IfOk result (λ response. IsResponse (sending_of self.now) response
-            (on_body (shown self.now) (body.Finished finished))) }
+            (on_body (sending_of self.now) (shown self.now) (body.Finished finished))) }
     {
         let told = Indication::TransactionFinished {
             condition: finished.condition,
@@ -223,7 +225,10 @@ impl SenderCore {
             status: finished.status,
         };
         let mut response = Response::telling(self.alloc, told)?;
-        response.pdu = Some(pdus::ack(self.header, finished.condition));
+        response.pdu = match self.request.class() {
+            Class::One => None,
+            Class::Two => Some(pdus::ack(self.header, finished.condition)),
+        };
         Ok(response)
     }
 
@@ -254,6 +259,20 @@ impl SenderCore {
         }
     }
 
+    // Check: at the limit a fault.
+    fn on_check_timer(&self) -> Result<Response, AllocError>
+        ensures { IfOk result (λ response. IsResponse (sending_of self.now) response
+            (on_check_timer (sending_of self.now) (shown self.now) (shown self.now))) }
+    {
+        if self.control.tries.check + 1 < u32::from(self.params.limits().check) {
+            let mut response = Response::nothing(self.alloc);
+            response.arms = Some(TimerKind::Check);
+            Ok(response)
+        } else {
+            self.fault_response(TimerKind::Check, Condition::CHECK_LIMIT)
+        }
+    }
+
     fn on_timer(&self, kind: TimerKind) -> Result<Response, AllocError>
         ensures { IfOk result (λ response. IsResponse (sending_of self.now) response
             (on_timer (sending_of self.now) (shown self.now) (shown self.now) kind)) }
@@ -264,20 +283,27 @@ impl SenderCore {
                 TimerKind::Inactivity,
                 Condition::INACTIVITY,
             ),
-            TimerKind::Nak | TimerKind::Check => Ok(Response::nothing(self.alloc)),
+            TimerKind::Check => self.on_check_timer(),
+            TimerKind::Nak => Ok(Response::nothing(self.alloc)),
         }
     }
 
     // The timer that runs once the EOF was sent.
     fn waiting_timer(&self) -> Option<TimerKind>
-        ensures { option_to_list result ≡ waiting_timer (shown self.now) }
+        ensures { option_to_list result ≡ waiting_timer (sending_of self.now) (shown self.now) }
     {
         if self.control.eof.is_none() {
-            None
-        } else if self.control.acknowledged {
-            Some(TimerKind::Inactivity)
-        } else {
-            Some(TimerKind::Ack)
+            return None;
+        }
+        match self.request.class() {
+            Class::One => Some(TimerKind::Check),
+            Class::Two => {
+                if self.control.acknowledged {
+                    Some(TimerKind::Inactivity)
+                } else {
+                    Some(TimerKind::Ack)
+                }
+            }
         }
     }
 

@@ -4,7 +4,7 @@ use Rattle.std.specs.List.{list_any}
 use Rattle.std.proofs.lemmas.Bool.{false≢true, true≢false}
 use Rattle.cfdp_types.specs.Condition as condition
 use Rattle.cfdp_types.specs.Handlers.{handler_in}
-use Rattle.cfdp_types.specs.Steps.{is_stamp}
+use Rattle.cfdp_types.specs.Steps.{is_stamp, is_kind}
 use Rattle.cfdp_types.specs.declared.condition.Condition.{Condition}
 use Rattle.cfdp_types.specs.declared.names.Class.{Class}
 use Rattle.cfdp_types.specs.declared.names.Class.TheVariants.{One, Two}
@@ -76,10 +76,15 @@ faults_go sent sending state kind code handler.Abandon is =
     rw is (one_told false sent (told.Abandoned code state.progress) _ _ refl (λ before begun stands. begun))
 
 eof_goes : (paused : Bool) (sending : Sending) (class : Class) → sending.request.class ≡ class → Goes paused false (sends_eof sending)
-eof_goes paused sending One is = rw is (record {
-  follows = λ before runs begun stands eof. (runs, (begun, eof refl), (runs, begun, tt));
-  sends = λ header tells. refl;
-})
+eof_goes paused sending One is = rw is (chosen paused false sending.request.closure _ _
+    (λ asked. record {
+      follows = λ before runs begun stands eof. (runs, (begun, eof refl), tt);
+      sends = λ header tells. refl;
+    })
+    (λ unasked. record {
+      follows = λ before runs begun stands eof. (runs, (begun, eof refl), (runs, begun, tt));
+      sends = λ header tells. refl;
+    }))
 eof_goes paused sending Two is = rw is (record {
   follows = λ before runs begun stands eof. (runs, (begun, eof refl), tt);
   sends = λ header tells. refl;
@@ -109,25 +114,25 @@ ends_unreported_goes : (paused sent : Bool) (code : Condition)
 ends_unreported_goes paused sent code =
     one_told paused sent (told.TransactionFinished code Incomplete Unreported) [] [] refl (λ before begun stands. begun)
 
-body_goes : (state : State) (b : Body) → Goes state.paused (is_some state.eof) (on_body state b)
-body_goes state (body.Ack a) =
+body_goes : (sending : Sending) (state : State) (b : Body) → Goes state.paused (is_some state.eof) (on_body sending state b)
+body_goes sending state (body.Ack a) =
     chosen state.paused (is_some state.eof) (is_closing state) _ _
     (λ closes. ends_unreported_goes state.paused (is_some state.eof) a.condition) (λ goes. silent state.paused (is_some state.eof) _ _)
-body_goes state (body.Finished f) =
+body_goes sending state (body.Finished f) =
     one_told state.paused (is_some state.eof) (told.TransactionFinished f.condition f.delivery f.status) _ _ refl (λ before begun stands. begun)
-body_goes state (body.Metadata m) = silent state.paused (is_some state.eof) _ _
-body_goes state (body.FileData d) = silent state.paused (is_some state.eof) _ _
-body_goes state (body.Eof e) = silent state.paused (is_some state.eof) _ _
-body_goes state (body.Prompt p) = silent state.paused (is_some state.eof) _ _
-body_goes state (body.Nak n) = silent state.paused (is_some state.eof) _ _
-body_goes state (body.KeepAlive k) = silent state.paused (is_some state.eof) _ _
+body_goes sending state (body.Metadata m) = silent state.paused (is_some state.eof) _ _
+body_goes sending state (body.FileData d) = silent state.paused (is_some state.eof) _ _
+body_goes sending state (body.Eof e) = silent state.paused (is_some state.eof) _ _
+body_goes sending state (body.Prompt p) = silent state.paused (is_some state.eof) _ _
+body_goes sending state (body.Nak n) = silent state.paused (is_some state.eof) _ _
+body_goes sending state (body.KeepAlive k) = silent state.paused (is_some state.eof) _ _
 
 -- ---- timers
 
 -- no timer runs while the sender is suspended, and only Ack in the closing phase
 pub record Calm (state : State) : Type 0 where
   pub suspended : is_suspended state ≡ true → (kind : TimerKind) → state.armed kind ≡ None
-  pub closing : is_closing state ≡ true → state.armed Inactivity ≡ None
+  pub closing : is_closing state ≡ true → (kind : TimerKind) → is_kind Ack kind ≡ false → state.armed kind ≡ None
 
 -- a timer that expires runs
 expires : (armed : Option ℕ) (stamp : ℕ) (b : Bool) → not (is_stamp armed stamp) ≡ false → (b ≡ true → armed ≡ None) → b ≡ false
@@ -139,6 +144,14 @@ runs_on false cancel_response ended unsuspended unclosed goes = refl
 runs_on true false false unsuspended unclosed goes = absurd (true≢false unsuspended)
 runs_on true true false unsuspended unclosed goes = absurd (true≢false unclosed)
 runs_on true cancel_response true unsuspended unclosed goes = absurd (true≢false goes)
+
+-- a timer that is not Ack expires only where the sender is not suspended
+runs_freely : (state : State) (kind : TimerKind) (stamp : ℕ) → is_kind Ack kind ≡ false → state.ended ≡ false → Calm state
+    → not (is_stamp (state.armed kind) stamp) ≡ false → state.paused ≡ false
+runs_freely state kind stamp apart goes calm fresh =
+    let unsuspended : is_suspended state ≡ false = expires (state.armed kind) stamp (is_suspended state) fresh (λ is. calm.suspended is kind) in
+    let unclosed : is_closing state ≡ false = expires (state.armed kind) stamp (is_closing state) fresh (λ is. calm.closing is kind apart) in
+    runs_on state.paused (is_cancel state.eof) state.ended unsuspended unclosed goes
 
 timer_goes : (sending : Sending) (state now : State) (kind : TimerKind) (stamp : ℕ) → state.ended ≡ false → Calm state
     → not (is_stamp (state.armed kind) stamp) ≡ false → Goes state.paused (is_some state.eof) (on_timer sending state now kind)
@@ -152,12 +165,14 @@ timer_goes sending state now Ack stamp goes calm fresh =
     (λ unclosed. rw (runs_on state.paused (is_cancel state.eof) state.ended unsuspended unclosed goes)
     (faults_go (is_some state.eof) sending now Ack condition.positive_ack_limit _ refl)))
 timer_goes sending state now Inactivity stamp goes calm fresh =
-    let unsuspended : is_suspended state ≡ false = expires (state.armed Inactivity) stamp (is_suspended state) fresh (λ is. calm.suspended is Inactivity) in
-    let unclosed : is_closing state ≡ false = expires (state.armed Inactivity) stamp (is_closing state) fresh calm.closing in
-    rw (runs_on state.paused (is_cancel state.eof) state.ended unsuspended unclosed goes)
+    rw (runs_freely state Inactivity stamp refl goes calm fresh)
     (faults_go (is_some state.eof) sending now Inactivity condition.inactivity _ refl)
+timer_goes sending state now Check stamp goes calm fresh =
+    chosen state.paused (is_some state.eof) _ (record { inds = []; bodies = []; arms = Check ∷ [] }) (fault_response sending now Check condition.check_limit)
+    (λ below. silent state.paused (is_some state.eof) _ _)
+    (λ limit. rw (runs_freely state Check stamp refl goes calm fresh)
+    (faults_go (is_some state.eof) sending now Check condition.check_limit _ refl))
 timer_goes sending state now Nak stamp goes calm fresh = silent state.paused (is_some state.eof) _ _
-timer_goes sending state now Check stamp goes calm fresh = silent state.paused (is_some state.eof) _ _
 
 -- ---- requests of the user
 
@@ -193,7 +208,7 @@ none_of false why rest taken = (refl, taken)
 taken_what : (sending : Sending) (state now : State) (event : What) → is_stale_timer state.armed event ≡ false → is_stale_store event ≡ false
     → is_misplaced sending state event ≡ false → state.ended ≡ false → Calm state
     → Goes state.paused (is_some state.eof) (response_to sending state now (happens event))
-taken_what sending state now (what.Pdu pdu) fresh kept placed goes calm = body_goes state pdu.body
+taken_what sending state now (what.Pdu pdu) fresh kept placed goes calm = body_goes sending state pdu.body
 taken_what sending state now (what.Timer kind stamp) fresh kept placed goes calm = timer_goes sending state now kind stamp goes calm fresh
 taken_what sending state now (what.Stored stamp stored) fresh kept placed goes calm = absurd (true≢false kept)
 taken_what sending state now what.Pump fresh kept placed goes calm = pump_goes sending state placed

@@ -7,7 +7,7 @@ use Rattle.std.proofs.Math.Bool.{or-false}
 use Rattle.cfdp_types.specs.Params.{timer_length}
 use Rattle.cfdp_types.specs.Steps.{Effect, stops, is_kind, newer_or}
 use Rattle.cfdp_types.specs.declared.names.TimerKind.{TimerKind}
-use Rattle.cfdp_types.specs.declared.names.TimerKind.TheVariants.{Ack, Inactivity}
+use Rattle.cfdp_types.specs.declared.names.TimerKind.TheVariants.{Ack}
 use Rattle.cfdp_types.proofs.StepLemmas.{armed_by, armed_after-operations}
 use Rattle.txn_events.specs.Refusal.{unless_refused}
 use Rattle.txn_events.specs.declared.refusal.Refusal.{Refusal}
@@ -47,9 +47,10 @@ stopped_second false false rest is = absurd (false≢true is)
 stopped_suspended : (response : Response) (after : State) (event : Event) (kind : TimerKind) → is_suspended after ≡ true → effect_of response after event kind ≡ stops
 stopped_suspended response after event kind suspended = rw (or_right after.ended (is_suspended after) suspended) refl
 
-stopped_closing : (response : Response) (after : State) (event : Event) → is_closing after ≡ true → effect_of response after event Inactivity ≡ stops
-stopped_closing response after event closing =
-    stopped_second (after.ended || is_suspended after) (is_closing after && not (is_kind Ack Inactivity)) _ (rw closing refl)
+stopped_closing : (response : Response) (after : State) (event : Event) (kind : TimerKind) → is_closing after ≡ true → is_kind Ack kind ≡ false
+    → effect_of response after event kind ≡ stops
+stopped_closing response after event kind closing apart =
+    stopped_second (after.ended || is_suspended after) (is_closing after && not (is_kind Ack kind)) _ (rw (closing, apart) refl)
 
 -- the state after a step
 abbrev next : Sending → State → Event → State
@@ -75,10 +76,10 @@ calm_next sending state event = record {
       is_armed_next sending state event kind
       ∙ ap (λ effect. armed_by state.entries effect (state.armed kind))
       (stopped_suspended (response_to sending state (with_event sending state event) event) (next_untimed sending state event) event kind suspended);
-  closing = λ closing.
-      is_armed_next sending state event Inactivity
-      ∙ ap (λ effect. armed_by state.entries effect (state.armed Inactivity))
-      (stopped_closing (response_to sending state (with_event sending state event) event) (next_untimed sending state event) event closing);
+  closing = λ closing kind apart.
+      is_armed_next sending state event kind
+      ∙ ap (λ effect. armed_by state.entries effect (state.armed kind))
+      (stopped_closing (response_to sending state (with_event sending state event) event) (next_untimed sending state event) event kind closing apart);
 }
 
 -- ---- what a log tells, beside what the sender stands at
@@ -102,7 +103,7 @@ stands_first sending = record {
   ended = refl;
   paused = refl;
   sent = λ none. refl;
-  calm = record { suspended = λ suspended kind. refl; closing = λ closing. refl };
+  calm = record { suspended = λ suspended kind. refl; closing = λ closing kind apart. refl };
 }
 
 -- an EOF told of in one step is sent in it

@@ -2,3 +2,4 @@ pub mod SendingRows
 pub mod SendingPduRows
 pub mod SendingRefusalRows
 pub mod SendingTimerRows
+pub mod ClosureRows

@@ -36,7 +36,7 @@ use Rattle.indications.specs.declared.indication.Phase.TheVariants as phase
 use Rattle.modular_sum.specs.Sum.{sum}
 pub use Rattle.txn_events.specs.Logs.{empty_answer}
 use Rattle.txn_events.specs.declared.answer.Answer.{Answer}
-use Rattle.sender_table.specs.Sending.{Sending, Event, put, happens, State, step, is_closing, is_suspended, acknowledges_eof}
+use Rattle.sender_table.specs.Sending.{Sending, Event, put, happens, State, step, is_closing, is_suspended, asks_closure, acknowledges_eof}
 use Rattle.sender_table.specs.Refusals.{refusal_at, runs_to_send}
 
 -- ---- a response of the table
@@ -78,10 +78,10 @@ header_of sending = record {
   destination = sending.request.destination;
 }
 
--- the Metadata of the file: no closure is asked for, and the checksum is modular
+-- the Metadata of the file: closure is asked for in class 1 where the Put does, and the checksum is modular
 abbrev pub metadata_of : Sending → Body
 metadata_of sending = body.Metadata (record {
-  closure = false;
+  closure = asks_closure sending;
   checksum_type = checksum.modular;
   size = length sending.request.file;
   source_name = sending.request.source_name;
@@ -137,12 +137,14 @@ fault_response sending state kind code = by_handler (handler_in sending.params.t
 
 -- ---- what is answered to Pump
 
--- the EOF, where all else was sent: class 2 waits for its ACK, class 1 ends
+-- the EOF, where all else was sent: class 2 waits for its ACK, class 1 for the Finished PDU that it asked for, or ends
 abbrev pub sends_eof : Sending → Response
 sends_eof sending = by_class sending.request.class
   where
     by_class : Class → Response
-    by_class One = sends (body.Eof (whole_eof sending)) and_then tells told.EofSent and_then ends_unreported condition.no_error
+    by_class One =
+        if sending.request.closure then record (sends (body.Eof (whole_eof sending)) and_then tells told.EofSent) { arms = Check ∷ [] }
+        else sends (body.Eof (whole_eof sending)) and_then tells told.EofSent and_then ends_unreported condition.no_error
     by_class Two = record (sends (body.Eof (whole_eof sending)) and_then tells told.EofSent) { arms = Ack ∷ [] }
 
 -- what remains of the file, and then the EOF
@@ -160,11 +162,17 @@ on_pump sending front = if front.metadata_remains then sends (metadata_of sendin
 abbrev pub on_ack : State → ack_type.Ack → Response
 on_ack front a = if is_closing front then ends_unreported a.condition else nothing
 
+-- class 2 acknowledges a Finished PDU
+abbrev pub acks_of : Class → Finished → List Body
+acks_of One f = []
+acks_of Two f = ack_of f ∷ []
+
 -- what is answered to a PDU: to NAK and Keep Alive nothing
-abbrev pub on_body : State → Body → Response
-on_body front (body.Ack a) = on_ack front a
-on_body front (body.Finished f) = sends (ack_of f) and_then tells (told.TransactionFinished f.condition f.delivery f.status)
-on_body front _ = nothing
+abbrev pub on_body : Sending → State → Body → Response
+on_body sending front (body.Ack a) = on_ack front a
+on_body sending front (body.Finished f) =
+    record (tells (told.TransactionFinished f.condition f.delivery f.status)) { bodies = acks_of sending.request.class f }
+on_body sending front _ = nothing
 
 -- ---- what is answered to timers
 
@@ -185,12 +193,18 @@ on_ack_timer sending front now =
     else if is_closing front then ends_unreported (condition_of front.eof)
     else fault_response sending now Ack condition.positive_ack_limit
 
--- what is answered to an expiration, by its timer; a sender has no Nak and no Check
+-- Check, while class 1 waits for the Finished PDU: at the limit a fault
+abbrev pub on_check_timer : Sending → State → State → Response
+on_check_timer sending front now =
+    if nat_lt (front.tries Check + 1) sending.params.limits.check then record nothing { arms = Check ∷ [] }
+    else fault_response sending now Check condition.check_limit
+
+-- what is answered to an expiration, by its timer; a sender has no Nak
 abbrev pub on_timer : Sending → State → State → TimerKind → Response
 on_timer sending front now Ack = on_ack_timer sending front now
 on_timer sending front now Inactivity = fault_response sending now Inactivity condition.inactivity
 on_timer sending front now Nak = nothing
-on_timer sending front now Check = nothing
+on_timer sending front now Check = on_check_timer sending front now
 
 -- ---- what is answered to the user
 
@@ -198,19 +212,23 @@ on_timer sending front now Check = nothing
 abbrev pub phase_of : State → Phase
 phase_of state = if is_closing state then phase.Closing else if is_suspended state then phase.Suspended else phase.Active
 
--- the timer that runs once the EOF was sent: Ack until it is acknowledged, and then Inactivity
-abbrev pub waiting_timer : State → List TimerKind
-waiting_timer state = if not (is_some state.eof) then [] else if state.acknowledged then Inactivity ∷ [] else Ack ∷ []
+-- the timer that runs once the EOF was sent: in class 1 Check, in class 2 Ack until it is acknowledged, and then Inactivity
+abbrev pub waiting_timer : Sending → State → List TimerKind
+waiting_timer sending state = if not (is_some state.eof) then [] else by_class sending.request.class
+  where
+    by_class : Class → List TimerKind
+    by_class One = Check ∷ []
+    by_class Two = if state.acknowledged then Inactivity ∷ [] else Ack ∷ []
 
 -- what is answered to an event, by its kind
 abbrev pub response_to : Sending → State → State → Event → Response
 response_to sending front now put = tells told.Transaction
 response_to sending front now (happens what.Pump) = on_pump sending front
-response_to sending front now (happens (what.Pdu pdu)) = on_body front pdu.body
+response_to sending front now (happens (what.Pdu pdu)) = on_body sending front pdu.body
 response_to sending front now (happens (what.Timer kind stamp)) = on_timer sending front now kind
 response_to sending front now (happens what.Cancel) = cancel_response sending now condition.cancel_request
 response_to sending front now (happens what.Suspend) = tells (told.Suspended condition.suspend_request)
-response_to sending front now (happens what.Resume) = record (tells (told.Resumed now.progress)) { arms = waiting_timer front }
+response_to sending front now (happens what.Resume) = record (tells (told.Resumed now.progress)) { arms = waiting_timer sending front }
 response_to sending front now (happens what.Report) = tells (told.Report (phase_of now) now.progress)
 response_to sending front now (happens what.Abandon) = tells (told.Abandoned condition.cancel_request now.progress)
 response_to sending front now (happens (what.Stored stamp kept)) = nothing

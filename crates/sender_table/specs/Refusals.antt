@@ -12,7 +12,7 @@ use Rattle.pdu_values.specs.declared.pdu.Body.{Body}
 use Rattle.pdu_values.specs.declared.pdu.Body.TheVariants as body
 use Rattle.pdu_values.specs.declared.bodies.Eof.{Eof}
 use Rattle.pdu_values.specs.Pdu.{is_toward_sender}
-use Rattle.sender_table.specs.Sending.{Sending, Event, put, happens, State, is_closing, is_suspended}
+use Rattle.sender_table.specs.Sending.{Sending, Event, put, happens, State, is_closing, is_suspended, asks_closure}
 
 -- what remains of the file, as maximal runs, rising
 abbrev pub runs_to_send : Sending → State → List Run
@@ -39,9 +39,18 @@ has_no_place state (body.Nak n) = is_closing state
 has_no_place state (body.KeepAlive k) = is_closing state
 has_no_place state _ = false
 
--- WrongState, for PDUs: every one in class 1; what goes toward the receiver; and those above
+-- a Finished PDU
+abbrev pub is_finished : Body → Bool
+is_finished (body.Finished f) = true
+is_finished _ = false
+
+-- the class has PDUs of this kind: class 1 a Finished, where it asked for one
+abbrev pub has_kind_of : Sending → Body → Bool
+has_kind_of sending b = is_two sending.request.class || (asks_closure sending && is_finished b)
+
+-- WrongState, for PDUs: in class 1 every one but a Finished that was asked for; what goes toward the receiver; and those above
 abbrev pub is_pdu_misplaced : Sending → State → Body → Bool
-is_pdu_misplaced sending state b = not (is_two sending.request.class) || not (is_toward_sender b) || has_no_place state b
+is_pdu_misplaced sending state b = not (has_kind_of sending b) || not (is_toward_sender b) || has_no_place state b
 
 -- WrongState: Pump where the sender is suspended, in the closing phase, or where nothing remains; Resume
 -- only where it is suspended; Suspend not where it is suspended, or in the closing phase; Cancel not in

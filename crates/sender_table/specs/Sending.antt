@@ -1,5 +1,5 @@
 -- The sending end of a transaction in both classes: what a log of its events and answers gives.
-use Rattle.std.specs.Prelude.{ℕ, ◌+◌, max, Bool, true, false, not, ◌||◌, ◌&&◌, nat_lt, ◌==◌, if◌then◌else◌, List, [], ◌∷◌, length, Option, Some, None}
+use Rattle.std.specs.Prelude.{ℕ, ◌+◌, max, Bool, true, false, not, ◌||◌, ◌&&◌, nat_lt, ◌==◌, is_some, if◌then◌else◌, List, [], ◌∷◌, length, Option, Some, None}
 use Rattle.std.specs.List.{list_any}
 use Rattle.cfdp_types.specs.Condition as condition
 use Rattle.cfdp_types.specs.Steps.{armed_after, is_kind, newer_or}
@@ -11,7 +11,7 @@ use Rattle.cfdp_types.specs.declared.names.TimerKind.TheVariants.{Ack}
 use Rattle.gap_list.specs.Runs.{is_within}
 use Rattle.txn_events.specs.declared.event.What.{What}
 use Rattle.txn_events.specs.declared.event.What.TheVariants as what
-use Rattle.txn_events.specs.Events.{is_expiration}
+use Rattle.txn_events.specs.Events.{is_two, is_expiration}
 use Rattle.pdu_values.specs.Pdu.{PduValue, ack_is_toward_sender}
 use Rattle.pdu_values.specs.declared.pdu.Body.{Body}
 use Rattle.pdu_values.specs.declared.pdu.Body.TheVariants as body
@@ -74,6 +74,14 @@ is_closing state = is_cancel state.eof && not state.ended
 -- Suspended was told last of the two, and neither was an EOF with an error sent nor an end told
 abbrev pub is_suspended : State → Bool
 is_suspended state = state.paused && not (is_cancel state.eof) && not state.ended
+
+-- the receiver is asked to say at the end what became of the file: in class 1, where the Put asks for it
+abbrev pub asks_closure : Sending → Bool
+asks_closure sending = not (is_two sending.request.class) && sending.request.closure
+
+-- class 1 waits for the Finished PDU that it asked for: the EOF without an error was sent, and the end was not told
+abbrev pub is_waiting : Sending → State → Bool
+is_waiting sending state = asks_closure sending && is_some state.eof && not (is_cancel state.eof) && not state.ended
 
 -- ---- what an answer sends
 

@@ -1,7 +1,7 @@
 -- Words of ASCII are texts.
-use Rattle.std.proofs.Common.{◌≡◌, ℕ, zero, suc, ◌<◌, true, false, ◌&&◌, Bool, nat_lt, List, [], ◌∷◌, Option, Some, None, slice_index, refl, sym, subst, if◌then◌else◌, arith}
+use Rattle.std.proofs.Common.{◌≡◌, ℕ, zero, suc, ◌<◌, true, false, Bool, nat_lt, List, [], ◌∷◌, Some, None, slice_index, refl, sym, subst, if◌then◌else◌, arith}
 use Rattle.std.specs.List.{list_all}
-use Rattle.std.specs.Str.{IsUtf8, IsAscii}
+use Rattle.std.specs.Str.{IsUtf8}
 use Rattle.std.proofs.lemmas.Str.{IsUtf8-from_ascii}
 use Rattle.line_words.specs.Operands.{name_of}
 

@@ -1,5 +1,5 @@
 -- What a line of a server's commands asks for, by a configuration.
-use Rattle.std.specs.Prelude.{ℕ, ◌==◌, ◌||◌, nat_lt, if◌then◌else◌, List, [], ◌∷◌, length, Option, Some, None, codes, position}
+use Rattle.std.specs.Prelude.{ℕ, ◌==◌, ◌||◌, Bool, nat_lt, if◌then◌else◌, List, [], ◌∷◌, length, Option, Some, None, codes, position}
 use Rattle.std.specs.Option.{option_map}
 use Rattle.std.specs.Str.{bytes_eq}
 use Rattle.cfdp_types.specs.declared.limits.TheConstants.{NAME_OCTETS}
@@ -7,7 +7,7 @@ use Rattle.config_reading.specs.Texts.{is_same_text}
 use Rattle.config_reading.specs.Values.{ConfigValue}
 use Rattle.entity_routing.specs.declared.place.Place.{Place}
 use Rattle.line_words.specs.Words.{words_of}
-use Rattle.line_words.specs.Operands.{◌>>=◌, number_of, key_from, name_of, class_of, request_for}
+use Rattle.line_words.specs.Operands.{◌>>=◌, number_of, key_from, name_of, class_of, closure_of, request_for}
 use Rattle.server_lines.specs.declared.command.Command.{Command}
 use Rattle.server_lines.specs.declared.command.Command.TheVariants as command
 
@@ -33,9 +33,9 @@ file_name_of word = do
 
 -- ---- lines
 
--- a Put from a place: CLASS DEST SRC DST
-abbrev pub put_from : Place → List ℕ → List ℕ → List ℕ → List ℕ → Option Command
-put_from place class destination source target = do
+-- a Put from a place: CLASS DEST SRC DST, with closure asked for or not
+abbrev pub put_from : Place → List ℕ → List ℕ → List ℕ → List ℕ → Bool → Option Command
+put_from place class destination source target closure = do
   of_class ← class_of class
   to ← number_of destination
   from_name ← file_name_of source
@@ -44,13 +44,16 @@ put_from place class destination source target = do
     user = place.user;
     lane = place.lane;
     class = of_class;
+    closure = closure;
     destination = record { 0 = to };
     source = from_name;
     target = to_name;
   }))
 
 abbrev pub put_words : Place → List (List ℕ) → Option Command
-put_words place (class ∷ destination ∷ source ∷ target ∷ []) = put_from place class destination source target
+put_words place (class ∷ destination ∷ source ∷ target ∷ operands) = do
+  closure ← closure_of operands
+  put_from place class destination source target closure
 put_words place operands = None
 
 -- put USER LANE and what is to be sent

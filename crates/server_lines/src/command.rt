@@ -17,6 +17,8 @@ pub struct PutCommand {
     pub user: usize,
     pub lane: usize,
     pub class: Class,
+    /// Whether the receiver is asked to say at the end what became of the file: class 1 alone heeds it.
+    pub closure: bool,
     pub destination: EntityId,
     /// Where the file is read, which is its name at the sender, too: 1 to 255 octets of ASCII.
     pub source: Octets,

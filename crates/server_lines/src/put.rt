@@ -9,7 +9,7 @@ use crate::operands::{file_name_of, lane_of, user_of};
 use cfdp_types::{EntityId, Octets};
 use entity_config::Config;
 use entity_routing::Place;
-use line_words::{Rest, class_of, last_word, next_word, number_of};
+use line_words::{Rest, class_of, closure_of, next_word, number_of};
 use std::alloc::{AllocError, Global};
 
 /// A Put, by what stands behind the first word.
@@ -36,7 +36,7 @@ pub(crate) fn put(
     put_words(alloc, Place { user, lane }, operands)
 }
 
-// What is to be sent from a place: class, destination and both names.
+// What is to be sent from a place: class, destination, both names, and whether closure is asked for.
 fn put_words(alloc: Global, place: Place, operands: Rest<'_>) -> Result<Option<Command>, AllocError>
     ensures { IfOk result
         (λ command. command ≡ put_words place (words_left (option_copied operands.entry))) }
@@ -50,10 +50,13 @@ fn put_words(alloc: Global, place: Place, operands: Rest<'_>) -> Result<Option<C
     let Some((source, operands)) = next_word(operands) else {
         return Ok(None);
     };
-    let Some(target) = last_word(operands) else {
+    let Some((target, operands)) = next_word(operands) else {
         return Ok(None);
     };
-    put_from(alloc, place, class, destination, source, target)
+    let Some(closure) = closure_of(operands) else {
+        return Ok(None);
+    };
+    put_from(alloc, place, class, destination, source, target, closure)
 }
 
 fn put_from(
@@ -63,9 +66,10 @@ fn put_from(
     destination: &[u8],
     source: &[u8],
     target: &[u8],
+    closure: bool,
 ) -> Result<Option<Command>, AllocError>
     ensures { IfOk result
-        (λ command. command ≡ put_from place class.now destination.now source.now target.now) }
+        (λ command. command ≡ put_from place class.now destination.now source.now target.now closure) }
 {
     let Some(class) = class_of(class) else {
         return Ok(None);
@@ -83,6 +87,7 @@ fn put_from(
         user: place.user,
         lane: place.lane,
         class,
+        closure,
         destination: EntityId(destination),
         source: Octets::from_slice(alloc, source)?,
         target: Octets::from_slice(alloc, target)?,

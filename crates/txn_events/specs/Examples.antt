@@ -48,6 +48,7 @@ abbrev pub put_value : Class → List ℕ → PutValue
 put_value class file = record {
   destination = record { 0 = 1 };
   class = class;
+  closure = false;
   source_name = 97 ∷ [];
   destination_name = 98 ∷ [];
   messages = [];

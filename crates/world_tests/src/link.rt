@@ -74,11 +74,12 @@ fn names_of(number: u64) -> ([u8; 2], [u8; 3]) {
     ([low, high], [high, b'_', low])
 }
 
-// The Put of a file.
+// The Put of a file: every second one asks for closure.
 fn request_of(alloc: Global, class: Class, number: u64) -> Option<PutRequest> {
     let (from, to) = names_of(number);
     let file = file_of(alloc, number).ok()?;
-    file_for_one(alloc, class, &from[..], &to[..], file.as_slice()).ok()
+    let request = file_for_one(alloc, class, &from[..], &to[..], file.as_slice()).ok()?;
+    Some(request.with_closure(number % 2 == 0))
 }
 
 fn is_file(alloc: Global, image: &Image, number: u64) -> Result<bool, AllocError> {
@@ -358,7 +359,12 @@ impl Link {
             if posted.key == key {
                 is_stored = posted.is_stored;
                 match end {
-                    End::Putting => posted.is_told_sender = true,
+                    End::Putting => {
+                        posted.is_told_sender = true;
+                        if posted.class == Class::One {
+                            count(&mut self.seen.told_closed);
+                        }
+                    }
                     End::Receiving => posted.is_told_receiver = true,
                 }
                 if posted.is_told_sender && posted.is_told_receiver {

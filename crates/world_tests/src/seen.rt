@@ -13,6 +13,8 @@ pub(crate) struct Seen {
     pub(crate) rejected: u64,
     /// Complete deliveries that the sender's users were told of.
     pub(crate) told_sender: u64,
+    /// Those of class 1, where closure was asked for.
+    pub(crate) told_closed: u64,
     /// Complete deliveries that the receiver's users were told of.
     pub(crate) told_receiver: u64,
     /// Files that the users at both ends were told of as complete.

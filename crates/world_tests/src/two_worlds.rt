@@ -61,6 +61,7 @@ fn two_worlds(rt: HostRuntime) -> Result<(), Fail> {
         ("files of class 2", seen.images_two, 12),
         ("files that were not kept", seen.rejected, 2),
         ("told at the sender", seen.told_sender, 10),
+        ("told at the sender in class 1", seen.told_closed, 2),
         ("told at the receiver", seen.told_receiver, 15),
         ("told at both", seen.told_both, 10),
         ("timers of the sender", seen.expired_sender, 6),

@@ -1,0 +1,50 @@
+-- Worked rows: what lines of commands say, by the reference configuration.
+use Rattle.std.proofs.Common.{◌≡◌, true, false, [], ◌∷◌, map, replicate, Some, None, codes, refl}
+use Rattle.cfdp_types.specs.declared.key.TxnKey.{TxnKey}
+use Rattle.cfdp_types.specs.declared.names.Class.TheVariants.{One, Two}
+use Rattle.entity_config.specs.Reference.{reference_config}
+use Rattle.entity_routing.specs.declared.world_event.Request.TheVariants as requests
+use Rattle.server_lines.specs.declared.command.Command.TheVariants as command
+use Rattle.server_lines.specs.Commands.{command_of}
+
+-- the transaction of the rows
+abbrev key : TxnKey
+key = record { source = record { 0 = 2 }; seq = 4 }
+
+puts : map (command_of reference_config) (codes "put alice 0 1 1 a b" ∷ codes "put bob 01 2 007 x y closure" ∷ [])
+    ≡ Some (command.Put (record {
+      user = 0;
+      lane = 0;
+      class = One;
+      closure = false;
+      destination = record { 0 = 1 };
+      source = codes "a";
+      target = codes "b";
+    }))
+    ∷ Some (command.Put (record {
+      user = 1;
+      lane = 1;
+      class = Two;
+      closure = true;
+      destination = record { 0 = 7 };
+      source = codes "x";
+      target = codes "y";
+    }))
+    ∷ []
+puts = refl
+
+bad_puts : map (command_of reference_config) (codes "put alice 0 1 1 a" ∷ codes "put alice 2 1 1 a b" ∷ codes "put carol 0 1 1 a b" ∷ codes "put alice 0 3 1 a b"
+    ∷ codes "put alice 0 1 1  b" ∷ codes "put alice 0 1 1 a b " ∷ codes "put alice 0 1 1 a b Closure" ∷ codes "put alice 0 1 1 a b closure closure"
+    ∷ codes "put alice 0 1 1 a b no closure" ∷ [])
+    ≡ replicate 9 None
+bad_puts = refl
+
+others : map (command_of reference_config) (codes "take bob" ∷ codes "trace 2 4" ∷ codes "quit" ∷ codes "cancel alice 2 4" ∷ codes "report bob 2 4" ∷ [])
+    ≡ Some (command.Take 1) ∷ Some (command.Trace key) ∷ Some command.Quit ∷ Some (command.Ask 0 (requests.Cancel key)) ∷ Some (command.Ask 1 (requests.Report key))
+    ∷ []
+others = refl
+
+bad_others : map (command_of reference_config) ([] ∷ codes "take" ∷ codes "take carol" ∷ codes "trace 2" ∷ codes "quit now" ∷ codes "quit " ∷ codes "cancel alice 2"
+    ∷ codes "stop alice 2 4" ∷ codes " quit" ∷ [])
+    ≡ replicate 9 None
+bad_others = refl
