@@ -5,6 +5,7 @@
 mod cores;
 mod entities;
 mod fault;
+mod loopback;
 mod queues;
 
 use cores::receptions::{Coming, Order};
@@ -13,8 +14,10 @@ use cores::{receptions, sendings, timers};
 use entities::deliveries;
 use entities::deliveries::Size;
 use fault::Fault;
+use loopback::Load;
 use queues::{listed, shared};
 use std::env;
+use std::net::Net;
 use std::sync::Wait;
 use std::thread::Threads;
 
@@ -33,10 +36,13 @@ enum Scenario {
     Shared { lanes: usize },
     /// Threads deliver to an entity, a lane each.
     Deliveries,
+    /// Datagrams go over loopback.
+    Blast,
 }
 
 /// A scenario and its numbers: the size of what a core takes or sends, or of the timers; or for how many bundles a queue has
-/// room, and how many go in through each lane; or how many threads deliver, and how many files each.
+/// room, and how many go in through each lane; or how many threads deliver, and how many files each; or how many datagrams go,
+/// and how many octets each has.
 #[derive(Clone, Copy)]
 struct Wanted {
     scenario: Scenario,
@@ -45,7 +51,7 @@ struct Wanted {
 }
 
 // Some of each kind.
-const EACH: [Wanted; 3] = [
+const EACH: [Wanted; 4] = [
     Wanted {
         scenario: Scenario::Receives(Coming::EofFirst(Order::Mixed)),
         first: 64,
@@ -60,6 +66,11 @@ const EACH: [Wanted; 3] = [
         scenario: Scenario::Deliveries,
         first: 2,
         second: 1,
+    },
+    Wanted {
+        scenario: Scenario::Blast,
+        first: 500,
+        second: 1_400,
     },
 ];
 
@@ -107,12 +118,13 @@ fn scenario_of(name: &str) -> Option<Scenario> {
         "one-producer" => Some(Scenario::Shared { lanes: 1 }),
         "four-producers" => Some(Scenario::Shared { lanes: 4 }),
         "deliveries" => Some(Scenario::Deliveries),
+        "blast" => Some(Scenario::Blast),
         _ => None,
     }
 }
 
 // Runs a scenario, and counts what it gave.
-fn run<R: Threads + Wait + AllocGlobal + Copy + Send + Sync>(
+fn run<R: Threads + Wait + Net + AllocGlobal + Copy + Send + Sync>(
     rt: R,
     wanted: Wanted,
 ) -> Result<u64, Fault> {
@@ -128,6 +140,7 @@ fn run<R: Threads + Wait + AllocGlobal + Copy + Send + Sync>(
         Scenario::Listed => listed::come(rt.alloc(), first as usize, second),
         Scenario::Shared { lanes } => shared::come(rt, rt.alloc(), lanes, first as usize, second),
         Scenario::Deliveries => deliveries::come(rt, rt.alloc(), size(first, second)?),
+        Scenario::Blast => loopback::blast(&rt, rt.alloc(), load(first, second)?),
     }
 }
 
@@ -135,5 +148,12 @@ fn size(threads: u32, files: u32) -> Result<Size, Fault> {
     Ok(Size {
         threads: threads.try_into()?,
         files: files.try_into()?,
+    })
+}
+
+fn load(datagrams: u32, octets: u32) -> Result<Load, Fault> {
+    Ok(Load {
+        datagrams,
+        octets: octets.try_into()?,
     })
 }

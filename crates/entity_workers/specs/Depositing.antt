@@ -1,5 +1,5 @@
 -- What a deposit does.
-use Rattle.std.specs.Prelude.{◌≡◌, ◌⊎◌, ℕ, Bool, Option, Some, None, List, Result, Ok, Err, is_ok}
+use Rattle.std.specs.Prelude.{◌≡◌, ◌+◌, ◌⊎◌, ℕ, Bool, Option, Some, None, List, Result, Ok, Err, is_ok, if◌then◌else◌}
 use Rattle.atomic_table.specs.Seated.{TableId}
 use Rattle.cfdp_types.specs.declared.key.Deposit.{Deposit}
 use Rattle.cfdp_types.specs.declared.image.Image.{Image}
@@ -36,24 +36,34 @@ IsHandedIn queue config deposit kept (Ok done) = MayBeTold queue config deposit 
 IsHandedIn queue config deposit kept (Err rest) =
     (rest.deposit ≡ deposit) × (rest.answer ≡ Some kept) × IsNotTold queue config deposit kept rest.refusal
 
--- the store was asked once, for a file that the entity may give for the deposit, and this says whether it keeps it
-pub record HasStored {S : Type 0} (queue : ℕ → TableId) (config : ConfigValue) (deposits : S → List ℕ → List ℕ → Result (Unit {0}) StoreFault → S → Type 0) (deposit : Deposit) (kept : Bool) (before after : S) : Type 0 where
+-- what a store does when it is asked to keep octets under a name: before, the name, the octets, its answer, and after
+abbrev pub Asking : Type 0 → Type 1
+Asking S = S → List ℕ → List ℕ → Result (Unit {0}) StoreFault → S → Type 0
+
+-- the store was asked once: it did what it says of a deposit, tried one more, and failed at one more where it keeps nothing
+pub record IsAskedOnce {S : Type 0} (tried failed : S → ℕ) (deposits : Asking S) (before : S) (name octets : List ℕ) (answer : Result (Unit {0}) StoreFault) (after : S) : Type 0 where
+  pub tried_once : tried after ≡ tried before + 1
+  pub failed_by_answer : failed after ≡ failed before + (if is_ok answer then 0 else 1)
+  pub deposited : deposits before name octets answer after
+
+-- the store was asked for a file that the entity may give for the deposit, and this says whether it keeps it
+pub record HasStored {S : Type 0} (queue : ℕ → TableId) (config : ConfigValue) (asks : Asking S) (deposit : Deposit) (kept : Bool) (before after : S) : Type 0 where
   pub image : Image
   pub answer : Result (Unit {0}) StoreFault
   pub given : MayGiveImage queue deposit.key deposit.stamp (key_place config deposit.key) (Ok image)
-  pub asked : deposits before image.destination_name image.octets answer after
+  pub asked : asks before image.destination_name image.octets answer after
   pub is : kept ≡ is_ok answer
 
 -- what was done of a deposit of which something is left, by whether the store was asked
-abbrev pub IsBegun : {S : Type 0} → (ℕ → TableId) → ConfigValue → (S → List ℕ → List ℕ → Result (Unit {0}) StoreFault → S → Type 0) → Deposit → S → S → Option Bool → EntityRefusal → Type 0
-IsBegun queue config deposits deposit before after None why =
+abbrev pub IsBegun : {S : Type 0} → (ℕ → TableId) → ConfigValue → Asking S → Deposit → S → S → Option Bool → EntityRefusal → Type 0
+IsBegun queue config asks deposit before after None why =
     (after ≡ before) × MayGiveImage queue deposit.key deposit.stamp (key_place config deposit.key) (Err why)
-IsBegun queue config deposits deposit before after (Some kept) why =
-    HasStored queue config deposits deposit kept before after × IsNotTold queue config deposit kept why
+IsBegun queue config asks deposit before after (Some kept) why =
+    HasStored queue config asks deposit kept before after × IsNotTold queue config deposit kept why
 
--- a deposit was made: the store was asked once and the lane was told what it answered; or the rest says what is left
-abbrev pub IsDeposited : {S : Type 0} → (ℕ → TableId) → ConfigValue → (S → List ℕ → List ℕ → Result (Unit {0}) StoreFault → S → Type 0) → Deposit → S → Result Done DepositRest → S → Type 0
-IsDeposited queue config deposits deposit before (Ok done) after =
-    (kept : Bool) × HasStored queue config deposits deposit kept before after × MayBeTold queue config deposit kept (Ok (Ok done))
-IsDeposited queue config deposits deposit before (Err rest) after =
-    (rest.deposit ≡ deposit) × IsBegun queue config deposits deposit before after rest.answer rest.refusal
+-- a deposit was made: the store was asked and the lane was told what it answered; or the rest says what is left
+abbrev pub IsDeposited : {S : Type 0} → (ℕ → TableId) → ConfigValue → Asking S → Deposit → S → Result Done DepositRest → S → Type 0
+IsDeposited queue config asks deposit before (Ok done) after =
+    (kept : Bool) × HasStored queue config asks deposit kept before after × MayBeTold queue config deposit kept (Ok (Ok done))
+IsDeposited queue config asks deposit before (Err rest) after =
+    (rest.deposit ≡ deposit) × IsBegun queue config asks deposit before after rest.answer rest.refusal

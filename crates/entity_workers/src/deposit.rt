@@ -1,6 +1,6 @@
 //! A received file goes into a store, and its lane is told whether the store keeps it.
 ghost use Rattle.std.specs.Prelude.{◌≡◌, ◌<◌, MatchOption, MatchResult};
-ghost use Rattle.entity_workers.specs.Depositing.{HasStored, IsHandedIn, IsDeposited};
+ghost use Rattle.entity_workers.specs.Depositing.{IsAskedOnce, HasStored, IsHandedIn, IsDeposited};
 ghost use Rattle.entity_routing.specs.Routes.{key_place};
 ghost use Rattle.shared_entity.specs.Answering.{MayGiveImage};
 
@@ -29,7 +29,7 @@ pub fn deposit_one<N: Names, R: Wait + Copy, S: Filestore>(
     deposit: Deposit,
 ) -> Result<Done, DepositRest>
     requires { S.tried store.old < u64.MAX }
-    ensures { IsDeposited N.queue entity.now S.deposits deposit store.old result store.new }
+    ensures { IsDeposited N.queue entity.now (IsAskedOnce S.tried S.failed S.deposits) deposit store.old result store.new }
 {
     match store_image(rt, entity, store, deposit) {
         Ok(answer) => hand_in(rt, entity, deposit, answer),
@@ -50,7 +50,7 @@ pub fn finish<N: Names, R: Wait + Copy, S: Filestore>(
 ) -> Result<Done, DepositRest>
     requires { S.tried store.old < u64.MAX }
     ensures { MatchOption rest.answer
-        (IsDeposited N.queue entity.now S.deposits rest.deposit store.old result store.new)
+        (IsDeposited N.queue entity.now (IsAskedOnce S.tried S.failed S.deposits) rest.deposit store.old result store.new)
         (λ answer. (store.new ≡ store.old) × IsHandedIn N.queue entity.now rest.deposit answer result) }
 {
     match rest.answer {
@@ -68,7 +68,7 @@ fn store_image<N: Names, R: Wait + Copy, S: Filestore>(
 ) -> Result<bool, EntityRefusal>
     requires { S.tried store.old < u64.MAX }
     ensures { MatchResult result
-        (λ answer. HasStored N.queue entity.now S.deposits deposit answer store.old store.new)
+        (λ answer. HasStored N.queue entity.now (IsAskedOnce S.tried S.failed S.deposits) deposit answer store.old store.new)
         (λ why. (store.new ≡ store.old)
         × MayGiveImage N.queue deposit.key deposit.stamp (key_place entity.now deposit.key) (Err why)) }
 {

@@ -1,0 +1,86 @@
+//! Datagrams that go from one socket to another, as fast as two threads send and take them.
+use crate::fault::Fault;
+use std::alloc::{AllocError, Global};
+use std::net::{Net, UdpSocket};
+use std::thread;
+use std::thread::Threads;
+use std::time::Duration;
+
+/// How many datagrams go, and how many octets each has.
+#[derive(Clone, Copy)]
+pub(crate) struct Load {
+    pub(crate) datagrams: u32,
+    pub(crate) octets: u16,
+}
+
+// Each time that so many have come, the taking end says so. At most twice as many are under way, which a receive buffer of the
+// usual size holds: so none is lost.
+const WINDOW: u32 = 32;
+
+// How many milliseconds an end waits for the other before it gives up.
+const PATIENCE_MS: u64 = 1_000;
+
+// Both ends, which send to each other.
+fn two_sockets<R: Net>(rt: &R) -> Result<(UdpSocket, UdpSocket), Fault> {
+    let first = UdpSocket::bind(rt, "127.0.0.1:0")?;
+    let second = UdpSocket::bind(rt, "127.0.0.1:0")?;
+    first.connect(second.local_addr()?)?;
+    second.connect(first.local_addr()?)?;
+    let patience = Some(Duration::from_millis(PATIENCE_MS));
+    first.set_read_timeout(patience)?;
+    second.set_read_timeout(patience)?;
+    Ok((first, second))
+}
+
+// A datagram of so many octets.
+fn datagram(alloc: Global, octets: u16) -> Result<Vec<u8>, AllocError> {
+    let mut datagram = Vec::with_capacity(alloc, octets as usize)?;
+    for _ in 0..octets {
+        datagram.push(0x61)?;
+    }
+    Ok(datagram)
+}
+
+// Sends so many datagrams, unless the other end falls silent.
+fn send_all(socket: &UdpSocket, datagram: &[u8], count: u32) {
+    let mut answer = [0u8];
+    let mut room = 2 * WINDOW;
+    for _ in 0..count {
+        if room == 0 {
+            if socket.recv(&mut answer).is_err() {
+                return;
+            }
+            room = WINDOW;
+        }
+        if socket.send(datagram).is_err() {
+            return;
+        }
+        room -= 1;
+    }
+}
+
+// Takes so many datagrams, unless the other end falls silent; how many came.
+fn take_all(socket: &UdpSocket, buffer: &mut [u8], count: u32) -> u32 {
+    for number in 0..count {
+        if socket.recv(buffer).is_err() {
+            return number;
+        }
+        if number % WINDOW == WINDOW - 1 {
+            let _silent = socket.send(b"a");
+        }
+    }
+    count
+}
+
+/// Sends datagrams over loopback, and tells how many came.
+pub(crate) fn blast<R: Threads + Net>(rt: &R, alloc: Global, load: Load) -> Result<u64, Fault> {
+    let (sending, taking) = two_sockets(rt)?;
+    let sent = datagram(alloc, load.octets)?;
+    let mut buffer = datagram(alloc, load.octets)?;
+    let ((), came) = thread::join(
+        rt,
+        || send_all(&sending, sent.as_slice(), load.datagrams),
+        || take_all(&taking, buffer.as_mut_slice(), load.datagrams),
+    );
+    Ok(u64::from(came))
+}
