@@ -1,4 +1,5 @@
 //! Puts that nobody answers, and those that don't begin.
+use crate::outputs::Outputs;
 use crate::putting::put_one;
 use crate::settings::{PUTTER, with_lines, words};
 use std::fs;
@@ -10,6 +11,11 @@ const SOON: [(&str, &str); 4] = [
     ("check_ms = 1000", "check_ms = 50"),
     ("inactivity_ms = 1000", "inactivity_ms = 50"),
 ];
+
+// What is shown of a file that nobody answers: a line that is written over, and one more below what its user is told meanwhile.
+const SHOWN: &str = "\r0 of 3 octets sent\r3 of 3 octets sent, the end is awaited
+\r3 of 3 octets sent, the end is awaited
+";
 
 // Nobody is at the remote's address.
 #[test]
@@ -23,8 +29,11 @@ fn nobody(rt: HostRuntime) -> Result<(), Fail> {
     )?;
     let mut written = Vec::new(alloc);
     let mut errors = Vec::new(alloc);
-    let status = put_one(rt, line.as_slice(), &mut written, &mut errors);
+    let mut shown = Vec::new(alloc);
+    let outputs = Outputs::new(&mut written, Some(&mut shown));
+    let status = put_one(rt, line.as_slice(), outputs, &mut errors);
     assert_eq!(rt; status, 2);
+    assert_eq!(rt; str::from_utf8(shown.as_slice()), Ok(SHOWN));
     assert_eq!(rt;
         str::from_utf8(written.as_slice()),
         Ok(
@@ -36,7 +45,7 @@ fn nobody(rt: HostRuntime) -> Result<(), Fail> {
 }
 
 // Command lines and files that a put does not begin with, and what is said of each.
-const FAULTS: [(&str, &str); 12] = [
+const FAULTS: [(&str, &str); 15] = [
     ("cfdp_put", "cfdp_put: usage\n"),
     (
         "cfdp_put --config nowhere --bind 127.0.0.1:0 --user alice --remote 2 --class 3 f b",
@@ -79,6 +88,18 @@ const FAULTS: [(&str, &str); 12] = [
         "cfdp_put: usage\n",
     ),
     (
+        "cfdp_put --config nowhere --bind 127.0.0.1:0 --user bob --remote 2 --class 1 --first -1 f b",
+        "cfdp_put: usage\n",
+    ),
+    (
+        "cfdp_put --config nowhere --bind 127.0.0.1:0 --user bob --remote 2 --class 1 --first 9223372036854775808 f b",
+        "cfdp_put: usage\n",
+    ),
+    (
+        "cfdp_put --config faults --bind 127.0.0.1:0 --user bob --remote 2 --class 1 --first 64 f b",
+        "cfdp_put: refused 9 SeqExhausted\n",
+    ),
+    (
         "cfdp_put --config faults --config faults --bind 127.0.0.1:0 --user bob --remote 2 --class 1 f b",
         "cfdp_put: usage\n",
     ),
@@ -100,7 +121,8 @@ fn faults(rt: HostRuntime) -> Result<(), Fail> {
         let line = words(alloc, line)?;
         let mut written = Vec::new(alloc);
         let mut errors = Vec::new(alloc);
-        let status = put_one(rt, line.as_slice(), &mut written, &mut errors);
+        let outputs = Outputs::new(&mut written, None::<Vec<u8>>);
+        let status = put_one(rt, line.as_slice(), outputs, &mut errors);
         assert_eq!(rt; str::from_utf8(errors.as_slice()), Ok(text));
         assert_eq!(rt; status, 1);
         assert!(rt; written.is_empty());
@@ -119,7 +141,8 @@ fn help(rt: HostRuntime) -> Result<(), Fail> {
         let line = words(alloc, line)?;
         let mut written = Vec::new(alloc);
         let mut errors = Vec::new(alloc);
-        let status = put_one(rt, line.as_slice(), &mut written, &mut errors);
+        let outputs = Outputs::new(&mut written, None::<Vec<u8>>);
+        let status = put_one(rt, line.as_slice(), outputs, &mut errors);
         assert_eq!(rt; status, 0);
         assert!(rt; errors.is_empty());
         assert!(rt; str::from_utf8(written.as_slice()).is_ok_and(|told| told.starts_with(text)));

@@ -3,23 +3,37 @@
 
 #[cfg(test)]
 mod alone;
+#[cfg(test)]
+mod both;
 mod ended;
 mod named;
+mod outputs;
 mod putting;
 mod refusing;
 #[cfg(test)]
 mod settings;
 mod threads;
 
+use outputs::Outputs;
 use program_words::line_of;
 use putting::{put_one, tell_words_fault};
 use std::io;
+use std::io::IsTerminal;
 use std::process::ExitCode;
 
-// Puts the file that the words of the command line name.
+// Puts the file that the words of the command line name. How far it is is shown where somebody may look at the standard error.
 fn main(rt: HostRuntime) -> ExitCode {
     let status = match line_of(&rt) {
-        Ok(words) => put_one(rt, words.as_slice(), io::writer(&rt), &mut rt.stderr()),
+        Ok(words) => {
+            let errors = rt.stderr();
+            let progress = if errors.is_terminal() {
+                Some(rt.stderr())
+            } else {
+                None
+            };
+            let outputs = Outputs::new(io::writer(&rt), progress);
+            put_one(rt, words.as_slice(), outputs, &mut rt.stderr())
+        }
         Err(fault) => tell_words_fault(rt.alloc(), &mut rt.stderr(), fault),
     };
     ExitCode::from(status)

@@ -4,6 +4,7 @@ ghost use Rattle.std.specs.List.{sum_by};
 ghost use Rattle.entity_routing.specs.Places.{lanes_of};
 ghost use Rattle.user_queues.specs.Opened.{IsOpenedFor};
 
+use crate::outputs::Outputs;
 use crate::threads::{Wanted, put_over};
 use entity_config::Config;
 use held_lanes::Names;
@@ -19,22 +20,27 @@ use std::time::Clock;
 use user_queues::Queues;
 
 /// Opens an entity with its queues, and puts.
-pub(crate) fn put_named<R: Threads + Wait + Clock + Copy + Drop + Send + Sync, W: Write + Drop>(
+pub(crate) fn put_named<
+    R: Threads + Wait + Clock + Copy + Drop + Send + Sync,
+    W: Write + Drop,
+    P: Write + Drop,
+>(
     rt: &R,
     alloc: Global,
     config: Config,
     socket: &UdpSocket,
     wanted: Wanted,
-    writer: W,
+    outputs: Outputs<W, P>,
 ) -> Result<u8, ProgramFault> {
     let queues = queues_of(*rt, alloc, &config)?;
-    put_opened::<Brand, R, W>(rt, alloc, config, queues, socket, wanted, writer)
+    put_opened::<Brand, R, W, P>(rt, alloc, config, queues, socket, wanted, outputs)
 }
 
 fn put_opened<
     N: Names + Send + Sync,
     R: Threads + Wait + Clock + Copy + Drop + Send + Sync,
     W: Write + Drop,
+    P: Write + Drop,
 >(
     rt: &R,
     alloc: Global,
@@ -42,7 +48,7 @@ fn put_opened<
     queues: Queues<R>,
     socket: &UdpSocket,
     wanted: Wanted,
-    writer: W,
+    outputs: Outputs<W, P>,
 ) -> Result<u8, ProgramFault>
     requires opened { (user : ℕ) (ends : _) → slice_get queues.users.items user ≡ Some ends
         → IsOpenedFor user (lanes_of config user) config.entity.capacity ends.port ends.outlets.items }
@@ -52,5 +58,5 @@ fn put_opened<
     requires users { vec_len queues.users ≡ length config.users }
 {
     let (entity, ports) = Entity::<N, R>::open(alloc, config, queues)?;
-    put_over(rt, alloc, &entity, ports, socket, wanted, writer)
+    put_over(rt, alloc, &entity, ports, socket, wanted, outputs)
 }

@@ -1,9 +1,10 @@
 //! How the program starts.
 use crate::named::put_named;
+use crate::outputs::Outputs;
 use crate::threads::Wanted;
 use cfdp_types::{PutFault, PutRequest};
-use entity_config::Config;
-use program_start::{ProgramFault, load_config, load_file, open_socket, print, tell_fault};
+use entity_config::{Config, Setting};
+use program_start::{ProgramFault, load_config, load_file, open_socket, tell_fault};
 use program_words::{PutWords, WordsFault, put_help, put_version, put_words};
 use std::alloc::Global;
 use std::io::Write;
@@ -14,15 +15,16 @@ use std::thread::Threads;
 use std::time::Clock;
 
 /// Puts one file from its user's first lane by the command line, whose first word is the program's own name, and prints what
-/// the user is told to `writer` until the transaction has ended. The result is the exit status: 0 where the receiver has the
+/// the user is told to the outputs until the transaction has ended. The result is the exit status: 0 where the receiver has the
 /// whole file, 2 after another end, and 1 where the program ended too early, which `errors` then tells.
 pub fn put_one<
     R: Threads + Wait + Net + Clock + Files + AllocGlobal + Copy + Drop + Send + Sync,
     W: Write + Drop,
+    P: Write + Drop,
     E: Write,
->(rt: R, words: &[String], writer: W, errors: &mut E) -> u8 {
+>(rt: R, words: &[String], outputs: Outputs<W, P>, errors: &mut E) -> u8 {
     let alloc: Global = rt.alloc();
-    match start(&rt, alloc, words, writer) {
+    match start(&rt, alloc, words, outputs) {
         Ok(status) => status,
         Err(fault) => {
             tell_fault(alloc, errors, "cfdp_put", &fault);
@@ -48,25 +50,41 @@ fn fault_of(fault: WordsFault) -> ProgramFault {
 fn start<
     R: Threads + Wait + Net + Clock + Files + AllocGlobal + Copy + Drop + Send + Sync,
     W: Write + Drop,
->(rt: &R, alloc: Global, words: &[String], writer: W) -> Result<u8, ProgramFault> {
-    let mut writer = writer;
+    P: Write + Drop,
+>(rt: &R, alloc: Global, words: &[String], outputs: Outputs<W, P>) -> Result<u8, ProgramFault> {
+    let mut outputs = outputs;
     match put_words(alloc, words) {
         Ok(words) => {
-            let config = load_config(rt, alloc, words.config)?;
+            let config = config_by(rt, alloc, &words)?;
             let wanted = wanted_by(rt, alloc, &config, &words)?;
             let socket = open_socket(rt, words.bind)?;
-            put_named(rt, alloc, config, &socket, wanted, writer)
+            put_named(rt, alloc, config, &socket, wanted, outputs)
         }
         Err(WordsFault::Help) => {
-            print(&mut writer, put_help())?;
+            outputs.tell(put_help())?;
             Ok(0)
         }
         Err(WordsFault::Version) => {
-            print(&mut writer, put_version())?;
+            outputs.tell(put_version())?;
             Ok(0)
         }
         Err(fault) => Err(fault_of(fault)),
     }
+}
+
+// The configuration, with the first number that the words give where they give one.
+fn config_by<R: Files>(
+    rt: &R,
+    alloc: Global,
+    words: &PutWords<'_>,
+) -> Result<Config, ProgramFault> {
+    let mut config = load_config(rt, alloc, words.config)?;
+    if let Some(first) = words.first {
+        if config.set(Setting::First(first)).is_err() {
+            return Err(ProgramFault::Usage);
+        }
+    }
+    Ok(config)
 }
 
 // What is put, and by whom: the user is looked for first, and then the file.
@@ -92,7 +110,7 @@ fn wanted_by<R: Files>(
     match put {
         Ok(put) => Ok(Wanted {
             user,
-            put,
+            put: put.with_closure(words.closure),
             octets_a_second: words.rate,
         }),
         Err(PutFault::NoMemory) => Err(ProgramFault::NoMemory),

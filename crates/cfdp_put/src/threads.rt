@@ -1,5 +1,6 @@
 //! The main thread of the program, which works in turns, beside the threads of each program.
 use crate::ended::status_of;
+use crate::outputs::Outputs;
 use crate::refusing::RefusingStore;
 use answer_texts::push_bundle;
 use cfdp_types::{PutRequest, TxnKey};
@@ -7,7 +8,7 @@ use entity_routing::Request;
 use held_lanes::{Names, NoGate};
 use program_desk::{Desk, Step};
 use program_link::PduSender;
-use program_start::{ProgramFault, print};
+use program_start::ProgramFault;
 use program_station::{REST_MS, Station, flat, moment};
 use program_threads::{MainThread, WayIn, run_beside};
 use shared_entity::{Entity, EntityRefusal};
@@ -36,7 +37,7 @@ pub(crate) struct Wanted {
 
 // What the main thread has.
 #[derive(Drop)]
-struct Putter<'a, N: Names, R: Copy, W: Drop> {
+struct Putter<'a, N: Names, R: Copy, W: Drop, P: Drop> {
     rt: &'a R,
     alloc: Global,
     desk: &'a Desk,
@@ -47,7 +48,9 @@ struct Putter<'a, N: Names, R: Copy, W: Drop> {
     user: usize,
     /// What is put, until it is.
     put: Option<PutRequest>,
-    writer: W,
+    /// How many octets its file has.
+    size: u64,
+    outputs: Outputs<W, P>,
 }
 
 /// Puts over an opened entity and its socket until the transaction has ended; the exit status then.
@@ -55,6 +58,7 @@ pub(crate) fn put_over<
     N: Names + Send + Sync,
     R: Threads + Wait + Clock + Copy + Drop + Send + Sync,
     W: Write + Drop,
+    P: Write + Drop,
 >(
     rt: &R,
     alloc: Global,
@@ -62,10 +66,10 @@ pub(crate) fn put_over<
     ports: Vec<UserPort>,
     socket: &UdpSocket,
     wanted: Wanted,
-    writer: W,
+    outputs: Outputs<W, P>,
 ) -> Result<u8, ProgramFault> {
     let desk = Desk::new(alloc, STEPS, 1)?;
-    put_at(rt, alloc, entity, ports, socket, &desk, wanted, writer)
+    put_at(rt, alloc, entity, ports, socket, &desk, wanted, outputs)
 }
 
 // The same at a desk, all of whose room is made; so is that of the threads before the first one starts. The worker wakes the
@@ -75,6 +79,7 @@ fn put_at<
     N: Names + Send + Sync,
     R: Threads + Wait + Clock + Copy + Drop + Send + Sync,
     W: Write + Drop,
+    P: Write + Drop,
 >(
     rt: &'x R,
     alloc: Global,
@@ -83,14 +88,14 @@ fn put_at<
     socket: &'x UdpSocket,
     desk: &'x Desk,
     wanted: Wanted,
-    writer: W,
+    outputs: Outputs<W, P>,
 ) -> Result<u8, ProgramFault> {
-    let putter = putter_over(rt, alloc, entity, ports, socket, desk, wanted, writer)?;
+    let putter = putter_over(rt, alloc, entity, ports, socket, desk, wanted, outputs)?;
     let way_in = WayIn::new(rt, alloc, 1, entity.config(), socket, desk, true)?;
     run_beside(rt, alloc, entity, socket, desk, way_in, putter)
 }
 
-fn putter_over<'x, N: Names, R: Wait + Clock + Copy, W: Drop>(
+fn putter_over<'x, N: Names, R: Wait + Clock + Copy, W: Drop, P: Drop>(
     rt: &'x R,
     alloc: Global,
     entity: &'x Entity<N, R>,
@@ -98,8 +103,8 @@ fn putter_over<'x, N: Names, R: Wait + Clock + Copy, W: Drop>(
     socket: &'x UdpSocket,
     desk: &'x Desk,
     wanted: Wanted,
-    writer: W,
-) -> Result<Putter<'x, N, R, W>, AllocError> {
+    outputs: Outputs<W, P>,
+) -> Result<Putter<'x, N, R, W, P>, AllocError> {
     let sender = PduSender::new(alloc, socket, entity.config())?;
     let steps = Vec::with_capacity(alloc, desk.step_room())?;
     let Wanted {
@@ -107,6 +112,7 @@ fn putter_over<'x, N: Names, R: Wait + Clock + Copy, W: Drop>(
         put,
         octets_a_second,
     } = wanted;
+    let size = put.file().as_slice().len() as u64;
     let store = RefusingStore { refused: 0 };
     Ok(Putter {
         rt,
@@ -117,20 +123,24 @@ fn putter_over<'x, N: Names, R: Wait + Clock + Copy, W: Drop>(
         ports,
         user,
         put: Some(put),
-        writer,
+        size,
+        outputs,
     })
 }
 
-impl<'a, N: Names, R: Wait + Clock + Copy, W: Write + Drop> MainThread for Putter<'a, N, R, W> {
+impl<'a, N: Names, R: Wait + Clock + Copy, W: Write + Drop, P: Write + Drop> MainThread
+    for Putter<'a, N, R, W, P> {
     /// Puts, and works until the transaction has ended.
     fn work(self) -> Result<u8, ProgramFault> {
         let mut putter = self;
-        put_and_work(&mut putter)
+        let ended = put_and_work(&mut putter);
+        putter.outputs.end_line();
+        ended
     }
 }
 
-fn put_and_work<N: Names, R: Wait + Clock + Copy, W: Write + Drop>(
-    putter: &mut Putter<'_, N, R, W>,
+fn put_and_work<N: Names, R: Wait + Clock + Copy, W: Write + Drop, P: Write + Drop>(
+    putter: &mut Putter<'_, N, R, W, P>,
 ) -> Result<u8, ProgramFault> {
     let (rt, desk) = (putter.rt, putter.desk);
     let key = putter.begin()?;
@@ -143,12 +153,15 @@ fn put_and_work<N: Names, R: Wait + Clock + Copy, W: Write + Drop>(
         }
         text.clear();
         let status = putter.take_one(key, &mut text)?;
-        print(&mut putter.writer, text.as_str())?;
+        putter.outputs.tell(text.as_str())?;
         if let Some(status) = status {
             return Ok(status);
         }
         let now = moment(rt);
         let has_worked = putter.station.turn(now);
+        putter
+            .outputs
+            .show(putter.alloc, putter.station.reach(), putter.size);
         if !has_settled && text.is_empty() && !has_worked {
             let until = putter.station.next_moment(now);
             desk.wait(rt, now, until.min(now.saturating_add(LONGEST_SLEEP_MS)));
@@ -157,7 +170,7 @@ fn put_and_work<N: Names, R: Wait + Clock + Copy, W: Write + Drop>(
     Ok(2)
 }
 
-impl<'a, N: Names, R: Wait + Clock + Copy, W: Drop> Putter<'a, N, R, W> {
+impl<'a, N: Names, R: Wait + Clock + Copy, W: Drop, P: Drop> Putter<'a, N, R, W, P> {
     // Asks the entity for the Put.
     fn begin(&mut self) -> Result<TxnKey, ProgramFault> {
         let entity = self.station.entity();

@@ -93,7 +93,7 @@ impl<'a, N: Names, R: Wait + Clock + Files + Copy, S: Filestore + Drop, W: Drop>
         match request {
             Ok(request) if self.station.reserve().is_ok() => self.ask(
                 put.user,
-                Request::Put(put.lane, request),
+                Request::Put(put.lane, request.with_closure(put.closure)),
                 text,
             ),
             Ok(_) | Err(PutFault::NoMemory) => push_no_memory(text),

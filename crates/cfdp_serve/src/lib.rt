@@ -4,6 +4,8 @@
 
 mod answers;
 mod commands;
+#[cfg(test)]
+mod ending;
 mod named;
 mod serving;
 #[cfg(test)]

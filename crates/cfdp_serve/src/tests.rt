@@ -9,7 +9,8 @@ use std::test::*;
 use std::thread::Threads;
 use std::time::Clock;
 
-const CONFIG: &str = "[entity]
+/// The entity of number 2.
+pub(crate) const CONFIG: &str = "[entity]
 id = 2
 id_octets = 1
 seq_octets = 1
@@ -35,6 +36,25 @@ nak_limit = 2
 check_limit = 2
 ";
 
+/// The configuration with another line in place of one.
+pub(crate) fn with_line(alloc: Global, old: &str, new: &str) -> Result<String, AllocError> {
+    let mut text = String::new(alloc);
+    for line in CONFIG.split('\n') {
+        text.push_str(if line == old { new } else { line })?;
+        text.push_str("\n")?;
+    }
+    Ok(text)
+}
+
+/// The words of a command line, with one space between them.
+pub(crate) fn words(alloc: Global, line: &str) -> Result<Vec<String>, AllocError> {
+    let mut words = Vec::new(alloc);
+    for word in line.split(' ') {
+        words.push(String::from_str(alloc, word)?)?;
+    }
+    Ok(words)
+}
+
 // How a server ended, and what it printed.
 #[derive(Drop)]
 struct Ended {
@@ -50,10 +70,7 @@ fn run<R: Threads + Wait + Net + Clock + Files + AllocGlobal + Copy + Drop + Sen
     commands: &[u8],
 ) -> Result<Ended, AllocError> {
     let alloc: Global = rt.alloc();
-    let mut words = Vec::new(alloc);
-    for word in line.split(' ') {
-        words.push(String::from_str(alloc, word)?)?;
-    }
+    let words = words(alloc, line)?;
     let mut written = Vec::new(alloc);
     let mut errors = Vec::new(alloc);
     let status = serve(rt, words.as_slice(), commands, &mut written, &mut errors);
@@ -67,7 +84,7 @@ fn run<R: Threads + Wait + Net + Clock + Files + AllocGlobal + Copy + Drop + Sen
 const START: &str = "cfdp_server --config commands --bind 127.0.0.1:0 --folder .";
 
 // Lines of commands, and what is answered.
-const COMMANDS: [(&str, &str); 10] = [
+const COMMANDS: [(&str, &str); 12] = [
     (
         "report alice 1 5\ntake alice\ntrace 1 5\nbogus\nquit\n",
         "refused 1 NoTransaction\nnone\nrefused 1 NoTransaction\nbad command\n",
@@ -93,6 +110,12 @@ const COMMANDS: [(&str, &str); 10] = [
         "ok\ntxn 2 4\nalice 2 4 Transaction\nrefused 1 NoTransaction\nrefused 2 OldTransaction\nrefused 24 NotYours\n",
     ),
     ("quit\ntake alice\n", ""),
+    // files are under way, and nobody answers them
+    ("put alice 0 2 1 s b\nquit\ntake alice\n", "ok\ntxn 2 4\n"),
+    (
+        "put alice 0 2 1 s b\nput bob 1 1 1 s b",
+        "ok\ntxn 2 4\nok\ntxn 2 7\n",
+    ),
 ];
 
 #[test]
@@ -135,10 +158,14 @@ fn odd_lines(rt: HostRuntime) -> Result<(), Fail> {
 }
 
 // Command lines and files that the server does not start with, and what is said of each.
-const FAULTS: [(&str, &str); 11] = [
+const FAULTS: [(&str, &str); 12] = [
     ("cfdp_server", "cfdp_server: usage\n"),
     (
         "cfdp_server --config nowhere --folder .",
+        "cfdp_server: usage\n",
+    ),
+    (
+        "cfdp_server --config nowhere --bind 127.0.0.1:0 --folder=",
         "cfdp_server: usage\n",
     ),
     (
@@ -184,15 +211,7 @@ fn faults(rt: HostRuntime) -> Result<(), Fail> {
     let alloc = rt.alloc();
     fs::write(&rt, "good", CONFIG)?;
     fs::write(&rt, "no-text", b"\xff\xfe".as_slice())?;
-    let mut bad = String::new(alloc);
-    for line in CONFIG.split('\n') {
-        bad.push_str(if line == "first = 1" {
-            "first = -1"
-        } else {
-            line
-        })?;
-        bad.push_str("\n")?;
-    }
+    let bad = with_line(alloc, "first = 1", "first = -1")?;
     fs::write(&rt, "bad", bad.as_str())?;
     for (line, text) in FAULTS {
         let ended = run(rt, line, b"take alice\n".as_slice())?;

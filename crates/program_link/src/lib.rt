@@ -1,8 +1,11 @@
-//! How PDUs leave a program: each to the address that the configuration has for the entity at its other end.
+//! How PDUs leave a program: each to the address that the configuration has for the entity at its other end; and how far into
+//! its file the data in them reaches.
 #![tactic(auto)]
 
 mod peers;
+mod reach;
 mod sender;
 
 pub use peers::{address_of, peer_of};
+pub use reach::reach_of;
 pub use sender::{PduSender, wake_reader};

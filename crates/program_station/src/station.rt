@@ -7,7 +7,7 @@ use held_lanes::{Names, NoGate};
 use lane_table::Done;
 use program_agenda::{Agenda, Fate, Pace, fate_of_pump, fate_of_retry};
 use program_desk::{Desk, Step};
-use program_link::PduSender;
+use program_link::{PduSender, reach_of};
 use shared_entity::{Entity, EntityRefusal};
 use std::alloc::{AllocError, Global};
 use std::sync::Wait;
@@ -44,7 +44,7 @@ pub struct Station<'a, N: Names, R: Copy, S: Drop> {
     store: S,
     agenda: Agenda<Waiting>,
     pace: Pace,
-    octets_sent: u64,
+    reach: u64,
     unsettled: Option<Unsettled>,
     kept_timer: Option<Armed>,
     kept_deposit: Option<Waiting>,
@@ -67,7 +67,7 @@ impl<'a, N: Names, R: Wait + Copy + Clock, S: Filestore + Drop> Station<'a, N, R
             store,
             agenda: Agenda::new(alloc),
             pace: Pace::new(octets_a_second),
-            octets_sent: 0,
+            reach: 0,
             unsettled: None,
             kept_timer: None,
             kept_deposit: None,
@@ -79,9 +79,9 @@ impl<'a, N: Names, R: Wait + Copy + Clock, S: Filestore + Drop> Station<'a, N, R
         self.entity
     }
 
-    /// How many octets left for its files, in all.
-    pub fn octets_sent(&self) -> u64 {
-        self.octets_sent
+    /// How far into a file the data reaches that left: the greatest end of a part, of all its files.
+    pub fn reach(&self) -> u64 {
+        self.reach
     }
 
     /// Makes room for one file more that is under way.
@@ -243,7 +243,7 @@ impl<'a, N: Names, R: Wait + Copy + Clock, S: Filestore + Drop> Station<'a, N, R
         match flat(self.entity.pump(self.rt, &NoGate, key)) {
             Ok(done) => {
                 let octets = self.sender.send_done(&done) as u64;
-                self.octets_sent = self.octets_sent.saturating_add(octets);
+                self.reach = self.reach.max(reach_of(&done));
                 self.pace = self.pace.spend(octets, now);
                 self.settle(Step::of(done, now));
                 true

@@ -23,6 +23,11 @@ pub(crate) fn optional<'a>(alloc: Global, name: &'static str) -> Arg<'a> {
     Arg::new(alloc, name).long(name).action(ArgAction::Set)
 }
 
+/// A word that is there or not.
+pub(crate) fn flag<'a>(alloc: Global, name: &'static str) -> Arg<'a> {
+    Arg::new(alloc, name).long(name).action(ArgAction::SetTrue)
+}
+
 /// Why a command line is not taken.
 pub(crate) fn fault_of(error: &Error) -> WordsFault {
     match error.kind() {

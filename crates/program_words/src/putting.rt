@@ -2,7 +2,9 @@ ghost use Rattle.std.specs.Prelude.{◌≡◌, IfSome, Some, codes};
 ghost use Rattle.clap.specs.Words.{first_value, found_of};
 
 use crate::fault::WordsFault;
-use crate::options::{fault_of, is_address, is_name, number_within, optional, rate_of, required};
+use crate::options::{
+    fault_of, flag, is_address, is_name, number_within, optional, rate_of, required,
+};
 use cfdp_types::limits::CONFIGURED_NUMBER;
 use cfdp_types::{Class, EntityId};
 use clap::{Arg, ArgAction, ArgMatches, Command};
@@ -26,18 +28,24 @@ pub struct PutWords<'a> {
     pub target: &'a str,
     /// How many octets of the file's PDUs may leave in a second, where that is limited.
     pub rate: Option<u64>,
+    /// Whether the receiver is asked to say at the end what became of the file: class 1 alone heeds it.
+    pub closure: bool,
+    /// The number of the entity's first transaction, where it is another than the configuration's: at most 2^63 - 1.
+    pub first: Option<u64>,
 }
 
 const HELP: &str = "Sends one file by CFDP over UDP, and prints what its user is told.
 
-Usage: cfdp_put --config FILE --bind ADDR --user NAME --remote ID --class N [--rate N] SRC DST
+Usage: cfdp_put --config FILE --bind ADDR --user NAME --remote ID --class N [--closure] [--rate N] [--first N] SRC DST
 
   --config FILE   the configuration of the entity, in TOML
   --bind ADDR     where it listens: A.B.C.D:PORT, all in decimal
   --user NAME     the user who puts, as the configuration names it
   --remote ID     the entity that receives, as the configuration numbers it
   --class N       1 (unacknowledged) or 2 (acknowledged)
+  --closure       in class 1, too, the receiver is to say at the end what became of the file
   --rate N        octets a second that leave for the file, 1 to 1000000000 (no limit where it is left out)
+  --first N       where the numbers of transactions begin, in place of the configuration's `first`
   SRC             the file to be sent
   DST             its name at the receiver
   --help          prints this, and ends
@@ -70,6 +78,8 @@ fn command<'a>(alloc: Global) -> Result<Command<'a>, AllocError> {
         .arg(required(alloc, "remote"))?
         .arg(required(alloc, "class"))?
         .arg(optional(alloc, "rate"))?
+        .arg(flag(alloc, "closure"))?
+        .arg(optional(alloc, "first"))?
         .arg(word(alloc, "source"))?
         .arg(word(alloc, "target"))
 }
@@ -78,6 +88,14 @@ fn class_of(word: &str) -> Option<Class> {
     match number_within(word, 1, 2)? {
         1 => Some(Class::One),
         _ => Some(Class::Two),
+    }
+}
+
+// The number of the first transaction that a word gives, if there is one: nothing where the word is none.
+fn first_of(word: Option<&str>) -> Option<Option<u64>> {
+    match word {
+        None => Some(None),
+        Some(word) => Some(Some(number_within(word, 0, CONFIGURED_NUMBER)?)),
     }
 }
 
@@ -100,6 +118,8 @@ fn words_in<'a>(matches: &ArgMatches<'a>) -> Option<PutWords<'a>>
     let source = matches.get_str("source")?;
     let target = matches.get_str("target")?;
     let rate = rate_of(matches.get_str("rate"))?;
+    let closure = matches.get_flag("closure");
+    let first = first_of(matches.get_str("first"))?;
     if !is_address(bind) || !is_name(source) || !is_name(target) {
         return None;
     }
@@ -112,6 +132,8 @@ fn words_in<'a>(matches: &ArgMatches<'a>) -> Option<PutWords<'a>>
         source,
         target,
         rate,
+        closure,
+        first,
     })
 }
 

@@ -2,8 +2,8 @@ ghost use Rattle.std.specs.Prelude.{◌≡◌, IfSome, Some, codes};
 ghost use Rattle.clap.specs.Words.{first_value, found_of};
 
 use crate::fault::WordsFault;
-use crate::options::{fault_of, is_address, number_within, optional, rate_of, required};
-use clap::{Arg, ArgAction, ArgMatches, Command};
+use crate::options::{fault_of, flag, is_address, number_within, optional, rate_of, required};
+use clap::{ArgMatches, Command};
 use std::alloc::{AllocError, Global};
 
 /// What the server is started with.
@@ -37,7 +37,7 @@ Usage: cfdp_server --config FILE --bind ADDR --folder DIR [--workers N] [--rate 
   --version       prints the version, and ends
 
 Commands come on the standard input, one a line:
-  put USER LANE CLASS DEST SRC DST
+  put USER LANE CLASS DEST SRC DST [closure]
   cancel|suspend|resume|report|abandon USER SOURCE SEQ
   take USER
   trace SOURCE SEQ
@@ -62,11 +62,7 @@ fn command<'a>(alloc: Global) -> Result<Command<'a>, AllocError> {
         .arg(required(alloc, "folder"))?
         .arg(optional(alloc, "workers"))?
         .arg(optional(alloc, "rate"))?
-        .arg(
-            Arg::new(alloc, "follow")
-                .long("follow")
-                .action(ArgAction::SetTrue),
-        )
+        .arg(flag(alloc, "follow"))
 }
 
 // How many workers a word asks for: 4 where there is none.

@@ -1,0 +1,96 @@
+//! What the program prints while it works: what its user is told, and how far the file is.
+ghost use Rattle.std.specs.Prelude.{◌≡◌, ◌++◌, OnOk};
+ghost use Rattle.std.specs.String.{string_bytes};
+ghost use Rattle.cfdp_put.specs.Progress.{awaited_text, percent_of, progress_text};
+
+use program_start::{ProgramFault, print};
+use std::alloc::{AllocError, Global};
+use std::io::Write;
+
+/// Where a run prints what its user is told, and, where that is wanted, a line of how far the file is. That line is written over
+/// until something else is to be printed.
+#[derive(Drop)]
+pub(crate) struct Outputs<W: Drop, P: Drop> {
+    writer: W,
+    progress: Option<P>,
+    /// The whole percent that the line of progress shows, while it stands.
+    shown: Option<u64>,
+}
+
+impl<W: Write + Drop, P: Write + Drop> Outputs<W, P> {
+    /// Nothing was printed yet.
+    pub(crate) fn new(writer: W, progress: Option<P>) -> Outputs<W, P> {
+        Outputs {
+            writer,
+            progress,
+            shown: None,
+        }
+    }
+
+    /// Prints what the user is told, below the line of progress.
+    pub(crate) fn tell(&mut self, text: &str) -> Result<(), ProgramFault> {
+        if !text.is_empty() {
+            self.end_line();
+        }
+        print(&mut self.writer, text)
+    }
+
+    /// Shows how far a file of so many octets was sent, where no line shows that percent of it. Where the line can't be
+    /// printed, no other is.
+    pub(crate) fn show(&mut self, alloc: Global, reach: u64, size: u64) {
+        let Some(progress) = &mut self.progress else {
+            return;
+        };
+        let percent = percent_of(reach, size);
+        if self.shown == Some(percent) {
+            return;
+        }
+        let mut text = String::new(alloc);
+        let is_made = push_progress(&mut text, reach, size).is_ok()
+            && push_awaited(&mut text, reach, size).is_ok();
+        if is_made && print(progress, text.as_str()).is_ok() {
+            self.shown = Some(percent);
+        } else {
+            self.progress = None;
+        }
+    }
+
+    /// Ends the line of progress, if one stands.
+    pub(crate) fn end_line(&mut self) {
+        if self.shown.take().is_none() {
+            return;
+        }
+        if let Some(progress) = &mut self.progress {
+            let _lost = print(progress, "\n");
+        }
+    }
+}
+
+// The whole percents of a file that were sent.
+fn percent_of(reach: u64, size: u64) -> u64
+    ensures { result ≡ percent_of reach size }
+{
+    if size == 0 {
+        100
+    } else {
+        reach.saturating_mul(100) / size
+    }
+}
+
+// Adds the line of how far a file is.
+fn push_progress(text: &mut String, reach: u64, size: u64) -> Result<(), AllocError>
+    ensures { OnOk result (string_bytes text.new ≡ string_bytes text.old ++ progress_text reach size) }
+{
+    write!(text, "\r{reach} of {size} octets sent")
+}
+
+// Adds what is awaited, once all of a file was sent.
+fn push_awaited(text: &mut String, reach: u64, size: u64) -> Result<(), AllocError>
+    ensures { OnOk result (string_bytes text.new ≡ string_bytes text.old ++ awaited_text reach size) }
+{
+    if reach < size {
+        Ok(())
+    } else {
+        text.push_str(", the end is awaited")
+    }
+}

@@ -1,0 +1,9 @@
+//! Parts of the programs, as their callers see them: command lines, the agenda, the desk.
+#![tactic(auto)]
+
+#[cfg(test)]
+mod agenda;
+#[cfg(test)]
+mod desk;
+#[cfg(test)]
+mod words;

@@ -1,0 +1,114 @@
+use cfdp_types::{Class, EntityId};
+use program_words::{PutWords, ServerWords, put_words, server_words};
+use std::alloc::{AllocError, Global};
+use std::test::*;
+
+// The words of a command line, with one space between them.
+fn split(alloc: Global, line: &str) -> Result<Vec<String>, AllocError> {
+    let mut words = Vec::new(alloc);
+    for word in line.split(' ') {
+        words.push(String::from_str(alloc, word)?)?;
+    }
+    Ok(words)
+}
+
+// A command line of the put, and what it says: remote, class, rate, first number, closure.
+#[derive(Clone, Copy)]
+struct PutRow {
+    line: &'static str,
+    remote: u64,
+    class: Class,
+    rate: Option<u64>,
+    first: Option<u64>,
+    closure: bool,
+}
+
+const PUTS: [PutRow; 3] = [
+    PutRow {
+        line: "p --config c --bind 1.2.3.4:5 --user u --remote 7 --class 1 s t",
+        remote: 7,
+        class: Class::One,
+        rate: None,
+        first: None,
+        closure: false,
+    },
+    PutRow {
+        line: "p --config=c --bind=1.2.3.4:5 --user=u --remote=0 --class=2 --closure --rate=1000000000 --first=0 s t",
+        remote: 0,
+        class: Class::Two,
+        rate: Some(1_000_000_000),
+        first: Some(0),
+        closure: true,
+    },
+    PutRow {
+        line: "p --first 9223372036854775807 --rate 01 s --class 02 --remote 9223372036854775807 t --user u --bind 1.2.3.4:5 --config c",
+        remote: 9_223_372_036_854_775_807,
+        class: Class::Two,
+        rate: Some(1),
+        first: Some(9_223_372_036_854_775_807),
+        closure: false,
+    },
+];
+
+fn is_put(words: &PutWords<'_>, row: &PutRow) -> bool {
+    words.config == "c"
+        && words.bind == "1.2.3.4:5"
+        && words.user == "u"
+        && words.source == "s"
+        && words.target == "t"
+        && words.remote == EntityId(row.remote)
+        && words.class == row.class
+        && words.rate == row.rate
+        && words.first == row.first
+        && words.closure == row.closure
+}
+
+#[test]
+fn puts(rt: HostRuntime) -> Result<(), Fail> {
+    let alloc = rt.alloc();
+    for row in PUTS {
+        let line = split(alloc, row.line)?;
+        assert!(rt; put_words(alloc, line.as_slice()).is_ok_and(|words| is_put(&words, &row)));
+    }
+    Ok(())
+}
+
+// A command line of the server, and what it says: workers, rate, and whether users are followed.
+const SERVERS: [(&str, u64, Option<u64>, bool); 3] = [
+    ("s --config c --bind 1.2.3.4:5 --folder f", 4, None, false),
+    (
+        "s --follow --config=c --bind=1.2.3.4:5 --folder=f --workers=16 --rate=1",
+        16,
+        Some(1),
+        true,
+    ),
+    (
+        "s --workers 1 --rate 1000000000 --folder f --bind 1.2.3.4:5 --config c",
+        1,
+        Some(1_000_000_000),
+        false,
+    ),
+];
+
+fn is_server(words: &ServerWords<'_>, workers: u64, rate: Option<u64>, follow: bool) -> bool {
+    words.config == "c"
+        && words.bind == "1.2.3.4:5"
+        && words.folder == "f"
+        && words.workers == workers
+        && words.rate == rate
+        && words.follow == follow
+}
+
+#[test]
+fn servers(rt: HostRuntime) -> Result<(), Fail> {
+    let alloc = rt.alloc();
+    for (line, workers, rate, follow) in SERVERS {
+        let line = split(alloc, line)?;
+        assert!(rt;
+            server_words(alloc, line.as_slice()).is_ok_and(|words| is_server(
+                &words, workers, rate, follow
+            ))
+        );
+    }
+    Ok(())
+}
