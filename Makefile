@@ -1,6 +1,6 @@
 SHELL := /bin/bash
 .SHELLFLAGS := -o pipefail -c
-.PHONY: demo build programs transfer install test bench
+.PHONY: demo build programs transfer install test bench soak
 
 program := crates/cfdp_replay/out/cfdp_replay
 server := crates/cfdp_server/out/cfdp_server
@@ -43,17 +43,24 @@ install: programs
 
 # the gate: every proof from nothing, the must-fail edits, the tests and the programs, and how runs of the program end
 test:
-	@examples/same.sh
+	@tests/same.sh
 	rt ci
-	@examples/endings.sh $(program)
+	@tests/endings.sh $(program)
 	@examples/transfer.sh $(server) $(put) 2 4194304 7 11
 	@examples/transfer.sh $(server) $(put) 1 1048576 0 0
-	@examples/manual.sh $(server) $(put)
+	@examples/transfer.sh $(server) $(put) 1 4096 0 0 --closure
+	@tests/server.py $(server)
+	@tests/manual.sh $(server) $(put)
 
 # how fast and how large a run is; no part of the gate
-bench: build
+bench: build programs
 	@cd crates/benches && rt run -- eof-last 64 > /dev/null
 	python3 bench/bench.py $(program)
 	python3 bench/cores.py crates/benches/out/benches
 	python3 bench/queues.py crates/benches/out/benches
 	python3 bench/entity.py crates/benches/out/benches
+	python3 bench/programs.py $(server) $(put) crates/benches/out/benches
+
+# ten minutes of files over a bad link, with an eye on memory; no part of the gate
+soak: programs
+	@tests/soak.py $(server)

@@ -1,11 +1,12 @@
 #!/usr/bin/env bash
 # Moves a file between two processes over loopback, and compares what came with what was sent.
-# usage: examples/transfer.sh SERVER PUT CLASS OCTETS LOSE_EACH DOUBLE_EACH
+# usage: examples/transfer.sh SERVER PUT CLASS OCTETS LOSE_EACH DOUBLE_EACH [--closure]
 # Between them stands a relay that loses and doubles datagrams by a fixed pattern (0: none). All of it ends by itself.
 set -euo pipefail
 here=$(dirname "$(realpath "$0")")/transfer
 server=$(realpath "$1") put=$(realpath "$2")
 class=$3 octets=$4 lose=$5 double=$6
+closure=("${@:7}")
 cd "$(mktemp -d)"
 started=()
 leave() {
@@ -60,7 +61,7 @@ done
 
 status=0
 timeout 240 "$put" --config spacecraft.toml --bind "127.0.0.1:$at_put" --user alice --remote 2 --class "$class" \
-    --rate 4000000 image image.received > printed 2> told || status=$?
+    --rate 4000000 "${closure[@]}" image image.received > printed 2> told || status=$?
 
 # what the server tells last of the file, and then the file itself
 for _ in $(seq 300); do
@@ -72,10 +73,10 @@ exec 3>&-
 wait "$serving" || tells "the server ended with status $?: $(cat faults)"
 exec 4>&-
 wait "$relay" || true
-echo "class $class, $octets octets: $(tail -n 1 relayed)"
+echo "class $class ${closure[*]}, $octets octets: $(tail -n 1 relayed)"
 echo "the put ended with status $status: $(tail -n 1 printed)"
 echo "the server told: $(grep 'Transaction-Finished' served || echo nothing of an end)"
 cmp image received/image.received || tells "the file that came is another"
-# a sender in class 1 never hears how its file came
-[ "$status" = "$([ "$class" = 2 ] && echo 0 || echo 2)" ] || tells "the put's status is $status"
+# a sender in class 1 hears how its file came only where it asks for closure
+[ "$status" = "$([ "$class${closure[*]}" = 1 ] && echo 2 || echo 0)" ] || tells "the put's status is $status"
 echo "the file came whole"

@@ -1,22 +1,21 @@
 #!/usr/bin/env python3
 """Stands between two programs on loopback, and loses and doubles datagrams by a fixed pattern.
 
-usage: relay.py HERE_A PORT_A HERE_B PORT_B LOSE_EACH DOUBLE_EACH
+usage: relay.py HERE_A PORT_A HERE_B PORT_B LOSE_EACH DOUBLE_EACH [SECONDS]
 
 What comes to port HERE_A goes to PORT_A, and what comes to HERE_B to PORT_B; of all datagrams each LOSE_EACH-th is
-lost and each DOUBLE_EACH-th is sent twice (0: none). It ends when its standard input does, or after five minutes, and then
-prints how many came, were lost and were doubled.
+lost and each DOUBLE_EACH-th is sent twice (0: none). It ends when its standard input does, or after so many seconds (300 where
+none are given), and then prints how many came, were lost and were doubled.
 """
 import select
 import socket
 import sys
 import time
 
-LIFETIME = 300.0
-
 
 def main():
     here_a, port_a, here_b, port_b, lose, double = map(int, sys.argv[1:7])
+    seconds = float(sys.argv[7]) if len(sys.argv) > 7 else 300.0
     ways = {}
     for here, port in ((here_a, port_a), (here_b, port_b)):
         way = socket.socket(socket.AF_INET, socket.SOCK_DGRAM)
@@ -25,7 +24,7 @@ def main():
         ways[way] = ("127.0.0.1", port)
     print("ready", flush=True)
     came = lost = doubled = 0
-    end = time.monotonic() + LIFETIME
+    end = time.monotonic() + seconds
     while time.monotonic() < end:
         ready, _, _ = select.select([*ways, sys.stdin], [], [], 1.0)
         if sys.stdin in ready:

@@ -1,6 +1,6 @@
 #!/usr/bin/env bash
 # How runs of the program end: what it says of that on either stream, and its exit status.
-# usage: examples/endings.sh PROGRAM
+# usage: tests/endings.sh PROGRAM
 set -euo pipefail
 program=$(realpath "$1")
 cd "$(mktemp -d)"

@@ -1,6 +1,6 @@
 #!/usr/bin/env bash
 # The pages of the manual have the options that the programs' help has, and no others.
-# usage: examples/manual.sh PROGRAM..
+# usage: tests/manual.sh PROGRAM..
 set -euo pipefail
 manual=$(dirname "$(realpath "$0")")/../docs/man
 for program in "$@"; do
