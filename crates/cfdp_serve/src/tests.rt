@@ -36,10 +36,15 @@ nak_limit = 2
 check_limit = 2
 ";
 
-/// The configuration with another line in place of one.
-pub(crate) fn with_line(alloc: Global, old: &str, new: &str) -> Result<String, AllocError> {
+/// A configuration with another line in place of one.
+pub(crate) fn with_line(
+    alloc: Global,
+    config: &str,
+    old: &str,
+    new: &str,
+) -> Result<String, AllocError> {
     let mut text = String::new(alloc);
-    for line in CONFIG.split('\n') {
+    for line in config.split('\n') {
         text.push_str(if line == old { new } else { line })?;
         text.push_str("\n")?;
     }
@@ -211,7 +216,7 @@ fn faults(rt: HostRuntime) -> Result<(), Fail> {
     let alloc = rt.alloc();
     fs::write(&rt, "good", CONFIG)?;
     fs::write(&rt, "no-text", b"\xff\xfe".as_slice())?;
-    let bad = with_line(alloc, "first = 1", "first = -1")?;
+    let bad = with_line(alloc, CONFIG, "first = 1", "first = -1")?;
     fs::write(&rt, "bad", bad.as_str())?;
     for (line, text) in FAULTS {
         let ended = run(rt, line, b"take alice\n".as_slice())?;
