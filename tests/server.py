@@ -143,8 +143,11 @@ def server(**named):
     finally:
         if one.run.poll() is None:
             one.run.kill()
-        one.run.communicate()
-        one.socket.close()
+        one.run.wait()
+        for stream in (one.run.stdin, one.run.stdout, one.run.stderr, one.socket):
+            if stream:
+                with contextlib.suppress(OSError):
+                    stream.close()
 
 
 @case
@@ -185,11 +188,11 @@ def a_remote_that_nobody_answers_at():
     pathlib.Path("a").write_bytes(bytes(10_000))
     with server() as one:
         want(one.ask("put alice 0 2 1 a b"), "ok")
-        want(one.line(), "txn 2 4")
-        want(one.takes("alice 2 4 Transaction-Finished "), "alice 2 4 Transaction-Finished 1 incomplete unreported")
+        want(one.line(), "txn 2 2")
+        want(one.takes("alice 2 2 Transaction-Finished "), "alice 2 2 Transaction-Finished 1 incomplete unreported")
         want(one.ask("put alice 0 1 1 a b closure"), "ok")
-        want(one.line(), "txn 2 6")
-        want(one.takes("alice 2 6 Transaction-Finished "), "alice 2 6 Transaction-Finished 10 incomplete unreported")
+        want(one.line(), "txn 2 4")
+        want(one.takes("alice 2 4 Transaction-Finished "), "alice 2 4 Transaction-Finished 10 incomplete unreported")
         one.quits()
 
 
@@ -250,9 +253,9 @@ def rejects():
 def commands_that_end_within_a_line():
     with server() as one:
         one.say(b"take alice\ntrace 1 9")
+        one.run.stdin.close()
         want(one.line(), "none")
         want(one.line(), "refused 1 NoTransaction")
-        one.run.stdin.close()
         want(one.ended(), (0, ""))
 
 
