@@ -1,10 +1,11 @@
 SHELL := /bin/bash
 .SHELLFLAGS := -o pipefail -c
-.PHONY: demo build programs transfer install test bench soak
+.PHONY: demo build programs transfer install memory test bench soak
 
 program := crates/cfdp_replay/out/cfdp_replay
 server := crates/cfdp_server/out/cfdp_server
 put := crates/cfdp_put/out/cfdp_put
+hostile := crates/hostile_runs/out/hostile_runs
 PREFIX ?= /usr/local
 
 # a first look: a file is received whose parts were lost and asked for again; nothing is proved
@@ -41,11 +42,19 @@ install: programs
 	install -m 755 $(server) $(put) $(DESTDIR)$(PREFIX)/bin
 	install -m 644 docs/man/cfdp_server.1 docs/man/cfdp_put.1 $(DESTDIR)$(PREFIX)/share/man/man1
 
+# each allocation refused in turn, and changed datagrams: the program for both is proved and built
+memory:
+	@cd crates/hostile_runs && rt run -- mutate 20000 < /dev/null
+	@tests/memory.py $(hostile)
+
 # the gate: every proof from nothing, the must-fail edits, the tests and the programs, and how runs of the program end
 test:
 	@tests/same.sh
+	@tests/trusted.py --check
 	rt ci
 	@tests/endings.sh $(program)
+	@tests/memory.py $(hostile)
+	@tests/terminal.py $(program)
 	@examples/transfer.sh $(server) $(put) 2 4194304 7 11
 	@examples/transfer.sh $(server) $(put) 1 1048576 0 0
 	@examples/transfer.sh $(server) $(put) 1 4096 0 0 --closure
@@ -56,6 +65,7 @@ test:
 bench: build programs
 	@cd crates/benches && rt run -- eof-last 64 > /dev/null
 	python3 bench/bench.py $(program)
+	python3 bench/instructions.py $(program) crates/benches/out/benches
 	python3 bench/cores.py crates/benches/out/benches
 	python3 bench/queues.py crates/benches/out/benches
 	python3 bench/entity.py crates/benches/out/benches

@@ -29,7 +29,7 @@ PART = 1_400
 HEAD = 11
 
 # How many workers a server has under load, how often that is measured, for how many seconds at most, and how many events a
-# transaction may take meanwhile: it can take 65,536.
+# transaction may take meanwhile: it can take 262,144.
 WORKERS = [1, 2, 4]
 LOADS = 3
 SECONDS = 1.5

@@ -1,5 +1,6 @@
 #!/usr/bin/env bash
-# The examples have to be the texts that tests read: the configuration and each script.
+# The examples have to be the texts that tests read: the configuration and each script. And the refusals and the faults of
+# decoding in docs/profile.md have to be those of the definitions, with their numbers.
 set -euo pipefail
 cd "$(dirname "$0")/.."
 
@@ -11,9 +12,41 @@ compare() {
         || { echo "$1 is not the text that a test in $2 reads"; exit 1; }
 }
 
-compare examples/entity.toml crates/call_tests/src/configs/texts.rt EXAMPLE
+compare examples/entity.toml crates/cfdp_tests/src/configs/texts.rt EXAMPLE
 for script in examples/*.script; do
     name=$(basename "$script" .script)
     name=${name//-/_}
-    compare "$script" crates/replay_tests/src/examples.rt "${name^^}"
+    compare "$script" crates/script_tests/src/examples.rt "${name^^}"
 done
+
+# The number and the name of each refusal, by its definition.
+defined() {
+    sed -n 's/^\(refusal_number\|number_of\) (\?\([a-z]*\.\)\?\([A-Za-z]*\)\( fault)\)\? = \([0-9]*\)$/\5 \3/p' \
+        crates/{txn_events,entity_routing}/specs/Refusal.antt crates/entity_parts/specs/Refusals.antt | sort -u
+}
+
+# The same by the page: rows of the tables of an end and of a lane, and what is told of where an event goes.
+told() {
+    {
+        sed -n '/^### What is refused/,/^### Phases/s/^| \([0-9]*\) | \([A-Za-z]*\) |.*/\1 \2/p' docs/profile.md
+        sed -n '/^## Where an event goes/,/^## What a user learns/p' docs/profile.md | grep -oE '[0-9]+ [A-Z][a-z]+[A-Z][A-Za-z]*'
+    } | sort -u
+}
+
+if [ -z "$(defined)" ] || ! diff <(defined) <(told); then
+    echo "the refusals of docs/profile.md are not those of the definitions"
+    exit 1
+fi
+
+# The number and the name of each fault of decoding, by its definition, and by the rows of the page.
+faults() {
+    sed -n 's/^fault_number \([A-Za-z]*\) = \([0-9]*\)$/\2 \1/p' crates/pdu_reading/specs/Fault.antt | sort -u
+}
+told_faults() {
+    sed -n '1,/^Octets that are no PDU/s/^| \([0-9]\{1,2\}\) | \([A-Z][a-z]*[A-Z][A-Za-z]*\) |.*/\1 \2/p' docs/profile.md | sort -u
+}
+
+if [ -z "$(faults)" ] || ! diff <(faults) <(told_faults); then
+    echo "the faults of decoding in docs/profile.md are not those of the definition"
+    exit 1
+fi

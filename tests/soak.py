@@ -122,7 +122,7 @@ class Soak:
         received.unlink(missing_ok=True)
 
     def run(self):
-        """Goes on for the seconds that are wanted; what each server held after a minute, and at most since then."""
+        """Goes on for the seconds that are wanted; what each server held at most in the first minute, and since then."""
         begin = time.monotonic()
         held = {}
         while time.monotonic() < begin + SECONDS or self.under_way and time.monotonic() < begin + SECONDS + 60:
@@ -139,10 +139,10 @@ class Soak:
                 break
             if " Transaction-Finished " in line or " Abandoned " in line:
                 self.ends(line)
-            if time.monotonic() > begin + min(60.0, SECONDS / 2):
-                for name, one in (("ground", self.ground), ("craft", self.craft)):
-                    first, most = held.get(name, (one.memory(), 0))
-                    held[name] = (first, max(most, one.memory()))
+            is_later = time.monotonic() > begin + min(60.0, SECONDS / 2)
+            for name, one in (("ground", self.ground), ("craft", self.craft)):
+                most = held.setdefault(name, [0, 0])
+                most[is_later] = max(most[is_later], one.memory())
         return held
 
     def close(self):
@@ -170,7 +170,7 @@ def main():
         shutil.rmtree(home, ignore_errors=True)
     print(f"{soak.whole} files of {soak.puts} came whole")
     for name, (first, most) in held.items():
-        print(f"{name}: {first} KiB after the first minute, at most {most} KiB since")
+        print(f"{name}: at most {first} KiB in the first minute, and {most} KiB since")
         if most > first * 1.1 + 1_024:
             soak.wrong.append(f"the memory of {name} grew")
     for why in soak.wrong[:10]:

@@ -1,4 +1,4 @@
--- What is printed for an event that was taken or refused.
+-- Meaning. What is printed for an event that was taken or refused.
 use Rattle.std.specs.Prelude.{ℕ, Bool, true, false, List, [], ◌++◌, Option, Some, None, codes, decimal}
 use Rattle.std.specs.List.{flat_map}
 use Rattle.hex.specs.Hex.{encode_lower}

@@ -95,7 +95,7 @@ fn push_metadata(
     alloc: Global,
     text: &mut String,
     source: EntityId,
-    size: u32,
+    size: u64,
     source_name: &Octets,
     destination_name: &Octets,
 ) -> Result<(), AllocError>
@@ -107,7 +107,7 @@ fn push_metadata(
     let to = hex_word(alloc, destination_name)?;
     text.push_str("Metadata-Recv")?;
     push_value(text, source)?;
-    push_value(text, u64::from(size))?;
+    push_value(text, size)?;
     push_word(text, from.as_str())?;
     push_word(text, to.as_str())
 }

@@ -26,6 +26,8 @@ use std::thread::Threads;
 enum Scenario {
     /// A core takes a file.
     Receives(Coming),
+    /// A core sends a file.
+    SendsOnce,
     /// A core sends a file again.
     Sends(Parts),
     /// Timers are armed and expire.
@@ -111,6 +113,7 @@ fn scenario_of(name: &str) -> Option<Scenario> {
         "eof-first-mixed" => Some(Scenario::Receives(Coming::EofFirst(Order::Mixed))),
         "single-octets-falling" => Some(Scenario::Receives(Coming::SingleOctets)),
         "prompts" => Some(Scenario::Receives(Coming::Prompts)),
+        "file-sent" => Some(Scenario::SendsOnce),
         "naks" => Some(Scenario::Sends(Parts::Segments)),
         "naks-of-octets" => Some(Scenario::Sends(Parts::Octets)),
         "timers" => Some(Scenario::Times),
@@ -135,6 +138,7 @@ fn run<R: Threads + Wait + Net + AllocGlobal + Copy + Send + Sync>(
     } = wanted;
     match scenario {
         Scenario::Receives(coming) => receptions::receive(rt.alloc(), coming, first),
+        Scenario::SendsOnce => sendings::file(rt.alloc(), first),
         Scenario::Sends(parts) => sendings::naks(rt.alloc(), parts, first),
         Scenario::Times => timers::turns(rt.alloc(), first),
         Scenario::Listed => listed::come(rt.alloc(), first as usize, second),

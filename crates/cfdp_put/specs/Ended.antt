@@ -1,4 +1,4 @@
--- What the program ends with, by what its user is told.
+-- Meaning. What the program ends with, by what its user is told.
 use Rattle.std.specs.Prelude.{ℕ, ◌==◌, ◌&&◌, Bool, true, false, if◌then◌else◌, List, [], ◌∷◌, Option, Some, None}
 use Rattle.std.specs.Option.{option_or}
 use Rattle.cfdp_types.specs.declared.key.TxnKey.{TxnKey}

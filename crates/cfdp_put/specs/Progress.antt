@@ -1,4 +1,4 @@
--- How far the file is, as it is shown.
+-- Meaning. How far the file is, as it is shown.
 use Rattle.std.specs.Prelude.{ℕ, ◌*◌, ◌/◌, ◌==◌, nat_lt, min, if◌then◌else◌, List, [], ◌++◌, codes, decimal}
 
 -- the whole percents of a file that were sent: all of them where it has no octets

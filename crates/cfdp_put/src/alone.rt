@@ -1,46 +1,56 @@
 //! Puts that nobody answers, and those that don't begin.
+use crate::lines::words;
 use crate::outputs::Outputs;
 use crate::putting::put_one;
-use crate::settings::{PUTTER, with_lines, words};
 use std::fs;
 use std::test::*;
+use test_configs::{ENTITY_ONE, EntityText, REMOTE_TWO, RemoteText, text_of};
 
-const SOON: [(&str, &str); 4] = [
-    ("ack_ms = 1000", "ack_ms = 50"),
-    ("nak_ms = 1000", "nak_ms = 50"),
-    ("check_ms = 1000", "check_ms = 50"),
-    ("inactivity_ms = 1000", "inactivity_ms = 50"),
-];
+// The entity that sends, whose timers run for a short time.
+const SOON: EntityText<'static> = EntityText {
+    remotes: &[RemoteText {
+        timers_ms: 50,
+        inactivity_ms: 50,
+        ..REMOTE_TWO
+    }],
+    ..ENTITY_ONE
+};
 
 // What is shown of a file that nobody answers: a line that is written over, and one more below what its user is told meanwhile.
 const SHOWN: &str = "\r0 of 3 octets sent\r3 of 3 octets sent, the end is awaited
 \r3 of 3 octets sent, the end is awaited
 ";
 
-// Nobody is at the remote's address.
+// Puts that nobody at the remote's address answers: in class 2 the file is not acknowledged, and in class 1 with closure nobody
+// says what became of it. What the user is told of each.
+const UNANSWERED: [(&str, &str); 2] = [
+    (
+        "cfdp_put --config nobody --bind 127.0.0.1:0 --user alice --remote 2 --class 2 n b",
+        "alice 1 4 Transaction\nalice 1 4 EOF-Sent\nalice 1 4 Transaction-Finished 1 incomplete unreported\n",
+    ),
+    (
+        "cfdp_put --config nobody --bind 127.0.0.1:0 --user alice --remote 2 --class 1 --closure n b",
+        "alice 1 4 Transaction\nalice 1 4 EOF-Sent\nalice 1 4 Transaction-Finished 10 incomplete unreported\n",
+    ),
+];
+
 #[test]
 fn nobody(rt: HostRuntime) -> Result<(), Fail> {
     let alloc = rt.alloc();
-    fs::write(&rt, "nobody", with_lines(alloc, PUTTER, &SOON)?.as_str())?;
+    fs::write(&rt, "nobody", text_of(alloc, &SOON)?.as_str())?;
     fs::write(&rt, "n", "abc")?;
-    let line = words(
-        alloc,
-        "cfdp_put --config nobody --bind 127.0.0.1:0 --user alice --remote 2 --class 2 n b",
-    )?;
-    let mut written = Vec::new(alloc);
-    let mut errors = Vec::new(alloc);
-    let mut shown = Vec::new(alloc);
-    let outputs = Outputs::new(&mut written, Some(&mut shown));
-    let status = put_one(rt, line.as_slice(), outputs, &mut errors);
-    assert_eq!(rt; status, 2);
-    assert_eq!(rt; str::from_utf8(shown.as_slice()), Ok(SHOWN));
-    assert_eq!(rt;
-        str::from_utf8(written.as_slice()),
-        Ok(
-            "alice 1 4 Transaction\nalice 1 4 EOF-Sent\nalice 1 4 Transaction-Finished 1 incomplete unreported\n"
-        )
-    );
-    assert!(rt; errors.is_empty());
+    for (line, told) in UNANSWERED {
+        let line = words(alloc, line)?;
+        let mut written = Vec::new(alloc);
+        let mut errors = Vec::new(alloc);
+        let mut shown = Vec::new(alloc);
+        let outputs = Outputs::new(&mut written, Some(&mut shown));
+        let status = put_one(rt, line.as_slice(), outputs, &mut errors);
+        assert_eq!(rt; status, 2);
+        assert_eq!(rt; str::from_utf8(shown.as_slice()), Ok(SHOWN));
+        assert_eq!(rt; str::from_utf8(written.as_slice()), Ok(told));
+        assert!(rt; errors.is_empty());
+    }
     Ok(())
 }
 
@@ -109,13 +119,10 @@ const FAULTS: [(&str, &str); 15] = [
 #[test]
 fn faults(rt: HostRuntime) -> Result<(), Fail> {
     let alloc = rt.alloc();
-    let first = ("first = 1", "first = -1");
-    fs::write(&rt, "faults", PUTTER)?;
-    fs::write(
-        &rt,
-        "faults-bad",
-        with_lines(alloc, PUTTER, &[first])?.as_str(),
-    )?;
+    let config = text_of(alloc, &ENTITY_ONE)?;
+    fs::write(&rt, "faults", config.as_str())?;
+    let bad = config.as_str().replace(alloc, "first = 1", "first = -1")?;
+    fs::write(&rt, "faults-bad", bad.as_str())?;
     fs::write(&rt, "f", "abc")?;
     for (line, text) in FAULTS {
         let line = words(alloc, line)?;

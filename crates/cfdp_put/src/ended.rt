@@ -16,7 +16,7 @@ pub(crate) fn status_of(bundle: &Bundle, key: TxnKey) -> Option<u8>
     }
 }
 
-// The same by the first end that is told.
+// The exit status by the first of these indications that tells an end.
 fn status_in(told: &[Indication]) -> Option<u8>
     ensures { result ≡ status_in told.now }
 {
@@ -29,7 +29,7 @@ fn status_in(told: &[Indication]) -> Option<u8>
     }
 }
 
-// The same by one indication.
+// The exit status by one indication, if it tells an end.
 fn end_status(told: &Indication) -> Option<u8>
     ensures { result ≡ end_status told.now }
 {

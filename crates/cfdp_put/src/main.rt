@@ -6,12 +6,12 @@ mod alone;
 #[cfg(test)]
 mod both;
 mod ended;
+#[cfg(test)]
+mod lines;
 mod named;
 mod outputs;
 mod putting;
 mod refusing;
-#[cfg(test)]
-mod settings;
 mod threads;
 
 use outputs::Outputs;

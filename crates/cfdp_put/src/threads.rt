@@ -5,13 +5,13 @@ use crate::refusing::RefusingStore;
 use answer_texts::push_bundle;
 use cfdp_types::{PutRequest, TxnKey};
 use entity_routing::Request;
-use held_lanes::{Names, NoGate};
 use program_desk::{Desk, Step};
 use program_link::PduSender;
 use program_start::ProgramFault;
 use program_station::{REST_MS, Station, flat, moment};
 use program_threads::{MainThread, WayIn, run_beside};
 use shared_entity::{Entity, EntityRefusal};
+use shared_lanes::{Names, NoGate};
 use std::alloc::{AllocError, Global};
 use std::io::Write;
 use std::net::UdpSocket;
@@ -72,7 +72,7 @@ pub(crate) fn put_over<
     put_at(rt, alloc, entity, ports, socket, &desk, wanted, outputs)
 }
 
-// The same at a desk, all of whose room is made; so is that of the threads before the first one starts. The worker wakes the
+// Puts at a desk, all of whose room is made; so is that of the threads before the first one starts. The worker wakes the
 // main thread at each step, since that alone takes what the user is told.
 fn put_at<
     'x,
@@ -178,10 +178,11 @@ impl<'a, N: Names, R: Wait + Clock + Copy, W: Drop, P: Drop> Putter<'a, N, R, W,
         let Some(put) = self.put.take() else {
             return Err(ProgramFault::Usage);
         };
-        if self.user >= entity.users() || entity.put_lanes() == 0 {
+        let request = Request::Put(0, put);
+        if !entity.may_request(self.user, &request) {
             return Err(ProgramFault::Usage);
         }
-        match flat(entity.request(self.rt, &NoGate, self.user, Request::Put(0, put))) {
+        match flat(entity.request(self.rt, &NoGate, self.user, request)) {
             Ok(done) => {
                 let key = done.key;
                 self.station.begin(key);

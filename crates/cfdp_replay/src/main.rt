@@ -2,16 +2,23 @@
 //! answers.
 #![tactic(auto)]
 
-use script_replay::play_to_end;
+use script_replay::{Pace, play_to_end};
 use std::io;
+use std::io::IsTerminal;
 use std::process::ExitCode;
 
-// Plays the standard input to the standard output.
+// Plays the standard input to the standard output: line by line where somebody may look at it.
 fn main(rt: HostRuntime) -> ExitCode {
+    let pace = if rt.stdout().is_terminal() {
+        Pace::ByLines
+    } else {
+        Pace::ByBlocks
+    };
     ExitCode::from(play_to_end(
         rt.alloc(),
         &mut rt.reader(),
         &mut io::writer(&rt),
         &mut rt.stderr(),
+        pace,
     ))
 }

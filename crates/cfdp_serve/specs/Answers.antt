@@ -1,9 +1,9 @@
--- What the server prints of an entity's answers.
+-- Meaning. What the server prints of an entity's answers.
 use Rattle.std.specs.Prelude.{Bool, List, ℕ, ◌++◌, if◌then◌else◌, codes, decimal}
 use Rattle.answer_texts.specs.AnswerTexts.{opened_text, deposit_text, refusal_text, fault_line, refused_text}
-use Rattle.entity_refusals.specs.Refusals.{number_of, name_of}
-use Rattle.entity_refusals.specs.declared.refusal.EntityRefusal.{EntityRefusal}
-use Rattle.entity_refusals.specs.declared.refusal.EntityRefusal.TheVariants as answer
+use Rattle.entity_parts.specs.Refusals.{number_of, name_of}
+use Rattle.entity_parts.specs.declared.refusal.EntityRefusal.{EntityRefusal}
+use Rattle.entity_parts.specs.declared.refusal.EntityRefusal.TheVariants as answer
 use Rattle.entity_routing.specs.declared.refusal.RouteRefusal.TheVariants as routes
 use Rattle.lane_table.specs.declared.done.Done.{Done}
 use Rattle.lane_traces.specs.declared.traced.Traced.{Traced}

@@ -4,11 +4,11 @@ use answer_texts::{push_bundle, push_refusal};
 use cfdp_types::{PutFault, PutRequest};
 use entity_routing::Request;
 use entity_workers::Filestore;
-use held_lanes::{Names, NoGate};
 use program_desk::{Desk, Step};
 use program_start::{ProgramFault, load_file};
 use program_station::{Station, flat};
 use server_lines::{Command, PutCommand, command_of};
+use shared_lanes::{Names, NoGate};
 use std::alloc::{AllocError, Global};
 use std::rt::Files;
 use std::sync::Wait;
@@ -104,14 +104,10 @@ impl<'a, N: Names, R: Wait + Clock + Files + Copy, S: Filestore + Drop, W: Drop>
     // Asks the entity for something, in a user's name.
     fn ask(&mut self, user: usize, request: Request, text: &mut String) -> Result<(), AllocError> {
         let entity = self.station.entity();
-        let is_put = match &request {
-            Request::Put(lane, _) if *lane >= entity.put_lanes() => return push_bad_command(text),
-            Request::Put(_, _) => true,
-            _ => false,
-        };
-        if user >= entity.users() {
+        if !entity.may_request(user, &request) {
             return push_bad_command(text);
         }
+        let is_put = matches!(&request, Request::Put(_, _));
         match flat(entity.request(self.rt, &NoGate, user, request)) {
             Ok(done) => {
                 if is_put {

@@ -1,6 +1,6 @@
 //! A server that is to end while a received file waits to be stored.
 use crate::serving::serve;
-use crate::tests::{CONFIG, with_line, words};
+use crate::tests::{config_of, words};
 use std::alloc::Global;
 use std::net::{Net, UdpSocket};
 use std::rt::Files;
@@ -71,7 +71,7 @@ fn await_file<R: Files + Clock + AllocGlobal>(rt: &R, path: &str, octets: &[u8])
 fn quit_before_an_end_is_told(rt: HostRuntime) -> Result<(), Fail> {
     let alloc: Global = rt.alloc();
     let [at_server, _] = free_ports(&rt)?;
-    let config = with_line(alloc, CONFIG, "capacity = 8", "capacity = 3")?;
+    let config = config_of(alloc, 3)?;
     fs::write(&rt, "full", config.as_str())?;
     fs::create_dir(&rt, "kept")?;
     let mut address = String::new(alloc);

@@ -6,10 +6,10 @@ ghost use Rattle.user_queues.specs.Opened.{IsOpenedFor};
 
 use crate::threads::serve_over;
 use entity_config::Config;
-use held_lanes::Names;
 use program_start::ProgramFault;
 use program_words::ServerWords;
 use shared_entity::{Entity, queues_of};
+use shared_lanes::Names;
 use std::alloc::Global;
 use std::io::{Read, Write};
 use std::marker::Brand;

@@ -1,7 +1,6 @@
 //! The threads of the server: one reads commands, beside those of each program.
 use crate::commands::Server;
 use entity_workers::FolderStore;
-use held_lanes::Names;
 use program_desk::Desk;
 use program_link::PduSender;
 use program_start::ProgramFault;
@@ -10,6 +9,7 @@ use program_threads::{WayIn, run_commanded};
 use program_words::ServerWords;
 use script_io::in_blocks;
 use shared_entity::Entity;
+use shared_lanes::Names;
 use std::alloc::Global;
 use std::io::{Read, Write};
 use std::net::UdpSocket;
@@ -46,7 +46,7 @@ pub(crate) fn serve_over<
     )
 }
 
-// The same at a desk, all of whose room is made; so is that of the threads before the first one starts.
+// Serves at a desk, all of whose room is made; so is that of the threads before the first one starts.
 fn serve_at<
     'x,
     N: Names + Send + Sync,

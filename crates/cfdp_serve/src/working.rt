@@ -1,11 +1,11 @@
 //! The main thread of the server, which works in turns.
 use crate::commands::{Next, Server, push_bad_command};
 use entity_workers::Filestore;
-use held_lanes::Names;
 use program_desk::NextLine;
 use program_start::{ProgramFault, print};
 use program_station::{REST_MS, moment};
 use program_threads::MainThread;
+use shared_lanes::Names;
 use std::io::Write;
 use std::rt::Files;
 use std::sync::Wait;

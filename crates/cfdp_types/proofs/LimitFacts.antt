@@ -2,7 +2,7 @@
 use Rattle.std.proofs.Common.{◌≡◌, ◌^◌, refl}
 use Rattle.cfdp_types.specs.declared.limits.TheConstants.{FILE_OCTETS, SEGMENT_OCTETS_LEAST, SEGMENT_OCTETS_MOST, JOURNAL_ENTRIES, JOURNAL_ENTRIES_KEPT, USERS, SOURCES_OF_A_USER, REMOTES, RECEIVING_LANES, SENDING_LANES, QUEUE_BUNDLES, NAK_REQUESTS, EXPIRATIONS, TIMER_MILLISECONDS, NAME_OCTETS, MESSAGE_OCTETS, MESSAGES, ID_OCTETS, CONFIGURED_NUMBER, USER_NAME_OCTETS, QUEUE_PUSHES}
 
-file_octets : FILE_OCTETS ≡ 4194304
+file_octets : FILE_OCTETS ≡ 16777216
 file_octets = refl
 
 segment_octets_least : SEGMENT_OCTETS_LEAST ≡ 256
@@ -11,7 +11,7 @@ segment_octets_least = refl
 segment_octets_most : SEGMENT_OCTETS_MOST ≡ 1400
 segment_octets_most = refl
 
-journal_entries : JOURNAL_ENTRIES ≡ 65536
+journal_entries : JOURNAL_ENTRIES ≡ 262144
 journal_entries = refl
 
 journal_entries_kept : JOURNAL_ENTRIES_KEPT ≡ 2

@@ -1,9 +1,12 @@
 -- Worked rows: what the definitions give, computed.
 use Rattle.std.proofs.Common.{◌≡◌, ℕ, Bool, true, false, List, [], ◌∷◌, map, replicate, Some, None, refl, arith}
 use Rattle.cfdp_types.specs.Handlers.{IsFaultTable, act, handler_in, is_allowed, with_handler}
-use Rattle.cfdp_types.specs.Params.{IsParams, ParamsValue, table_for, timer_length}
+use Rattle.cfdp_types.specs.Params.{IsParams, table_for, timer_length}
+use Rattle.cfdp_types.specs.declared.params.ParamsParts.{ParamsParts}
 use Rattle.cfdp_types.specs.Put.{put_fault}
 use Rattle.cfdp_types.specs.Reference.{all_cancel}
+use Rattle.cfdp_types.specs.ChecksumType.{type_of}
+use Rattle.cfdp_types.specs.declared.names.Checksum.TheVariants.{Modular, Null}
 use Rattle.cfdp_types.specs.declared.names.Handler.{Handler}
 use Rattle.cfdp_types.specs.declared.names.Handler.TheVariants.{Cancel, Suspend, Ignore, Abandon}
 use Rattle.cfdp_types.specs.declared.names.Role.{Role}
@@ -87,8 +90,8 @@ five_messages = refl
 four_messages : put_fault (octets 1) (octets 1) (replicate 4 (octets 255)) ≡ None
 four_messages = refl
 
--- parameters whose timers and tables differ
-abbrev pub sample : ParamsValue
+-- parameters whose timers and tables differ, with no checksum
+abbrev pub sample : ParamsParts
 sample = record {
   local = record { 0 = 2 };
   lengths = record { entity_octets = 1; sequence_octets = 1 };
@@ -100,7 +103,11 @@ sample = record {
     receive_one = all_cancel RecvOne;
     receive_two = with_handler (all_cancel RecvTwo) 7 Suspend;
   };
+  checksum = Null;
 }
+
+types_of_checksums : map type_of (Modular ∷ Null ∷ []) ≡ 0 ∷ 15 ∷ []
+types_of_checksums = refl
 
 lengths_of_timers : map (timer_length sample.timers) (Ack ∷ Nak ∷ Check ∷ Inactivity ∷ []) ≡ 1000 ∷ 1001 ∷ 1002 ∷ 1003 ∷ []
 lengths_of_timers = refl

@@ -1,4 +1,4 @@
--- The condition codes by name (CCSDS 727.0-B-5, 5.1, the table of condition codes); 12 and 13 have none.
+-- Meaning. The condition codes by name (CCSDS 727.0-B-5, 5.1, the table of condition codes); 12 and 13 have none.
 use Rattle.std.specs.Prelude.{ℕ}
 
 abbrev pub no_error : ℕ

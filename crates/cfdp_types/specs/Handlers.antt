@@ -1,4 +1,4 @@
--- What an entity does at a fault (CCSDS 727.0-B-5, 4.8): which handlers may be named, and which one counts.
+-- Meaning. What an entity does at a fault (CCSDS 727.0-B-5, 4.8): which handlers may be named, and which one counts.
 use Rattle.std.specs.Prelude.{ℕ, Bool, true, false, cond, ◌&&◌, ◌||◌, ◌==◌, List, [], ◌∷◌, IsTrue}
 use Rattle.std.specs.List.{All}
 use Rattle.cfdp_types.specs.Condition.{positive_ack_limit, filestore_rejection, file_checksum_failure, file_size_error, nak_limit, inactivity, check_limit, unsupported_checksum_type}

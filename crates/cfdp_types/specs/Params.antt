@@ -1,6 +1,5 @@
--- What the transactions with one remote entity go by, and the ranges that it keeps.
+-- Meaning. What the transactions with one remote entity go by, and the ranges that it keeps.
 use Rattle.std.specs.Prelude.{◌≡◌, ℕ, ◌≤◌}
-use Rattle.cfdp_types.specs.declared.key.EntityId.{EntityId}
 use Rattle.cfdp_types.specs.declared.limits.TheConstants.{EXPIRATIONS, ID_OCTETS, SEGMENT_OCTETS_LEAST, SEGMENT_OCTETS_MOST, TIMER_MILLISECONDS}
 use Rattle.cfdp_types.specs.declared.names.Role.{Role}
 use Rattle.cfdp_types.specs.declared.names.Role.TheVariants.{Send, RecvOne, RecvTwo}
@@ -9,17 +8,9 @@ use Rattle.cfdp_types.specs.declared.names.TimerKind.TheVariants.{Ack, Nak, Chec
 use Rattle.cfdp_types.specs.declared.params.ExpirationLimits.{ExpirationLimits}
 use Rattle.cfdp_types.specs.declared.params.FaultTables.{FaultTables}
 use Rattle.cfdp_types.specs.declared.params.HeaderLengths.{HeaderLengths}
+use Rattle.cfdp_types.specs.declared.params.ParamsParts.{ParamsParts}
 use Rattle.cfdp_types.specs.declared.params.TimerLengths.{TimerLengths}
 use Rattle.cfdp_types.specs.Handlers.{FaultTableValue, IsFaultTable}
-
--- the parts of the parameters
-pub record ParamsValue : Type 0 where
-  pub local : EntityId
-  pub lengths : HeaderLengths
-  pub segment_octets : ℕ
-  pub timers : TimerLengths
-  pub limits : ExpirationLimits
-  pub tables : FaultTables
 
 -- how long the timers of a kind run
 abbrev pub timer_length : TimerLengths → TimerKind → ℕ
@@ -84,7 +75,7 @@ pub record AreFaultTables (tables : FaultTables) : Type 0 where
   pub receive_two : IsTableFor RecvTwo tables.receive_two
 
 -- each part is in its range, and each fault table is for its own role
-pub record IsParams (params : ParamsValue) : Type 0 where
+pub record IsParams (params : ParamsParts) : Type 0 where
   pub lengths : AreHeaderLengths params.lengths
   pub segment : IsSegmentLength params.segment_octets
   pub timers : AreTimerLengths params.timers

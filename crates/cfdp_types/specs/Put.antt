@@ -1,4 +1,4 @@
--- A Put request: what it holds, and why it may be refused.
+-- Meaning. A Put request: what it holds, and why it may be refused.
 use Rattle.std.specs.Prelude.{ℕ, ◌≤◌, Bool, cond, ◌||◌, ◌==◌, nat_lt, List, length, Option, Some, None}
 use Rattle.std.specs.List.{All, list_any}
 use Rattle.cfdp_types.specs.declared.key.EntityId.{EntityId}

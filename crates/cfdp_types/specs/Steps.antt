@@ -1,4 +1,4 @@
--- What a step does with the timers of its transaction, at both ends.
+-- Meaning. What a step does with the timers of its transaction, at both ends.
 use Rattle.std.specs.Prelude.{ℕ, Bool, false, ◌==◌, if◌then◌else◌, List, [], ◌∷◌, ◌++◌, Option, Some, None}
 use Rattle.std.specs.List.{list_any}
 use Rattle.cfdp_types.specs.declared.key.TxnKey.{TxnKey}

@@ -1,5 +1,6 @@
 ghost use Rattle.std.specs.Prelude.{◌≡◌, ◌<◌};
 
+use crate::names::Checksum;
 use std::marker::Model;
 
 /// How a file's checksum is computed: its number in the registry of checksum types, 0 to 15.
@@ -21,6 +22,8 @@ impl Model for ChecksumType {
 }
 
 impl ChecksumType {
+    ghost use Rattle.cfdp_types.specs.ChecksumType.{type_of};
+
     /// The sum of the file's four-octet words.
     pub const MODULAR: ChecksumType = ChecksumType { number: 0 };
 
@@ -33,6 +36,16 @@ impl ChecksumType {
         ensures { result ≡ number }
     {
         ChecksumType { number }
+    }
+
+    /// The type of a checksum that files are sent with.
+    pub fn of(checksum: Checksum) -> ChecksumType
+        ensures { result ≡ type_of checksum }
+    {
+        match checksum {
+            Checksum::Modular => ChecksumType::MODULAR,
+            Checksum::Null => ChecksumType::NULL,
+        }
     }
 
     /// Its number.

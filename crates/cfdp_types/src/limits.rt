@@ -2,7 +2,7 @@
 //! is needed at all, the least is one.
 
 /// Octets of a file.
-pub const FILE_OCTETS: u32 = 4_194_304;
+pub const FILE_OCTETS: u32 = 16_777_216;
 
 /// Fewest octets of file in a File Data PDU that the entity sends, as configured.
 pub const SEGMENT_OCTETS_LEAST: u16 = 256;
@@ -11,7 +11,7 @@ pub const SEGMENT_OCTETS_LEAST: u16 = 256;
 pub const SEGMENT_OCTETS_MOST: u16 = 1_400;
 
 /// Entries of a lane's journal.
-pub const JOURNAL_ENTRIES: u32 = 65_536;
+pub const JOURNAL_ENTRIES: u32 = 262_144;
 
 /// The journal's last entries, kept for the answer of the file store and for Abandon.
 pub const JOURNAL_ENTRIES_KEPT: u32 = 2;

@@ -24,6 +24,15 @@ pub enum Role {
     RecvTwo,
 }
 
+/// The checksum that a file is sent with.
+#[derive(Clone, Copy, Debug, PartialEq, Eq)]
+pub enum Checksum {
+    /// The sum of the file's four-octet words.
+    Modular,
+    /// None: the checksum of every EOF is 0.
+    Null,
+}
+
 /// The timers of a transaction.
 #[derive(Clone, Copy, Debug, PartialEq, Eq, Hash)]
 pub enum TimerKind {

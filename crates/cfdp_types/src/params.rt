@@ -3,7 +3,7 @@ ghost use Rattle.std.specs.Prelude.{◌≡◌, ◌↔◌, IsTrue};
 use crate::fault_table::FaultTable;
 use crate::key::EntityId;
 use crate::limits::{ID_OCTETS, SEGMENT_OCTETS_LEAST, SEGMENT_OCTETS_MOST, TIMER_MILLISECONDS};
-use crate::names::{Role, TimerKind};
+use crate::names::{Checksum, Role, TimerKind};
 use std::marker::Model;
 
 /// How long each timer of a transaction runs, in milliseconds.
@@ -114,105 +114,79 @@ impl FaultTables {
     }
 }
 
+/// What the transactions with one remote entity go by, part by part.
+#[derive(Clone, Copy, Debug, PartialEq, Eq)]
+pub struct ParamsParts {
+    /// The ID of this entity.
+    pub local: EntityId,
+    /// The lengths that this entity writes the numbers of a header with.
+    pub lengths: HeaderLengths,
+    /// The most octets of the file in a File Data PDU that this entity sends.
+    pub segment_octets: u16,
+    /// How long each timer runs.
+    pub timers: TimerLengths,
+    /// Which expiration of each timer is a fault.
+    pub limits: ExpirationLimits,
+    /// What is done at a fault.
+    pub tables: FaultTables,
+    /// The checksum of the files that this entity sends.
+    pub checksum: Checksum,
+}
+
 /// What the transactions with one remote entity go by. Contracts see its parts, each of which is in
 /// its range.
 #[derive(Clone, Copy, Debug, PartialEq, Eq)]
 pub struct Params {
-    local: EntityId,
-    lengths: HeaderLengths,
-    segment_octets: u16,
-    timers: TimerLengths,
-    limits: ExpirationLimits,
-    tables: FaultTables,
+    parts: ParamsParts,
 }
 
 impl Model for Params {
-    ghost use Rattle.cfdp_types.specs.Params.{ParamsValue, IsParams};
+    ghost use Rattle.cfdp_types.specs.declared.params.ParamsParts.{ParamsParts};
+    ghost use Rattle.cfdp_types.specs.Params.{IsParams};
 
-    ghost Value = { ParamsValue };
+    ghost Value = { ParamsParts };
 
-    ghost view = { λ p. record {
-      local = p.local;
-      lengths = p.lengths;
-      segment_octets = p.segment_octets;
-      timers = p.timers;
-      limits = p.limits;
-      tables = p.tables;
-    } };
+    ghost view = { λ p. p.parts };
 
-    ghost invariant = { λ p. IsParams (record {
-      local = p.local;
-      lengths = p.lengths;
-      segment_octets = p.segment_octets;
-      timers = p.timers;
-      limits = p.limits;
-      tables = p.tables;
-    }) };
+    ghost invariant = { λ p. IsParams p.parts };
 
-    ghost inverse = { λ v. record {
-      local = v.local;
-      lengths = v.lengths;
-      segment_octets = v.segment_octets;
-      timers = v.timers;
-      limits = v.limits;
-      tables = v.tables;
-    } };
+    ghost inverse = { λ v. record { parts = v } };
 }
 
 impl Params {
     ghost use Rattle.std.specs.Prelude.{◌≡◌, ◌≤◌, ◌↔◌, IfSome, IsSome};
     ghost use Rattle.cfdp_types.specs.Params.{AreExpirationLimits, AreFaultTables, AreHeaderLengths, AreTimerLengths, IsParams};
 
-    /// Parameters, where each is in its range.
-    pub fn new(
-        local: EntityId,
-        lengths: HeaderLengths,
-        segment_octets: u16,
-        timers: TimerLengths,
-        limits: ExpirationLimits,
-        tables: FaultTables,
-    ) -> Option<Params>
-        ensures ranges { IsSome result ↔ IsParams (record {
-          local = local;
-          lengths = lengths;
-          segment_octets = segment_octets;
-          timers = timers;
-          limits = limits;
-          tables = tables;
-        }) }
-        ensures kept { IfSome result (λ params. params ≡ record {
-          local = local;
-          lengths = lengths;
-          segment_octets = segment_octets;
-          timers = timers;
-          limits = limits;
-          tables = tables;
-        }) }
+    /// Parameters, where each part is in its range.
+    pub fn new(parts: ParamsParts) -> Option<Params>
+        ensures ranges { IsSome result ↔ IsParams parts }
+        ensures kept { IfSome result (λ params. params ≡ parts) }
     {
         let segments = SEGMENT_OCTETS_LEAST..=SEGMENT_OCTETS_MOST;
-        let are_in_range = lengths.are_in_range()
-            && segments.contains(&segment_octets)
-            && timers.are_in_range()
-            && limits.are_in_range()
-            && tables.are_of_their_roles();
+        let are_in_range = parts.lengths.are_in_range()
+            && segments.contains(&parts.segment_octets)
+            && parts.timers.are_in_range()
+            && parts.limits.are_in_range()
+            && parts.tables.are_of_their_roles();
         if !are_in_range {
             return None;
         }
-        Some(Params {
-            local,
-            lengths,
-            segment_octets,
-            timers,
-            limits,
-            tables,
-        })
+        Some(Params { parts })
+    }
+
+    /// The parts.
+    pub fn parts(&self) -> ParamsParts
+        ensures parts { result ≡ self.now }
+        ensures ranges { IsParams result }
+    {
+        self.parts
     }
 
     /// The ID of this entity.
     pub fn local(&self) -> EntityId
         ensures { result ≡ self.now.local }
     {
-        self.local
+        self.parts.local
     }
 
     /// The lengths that this entity writes the numbers of a header with.
@@ -220,7 +194,7 @@ impl Params {
         ensures lengths { result ≡ self.now.lengths }
         ensures range { AreHeaderLengths result }
     {
-        self.lengths
+        self.parts.lengths
     }
 
     /// The most octets of the file in a File Data PDU that this entity sends.
@@ -229,7 +203,7 @@ impl Params {
         ensures least { SEGMENT_OCTETS_LEAST ≤ result }
         ensures most { result ≤ SEGMENT_OCTETS_MOST }
     {
-        self.segment_octets
+        self.parts.segment_octets
     }
 
     /// How long each timer runs.
@@ -237,7 +211,7 @@ impl Params {
         ensures timers { result ≡ self.now.timers }
         ensures range { AreTimerLengths result }
     {
-        self.timers
+        self.parts.timers
     }
 
     /// Which expiration of each timer is a fault.
@@ -245,7 +219,7 @@ impl Params {
         ensures limits { result ≡ self.now.limits }
         ensures range { AreExpirationLimits result }
     {
-        self.limits
+        self.parts.limits
     }
 
     /// What is done at a fault.
@@ -253,6 +227,13 @@ impl Params {
         ensures tables { result ≡ self.now.tables }
         ensures roles { AreFaultTables result }
     {
-        self.tables
+        self.parts.tables
+    }
+
+    /// The checksum of the files that this entity sends.
+    pub fn checksum(&self) -> Checksum
+        ensures { result ≡ self.now.checksum }
+    {
+        self.parts.checksum
     }
 }

@@ -9,7 +9,7 @@ use Rattle.std.proofs.lemmas.List.Quantifiers.{position-Some}
 use Rattle.std.proofs.lemmas.List.Sums.{sum_by-append}
 use Rattle.std.proofs.lemmas.Result.{IfOk-at_ok}
 use Rattle.cfdp_types.proofs.PutLemmas.{list_any-map}
-use Rattle.cfdp_types.specs.Params.{ParamsValue}
+use Rattle.cfdp_types.specs.declared.params.ParamsParts.{ParamsParts}
 use Rattle.cfdp_types.specs.declared.limits.TheConstants.{REMOTES, USERS}
 use Rattle.toml.specs.Data.{Data, Members}
 use Rattle.config_reading.specs.declared.entity.EntitySettings.{EntitySettings}
@@ -17,7 +17,7 @@ use Rattle.config_reading.specs.declared.fault.ConfigFault.TheVariants as fault
 use Rattle.config_reading.specs.declared.fault.Key.TheVariants as key
 use Rattle.config_reading.specs.Texts.{is_address, is_same_text, is_within}
 use Rattle.config_reading.specs.Values.{ConfigValue, PeerValue, Route, are_distinct, are_of, goes_to, has_id, has_room, has_user, is_config, is_entity, is_route, is_same_id, route_of}
-use Rattle.config_reading.specs.Walk.{address_in, counted, entity_in, greatest_id, has_only, known_user, limits_in, name_of, optional, params_in, remote_in, remote_keys, remotes_in, required, tables_in, takes_source, text_of, timers_in, user_named, users_in, value_at}
+use Rattle.config_reading.specs.Walk.{address_in, checksum_at, counted, entity_in, greatest_id, has_only, known_user, limits_in, name_of, optional, params_in, remote_in, remote_keys, remotes_in, required, tables_in, takes_source, text_of, timers_in, user_named, users_in, value_at}
 use Rattle.config_reading.proofs.Lists.{length-seen}
 use Rattle.config_reading.proofs.Distinct.{are_distinct-last, list_all-last}
 use Rattle.config_reading.proofs.ReadLimits.{AreNames, counted-limits, entity_in-limits, id_fits, ok_always, ok_number, ok_required, ok_then, ok_unless, users_in-limits}
@@ -53,9 +53,9 @@ same_number n = grind (arith, nat_tests)
 
 params_in-limits : (entity : EntitySettings) (ms : Members) → IfOk (params_in entity ms) (λ params. are_of entity params ≡ true)
 params_in-limits entity ms =
-    let Q : ParamsValue → Type 0 = λ params. are_of entity params ≡ true in
-    ok_always (timers_in ms) _ Q (λ timers. ok_always (limits_in ms) _ Q (λ limits. ok_always (tables_in ms) _ Q (λ tables.
-    both_true (both_true (both_true (same_number entity.local.0) (same_number entity.lengths.entity_octets)) (same_number entity.lengths.sequence_octets)) (same_number entity.segment_octets))))
+    let Q : ParamsParts → Type 0 = λ params. are_of entity params ≡ true in
+    ok_always (timers_in ms) _ Q (λ timers. ok_always (limits_in ms) _ Q (λ limits. ok_always (tables_in ms) _ Q (λ tables. ok_always (checksum_at ms) _ Q (λ checksum.
+    both_true (both_true (both_true (same_number entity.local.0) (same_number entity.lengths.entity_octets)) (same_number entity.lengths.sequence_octets)) (same_number entity.segment_octets)))))
 
 -- a remote entity that can stand after some others
 record Joins (entity : EntitySettings) (users : ℕ) (before : List PeerValue) (peer : PeerValue) : Type 0 where
@@ -69,7 +69,7 @@ remote_in-limits entity users before ms =
     let greatest = greatest_id entity.lengths.entity_octets in
     let Q : PeerValue → Type 0 = Joins entity (length users) before in
     let A : List ℕ → Type 0 = λ address. is_address address ≡ true in
-    let P : ParamsValue → Type 0 = λ params. are_of entity params ≡ true in
+    let P : ParamsParts → Type 0 = λ params. are_of entity params ≡ true in
     ok_unless (has_only remote_keys ms) _ _ Q (λ known.
     ok_number key.Id 0 greatest ms _ Q (λ id id_within.
     ok_then (required key.Address address_in (value_at key.Address ms)) _ A Q (ok_required key.Address address_in A (value_at key.Address ms) address_in-limits) (λ address address_fits.

@@ -1,4 +1,4 @@
--- The faults of a configuration by number, its keys as they are written, and the key of each table of handlers.
+-- Meaning. The faults of a configuration by number, its keys as they are written, and the key of each table of handlers.
 use Rattle.std.specs.Prelude.{ℕ, List, codes}
 use Rattle.cfdp_types.specs.declared.names.Role.{Role}
 use Rattle.cfdp_types.specs.declared.names.Role.TheVariants.{Send, RecvOne, RecvTwo}
@@ -47,6 +47,7 @@ key_text key.CheckLimit = codes "check_limit"
 key_text key.Send = codes "send"
 key_text key.ReceiveOne = codes "recv1"
 key_text key.ReceiveTwo = codes "recv2"
+key_text key.Checksum = codes "checksum"
 key_text key.PositiveAckLimit = codes "positive_ack_limit"
 key_text key.FilestoreRejection = codes "filestore_rejection"
 key_text key.ChecksumFailure = codes "checksum_failure"

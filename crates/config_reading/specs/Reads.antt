@@ -1,4 +1,4 @@
--- What a function that reads gives, beside what is to be read.
+-- Of the code. What a function that reads gives, beside what is to be read.
 use Rattle.std.specs.Prelude.{◌≡◌, ◌⊎◌, Result, Ok, Err}
 use Rattle.config_reading.specs.declared.fault.ConfigFault.{ConfigFault}
 use Rattle.config_reading.specs.declared.fault.ConfigFault.TheVariants as fault

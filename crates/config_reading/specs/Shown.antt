@@ -1,4 +1,4 @@
--- What the code of a configuration shows.
+-- Of the code. What the code of a configuration shows.
 use Rattle.std.specs.Prelude.{map, string_bytes, String, Vec}
 use Rattle.std.specs.declared.alloc.Global.{Global}
 use Rattle.config_reading.specs.declared.entity.EntitySettings.{EntitySettings}

@@ -1,10 +1,10 @@
--- What a configuration holds, and the limits that it keeps.
+-- Meaning. What a configuration holds, and the limits that it keeps.
 use Rattle.std.specs.Prelude.{ℕ, ◌^◌, Bool, true, false, not, ◌&&◌, ◌==◌, nat_le, nat_lt, List, [], ◌∷◌, length, map, count_by, Option, Some, None}
 use Rattle.config_reading.specs.Texts.{is_address, is_same_text, is_user_name, is_within}
 use Rattle.std.specs.List.{list_all, list_any}
 use Rattle.cfdp_types.specs.declared.key.EntityId.{EntityId}
 use Rattle.cfdp_types.specs.declared.limits.TheConstants.{CONFIGURED_NUMBER, ID_OCTETS, QUEUE_BUNDLES, RECEIVING_LANES, REMOTES, SEGMENT_OCTETS_LEAST, SEGMENT_OCTETS_MOST, SENDING_LANES, SOURCES_OF_A_USER, USERS}
-use Rattle.cfdp_types.specs.Params.{ParamsValue}
+use Rattle.cfdp_types.specs.declared.params.ParamsParts.{ParamsParts}
 use Rattle.config_reading.specs.declared.entity.EntitySettings.{EntitySettings}
 use Rattle.config_reading.specs.declared.remote.Remote.{Remote}
 
@@ -102,7 +102,7 @@ are_routes entity users routes =
     && list_all (has_room routes) routes
 
 -- parameters that say of the entity what its settings say
-abbrev pub are_of : EntitySettings → ParamsValue → Bool
+abbrev pub are_of : EntitySettings → ParamsParts → Bool
 are_of entity params =
     params.local.0 == entity.local.0
     && params.lengths.entity_octets == entity.lengths.entity_octets

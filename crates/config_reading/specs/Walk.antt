@@ -1,4 +1,4 @@
--- How a configuration is read: the tables of the text one after the other, in each its keys in their order.
+-- Meaning. How a configuration is read: the tables of the text one after the other, in each its keys in their order.
 -- What is wrong first is told.
 use Rattle.std.specs.Prelude.{ℕ, ◌+◌, ◌-◌, ◌^◌, Bool, true, false, not, ◌&&◌, nat_le, min, if◌then◌else◌, ℤ, pos, negsuc, List, [], ◌∷◌, ◌++◌, length, map, position, count_by, Option, Some, None, Result, Ok, Err, codes}
 use Rattle.std.specs.List.{list_any}
@@ -6,9 +6,11 @@ use Rattle.toml.specs.Data.{Data, Items, no_items, item, Members, no_members, me
 use Rattle.toml.specs.Parse.{parse_document}
 use Rattle.cfdp_types.specs.Condition as condition
 use Rattle.cfdp_types.specs.Handlers.{FaultTableValue, is_allowed, with_handler}
-use Rattle.cfdp_types.specs.Params.{ParamsValue}
+use Rattle.cfdp_types.specs.declared.params.ParamsParts.{ParamsParts}
 use Rattle.cfdp_types.specs.Reference.{all_cancel}
 use Rattle.cfdp_types.specs.declared.limits.TheConstants.{CONFIGURED_NUMBER, EXPIRATIONS, ID_OCTETS, QUEUE_BUNDLES, RECEIVING_LANES, REMOTES, SEGMENT_OCTETS_LEAST, SEGMENT_OCTETS_MOST, SENDING_LANES, SOURCES_OF_A_USER, TIMER_MILLISECONDS, USERS}
+use Rattle.cfdp_types.specs.declared.names.Checksum.{Checksum}
+use Rattle.cfdp_types.specs.declared.names.Checksum.TheVariants.{Modular, Null}
 use Rattle.cfdp_types.specs.declared.names.Handler.{Handler}
 use Rattle.cfdp_types.specs.declared.names.Handler.TheVariants.{Cancel, Suspend, Ignore, Abandon}
 use Rattle.cfdp_types.specs.declared.names.Role.{Role}
@@ -223,12 +225,31 @@ tables_in ms =
     and_then (handlers_at RecvTwo ms) (λ receive_two.
     Ok (record { send = send; receive_one = receive_one; receive_two = receive_two }))))
 
+-- the checksum that a word names
+abbrev pub checksum_named : List ℕ → Option Checksum
+checksum_named word =
+    if is_same_text word (codes "modular") then Some Modular
+    else (if is_same_text word (codes "null") then Some Null else None)
+
+-- a checksum that has a name
+abbrev pub named_checksum : Option Checksum → Read Checksum
+named_checksum None = Err (fault.OutOfRange key.Checksum)
+named_checksum (Some checksum) = Ok checksum
+
+abbrev pub checksum_of : Data → Read Checksum
+checksum_of d = and_then (text_of key.Checksum d) (λ word. named_checksum (checksum_named word))
+
+-- its checksum, modular where it has none
+abbrev pub checksum_at : Members → Read Checksum
+checksum_at ms = optional Modular checksum_of (value_at key.Checksum ms)
+
 -- all its parameters
-abbrev pub params_in : EntitySettings → Members → Read ParamsValue
+abbrev pub params_in : EntitySettings → Members → Read ParamsParts
 params_in entity ms =
     and_then (timers_in ms) (λ timers.
     and_then (limits_in ms) (λ limits.
     and_then (tables_in ms) (λ tables.
+    and_then (checksum_at ms) (λ checksum.
     Ok (record {
       local = entity.local;
       lengths = entity.lengths;
@@ -236,7 +257,8 @@ params_in entity ms =
       timers = timers;
       limits = limits;
       tables = tables;
-    }))))
+      checksum = checksum;
+    })))))
 
 -- the user has room for one more source
 abbrev pub takes_source : List PeerValue → Option ℕ → Bool
@@ -247,7 +269,7 @@ takes_source before (Some user) = nat_le (count_by (goes_to user) (map route_of 
 abbrev pub remote_keys : List Key
 remote_keys =
     key.Id ∷ key.Address ∷ key.User ∷ key.AckMilliseconds ∷ key.NakMilliseconds ∷ key.CheckMilliseconds ∷ key.InactivityMilliseconds
-    ∷ key.AckLimit ∷ key.NakLimit ∷ key.CheckLimit ∷ key.Send ∷ key.ReceiveOne ∷ key.ReceiveTwo ∷ []
+    ∷ key.AckLimit ∷ key.NakLimit ∷ key.CheckLimit ∷ key.Send ∷ key.ReceiveOne ∷ key.ReceiveTwo ∷ key.Checksum ∷ []
 
 abbrev pub remote_in : EntitySettings → List (List ℕ) → List PeerValue → Members → Read PeerValue
 remote_in entity users before ms =
@@ -260,7 +282,7 @@ remote_in entity users before ms =
     (unless (takes_source before user) fault.TooManySources
     (Ok (peer id user params address))))))))
   where
-    peer : ℕ → Option ℕ → ParamsValue → List ℕ → PeerValue
+    peer : ℕ → Option ℕ → ParamsParts → List ℕ → PeerValue
     peer id user params address = record { remote = record { id = record { 0 = id }; user = user; params = params }; address = address }
 
 -- the tables of the remote entities

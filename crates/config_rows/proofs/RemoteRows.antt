@@ -1,5 +1,6 @@
 -- Worked tables of remote entities, and of whole configurations: what is read, and which fault comes first.
 use Rattle.std.proofs.Common.{◌≡◌, ℕ, zero, suc, List, [], ◌∷◌, map, replicate, Option, Some, None, Ok, Err, codes, pos, refl}
+use Rattle.cfdp_types.specs.declared.names.Checksum.TheVariants.{Modular, Null}
 use Rattle.cfdp_types.specs.declared.names.Handler.TheVariants.{Cancel, Suspend, Ignore, Abandon}
 use Rattle.cfdp_types.specs.declared.names.Role.TheVariants.{Send, RecvOne, RecvTwo}
 use Rattle.cfdp_types.specs.Reference.{all_cancel, reference}
@@ -9,7 +10,7 @@ use Rattle.config_reading.specs.declared.fault.Key.TheVariants as key
 use Rattle.config_reading.specs.declared.fault.Section.TheVariants as section
 use Rattle.entity_config.specs.Reference.{reference_config}
 use Rattle.config_reading.specs.Values.{PeerValue}
-use Rattle.config_reading.specs.Walk.{Read, config_in, handler_named, handlers_of, limits_in, remote_in, remotes_in, timers_in}
+use Rattle.config_reading.specs.Walk.{Read, checksum_at, config_in, handler_named, handlers_of, limits_in, remote_in, remotes_in, timers_in}
 
 abbrev number : ℕ → Data
 number n = integer (pos n)
@@ -71,6 +72,18 @@ handlers_refused = refl
 handlers_mistyped : map (handlers_of Send) (number 1 ∷ table (member (codes "check_limit") (number 1) no_members) ∷ []) ≡ Err (fault.WrongType key.Send) ∷ Err (fault.WrongType key.CheckLimitReached) ∷ []
 handlers_mistyped = refl
 
+-- checksums: modular where none is named
+abbrev with_checksum : Data → Members
+with_checksum d = member (codes "checksum") d no_members
+
+checksums_read : map checksum_at (no_members ∷ with_checksum (string (codes "modular")) ∷ with_checksum (string (codes "null")) ∷ [])
+    ≡ Ok Modular ∷ Ok Modular ∷ Ok Null ∷ []
+checksums_read = refl
+
+checksums_refused : map checksum_at (with_checksum (string (codes "crc")) ∷ with_checksum (string []) ∷ with_checksum (string (codes "Null")) ∷ with_checksum (number 0) ∷ [])
+    ≡ Err (fault.OutOfRange key.Checksum) ∷ Err (fault.OutOfRange key.Checksum) ∷ Err (fault.OutOfRange key.Checksum) ∷ Err (fault.WrongType key.Checksum) ∷ []
+checksums_refused = refl
+
 -- remote entities
 abbrev users : List (List ℕ)
 users = codes "alice" ∷ codes "bob" ∷ []
@@ -99,6 +112,17 @@ second_user = refl
 -- a name that none can have, and one that none has
 user_refused : map read_alone (with_user (codes "Bob") ∷ with_user [] ∷ with_user (codes "carol") ∷ []) ≡ Err (fault.OutOfRange key.User) ∷ Err (fault.OutOfRange key.User) ∷ Err fault.UnknownUser ∷ []
 user_refused = refl
+
+null_checksum : read_alone (remote_table 1 (with_checksum (string (codes "null"))))
+    ≡ Ok (record { remote = record { id = record { 0 = 1 }; user = None; params = record reference { checksum = Null } }; address = home })
+null_checksum = refl
+
+-- the checksum comes behind the tables of handlers, and before an ID that stands twice
+checksum_later : read_alone (remote_table 2 (member (codes "checksum") (number 1) (member (codes "recv2") (number 1) no_members))) ≡ Err (fault.WrongType key.ReceiveTwo)
+checksum_later = refl
+
+own_id_after_checksum : read_alone (remote_table 2 (with_checksum (number 1))) ≡ Err (fault.WrongType key.Checksum)
+own_id_after_checksum = refl
 
 remote_key : read_alone (remote_table 1 (member (codes "color") (number 1) no_members)) ≡ Err (fault.UnknownKey section.Remote)
 remote_key = refl

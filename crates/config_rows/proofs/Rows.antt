@@ -1,5 +1,6 @@
 -- Worked values of configurations: texts, limits and settings.
 use Rattle.std.proofs.Common.{◌≡◌, ℕ, true, false, List, [], ◌∷◌, map, replicate, Option, Some, None, Ok, Err, codes, refl}
+use Rattle.cfdp_types.specs.declared.names.Checksum.TheVariants.{Null}
 use Rattle.cfdp_types.specs.declared.names.Handler.TheVariants.{Suspend, Ignore}
 use Rattle.cfdp_types.specs.declared.names.Role.TheVariants.{RecvOne}
 use Rattle.config_reading.specs.declared.fault.ConfigFault.TheVariants as fault
@@ -75,6 +76,10 @@ limits_above = refl
 nak_limit_set : with_setting (setting.NakLimit 7) reference_config
     ≡ Ok (record reference_config { peers = map (with_params (λ params. record params { limits = record { ack = 2; nak = 7; check = 2 } })) reference_config.peers })
 nak_limit_set = refl
+
+checksum_set : with_setting (setting.Checksum Null) reference_config
+    ≡ Ok (record reference_config { peers = map (with_params (λ params. record params { checksum = Null })) reference_config.peers })
+checksum_set = refl
 
 suspend_refused : with_setting (setting.Handler RecvOne 8 Suspend) reference_config ≡ Err (fault.HandlerNotAllowed key.ReceiveOne)
 suspend_refused = refl

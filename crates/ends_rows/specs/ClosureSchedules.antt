@@ -1,4 +1,4 @@
--- A worked run in class 1 whose sender asks to be told at the end what became of the file.
+-- Rows. A worked run in class 1 whose sender asks to be told at the end what became of the file.
 use Rattle.std.specs.Prelude.{◌≡◌, true, Contains, List, [], ◌∷◌, ◌++◌, None, refl}
 use Rattle.std.proofs.Common.{arith}
 use Rattle.cfdp_types.specs.declared.names.Class.TheVariants.{One}
@@ -18,9 +18,9 @@ use Rattle.sender_table.specs.Answers as sender_answers
 use Rattle.sender_laws.specs.LegalSendings as sender_logs
 use Rattle.receiver_table.specs.Reception as receiver
 use Rattle.receiver_table.specs.Answers as receiver_answers
-use Rattle.two_ends.specs.Schedules.{Move, sends, sender_log, receiver_log, ever_sent, IsSchedule}
-use Rattle.two_ends.specs.ScheduleLaws.{HasStored}
-use Rattle.two_ends.proofs.ScheduleFacts.{tells_what_was_stored}
+use Rattle.ends_schedules.specs.Schedules.{Move, sends, sender_log, receiver_log, ever_sent, IsSchedule}
+use Rattle.ends_schedules.specs.ScheduleLaws.{HasStored}
+use Rattle.ends_schedules.proofs.ScheduleFacts.{tells_what_was_stored}
 use Rattle.ends_rows.specs.ScheduleRows.{absent}
 use Rattle.ends_rows.specs.WorkedSchedules.{sending_in, reception_in, header_in, to_receiver, part_in, eof_in, Step, at_receiver, came, came_back, moves_by, all_sent}
 

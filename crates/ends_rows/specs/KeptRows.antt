@@ -1,4 +1,4 @@
--- Rows on what is said of a file that is kept: what the file store said yes to, and what each end tells of it.
+-- Rows. Rows on what is said of a file that is kept: what the file store said yes to, and what each end tells of it.
 use Rattle.std.specs.Prelude.{◌≡◌, ℕ, Bool, true, false, List, [], ◌∷◌, ◌++◌, None, Option, Result, Ok, Err, refl}
 use Rattle.std.specs.List.{AllByRecursion}
 use Rattle.std.specs.Option.{option_map, option_and_then}
@@ -26,12 +26,12 @@ use Rattle.receiver_table.specs.Reception.{Entry, state_of, initial, step, finis
 use Rattle.receiver_table.specs.Answers.{empty_answer}
 use Rattle.receiver_table.specs.Images.{image_at}
 use Rattle.receiver_laws.specs.LegalReceptions as receiver_logs
-use Rattle.end_laws.specs.SenderLaws.{IsFinished}
-use Rattle.end_laws.specs.ReceiverLaws.{HasKept, IsSaidByReceiver}
-use Rattle.end_laws.proofs.SenderFacts.{tells_what_came}
-use Rattle.end_laws.proofs.KeptFacts.{says_what_is_kept}
-use Rattle.two_ends.specs.Schedules.{sender_log, receiver_log}
-use Rattle.two_ends.specs.ScheduleLaws.{HasStored}
+use Rattle.ends_laws.specs.SenderLaws.{IsFinished}
+use Rattle.ends_laws.specs.ReceiverLaws.{HasKept, IsSaidByReceiver}
+use Rattle.ends_laws.proofs.SenderFacts.{tells_what_came}
+use Rattle.ends_laws.proofs.KeptFacts.{says_what_is_kept}
+use Rattle.ends_schedules.specs.Schedules.{sender_log, receiver_log}
+use Rattle.ends_schedules.specs.ScheduleLaws.{HasStored}
 use Rattle.ends_rows.specs.WorkedSchedules.{sending, reception, to_sender, metadata_in, nak, finished_acknowledged, after, deposited, stored, told_kept, whole}
 use Rattle.ends_rows.specs.ScheduleRows.{stored_schedule, told_schedule, deposit_is, finished_entry, tells_complete}
 

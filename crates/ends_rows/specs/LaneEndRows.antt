@@ -1,4 +1,4 @@
--- Rows on lanes at the ends of the worked run: their steps and an echo are moves.
+-- Rows. Rows on lanes at the ends of the worked run: their steps and an echo are moves.
 use Rattle.std.specs.Prelude.{◌≡◌, ℕ, List, [], ◌∷◌, ◌++◌, Some, None, Ok, refl}
 use Rattle.std.proofs.Common.{arith}
 use Rattle.cfdp_types.specs.Reference.{reference}
@@ -24,11 +24,11 @@ use Rattle.lane_table.specs.declared.lane_side.LaneSide.TheVariants.{Sending, Re
 use Rattle.lane_table.specs.Lane.{State, idle, log_of}
 use Rattle.lane_table.specs.Steps.{refusal_at, stepped, image_of}
 use Rattle.lane_table.proofs.StepFacts.{idle_sound}
-use Rattle.end_laws.specs.Agreement.{image_of_put}
-use Rattle.two_ends.specs.Schedules.{IsSchedule}
+use Rattle.ends_laws.specs.Agreement.{image_of_put}
+use Rattle.ends_schedules.specs.Schedules.{IsSchedule}
 use Rattle.world_table.specs.Histories.{steps, lane_after, AreIdle, IsHistory}
-use Rattle.lane_ends.specs.LaneMoves.{log_at, IsCarried, ComesTo, HasMoved, IsEchoed}
-use Rattle.lane_ends.proofs.MoveFacts.{steps_are_moves, echoes_are_moves, lanes_give_the_put, entity_steps_are_moves}
+use Rattle.ends_lanes.specs.LaneMoves.{log_at, IsCarried, ComesTo, HasMoved, IsEchoed}
+use Rattle.ends_lanes.proofs.MoveFacts.{steps_are_moves, echoes_are_moves, lanes_give_the_put, entity_steps_are_moves}
 use Rattle.ends_rows.specs.WorkedSchedules.{key, sending, reception, to_sender, metadata_in, part_in, eof_in, Step, at_sender, came, after, all_sent}
 
 -- ---- the lanes

@@ -1,4 +1,4 @@
--- Rows on lanes at the ends of the worked run: what is a move of them and what is none, and echoes.
+-- Rows. Rows on lanes at the ends of the worked run: what is a move of them and what is none, and echoes.
 use Rattle.std.specs.Prelude.{◌≡◌, IfSome, Contains, List, [], ◌∷◌, length, option_to_list, Option, Some, None, refl}
 use Rattle.std.specs.List.{AllByRecursion, list_any}
 use Rattle.std.proofs.Common.{ap, sym, subst, ◌∙◌, arith}
@@ -19,11 +19,11 @@ use Rattle.lane_table.specs.Lane.{State, log_of}
 use Rattle.lane_table.specs.Logs.{Log, sent, received}
 use Rattle.lane_table.specs.Steps.{IsDone}
 use Rattle.lane_table.specs.declared.done.Done.{Done}
-use Rattle.end_laws.specs.ReceiverLaws.{HasKept, IsSaidByReceiver}
-use Rattle.end_laws.proofs.EntryFacts.{each_contained}
-use Rattle.end_laws.proofs.KeptFacts.{says_what_is_kept}
-use Rattle.two_ends.specs.Schedules.{Move, sends, receives, echoes, sent_by, pdu_of, IsSchedule}
-use Rattle.lane_ends.specs.LaneMoves.{log_at, ComesTo, HasMoved, IsEchoed}
+use Rattle.ends_laws.specs.ReceiverLaws.{HasKept, IsSaidByReceiver}
+use Rattle.ends_laws.proofs.EntryFacts.{each_contained}
+use Rattle.ends_laws.proofs.KeptFacts.{says_what_is_kept}
+use Rattle.ends_schedules.specs.Schedules.{Move, sends, receives, echoes, sent_by, pdu_of, IsSchedule}
+use Rattle.ends_lanes.specs.LaneMoves.{log_at, ComesTo, HasMoved, IsEchoed}
 use Rattle.ends_rows.specs.WorkedSchedules.{key, sending, reception, metadata_in, eof_in, at_sender, pump, move_by, after, all_sent}
 use Rattle.ends_rows.specs.ScheduleRows.{unput_is_none}
 use Rattle.ends_rows.specs.LaneEndRows.{sending_lane, receiving_lane, uncarried, the_put, pdu_came, stepped_by, echo, sent_schedule}

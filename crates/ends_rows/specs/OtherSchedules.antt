@@ -1,4 +1,4 @@
--- Other courses of a schedule: with other parameters, timers that expire, suspensions, a cancelled Put, and a file
+-- Rows. Other courses of a schedule: with other parameters, timers that expire, suspensions, a cancelled Put, and a file
 -- store that says no.
 use Rattle.std.specs.Prelude.{◌≡◌, true, false, IfSome, Contains, List, [], ◌∷◌, ◌++◌, Some, Ok, Err, refl}
 use Rattle.std.specs.List.{AllByRecursion}
@@ -29,8 +29,8 @@ use Rattle.receiver_table.specs.Reception.{Reception, finished_in}
 use Rattle.receiver_table.specs.Reception as receiver
 use Rattle.receiver_table.specs.Answers as receiver_answers
 use Rattle.receiver_table.specs.Images.{image_at}
-use Rattle.end_laws.specs.Agreement.{image_of_put}
-use Rattle.two_ends.specs.Schedules.{Move, sender_log, receiver_log, ever_sent, IsSchedule}
+use Rattle.ends_laws.specs.Agreement.{image_of_put}
+use Rattle.ends_schedules.specs.Schedules.{Move, sender_log, receiver_log, ever_sent, IsSchedule}
 use Rattle.ends_rows.specs.WorkedSchedules.{sending, reception, to_receiver, to_sender, metadata_in, part_in, eof_in, finished, Step, at_sender, at_receiver, came, came_back, pump, moves_by, after, all_sent}
 use Rattle.ends_rows.specs.ScheduleRows.{absent}
 

@@ -1,4 +1,4 @@
--- Rows on what a PDU says of the file of a Put, and what the laws of one end give of the worked run.
+-- Rows. Rows on what a PDU says of the file of a Put, and what the laws of one end give of the worked run.
 use Rattle.std.specs.Prelude.{◌≡◌, ℕ, zero, suc, List, [], ◌∷◌, Ok, Option, unwrap_or, refl}
 use Rattle.std.specs.List.{AllByRecursion}
 use Rattle.std.proofs.Common.{ap, arith, get_or}
@@ -12,13 +12,13 @@ use Rattle.receiver_table.specs.Reception.{Entry}
 use Rattle.receiver_table.specs.Answers.{empty_answer}
 use Rattle.receiver_table.specs.Reception as receiver
 use Rattle.receiver_table.specs.Images.{image_at}
-use Rattle.end_laws.specs.Agreement.{AgreesWith, image_of_put}
-use Rattle.end_laws.specs.SenderLaws.{IsSaidBySender}
-use Rattle.end_laws.specs.ReceiverLaws.{AllAgree}
-use Rattle.end_laws.proofs.SenderFacts.{sends_its_put}
-use Rattle.end_laws.proofs.ReceiverFacts.{deposits_the_put, gives_the_put}
-use Rattle.two_ends.specs.Schedules.{sender_log, receiver_log}
-use Rattle.two_ends.proofs.ScheduleFacts.{images_are_the_put}
+use Rattle.ends_laws.specs.Agreement.{AgreesWith, image_of_put}
+use Rattle.ends_laws.specs.SenderLaws.{IsSaidBySender}
+use Rattle.ends_laws.specs.ReceiverLaws.{AllAgree}
+use Rattle.ends_laws.proofs.SenderFacts.{sends_its_put}
+use Rattle.ends_laws.proofs.ReceiverFacts.{deposits_the_put, gives_the_put}
+use Rattle.ends_schedules.specs.Schedules.{sender_log, receiver_log}
+use Rattle.ends_schedules.proofs.ScheduleFacts.{images_are_the_put}
 use Rattle.ends_rows.specs.WorkedSchedules.{key, sending, reception, metadata_in, nak, finished, after, sent_again, deposited, stored}
 use Rattle.ends_rows.specs.ScheduleRows.{told_schedule, deposited_schedule, data_entry, data_deposits, deposit_is, finished_entry, altered}
 

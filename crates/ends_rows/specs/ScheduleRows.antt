@@ -1,4 +1,4 @@
--- Rows on schedules: what the laws give of the worked run, other runs, and what is no schedule.
+-- Rows. Rows on schedules: what the laws give of the worked run, other runs, and what is no schedule.
 use Rattle.std.specs.Prelude.{◌≡◌, ℕ, true, Contains, List, [], ◌∷◌, ◌++◌, length, map, Some, None, Result, Ok, Err, refl}
 use Rattle.std.specs.List.{AllByRecursion}
 use Rattle.std.proofs.Common.{ap, arith, get_or}
@@ -28,11 +28,11 @@ use Rattle.receiver_table.specs.Answers as receiver_answers
 use Rattle.receiver_table.specs.Answers.{empty_answer}
 use Rattle.receiver_table.specs.Images.{image_at}
 use Rattle.receiver_laws.specs.LegalReceptions as receiver_logs
-use Rattle.end_laws.specs.Agreement.{image_of_put}
-use Rattle.end_laws.proofs.EntryFacts.{each_contained}
-use Rattle.two_ends.specs.Schedules.{Move, receives, echoes, sender_log, receiver_log, sent_by, ever_sent, IsSchedule}
-use Rattle.two_ends.specs.ScheduleLaws.{HasStored}
-use Rattle.two_ends.proofs.ScheduleFacts.{schedule_before, begins_as_schedule, deposits_are_the_put, tells_what_was_stored}
+use Rattle.ends_laws.specs.Agreement.{image_of_put}
+use Rattle.ends_laws.proofs.EntryFacts.{each_contained}
+use Rattle.ends_schedules.specs.Schedules.{Move, receives, echoes, sender_log, receiver_log, sent_by, ever_sent, IsSchedule}
+use Rattle.ends_schedules.specs.ScheduleLaws.{HasStored}
+use Rattle.ends_schedules.proofs.ScheduleFacts.{schedule_before, begins_as_schedule, deposits_are_the_put, tells_what_was_stored}
 use Rattle.ends_rows.specs.WorkedSchedules.{key, sending_in, reception_in, sending, reception, to_receiver, metadata_in, part_in, eof_in, finished, finished_acknowledged, Step, at_sender, at_receiver, came, came_back, pump, move_by, moves_by, after, all_sent, sent_again, deposited, stored, told_kept, whole, whole_schedule}
 
 -- ---- the laws, over the worked run

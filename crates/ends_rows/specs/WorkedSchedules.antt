@@ -1,5 +1,5 @@
--- A file that is put at one entity and comes to another: a worked run of both ends, with all octets on the way.
-use Rattle.std.specs.Prelude.{◌≡◌, true, List, [], ◌∷◌, ◌++◌, map, None, Err, refl}
+-- Rows. A file that is put at one entity and comes to another: a worked run of both ends, with all octets on the way.
+use Rattle.std.specs.Prelude.{◌≡◌, true, false, List, [], ◌∷◌, ◌++◌, map, None, Err, refl}
 use Rattle.std.proofs.Common.{arith}
 use Rattle.cfdp_types.specs.Reference.{reference}
 use Rattle.cfdp_types.specs.declared.key.TxnKey.{TxnKey}
@@ -31,7 +31,7 @@ use Rattle.receiver_table.specs.Reception.{Reception}
 use Rattle.receiver_table.specs.Reception as receiver
 use Rattle.receiver_table.specs.Answers as receiver_answers
 use Rattle.receiver_laws.specs.LegalReceptions as receiver_logs
-use Rattle.two_ends.specs.Schedules.{Move, sends, receives, echoes, sender_log, receiver_log, ever_sent, IsSchedule}
+use Rattle.ends_schedules.specs.Schedules.{Move, sends, receives, echoes, sender_log, receiver_log, ever_sent, IsSchedule}
 
 -- ---- the transaction
 
@@ -47,6 +47,7 @@ abbrev pub header_in : Class → Header
 header_in class = record {
   direction = TowardReceiver;
   class = class;
+  large = false;
   entity_octets = 1;
   sequence_octets = 1;
   source = record { 0 = 2 };

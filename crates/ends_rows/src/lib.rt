@@ -1,3 +1,3 @@
-//! Worked schedules of two ends, computed by the checker from the definitions of `two_ends` and `lane_ends`.
+//! Worked schedules of two ends, computed by the checker from the definitions of `ends_schedules` and `ends_lanes`.
 //! There is no code here: each row is a lemma in `specs/`.
 #![tactic(auto)]

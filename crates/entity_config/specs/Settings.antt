@@ -1,12 +1,13 @@
--- How a setting changes a configuration.
+-- Meaning. How a setting changes a configuration.
 use Rattle.std.specs.Prelude.{ℕ, if◌then◌else◌, map, Result, Ok, Err}
 use Rattle.cfdp_types.specs.declared.limits.TheConstants.{CONFIGURED_NUMBER, EXPIRATIONS, QUEUE_BUNDLES}
+use Rattle.cfdp_types.specs.declared.names.Checksum.{Checksum}
 use Rattle.cfdp_types.specs.declared.names.Handler.{Handler}
 use Rattle.cfdp_types.specs.declared.names.Role.{Role}
 use Rattle.cfdp_types.specs.declared.names.Role.TheVariants.{Send, RecvOne, RecvTwo}
 use Rattle.cfdp_types.specs.declared.params.FaultTables.{FaultTables}
 use Rattle.cfdp_types.specs.Handlers.{is_allowed, with_handler}
-use Rattle.cfdp_types.specs.Params.{ParamsValue}
+use Rattle.cfdp_types.specs.declared.params.ParamsParts.{ParamsParts}
 use Rattle.config_reading.specs.declared.fault.ConfigFault.{ConfigFault}
 use Rattle.config_reading.specs.declared.fault.ConfigFault.TheVariants as fault
 use Rattle.config_reading.specs.declared.fault.Key.{Key}
@@ -21,11 +22,11 @@ use Rattle.config_reading.specs.Texts.{is_within}
 use Rattle.config_reading.specs.Values.{ConfigValue, PeerValue}
 
 -- the same remote entity with other parameters
-abbrev pub with_params : (ParamsValue → ParamsValue) → PeerValue → PeerValue
+abbrev pub with_params : (ParamsParts → ParamsParts) → PeerValue → PeerValue
 with_params change peer = record { remote = record { id = peer.remote.id; user = peer.remote.user; params = change peer.remote.params }; address = peer.address }
 
 -- the configuration with each remote's parameters changed
-abbrev pub with_all_params : (ParamsValue → ParamsValue) → ConfigValue → ConfigValue
+abbrev pub with_all_params : (ParamsParts → ParamsParts) → ConfigValue → ConfigValue
 with_all_params change config = record config { peers = map (with_params change) config.peers }
 
 -- limits of expirations with another one
@@ -35,7 +36,7 @@ limit_changed Nak limit limits = record limits { nak = limit }
 limit_changed Check limit limits = record limits { check = limit }
 
 -- parameters with another limit of expirations
-abbrev pub with_limit : Limited → ℕ → ParamsValue → ParamsValue
+abbrev pub with_limit : Limited → ℕ → ParamsParts → ParamsParts
 with_limit limited limit params = record params { limits = limit_changed limited limit params.limits }
 
 -- the fault tables with another handler in the role's own
@@ -45,8 +46,12 @@ tables_changed RecvOne condition handler tables = record tables { receive_one = 
 tables_changed RecvTwo condition handler tables = record tables { receive_two = with_handler tables.receive_two condition handler }
 
 -- parameters with another handler
-abbrev pub with_role_handler : Role → ℕ → Handler → ParamsValue → ParamsValue
+abbrev pub with_role_handler : Role → ℕ → Handler → ParamsParts → ParamsParts
 with_role_handler role condition handler params = record params { tables = tables_changed role condition handler params.tables }
+
+-- parameters with another checksum
+abbrev pub with_checksum : Checksum → ParamsParts → ParamsParts
+with_checksum checksum params = record params { checksum = checksum }
 
 -- what holds within the range, and else that the key is out of range
 abbrev pub if_within : Key → ℕ → ℕ → ℕ → ConfigValue → Result ConfigValue ConfigFault
@@ -65,3 +70,4 @@ with_setting (setting.NakLimit n) config = limit_set Nak key.NakLimit n config
 with_setting (setting.CheckLimit n) config = limit_set Check key.CheckLimit n config
 with_setting (setting.Handler role condition handler) config =
     if is_allowed role condition handler then Ok (with_all_params (with_role_handler role condition handler) config) else Err (fault.HandlerNotAllowed (table_key role))
+with_setting (setting.Checksum checksum) config = Ok (with_all_params (with_checksum checksum) config)

@@ -2,10 +2,12 @@
 ghost use Rattle.std.specs.Prelude.{◌≡◌, ◌≤◌, map, IsTrue};
 ghost use Rattle.cfdp_types.specs.Handlers.{is_allowed};
 ghost use Rattle.cfdp_types.specs.Params.{AreExpirationLimits, AreFaultTables};
-ghost use Rattle.entity_config.specs.Settings.{limit_changed, tables_changed, with_limit, with_params, with_role_handler};
+ghost use Rattle.entity_config.specs.Settings.{limit_changed, tables_changed, with_checksum, with_limit, with_params, with_role_handler};
 ghost use Rattle.config_reading.specs.Shown.{peer_shown};
 
-use cfdp_types::{Condition, ExpirationLimits, FaultTables, Handler, Params, Role};
+use cfdp_types::{
+    Checksum, Condition, ExpirationLimits, FaultTables, Handler, Params, ParamsParts, Role,
+};
 use config_reading::Peer;
 
 /// The timers whose expirations are counted.
@@ -21,15 +23,11 @@ fn with_limits(params: Params, limits: ExpirationLimits) -> Params
     requires { AreExpirationLimits limits }
     ensures { result ≡ record params { limits = limits } }
 {
-    let changed = Params::new(
-        params.local(),
-        params.lengths(),
-        params.segment_octets(),
-        params.timers(),
+    let parts = ParamsParts {
         limits,
-        params.tables(),
-    );
-    changed.unwrap_or(params)
+        ..params.parts()
+    };
+    Params::new(parts).unwrap_or(params)
 }
 
 // The same parameters with other fault tables.
@@ -37,15 +35,22 @@ fn with_tables(params: Params, tables: FaultTables) -> Params
     requires { AreFaultTables tables }
     ensures { result ≡ record params { tables = tables } }
 {
-    let changed = Params::new(
-        params.local(),
-        params.lengths(),
-        params.segment_octets(),
-        params.timers(),
-        params.limits(),
+    let parts = ParamsParts {
         tables,
-    );
-    changed.unwrap_or(params)
+        ..params.parts()
+    };
+    Params::new(parts).unwrap_or(params)
+}
+
+// The same parameters with another checksum.
+fn params_with_checksum(params: Params, checksum: Checksum) -> Params
+    ensures { result ≡ with_checksum checksum params }
+{
+    let parts = ParamsParts {
+        checksum,
+        ..params.parts()
+    };
+    Params::new(parts).unwrap_or(params)
 }
 
 fn limits_with(limits: ExpirationLimits, limited: Limited, limit: u8) -> ExpirationLimits
@@ -138,5 +143,15 @@ pub(crate) fn change_handler(
 {
     for peer in peers.iter_mut() {
         peer.remote.params = params_with_handler(peer.remote.params, role, condition, handler);
+    }
+}
+
+/// Changes the checksum for every remote entity.
+pub(crate) fn change_checksum(peers: &mut Vec<Peer>, checksum: Checksum)
+    ensures { map peer_shown peers.new.items
+        ≡ map (with_params (with_checksum checksum)) (map peer_shown peers.old.items) }
+{
+    for peer in peers.iter_mut() {
+        peer.remote.params = params_with_checksum(peer.remote.params, checksum);
     }
 }

@@ -3,11 +3,11 @@ ghost use Rattle.std.specs.List.{filter};
 ghost use Rattle.config_reading.specs.Shown.{peer_shown};
 ghost use Rattle.config_reading.specs.Values.{goes_to, has_id, route_of};
 
-use crate::change::{Limited, change_handler, change_limit};
+use crate::change::{Limited, change_checksum, change_handler, change_limit};
 use crate::reference::reference_params;
 use crate::setting::Setting;
 use cfdp_types::limits::{CONFIGURED_NUMBER, EXPIRATIONS, QUEUE_BUNDLES};
-use cfdp_types::{Condition, EntityId, Handler, HeaderLengths, Role};
+use cfdp_types::{Checksum, Condition, EntityId, Handler, HeaderLengths, Role};
 use config_reading::{ConfigFault, ConfigParts, EntitySettings, Key, Peer, Remote, place_of};
 use std::alloc::{AllocError, Global};
 use std::marker::Model;
@@ -191,7 +191,7 @@ impl Config {
         source_among(&self.peers, user, place)
     }
 
-    /// Changes one setting; a limit or a handler changes for every remote entity. A number out of the
+    /// Changes one setting; a limit, a handler or the checksum changes for every remote entity. A number out of the
     /// setting's range, and a handler that its role does not allow for the condition, change nothing.
     pub fn set(&mut self, setting: Setting) -> Result<(), ConfigFault>
         ensures ok { OnOk result (with_setting setting self.old ≡ Ok self.new) }
@@ -206,6 +206,10 @@ impl Config {
             Setting::CheckLimit(limit) => self.set_limit(Limited::Check, Key::CheckLimit, limit),
             Setting::Handler(role, condition, handler) => {
                 self.set_handler(role, condition, handler)
+            }
+            Setting::Checksum(checksum) => {
+                self.set_checksum(checksum);
+                Ok(())
             }
         }
     }
@@ -262,6 +266,12 @@ impl Config {
         }
         change_handler(&mut self.peers, role, condition, handler);
         Ok(())
+    }
+
+    fn set_checksum(&mut self, checksum: Checksum)
+        ensures { with_setting (setting.Checksum checksum) self.old ≡ Ok self.new }
+    {
+        change_checksum(&mut self.peers, checksum);
     }
 }
 

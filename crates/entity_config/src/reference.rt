@@ -3,11 +3,12 @@ ghost use Rattle.std.specs.Prelude.{◌≡◌};
 ghost use Rattle.cfdp_types.specs.Reference.{reference};
 
 use cfdp_types::{
-    EntityId, ExpirationLimits, FaultTables, HeaderLengths, Params, Role, TimerLengths,
+    Checksum, EntityId, ExpirationLimits, FaultTables, HeaderLengths, Params, ParamsParts, Role,
+    TimerLengths,
 };
 use config_reading::cancelling;
 
-/// Timers of a second, two expirations of each, and every fault cancels.
+/// Timers of a second, two expirations of each, every fault cancels, and the checksum is modular.
 pub(crate) fn reference_params() -> Params
     ensures { result ≡ reference }
 {
@@ -17,24 +18,25 @@ pub(crate) fn reference_params() -> Params
         check: 1_000,
         inactivity: 1_000,
     };
-    let params = Params::new(
-        EntityId(2),
-        HeaderLengths {
+    let params = Params::new(ParamsParts {
+        local: EntityId(2),
+        lengths: HeaderLengths {
             entity_octets: 1,
             sequence_octets: 1,
         },
-        256,
-        second,
-        ExpirationLimits {
+        segment_octets: 256,
+        timers: second,
+        limits: ExpirationLimits {
             ack: 2,
             nak: 2,
             check: 2,
         },
-        FaultTables {
+        tables: FaultTables {
             send: cancelling(Role::Send),
             receive_one: cancelling(Role::RecvOne),
             receive_two: cancelling(Role::RecvTwo),
         },
-    );
+        checksum: Checksum::Modular,
+    });
     params.unwrap()
 }

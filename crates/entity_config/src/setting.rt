@@ -1,6 +1,6 @@
-use cfdp_types::{Condition, Handler, Role};
+use cfdp_types::{Checksum, Condition, Handler, Role};
 
-/// A change of a configuration. Limits and handlers change for every remote entity.
+/// A change of a configuration. Limits, handlers and the checksum change for every remote entity.
 #[derive(Clone, Copy, Debug, PartialEq, Eq)]
 pub enum Setting {
     /// Bundles that the queue of each user has room for.
@@ -12,4 +12,6 @@ pub enum Setting {
     NakLimit(u64),
     CheckLimit(u64),
     Handler(Role, Condition, Handler),
+    /// The checksum of the files that are sent.
+    Checksum(Checksum),
 }

@@ -1,4 +1,4 @@
--- Which lane of which user a transaction belongs to, by the configuration alone.
+-- Meaning. Which lane of which user a transaction belongs to, by the configuration alone.
 use Rattle.std.specs.Prelude.{ℕ, ◌+◌, ◌*◌, ◌-◌, ◌/◌, ◌%◌, Bool, ◌==◌, nat_lt, if◌then◌else◌, List, length, find, position, slice_get, Option, Some, None}
 use Rattle.std.specs.List.{filter}
 use Rattle.std.specs.Option.{option_map}

@@ -1,4 +1,4 @@
--- The numbers and names of the refusals that come before a lane is looked at.
+-- Meaning. The numbers and names of the refusals that come before a lane is looked at.
 use Rattle.std.specs.Prelude.{ℕ, List, codes}
 use Rattle.entity_routing.specs.declared.refusal.RouteRefusal.{RouteRefusal}
 use Rattle.entity_routing.specs.declared.refusal.RouteRefusal.TheVariants as refusals

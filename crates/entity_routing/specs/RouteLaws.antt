@@ -1,4 +1,4 @@
--- What holds of every route.
+-- Meaning. What holds of every route.
 use Rattle.std.specs.Prelude.{◌≡◌, ◌-◌, ◌%◌, ◌<◌, ◌↔◌, true, false, IsTrue, length, Some, None, Ok}
 use Rattle.cfdp_types.specs.declared.key.TxnKey.{TxnKey}
 use Rattle.cfdp_types.specs.declared.key.EntityId.{EntityId}

@@ -1,8 +1,8 @@
--- Which lane is told of what happens to an entity, and what it is told; or why none is.
+-- Meaning. Which lane is told of what happens to an entity, and what it is told; or why none is.
 use Rattle.std.specs.Prelude.{ℕ, Bool, true, false, not, ◌==◌, ◌&&◌, if◌then◌else◌, find, Option, Some, None, Result, Ok, Err}
 use Rattle.cfdp_types.specs.declared.key.TxnKey.{TxnKey}
 use Rattle.cfdp_types.specs.declared.key.EntityId.{EntityId}
-use Rattle.cfdp_types.specs.Params.{ParamsValue}
+use Rattle.cfdp_types.specs.declared.params.ParamsParts.{ParamsParts}
 use Rattle.cfdp_types.specs.Put.{PutValue}
 use Rattle.pdu_values.specs.declared.pdu.Direction.{Direction}
 use Rattle.pdu_values.specs.declared.pdu.Direction.TheVariants.{TowardReceiver, TowardSender}
@@ -85,12 +85,12 @@ pdu_place config pdu =
 -- ---- files to be sent
 
 -- what the transactions with a remote entity go by, if there is one
-abbrev pub params_of_peer : Option PeerValue → Result ParamsValue RouteRefusal
+abbrev pub params_of_peer : Option PeerValue → Result ParamsParts RouteRefusal
 params_of_peer None = Err refusals.UnknownRemote
 params_of_peer (Some peer) = Ok peer.remote.params
 
 -- what the transactions with a destination go by
-abbrev pub put_params : ConfigValue → EntityId → Result ParamsValue RouteRefusal
+abbrev pub put_params : ConfigValue → EntityId → Result ParamsParts RouteRefusal
 put_params config destination = params_of_peer (find (has_id destination) config.peers)
 
 -- ---- the whole
@@ -101,7 +101,7 @@ routed_on key happens (Err why) = Err why
 routed_on key happens (Ok place) = Ok (record { place = place; event = On key happens })
 
 -- a file is to be sent from a place, by parameters if there are some
-abbrev pub routed_put : Place → PutValue → Result ParamsValue RouteRefusal → Result Routed RouteRefusal
+abbrev pub routed_put : Place → PutValue → Result ParamsParts RouteRefusal → Result Routed RouteRefusal
 routed_put place put (Err why) = Err why
 routed_put place put (Ok params) = Ok (record { place = place; event = Put put params })
 

@@ -1,7 +1,7 @@
 -- Worked deposits into a store in memory that has one file, of two calls.
 use Rattle.std.proofs.Common.{◌≡◌, ℕ, List, [], ◌∷◌, Result, Ok, Err, refl, arith}
 use Rattle.file_stores.specs.declared.filestore.StoreFault.{StoreFault}
-use Rattle.file_stores.specs.declared.filestore.StoreFault.TheVariants.{BadName, Failed}
+use Rattle.file_stores.specs.declared.filestore.StoreFault.TheVariants.{Failed}
 use Rattle.file_stores.specs.declared.memory_store.StoredFile.{StoredFile}
 use Rattle.file_stores.specs.MemoryStore.{MemoryStoreValue, Deposits}
 use Rattle.entity_workers.specs.Depositing.{IsAskedOnce}

@@ -1,4 +1,4 @@
--- What a worker may be answered.
+-- Meaning. What a worker may be answered.
 use Rattle.std.specs.Prelude.{◌≡◌, ℕ, List, Result, Ok}
 use Rattle.atomic_table.specs.Seated.{TableId}
 use Rattle.txn_events.specs.declared.event.Event.{Event}
@@ -6,8 +6,8 @@ use Rattle.pdu_values.specs.Pdu.{PduValue}
 use Rattle.pdu_reading.specs.Reading.{reading}
 use Rattle.config_reading.specs.Values.{ConfigValue}
 use Rattle.entity_routing.specs.Routes.{routed_pdu}
-use Rattle.entity_refusals.specs.declared.refusal.EntityRefusal.{EntityRefusal}
-use Rattle.held_lanes.specs.Held.{HeldValue}
+use Rattle.entity_parts.specs.declared.refusal.EntityRefusal.{EntityRefusal}
+use Rattle.shared_lanes.specs.Held.{HeldValue}
 use Rattle.shared_entity.specs.Answering.{MayAnswer}
 
 -- whatever an entity may answer to a PDU that some octets are read as is accepted

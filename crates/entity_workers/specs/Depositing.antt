@@ -1,4 +1,4 @@
--- What a deposit does.
+-- Meaning. What a deposit does.
 use Rattle.std.specs.Prelude.{◌≡◌, ◌+◌, ◌⊎◌, ℕ, Bool, Option, Some, None, List, Result, Ok, Err, is_ok, if◌then◌else◌}
 use Rattle.atomic_table.specs.Seated.{TableId}
 use Rattle.cfdp_types.specs.declared.key.Deposit.{Deposit}
@@ -8,9 +8,9 @@ use Rattle.lane_table.specs.declared.done.Done.{Done}
 use Rattle.lane_table.specs.declared.refused.Refused.{Refused}
 use Rattle.config_reading.specs.Values.{ConfigValue}
 use Rattle.entity_routing.specs.Routes.{key_place, routed_key}
-use Rattle.entity_refusals.specs.declared.refusal.EntityRefusal.{EntityRefusal}
-use Rattle.entity_refusals.specs.declared.refusal.EntityRefusal.TheVariants as answer
-use Rattle.held_lanes.specs.Held.{HasStepped}
+use Rattle.entity_parts.specs.declared.refusal.EntityRefusal.{EntityRefusal}
+use Rattle.entity_parts.specs.declared.refusal.EntityRefusal.TheVariants as answer
+use Rattle.shared_lanes.specs.Held.{HasStepped}
 use Rattle.shared_entity.specs.Answering.{MayAnswer, MayGiveImage}
 use Rattle.file_stores.specs.declared.filestore.StoreFault.{StoreFault}
 use Rattle.entity_workers.specs.declared.deposit.DepositRest.{DepositRest}
@@ -47,7 +47,7 @@ pub record IsAskedOnce {S : Type 0} (tried failed : S → ℕ) (deposits : Askin
   pub deposited : deposits before name octets answer after
 
 -- the store was asked for a file that the entity may give for the deposit, and this says whether it keeps it
-pub record HasStored {S : Type 0} (queue : ℕ → TableId) (config : ConfigValue) (asks : Asking S) (deposit : Deposit) (kept : Bool) (before after : S) : Type 0 where
+pub record HasAnswered {S : Type 0} (queue : ℕ → TableId) (config : ConfigValue) (asks : Asking S) (deposit : Deposit) (kept : Bool) (before after : S) : Type 0 where
   pub image : Image
   pub answer : Result (Unit {0}) StoreFault
   pub given : MayGiveImage queue deposit.key deposit.stamp (key_place config deposit.key) (Ok image)
@@ -59,11 +59,11 @@ abbrev pub IsBegun : {S : Type 0} → (ℕ → TableId) → ConfigValue → Aski
 IsBegun queue config asks deposit before after None why =
     (after ≡ before) × MayGiveImage queue deposit.key deposit.stamp (key_place config deposit.key) (Err why)
 IsBegun queue config asks deposit before after (Some kept) why =
-    HasStored queue config asks deposit kept before after × IsNotTold queue config deposit kept why
+    HasAnswered queue config asks deposit kept before after × IsNotTold queue config deposit kept why
 
 -- a deposit was made: the store was asked and the lane was told what it answered; or the rest says what is left
 abbrev pub IsDeposited : {S : Type 0} → (ℕ → TableId) → ConfigValue → Asking S → Deposit → S → Result Done DepositRest → S → Type 0
 IsDeposited queue config asks deposit before (Ok done) after =
-    (kept : Bool) × HasStored queue config asks deposit kept before after × MayBeTold queue config deposit kept (Ok (Ok done))
+    (kept : Bool) × HasAnswered queue config asks deposit kept before after × MayBeTold queue config deposit kept (Ok (Ok done))
 IsDeposited queue config asks deposit before (Err rest) after =
     (rest.deposit ≡ deposit) × IsBegun queue config asks deposit before after rest.answer rest.refusal

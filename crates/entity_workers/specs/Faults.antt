@@ -1,4 +1,4 @@
--- The faults of an intake and of workers by number, and when an intake takes no datagram.
+-- Meaning. The faults of an intake and of workers by number, and when an intake takes no datagram.
 use Rattle.std.specs.Prelude.{◌≡◌, ◌⊎◌, ℕ, Result, Ok, Err}
 use Rattle.pdu_reading.specs.declared.fault.DecodeFault.{DecodeFault}
 use Rattle.pdu_values.specs.Pdu.{PduValue}

@@ -1,4 +1,4 @@
--- What waits for a worker.
+-- Meaning. What waits for a worker.
 use Rattle.std.specs.Prelude.{ℕ, List}
 use Rattle.pdu_values.specs.Pdu.{PduValue}
 

@@ -3,7 +3,7 @@ use shared_entity::EntityRefusal;
 /// What becomes of the answers to the datagrams that a worker brings to their lanes.
 pub trait Carrier<A> {
     ghost use Rattle.std.specs.Prelude.{Result};
-    ghost use Rattle.entity_refusals.specs.declared.refusal.EntityRefusal.{EntityRefusal};
+    ghost use Rattle.entity_parts.specs.declared.refusal.EntityRefusal.{EntityRefusal};
 
     /// Which answers it may be given.
     ghost accepts: { Self → Result A EntityRefusal → Type 0 };

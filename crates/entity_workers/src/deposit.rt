@@ -1,14 +1,14 @@
 //! A received file goes into a store, and its lane is told whether the store keeps it.
 ghost use Rattle.std.specs.Prelude.{◌≡◌, ◌<◌, MatchOption, MatchResult};
-ghost use Rattle.entity_workers.specs.Depositing.{IsAskedOnce, HasStored, IsHandedIn, IsDeposited};
+ghost use Rattle.entity_workers.specs.Depositing.{IsAskedOnce, HasAnswered, IsHandedIn, IsDeposited};
 ghost use Rattle.entity_routing.specs.Routes.{key_place};
 ghost use Rattle.shared_entity.specs.Answering.{MayGiveImage};
 
 use cfdp_types::Deposit;
 use file_stores::Filestore;
-use held_lanes::{Names, NoGate};
 use lane_table::Done;
 use shared_entity::{Entity, EntityRefusal};
+use shared_lanes::{Names, NoGate};
 use std::sync::Wait;
 
 /// What is left to be done of a deposit: all of it, or to tell its lane what the store answered.
@@ -68,7 +68,7 @@ fn store_image<N: Names, R: Wait + Copy, S: Filestore>(
 ) -> Result<bool, EntityRefusal>
     requires { S.tried store.old < u64.MAX }
     ensures { MatchResult result
-        (λ answer. HasStored N.queue entity.now (IsAskedOnce S.tried S.failed S.deposits) deposit answer store.old store.new)
+        (λ answer. HasAnswered N.queue entity.now (IsAskedOnce S.tried S.failed S.deposits) deposit answer store.old store.new)
         (λ why. (store.new ≡ store.old)
         × MayGiveImage N.queue deposit.key deposit.stamp (key_place entity.now deposit.key) (Err why)) }
 {

@@ -1,4 +1,4 @@
--- The faults of a store by number.
+-- Meaning. The faults of a store by number.
 use Rattle.std.specs.Prelude.{ℕ}
 use Rattle.file_stores.specs.declared.filestore.StoreFault.{StoreFault}
 use Rattle.file_stores.specs.declared.filestore.StoreFault.TheVariants.{BadName, Failed}

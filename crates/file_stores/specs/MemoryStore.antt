@@ -1,4 +1,4 @@
--- A store in memory: what it holds, and what a deposit does to it.
+-- Meaning. A store in memory: what it holds, and what a deposit does to it.
 use Rattle.std.specs.Prelude.{◌≡◌, ℕ, List, [], ◌∷◌, ◌++◌, Result, MatchResult}
 use Rattle.file_stores.specs.declared.filestore.StoreFault.{StoreFault}
 use Rattle.file_stores.specs.declared.filestore.StoreFault.TheVariants.{Failed}

@@ -1,4 +1,4 @@
--- Names of files in a folder, and what a deposit into it tells.
+-- Meaning. Names of files in a folder, and what a deposit into it tells.
 use Rattle.std.specs.Prelude.{◌≡◌, ◌↔◌, ℕ, Bool, not, ◌&&◌, ◌||◌, ◌==◌, nat_eq, if◌then◌else◌, IsTrue, IsUtf8, List, ◌++◌, length, codes, decimal, Option, Some, None, Result, Err, OnOk}
 use Rattle.std.specs.List.{list_any}
 use Rattle.std.specs.Str.{bytes_eq}

@@ -1,4 +1,4 @@
--- What a gap list covers.
+-- Meaning. What a gap list covers.
 use Rattle.std.specs.Prelude.{ℕ, ◌+◌, ◌≤◌, Bool, List, length, Option, None, Some}
 use Rattle.gap_list.specs.declared.run.Run.{Run}
 use Rattle.gap_list.specs.Runs.{in_runs}

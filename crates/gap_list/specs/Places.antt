@@ -1,4 +1,4 @@
--- What the runs from a place on say of an offset, where those before it end below.
+-- Of the code. What the runs from a place on say of an offset, where those before it end below.
 use Rattle.std.specs.Prelude.{◌≡◌, ℕ, Bool, true, nat_le, nat_lt, min, if◌then◌else◌, List, [], ◌∷◌, refl}
 use Rattle.gap_list.specs.declared.run.Run.{Run}
 

@@ -1,4 +1,4 @@
--- Sets of offsets, as tests of an offset, and the runs that they are made of.
+-- Meaning. Sets of offsets, as tests of an offset, and the runs that they are made of.
 use Rattle.std.specs.Prelude.{◌≡◌, ℕ, zero, suc, ◌+◌, ◌-◌, ◌<◌, ◌≤◌, Bool, true, false, ◌&&◌, ◌||◌, ◌==◌, not, nat_le, nat_lt, cond, List, [], ◌∷◌, IsTrue, Option, Some, slice_get, take, refl}
 use Rattle.std.specs.List.{list_any}
 use Rattle.gap_list.specs.declared.run.Run.{Run}

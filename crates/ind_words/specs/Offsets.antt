@@ -1,4 +1,4 @@
--- Sets of offsets that segments make up.
+-- Of the code. Sets of offsets that segments make up.
 use Rattle.std.specs.Prelude.{ℕ, ◌<◌, ◌↔◌, Bool, IsTrue}
 
 -- the set is all offsets below some size

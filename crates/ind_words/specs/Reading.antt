@@ -1,4 +1,4 @@
--- What a reader of words has taken, and what it may take next.
+-- Meaning. What a reader of words has taken, and what it may take next.
 use Rattle.std.specs.Prelude.{◌≡◌, ℕ, ◌+◌, ◌<◌, Bool, false, ◌||◌, IsTrue, List, [], ◌∷◌, ◌++◌, Option, None, Some}
 use Rattle.std.specs.List.{list_any, count_by}
 use Rattle.indications.specs.declared.indication.Indication.{Indication}

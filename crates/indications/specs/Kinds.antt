@@ -1,4 +1,4 @@
--- Indications by what they say of their transaction: the one place that lists them all.
+-- Meaning. Indications by what they say of their transaction: the one place that lists them all.
 use Rattle.std.specs.Prelude.{ℕ, ◌+◌, Bool, true, false, ◌&&◌, nat_lt, nat_le}
 use Rattle.cfdp_types.specs.declared.names.Delivery.TheVariants.{Complete, Incomplete}
 use Rattle.indications.specs.declared.indication.Indication.{Indication}

@@ -1,4 +1,4 @@
--- What a lane sends to its user: the bundles of one transaction after those of another.
+-- Meaning. What a lane sends to its user: the bundles of one transaction after those of another.
 use Rattle.std.specs.Prelude.{◌≡◌, ℕ, ◌<◌, ◌==◌, Bool, true, not, All, List, [], ◌∷◌, length, flat_map, if◌then◌else◌}
 use Rattle.std.specs.List.{filter, list_any}
 use Rattle.std.specs.List.Sorted.{IsNonDecreasingBy}

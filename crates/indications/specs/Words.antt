@@ -1,4 +1,4 @@
--- The words that the indications of one transaction form, at its sender and at its receiver.
+-- Meaning. The words that the indications of one transaction form, at its sender and at its receiver.
 use Rattle.std.specs.Prelude.{◌≡◌, ℕ, ◌+◌, ◌<◌, ◌≤◌, ◌↔◌, Bool, true, false, IsTrue, List, [], ◌∷◌}
 use Rattle.std.specs.List.{list_any}
 use Rattle.cfdp_types.specs.declared.limits.TheConstants.{FILE_OCTETS}

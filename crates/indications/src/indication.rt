@@ -33,7 +33,7 @@ pub enum Indication {
     },
     MetadataRecv {
         source: EntityId,
-        size: u32,
+        size: u64,
         source_name: Octets,
         destination_name: Octets,
         messages: Messages,

@@ -1,4 +1,4 @@
--- What lanes take over a run and what they send, and the numbers of sending lanes, computed.
+-- Rows. What lanes take over a run and what they send, and the numbers of sending lanes, computed.
 use Rattle.std.proofs.Common.{◌≡◌, ◌≤◌, ℕ, List, [], ◌∷◌, Option, Some, ap, arith, refl}
 use Rattle.cfdp_types.specs.Reference.{reference}
 use Rattle.cfdp_types.specs.declared.key.EntityId.{EntityId}

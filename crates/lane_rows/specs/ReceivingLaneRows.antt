@@ -1,4 +1,4 @@
--- Worked steps of a lane that receives, computed.
+-- Rows. Worked steps of a lane that receives, computed.
 use Rattle.std.specs.Prelude.{◌≡◌, ℕ, nat_lt, Bool, true, not, ◌&&◌, is_some, List, [], ◌∷◌, ◌++◌, length, map, Option, Some, None, Err, Ok, refl}
 use Rattle.std.specs.Option.{option_to_list}
 use Rattle.cfdp_types.specs.Reference.{reference}
@@ -123,7 +123,7 @@ pub large_put_opens_not : (file : List ℕ) → nat_lt FILE_OCTETS (length file)
 large_put_opens_not file large = refl
 
 -- Metadata of a file that is too large
-pub too_large_opens_not : refusal_at fresh (pdu One 5 (body.Metadata (metadata_value 0 4194305))) ≡ plain refusal.TooLarge
+pub too_large_opens_not : refusal_at fresh (pdu One 5 (body.Metadata (metadata_value 0 16777217))) ≡ plain refusal.TooLarge
 unfolding initial step state_of
 too_large_opens_not = refl
 
@@ -148,7 +148,7 @@ unfolding initial step state_of runs_of runs_from
 put_is_busy = refl
 
 -- also where its file is too large
-pub higher_is_busy_before_too_large : refusal_at (running One) (pdu One 7 (body.Metadata (metadata_value 0 4194305))) ≡ plain refusal.LaneBusy
+pub higher_is_busy_before_too_large : refusal_at (running One) (pdu One 7 (body.Metadata (metadata_value 0 16777217))) ≡ plain refusal.LaneBusy
 unfolding initial step state_of runs_of runs_from
 higher_is_busy_before_too_large = refl
 

@@ -1,5 +1,5 @@
--- Worked steps of a lane that sends, computed.
-use Rattle.std.specs.Prelude.{◌≡◌, ℕ, nat_lt, true, List, [], ◌∷◌, length, map, Some, None, Err, refl}
+-- Rows. Worked steps of a lane that sends, computed.
+use Rattle.std.specs.Prelude.{◌≡◌, ℕ, nat_lt, true, false, List, [], ◌∷◌, length, map, Some, None, Err, refl}
 use Rattle.cfdp_types.specs.Reference.{reference}
 use Rattle.cfdp_types.specs.declared.key.TxnKey.{TxnKey}
 use Rattle.cfdp_types.specs.declared.limits.TheConstants.{FILE_OCTETS}
@@ -130,6 +130,7 @@ finished number = record {
   header = record {
     direction = TowardSender;
     class = Two;
+    large = false;
     entity_octets = 1;
     sequence_octets = 1;
     source = record { 0 = 2 };

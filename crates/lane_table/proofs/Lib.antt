@@ -4,3 +4,4 @@ pub mod StepFacts
 pub mod RunFacts
 pub mod IssuedFacts
 pub mod NumberFacts
+pub mod ImageFacts

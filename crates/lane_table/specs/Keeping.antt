@@ -1,4 +1,4 @@
--- What a lane keeps of the bundles that it sent.
+-- Of the code. What a lane keeps of the bundles that it sent.
 use Rattle.std.specs.Prelude.{◌≡◌, ℕ, ◌≤◌, true, if◌then◌else◌, All, List, [], ◌∷◌, ◌++◌, Option, Some, None}
 use Rattle.cfdp_types.specs.Steps.{is_stamp}
 use Rattle.cfdp_types.specs.declared.key.EntityId.{EntityId}

@@ -1,4 +1,4 @@
--- What a lane stands at: the transaction that it runs or ran last, and the one before.
+-- Meaning. What a lane stands at: the transaction that it runs or ran last, and the one before.
 use Rattle.std.specs.Prelude.{◌≡◌, ℕ, ◌+◌, ◌*◌, ◌/◌, ◌%◌, ◌<◌, Bool, true, false, not, nat_lt, List, [], ◌∷◌, Option, Some, None}
 use Rattle.std.specs.Option.{option_map}
 use Rattle.cfdp_types.specs.declared.key.EntityId.{EntityId}

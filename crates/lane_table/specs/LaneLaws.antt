@@ -1,4 +1,4 @@
--- What holds of the log of every transaction, at both ends.
+-- Meaning. What holds of the log of every transaction, at both ends.
 use Rattle.std.specs.Prelude.{◌≡◌, ℕ, ◌<◌, All, true, List, ◌++◌, Some, None, Contains}
 use Rattle.cfdp_types.specs.declared.key.EntityId.{EntityId}
 use Rattle.cfdp_types.specs.declared.names.Delivery.TheVariants.{Complete}

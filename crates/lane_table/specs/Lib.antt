@@ -3,3 +3,4 @@ pub mod Lane
 pub mod Steps
 pub mod Keeping
 pub mod LaneLaws
+pub mod Images

@@ -1,4 +1,4 @@
--- A transaction at either of its ends, with its log, and what a lane asks of both in the same words.
+-- Meaning. A transaction at either of its ends, with its log, and what a lane asks of both in the same words.
 use Rattle.std.specs.Prelude.{◌≡◌, ℕ, Bool, if◌then◌else◌, List, [], ◌∷◌, map, Option, Some, None, Result, Err}
 pub use Rattle.txn_events.specs.declared.answer.Answer.{Answer}
 pub use Rattle.txn_events.specs.Events.{body_opens}

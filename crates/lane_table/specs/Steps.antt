@@ -1,4 +1,4 @@
--- Which events a lane refuses, what it answers to the others, and where it stands then.
+-- Meaning. Which events a lane refuses, what it answers to the others, and where it stands then.
 use Rattle.std.specs.Prelude.{◌≡◌, ℕ, Bool, true, false, not, ◌||◌, ◌&&◌, nat_lt, ◌==◌, is_some, if◌then◌else◌, [], ◌∷◌, ◌++◌, Option, Some, None, Result, Err}
 use Rattle.std.specs.Option.{option_map, option_or}
 use Rattle.cfdp_types.specs.Steps.{is_stamp}

@@ -1,5 +1,6 @@
 //! What holds of every transaction and of every lane, over their definitions alone.
 
+ghost use Rattle.lane_table.specs.Images.{GivesOwnFiles};
 ghost use Rattle.lane_table.specs.LaneLaws.{TellsWords, CompletesGood, SendsLaneLists, SendsWhatLogsTell, NumbersTellLanes, StepsKeep};
 
 /// What a transaction tells its user, at either end, is a beginning of a word of its side, and a
@@ -9,7 +10,7 @@ pub fn words()
 {}
 
 /// A user is told of a complete delivery by a receiver only where Metadata and EOF came, every octet
-/// below the EOF's size was received and none above it, and the modular checksum agrees.
+/// below the EOF's size was received and none above it, and the modular checksum agrees, unless the file has none.
 pub fn complete()
     ensures { CompletesGood }
 {}
@@ -36,4 +37,10 @@ pub fn numbers()
 /// bundle of that step.
 pub fn keeps()
     ensures { StepsKeep }
+{}
+
+/// The image that a lane gives of a deposit that waits is that of a reception under the key that was asked for: it has
+/// the names of the Metadata that came and, at each offset below the EOF's size, the octet that was received there.
+pub fn images()
+    ensures { GivesOwnFiles }
 {}

@@ -1,5 +1,5 @@
 //! What a lane answers to each event, for sending and for receiving lanes, and what holds of every lane:
-//! where it stands, its numbers, what it refuses, and which bundles fit what it sent.
+//! where it stands, its numbers, what it refuses, which bundles fit what it sent, and which files it hands out.
 #![tactic(auto)]
 
 mod done;

@@ -1,4 +1,4 @@
--- Octets that stand at some offsets of a file, and what they add to its checksum.
+-- Meaning. Octets that stand at some offsets of a file, and what they add to its checksum.
 use Rattle.std.specs.Prelude.{◌≡◌, ℕ, zero, suc, ◌+◌, ◌-◌, ◌*◌, ◌%◌, ◌^◌, ◌≤◌, ◌⊎◌, nat_le, if◌then◌else◌, List, [], ◌∷◌, slice_get, Option, None, Some, refl}
 use Rattle.modular_sum.specs.Sum.{weight_of, total_from, sum}
 

@@ -1,4 +1,4 @@
--- The modular checksum: a file's octets as big-endian words of four, added modulo 2^32.
+-- Meaning. The modular checksum: a file's octets as big-endian words of four, added modulo 2^32.
 use Rattle.std.specs.Prelude.{◌≡◌, ℕ, ◌+◌, ◌-◌, ◌*◌, ◌%◌, ◌^◌, List, [], ◌∷◌, refl}
 
 -- what an octet at an offset counts for: the first of each four the most

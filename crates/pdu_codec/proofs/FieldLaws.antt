@@ -8,15 +8,14 @@ use Rattle.pdu_values.specs.Tlvs.{Tlv, location_in, messages_in, message_kind, e
 use Rattle.pdu_values.specs.Numbers.{number_of}
 use Rattle.pdu_reading.specs.Items.{items_to_end}
 use Rattle.pdu_reading.specs.Reading.{tlv_at, location_tlv_at, request_at}
-use Rattle.pdu_values.specs.Spelling.{size_octets}
 use Rattle.pdu_laws.proofs.ItemLaws.{Shortens, items_to_end-step, items_to_end-none}
 use Rattle.pdu_laws.proofs.FieldLaws.{tlv_behind, location_tlv_behind, request_behind}
 use Rattle.cfdp_types.specs.Steps.{older_or}
 use Rattle.pdu_codec.specs.Parts.{items_among, messages_at, requests_at}
 use Rattle.pdu_codec.proofs.ItemLaws.{items_among_go_on, items_among_stop, none_left}
 
-pub request_shortens : Shortens (request_at size_octets)
-request_shortens octets x e = request_behind size_octets (omega arith) octets x e
+pub request_shortens : (width : ℕ) → 1 ≤ width → Shortens (request_at width)
+request_shortens width some octets x e = request_behind width some octets x e
 
 -- ---- the fault location
 
@@ -87,12 +86,12 @@ counted_all count octets all e so = omega (arith, ap length (ap messages_in (ite
 
 -- ---- segment requests
 
-pub asked_step : (asked : List SegmentRequest) (octets rest : List ℕ) (r : SegmentRequest) (all : List SegmentRequest) → request_at size_octets octets ≡ Some (r, rest)
-    → asked ++ requests_at octets ≡ all → (asked ++ r ∷ []) ++ requests_at rest ≡ all
-asked_step asked octets rest r all e so =
-    append_assoc asked (r ∷ []) (requests_at rest)
-    ∙ ap (λ (more : List SegmentRequest). asked ++ more) (sym (items_among_go_on (request_at size_octets) request_shortens octets (r, rest) e))
+pub asked_step : (width : ℕ) (some : 1 ≤ width) (asked : List SegmentRequest) (octets rest : List ℕ) (r : SegmentRequest) (all : List SegmentRequest) → request_at width octets ≡ Some (r, rest)
+    → asked ++ requests_at width octets ≡ all → (asked ++ r ∷ []) ++ requests_at width rest ≡ all
+asked_step width some asked octets rest r all e so =
+    append_assoc asked (r ∷ []) (requests_at width rest)
+    ∙ ap (λ (more : List SegmentRequest). asked ++ more) (sym (items_among_go_on (request_at width) (request_shortens width some) octets (r, rest) e))
     ∙ so
 
-pub asked_all : (asked : List SegmentRequest) (octets : List ℕ) (all : List SegmentRequest) → request_at size_octets octets ≡ None → asked ++ requests_at octets ≡ all → asked ≡ all
-asked_all asked octets all e so = sym (append-nil asked) ∙ ap (λ (more : List SegmentRequest). asked ++ more) (sym (items_among_stop (request_at size_octets) octets e)) ∙ so
+pub asked_all : (width : ℕ) (asked : List SegmentRequest) (octets : List ℕ) (all : List SegmentRequest) → request_at width octets ≡ None → asked ++ requests_at width octets ≡ all → asked ≡ all
+asked_all width asked octets all e so = sym (append-nil asked) ∙ ap (λ (more : List SegmentRequest). asked ++ more) (sym (items_among_stop (request_at width) octets e)) ∙ so

@@ -1,19 +1,24 @@
 -- Octets written one behind the other.
-use Rattle.std.proofs.Common.{◌≡◌, ℕ, zero, suc, ◌+◌, ◌-◌, ◌*◌, ◌^◌, ◌/◌, ◌%◌, ◌<◌, ◌≤◌, List, [], ◌∷◌, ◌++◌, length, Option, Some, refl, ap, sym, subst, ◌∙◌, append_assoc, append-nil, mod-lt, arith}
+use Rattle.std.proofs.Common.{◌≡◌, Bool, true, false, ℕ, zero, suc, ◌+◌, ◌-◌, ◌*◌, ◌^◌, ◌/◌, ◌%◌, ◌<◌, ◌≤◌, List, [], ◌∷◌, ◌++◌, length, map, Option, Some, refl, ap, sym, subst, ◌∙◌, append_assoc, append-nil, mod-lt, arith}
 use Rattle.std.proofs.lemmas.List.{length-append}
 use Rattle.std.specs.Prelude.{Vec, vec_len, vec_capacity}
 use Rattle.std.specs.List.{flat_map}
 use Rattle.cfdp_types.specs.declared.key.EntityId.{EntityId}
 use Rattle.pdu_values.specs.Numbers.{digits}
 use Rattle.pdu_values.specs.Tlvs.{octets_for, location_tlvs}
-use Rattle.pdu_values.specs.Spelling.{size_octets, tlv, ids, type_bit, data_field, plain_choice, lengths_octet, spelling, written, Fits}
+use Rattle.pdu_values.specs.Spelling.{size_octets, lv, tlv, request, ids, type_bit, data_field, plain_choice, lengths_octet, spelling, written, Fits}
 use Rattle.pdu_values.specs.Pdu.{PduValue}
+use Rattle.pdu_values.specs.declared.requests.SegmentRequest.{SegmentRequest}
+use Rattle.pdu_values.specs.Tlvs.{message_tlv}
+use Rattle.pdu_values.specs.declared.bodies.Eof as eof_type
+use Rattle.pdu_values.specs.declared.bodies.Metadata as metadata_type
+use Rattle.pdu_values.specs.declared.bodies.KeepAlive as keep_alive_type
+use Rattle.pdu_values.specs.declared.bodies.FileData as file_data_type
 use Rattle.pdu_values.specs.declared.bodies.Nak as nak_type
 use Rattle.pdu_values.specs.declared.pdu.Header.{Header}
 use Rattle.pdu_values.specs.declared.pdu.Body.{Body}
 use Rattle.pdu_values.specs.declared.pdu.Body.TheVariants as bodies
 use Rattle.pdu_values.proofs.Numbers.{length-digits, pow_256_pos}
-use Rattle.pdu_values.proofs.FitLaws.{length-requests}
 use Rattle.pdu_codec.specs.Writing.{HasRoom, Writes, field_of, header_of, text_of, FieldFits}
 
 pub room_first : {Z : Type 0} (v : Vec ℕ Z) (a b : List ℕ) → HasRoom v (a ++ b) → HasRoom v a
@@ -99,24 +104,49 @@ ids_length header =
       length-digits header.entity_octets header.destination.0,
     )
 
-pub nak_length : (entity_octets : ℕ) (n : nak_type.Nak) → 9 + 8 * length n.requests ≡ length (field_of entity_octets (bodies.Nak n))
-unfolding digits
-nak_length entity_octets n = omega (arith, length-requests n.requests)
+requests_length : (width : ℕ) (requests : List SegmentRequest) → length (flat_map (request width) requests) ≡ 2 * width * length requests
+requests_length width [] = omega arith
+requests_length width (r ∷ requests) =
+    omega (arith, length-append (request width r) (flat_map (request width) requests), length-append (digits width r.start) (digits width r.end), length-digits width r.start, length-digits width r.end, requests_length width requests)
 
-text_length : (size : ℕ) (header : Header) (body : Body) → length (text_of size header body) ≡ (4 + length (ids header)) + length (field_of header.entity_octets body)
+pub eof_length : (width entity_octets : ℕ) (e : eof_type.Eof) → 6 + width + length (flat_map tlv (location_tlvs entity_octets e.location)) ≡ length (field_of width entity_octets (bodies.Eof e))
 unfolding digits
-text_length size header body = omega (arith, length-append (header_of (type_bit body) size header) (field_of header.entity_octets body))
+eof_length width entity_octets e =
+    omega (arith, length-append (digits width e.size) (flat_map tlv (location_tlvs entity_octets e.location)), length-digits width e.size)
 
-pub room_for_pdu : {Z : Type 0} (v : Vec ℕ Z) (size before behind : ℕ) (header : Header) (body : Body) → before ≡ 4 + length (ids header) → behind ≡ length (field_of header.entity_octets body)
+pub metadata_length : (width entity_octets : ℕ) (m : metadata_type.Metadata)
+    → 4 + width + length m.source_name + length m.destination_name + length (flat_map tlv (map message_tlv m.messages)) ≡ length (field_of width entity_octets (bodies.Metadata m))
+unfolding digits
+metadata_length width entity_octets m =
+    let text : List ℕ = flat_map tlv (map message_tlv m.messages) in
+    omega (arith, length-append (digits width m.size) (lv m.source_name ++ (lv m.destination_name ++ text)), length-digits width m.size, length-append m.source_name (lv m.destination_name ++ text), length-append m.destination_name text)
+
+pub keep_alive_length : (width entity_octets : ℕ) (k : keep_alive_type.KeepAlive) → 1 + width ≡ length (field_of width entity_octets (bodies.KeepAlive k))
+unfolding digits
+keep_alive_length width entity_octets k = omega (arith, length-digits width k.progress)
+
+pub file_data_length : (width entity_octets : ℕ) (d : file_data_type.FileData) → width + length d.octets ≡ length (field_of width entity_octets (bodies.FileData d))
+file_data_length width entity_octets d = omega (arith, length-append (digits width d.offset) d.octets, length-digits width d.offset)
+
+pub nak_length : (width entity_octets : ℕ) (n : nak_type.Nak) → 1 + 2 * width + 2 * width * length n.requests ≡ length (field_of width entity_octets (bodies.Nak n))
+unfolding digits
+nak_length width entity_octets n =
+    omega (arith, length-append (digits width n.start) (digits width n.end ++ flat_map (request width) n.requests), length-append (digits width n.end) (flat_map (request width) n.requests), length-digits width n.start, length-digits width n.end, requests_length width n.requests)
+
+text_length : (size : ℕ) (header : Header) (body : Body) → length (text_of size header body) ≡ (4 + length (ids header)) + length (field_of (size_octets header.large) header.entity_octets body)
+unfolding digits
+text_length size header body = omega (arith, length-append (header_of (type_bit body) size header) (field_of (size_octets header.large) header.entity_octets body))
+
+pub room_for_pdu : {Z : Type 0} (v : Vec ℕ Z) (size before behind : ℕ) (header : Header) (body : Body) → before ≡ 4 + length (ids header) → behind ≡ length (field_of (size_octets header.large) header.entity_octets body)
     → vec_len v + (before + behind) ≤ vec_capacity v → HasRoom v (text_of size header body)
 room_for_pdu v size before behind header body first second room = omega (arith, text_length size header body, first, second, room)
 
 -- ---- what is written
 
-field_is_plain : (pdu : PduValue) → data_field size_octets (plain_choice pdu) pdu.body ≡ field_of pdu.header.entity_octets pdu.body
+field_is_plain : (pdu : PduValue) → data_field (size_octets pdu.header.large) (plain_choice pdu) pdu.body ≡ field_of (size_octets pdu.header.large) pdu.header.entity_octets pdu.body
 field_is_plain pdu = by_body pdu.header pdu.body
   where
-    by_body : (header : Header) (body : Body) → data_field size_octets (plain_choice (record { header = header; body = body })) body ≡ field_of header.entity_octets body
+    by_body : (header : Header) (body : Body) → data_field (size_octets header.large) (plain_choice (record { header = header; body = body })) body ≡ field_of (size_octets header.large) header.entity_octets body
     by_body header (bodies.Eof e) = refl
     by_body header (bodies.Finished f) = refl
     by_body header (bodies.Ack a) = refl
@@ -129,11 +159,11 @@ field_is_plain pdu = by_body pdu.header pdu.body
 lengths_plain : (pdu : PduValue) → lengths_octet (plain_choice pdu) pdu.header ≡ 16 * (pdu.header.entity_octets - 1) + (pdu.header.sequence_octets - 1)
 lengths_plain pdu = omega arith
 
-pub written_is : (pdu : PduValue) → written pdu ≡ text_of (length (field_of pdu.header.entity_octets pdu.body)) pdu.header pdu.body
+pub written_is : (pdu : PduValue) → written pdu ≡ text_of (length (field_of (size_octets pdu.header.large) pdu.header.entity_octets pdu.body)) pdu.header pdu.body
 unfolding written spelling
 written_is pdu = rw (field_is_plain pdu, lengths_plain pdu) refl
 
-pub fits_field : (pdu : PduValue) → Fits pdu → FieldFits pdu.header.entity_octets pdu.body
+pub fits_field : (pdu : PduValue) → Fits pdu → FieldFits (size_octets pdu.header.large) pdu.header.entity_octets pdu.body
 fits_field pdu fits = record {
   entity_octets_fit = fits.header.entity_octets;
   body_fits = fits.body;
@@ -141,7 +171,7 @@ fits_field pdu fits = record {
 }
 
 pub encoded : {Z : Type 0} (old ready new : Vec ℕ Z) (pdu : PduValue) (header : Header) (body : Body) (size : ℕ) → header ≡ pdu.header → body ≡ pdu.body
-    → size ≡ length (field_of header.entity_octets body) → ready.items ≡ old.items → Writes ready new (text_of size header body) → new.items ≡ old.items ++ written pdu
+    → size ≡ length (field_of (size_octets header.large) header.entity_octets body) → ready.items ≡ old.items → Writes ready new (text_of size header body) → new.items ≡ old.items ++ written pdu
 encoded old ready new pdu header body size first second long same done =
     let whole : text_of size header body ≡ written pdu = rw (long, first, second) (sym (written_is pdu)) in
     done.items ∙ ap (λ (octets : List ℕ). octets ++ text_of size header body) same ∙ ap (λ (text : List ℕ). old.items ++ text) whole

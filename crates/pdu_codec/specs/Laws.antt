@@ -1,4 +1,4 @@
--- What holds of octets and PDUs.
+-- Meaning. What holds of octets and PDUs.
 use Rattle.std.specs.Prelude.{◌≡◌, Ok}
 use Rattle.pdu_values.specs.Pdu.{PduValue}
 use Rattle.pdu_values.specs.Spelling.{Fits, Spells, written}

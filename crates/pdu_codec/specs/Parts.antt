@@ -1,11 +1,11 @@
--- What parts that are borrowed from a datagram stand for.
+-- Of the code. What parts that are borrowed from a datagram stand for.
 use Rattle.std.specs.Prelude.{ℕ, zero, suc, ◌/◌, ◌%◌, ◌==◌, List, [], ◌∷◌, length, Option, Some, None}
 use Rattle.pdu_values.specs.declared.pdu.Body.{Body}
 use Rattle.pdu_values.specs.declared.pdu.Body.TheVariants as bodies
 use Rattle.pdu_values.specs.declared.requests.SegmentRequest.{SegmentRequest}
+use Rattle.pdu_values.specs.Requests.{size_octets}
 use Rattle.pdu_values.specs.Tlvs.{Tlv, messages_in}
 use Rattle.pdu_reading.specs.Reading.{tlv_at, request_at, delivery_of, file_status_of, transaction_status_of}
-use Rattle.pdu_values.specs.Spelling.{size_octets}
 use Rattle.pdu_codec.specs.declared.options.TlvParts.{TlvParts}
 use Rattle.pdu_codec.specs.declared.parts.Parts.{Parts}
 use Rattle.pdu_codec.specs.declared.parts.Parts.TheVariants as parts
@@ -28,8 +28,8 @@ abbrev pub messages_at : List ℕ → List (List ℕ)
 messages_at octets = messages_in (items_among tlv_at (length octets) octets)
 
 -- the segment requests in octets
-abbrev pub requests_at : List ℕ → List SegmentRequest
-requests_at octets = items_among (request_at size_octets) (length octets) octets
+abbrev pub requests_at : ℕ → List ℕ → List SegmentRequest
+requests_at width octets = items_among (request_at width) (length octets) octets
 
 abbrev pub body_of_parts : Parts → Body
 body_of_parts (parts.Eof e) =
@@ -50,7 +50,7 @@ body_of_parts (parts.Metadata m) = bodies.Metadata (record {
   destination_name = m.destination_name.now;
   messages = messages_at m.options.now;
 })
-body_of_parts (parts.Nak n) = bodies.Nak (record { start = n.start; end = n.end; requests = requests_at n.requests.now })
+body_of_parts (parts.Nak n) = bodies.Nak (record { start = n.start; end = n.end; requests = requests_at (size_octets n.large) n.requests.now })
 body_of_parts (parts.Prompt p) = bodies.Prompt p
 body_of_parts (parts.KeepAlive k) = bodies.KeepAlive k
 body_of_parts (parts.FileData f) = bodies.FileData (record { offset = f.offset; octets = f.octets.now })

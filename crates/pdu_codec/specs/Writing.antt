@@ -1,4 +1,4 @@
--- Writing octets into room that is there, and what is written for a body.
+-- Of the code. Writing octets into room that is there, and what is written for a body.
 use Rattle.std.specs.Prelude.{◌≡◌, ℕ, ◌+◌, ◌-◌, ◌*◌, ◌^◌, ◌<◌, ◌≤◌, List, ◌++◌, length, map, vec_len, vec_capacity, Vec}
 use Rattle.pdu_values.specs.declared.pdu.Header.{Header}
 use Rattle.pdu_values.specs.declared.pdu.Body.{Body}
@@ -29,31 +29,31 @@ behind_code code fields = digits 1 code ++ fields
 
 -- the data field of a body, where the header's IDs have so many octets: no spare bit, and no optional field
 -- beyond those that hold what the body has
-abbrev pub field_of : ℕ → Body → List ℕ
-field_of entity_octets (bodies.Eof e) =
-    behind_code 4 (spelling.eof spelling.size_octets 0 (location_tlvs entity_octets e.location) e)
-field_of entity_octets (bodies.Finished f) =
+abbrev pub field_of : ℕ → ℕ → Body → List ℕ
+field_of width entity_octets (bodies.Eof e) =
+    behind_code 4 (spelling.eof width 0 (location_tlvs entity_octets e.location) e)
+field_of width entity_octets (bodies.Finished f) =
     behind_code 5 (spelling.finished 0 (location_tlvs entity_octets f.location) f)
-field_of entity_octets (bodies.Ack a) = behind_code 6 (spelling.ack (spelling.acknowledged_subtype a.of) 0 a)
-field_of entity_octets (bodies.Metadata m) =
-    behind_code 7 (spelling.metadata spelling.size_octets 0 0 (map message_tlv m.messages) m)
-field_of entity_octets (bodies.Nak n) = behind_code 8 (spelling.nak spelling.size_octets n)
-field_of entity_octets (bodies.Prompt p) = behind_code 9 (spelling.prompt 0 p)
-field_of entity_octets (bodies.KeepAlive k) = behind_code 12 (spelling.keep_alive spelling.size_octets k)
-field_of entity_octets (bodies.FileData d) = spelling.file_data spelling.size_octets d
+field_of width entity_octets (bodies.Ack a) = behind_code 6 (spelling.ack (spelling.acknowledged_subtype a.of) 0 a)
+field_of width entity_octets (bodies.Metadata m) =
+    behind_code 7 (spelling.metadata width 0 0 (map message_tlv m.messages) m)
+field_of width entity_octets (bodies.Nak n) = behind_code 8 (spelling.nak width n)
+field_of width entity_octets (bodies.Prompt p) = behind_code 9 (spelling.prompt 0 p)
+field_of width entity_octets (bodies.KeepAlive k) = behind_code 12 (spelling.keep_alive width k)
+field_of width entity_octets (bodies.FileData d) = spelling.file_data width d
 
 -- a body whose data field can be written behind a header whose IDs have so many octets
-pub record FieldFits (entity_octets : ℕ) (body : Body) : Type 0 where
+pub record FieldFits (width entity_octets : ℕ) (body : Body) : Type 0 where
   pub entity_octets_fit : spelling.IsIdLength entity_octets
-  pub body_fits : spelling.BodyFits spelling.size_octets body
-  pub short : length (field_of entity_octets body) < 2 ^ 16
+  pub body_fits : spelling.BodyFits width body
+  pub short : length (field_of width entity_octets body) < 2 ^ 16
 
 -- the fixed header of a PDU of a type, before a data field of so many octets
 abbrev pub header_of : ℕ → ℕ → Header → List ℕ
 header_of type_bit size header =
-    digits 1 (32 + 16 * type_bit + 8 * spelling.direction_bit header.direction + 4 * spelling.mode_bit header.class)
+    digits 1 (32 + 16 * type_bit + 8 * spelling.direction_bit header.direction + 4 * spelling.mode_bit header.class + spelling.bit header.large)
     ++ (digits 2 size ++ (digits 1 (16 * (header.entity_octets - 1) + (header.sequence_octets - 1)) ++ spelling.ids header))
 
 -- the whole PDU
 abbrev pub text_of : ℕ → Header → Body → List ℕ
-text_of size header body = header_of (spelling.type_bit body) size header ++ field_of header.entity_octets body
+text_of size header body = header_of (spelling.type_bit body) size header ++ field_of (spelling.size_octets header.large) header.entity_octets body

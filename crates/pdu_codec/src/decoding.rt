@@ -4,6 +4,7 @@ ghost use Rattle.std.specs.Prelude.{◌≡◌, ◌⊎◌, IsOk, IfOk, IfErr};
 ghost use Rattle.std.specs.Option.{option_map};
 ghost use Rattle.pdu_values.specs.Pdu.{PduValue};
 ghost use Rattle.pdu_values.specs.Spelling.{Spells};
+ghost use Rattle.pdu_values.specs.Requests.{size_octets};
 ghost use Rattle.pdu_reading.specs.Reading.{Gives, Answers, whole_body, acknowledged_with_code, ack_of, fields_of, directive_of, body_of, reading, number_at, IsUnlessMemory, IsFound};
 ghost use Rattle.pdu_reading.specs.FirstFault.{IsFirstFault};
 ghost use Rattle.pdu_codec.specs.Parts.{body_of_parts};
@@ -48,27 +49,27 @@ fn acknowledgement(octets: &[u8]) -> Result<Parts<'_>, DecodeFault>
 }
 
 // The fields of a directive.
-fn fields(directive: Directive, octets: &[u8]) -> Result<Parts<'_>, DecodeFault>
-    ensures { Answers body_of_parts result (fields_of (Some directive) octets.now) }
+fn fields(large: bool, directive: Directive, octets: &[u8]) -> Result<Parts<'_>, DecodeFault>
+    ensures { Answers body_of_parts result (fields_of (size_octets large) (Some directive) octets.now) }
 {
     match directive {
-        Directive::Eof => whole_body(parts::eof_at(octets)),
+        Directive::Eof => whole_body(parts::eof_at(large, octets)),
         Directive::Finished => whole_body(parts::finished_at(octets)),
         Directive::Ack => acknowledgement(octets),
-        Directive::Metadata => whole_body(parts::metadata_at(octets)),
-        Directive::Nak => whole_body(parts::nak_at(octets)),
+        Directive::Metadata => whole_body(parts::metadata_at(large, octets)),
+        Directive::Nak => whole_body(parts::nak_at(large, octets)),
         Directive::Prompt => whole_body(parts::prompt_at(octets)),
-        Directive::KeepAlive => whole_body(parts::keep_alive_at(octets)),
+        Directive::KeepAlive => whole_body(parts::keep_alive_at(large, octets)),
     }
 }
 
 // A directive's code and its fields.
-fn directive(octets: &[u8]) -> Result<Parts<'_>, DecodeFault>
-    ensures { Answers body_of_parts result (directive_of (number_at 1 octets.now)) }
+fn directive(large: bool, octets: &[u8]) -> Result<Parts<'_>, DecodeFault>
+    ensures { Answers body_of_parts result (directive_of (size_octets large) (number_at 1 octets.now)) }
 {
     let (code, rest) = octet_at(octets).ok_or(DecodeFault::FieldCut)?;
     let directive = Directive::with_code(code).ok_or(DecodeFault::UnknownDirective)?;
-    fields(directive, rest)
+    fields(large, directive, rest)
 }
 
 // The data field.
@@ -76,10 +77,11 @@ fn directive(octets: &[u8]) -> Result<Parts<'_>, DecodeFault>
 fn body<'a>(fixed_header: &FixedHeader, field: &'a [u8]) -> Result<Parts<'a>, DecodeFault>
     ensures { Answers body_of_parts result (body_of fixed_header.now field.now) }
 {
+    let large = fixed_header.is_large();
     if fixed_header.is_file_data() {
-        whole_body(parts::file_data_at(fixed_header.has_segment_metadata(), field))
+        whole_body(parts::file_data_at(large, fixed_header.has_segment_metadata(), field))
     } else {
-        directive(field)
+        directive(large, field)
     }
 }
 

@@ -1,11 +1,12 @@
 //! From a PDU to the octets of a datagram.
 
-ghost use Rattle.std.specs.Prelude.{◌≡◌, ◌<◌, ◌^◌, ◌+◌, ◌++◌, ◌*◌, length, map, OnOk, OnErr};
+ghost use Rattle.std.specs.Prelude.{◌≡◌, ◌<◌, ◌≤◌, ◌^◌, ◌+◌, ◌++◌, ◌*◌, length, map, OnOk, OnErr};
 ghost use Rattle.std.specs.List.{flat_map};
 ghost use Rattle.pdu_values.specs.Tlvs.{message_tlv, location_tlvs};
 ghost use Rattle.pdu_values.specs.Spelling as spelling;
 ghost use Rattle.pdu_codec.specs.Writing.{HasRoom, Writes, field_of, header_of, text_of, FieldFits};
 
+use crate::fields::size_octets;
 use crate::writing::{
     put_location, put_lv, put_messages, put_number, put_octet, put_octets, put_requests,
 };
@@ -46,23 +47,26 @@ fn messages_size(messages: &Messages) -> usize
 
 // Octets of the data field.
 #[tactic(auto, unfolding(pdu_values::specs::Numbers::digits))]
-fn field_size(entity_octets: u8, body: &Body) -> usize
-    requires { FieldFits entity_octets body.now }
-    ensures { result ≡ length (field_of entity_octets body.now) }
+fn field_size(width: u8, entity_octets: u8, body: &Body) -> usize
+    requires fits { FieldFits width entity_octets body.now }
+    requires short { width ≤ 8 }
+    ensures { result ≡ length (field_of width entity_octets body.now) }
 {
+    let wide = usize::from(width);
     match body {
-        Body::Eof(eof) => 10 + location_size(entity_octets, eof.location),
+        Body::Eof(eof) => 6 + wide + location_size(entity_octets, eof.location),
         Body::Finished(finished) => 2 + location_size(entity_octets, finished.location),
         Body::Ack(_) => 3,
         Body::Metadata(metadata) => {
-            8 + metadata.source_name.as_slice().len()
+            4 + wide
+                + metadata.source_name.as_slice().len()
                 + metadata.destination_name.as_slice().len()
                 + messages_size(&metadata.messages)
         }
-        Body::Nak(nak) => 9 + 8 * nak.requests.as_slice().len(),
+        Body::Nak(nak) => { 1 + 2 * wide + 2 * wide * nak.requests.as_slice().len() }
         Body::Prompt(_) => 2,
-        Body::KeepAlive(_) => 5,
-        Body::FileData(part) => 4 + part.octets.as_slice().len(),
+        Body::KeepAlive(_) => 1 + wide,
+        Body::FileData(part) => wide + part.octets.as_slice().len(),
     }
 }
 
@@ -119,17 +123,18 @@ fn put_ids(out: &mut Vec<u8>, header: &Header)
 
 // ---- the data fields
 
-fn put_eof(out: &mut Vec<u8>, entity_octets: u8, eof: &Eof)
+fn put_eof(out: &mut Vec<u8>, width: u8, entity_octets: u8, eof: &Eof)
+    requires short { width ≤ 8 }
     requires length { spelling.IsIdLength entity_octets }
-    requires fits { spelling.EofFits spelling.size_octets eof.now }
+    requires fits { spelling.EofFits width eof.now }
     requires room { HasRoom out.old
-        (spelling.eof spelling.size_octets 0 (location_tlvs entity_octets eof.now.location) eof.now) }
+        (spelling.eof width 0 (location_tlvs entity_octets eof.now.location) eof.now) }
     ensures { Writes out.old out.new
-        (spelling.eof spelling.size_octets 0 (location_tlvs entity_octets eof.now.location) eof.now) }
+        (spelling.eof width 0 (location_tlvs entity_octets eof.now.location) eof.now) }
 {
     put_octet(out, 16 * eof.condition.code());
     put_number(out, 4, u64::from(eof.checksum));
-    put_number(out, 4, u64::from(eof.size));
+    put_number(out, width, eof.size);
     put_location(out, entity_octets, eof.location);
 }
 
@@ -216,30 +221,33 @@ fn put_ack(out: &mut Vec<u8>, ack: &Ack)
     );
 }
 
-fn put_metadata(out: &mut Vec<u8>, metadata: &Metadata)
-    requires fits { spelling.MetadataFits spelling.size_octets metadata.now }
+fn put_metadata(out: &mut Vec<u8>, width: u8, metadata: &Metadata)
+    requires short { width ≤ 8 }
+    requires fits { spelling.MetadataFits width metadata.now }
     requires room { HasRoom out.old
-        (spelling.metadata spelling.size_octets 0 0 (map message_tlv metadata.now.messages) metadata.now) }
+        (spelling.metadata width 0 0 (map message_tlv metadata.now.messages) metadata.now) }
     ensures { Writes out.old out.new
-        (spelling.metadata spelling.size_octets 0 0 (map message_tlv metadata.now.messages) metadata.now) }
+        (spelling.metadata width 0 0 (map message_tlv metadata.now.messages) metadata.now) }
 {
     put_octet(
         out,
         64 * u8::from(metadata.closure) + metadata.checksum_type.number(),
     );
-    put_number(out, 4, u64::from(metadata.size));
+    put_number(out, width, metadata.size);
     put_lv(out, metadata.source_name.as_slice());
     put_lv(out, metadata.destination_name.as_slice());
     put_messages(out, &metadata.messages);
 }
 
-fn put_nak(out: &mut Vec<u8>, nak: &Nak)
-    requires { HasRoom out.old (spelling.nak spelling.size_octets nak.now) }
-    ensures { Writes out.old out.new (spelling.nak spelling.size_octets nak.now) }
+fn put_nak(out: &mut Vec<u8>, width: u8, nak: &Nak)
+    requires short { width ≤ 8 }
+    requires fits { spelling.NakFits width nak.now }
+    requires room { HasRoom out.old (spelling.nak width nak.now) }
+    ensures { Writes out.old out.new (spelling.nak width nak.now) }
 {
-    put_number(out, 4, u64::from(nak.start));
-    put_number(out, 4, u64::from(nak.end));
-    put_requests(out, &nak.requests);
+    put_number(out, width, nak.start);
+    put_number(out, width, nak.end);
+    put_requests(out, width, &nak.requests);
 }
 
 fn put_prompt(out: &mut Vec<u8>, prompt: Prompt)
@@ -252,24 +260,27 @@ fn put_prompt(out: &mut Vec<u8>, prompt: Prompt)
     }
 }
 
-fn put_file_data(out: &mut Vec<u8>, part: &FileData)
-    requires { HasRoom out.old (spelling.file_data spelling.size_octets part.now) }
-    ensures { Writes out.old out.new (spelling.file_data spelling.size_octets part.now) }
+fn put_file_data(out: &mut Vec<u8>, width: u8, part: &FileData)
+    requires short { width ≤ 8 }
+    requires fits { spelling.FileDataFits width part.now }
+    requires room { HasRoom out.old (spelling.file_data width part.now) }
+    ensures { Writes out.old out.new (spelling.file_data width part.now) }
 {
-    put_number(out, 4, u64::from(part.offset));
+    put_number(out, width, part.offset);
     put_octets(out, part.octets.as_slice());
 }
 
 // The data field: a directive's code and its fields, or a part of a file.
-fn put_field(out: &mut Vec<u8>, entity_octets: u8, body: &Body)
-    requires fits { FieldFits entity_octets body.now }
-    requires room { HasRoom out.old (field_of entity_octets body.now) }
-    ensures { Writes out.old out.new (field_of entity_octets body.now) }
+fn put_field(out: &mut Vec<u8>, width: u8, entity_octets: u8, body: &Body)
+    requires short { width ≤ 8 }
+    requires fits { FieldFits width entity_octets body.now }
+    requires room { HasRoom out.old (field_of width entity_octets body.now) }
+    ensures { Writes out.old out.new (field_of width entity_octets body.now) }
 {
     match body {
         Body::Eof(eof) => {
             put_octet(out, 4);
-            put_eof(out, entity_octets, eof);
+            put_eof(out, width, entity_octets, eof);
         }
         Body::Finished(finished) => {
             put_octet(out, 5);
@@ -281,11 +292,11 @@ fn put_field(out: &mut Vec<u8>, entity_octets: u8, body: &Body)
         }
         Body::Metadata(metadata) => {
             put_octet(out, 7);
-            put_metadata(out, metadata);
+            put_metadata(out, width, metadata);
         }
         Body::Nak(nak) => {
             put_octet(out, 8);
-            put_nak(out, nak);
+            put_nak(out, width, nak);
         }
         Body::Prompt(prompt) => {
             put_octet(out, 9);
@@ -293,9 +304,9 @@ fn put_field(out: &mut Vec<u8>, entity_octets: u8, body: &Body)
         }
         Body::KeepAlive(keep_alive) => {
             put_octet(out, 12);
-            put_number(out, 4, u64::from(keep_alive.progress));
+            put_number(out, width, keep_alive.progress);
         }
-        Body::FileData(part) => put_file_data(out, part),
+        Body::FileData(part) => put_file_data(out, width, part),
     }
 }
 
@@ -309,7 +320,8 @@ fn put_header(out: &mut Vec<u8>, header: &Header, type_bit: u8, size: u16)
     let first = 32
         + 16 * type_bit
         + 8 * direction_bit(header.direction)
-        + 4 * mode_bit(header.class);
+        + 4 * mode_bit(header.class)
+        + u8::from(header.large);
     put_octet(out, first);
     put_number(out, 2, u64::from(size));
     put_octet(
@@ -322,12 +334,12 @@ fn put_header(out: &mut Vec<u8>, header: &Header, type_bit: u8, size: u16)
 // A PDU, into room that is there.
 fn put_pdu(out: &mut Vec<u8>, header: &Header, body: &Body, size: u16)
     requires header_fits { spelling.HeaderFits header.now }
-    requires body_fits { FieldFits header.now.entity_octets body.now }
+    requires body_fits { FieldFits (spelling.size_octets header.now.large) header.now.entity_octets body.now }
     requires room { HasRoom out.old (text_of size header.now body.now) }
     ensures { Writes out.old out.new (text_of size header.now body.now) }
 {
     put_header(out, header, type_bit(body), size);
-    put_field(out, header.entity_octets, body);
+    put_field(out, size_octets(header.large), header.entity_octets, body);
 }
 
 /// Writes a PDU behind what `out` holds, as the octets of a datagram: with all spare bits zero, and
@@ -337,7 +349,7 @@ pub fn encode(pdu: &Pdu, out: &mut Vec<u8>) -> Result<(), AllocError>
     ensures err { OnErr result (out.new.items ≡ out.old.items) }
 {
     let (header, body) = pdu.parts();
-    let size = field_size(header.entity_octets, body);
+    let size = field_size(size_octets(header.large), header.entity_octets, body);
     out.reserve(header_size(header) + size)?;
     put_pdu(out, header, body, size as u16);
     Ok(())

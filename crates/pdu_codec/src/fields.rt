@@ -2,7 +2,17 @@
 
 ghost use Rattle.std.specs.Prelude.{◌≡◌, ◌<◌, ◌≤◌, ◌+◌, ◌^◌, length, IfSome};
 ghost use Rattle.pdu_values.specs.Numbers.{number_of};
+ghost use Rattle.pdu_values.specs.Requests.{size_octets};
 ghost use Rattle.pdu_reading.specs.Reading.{Gives, octets_at, number_at, lv_at};
+
+/// The octets in which sizes and offsets are written, with the large file flag or without it.
+pub fn size_octets(large: bool) -> u8
+    ensures value { result ≡ size_octets large }
+    ensures least { 1 ≤ result }
+    ensures most { result ≤ 8 }
+{
+    if large { 8 } else { 4 }
+}
 
 /// The number that at most eight octets stand for.
 pub fn number_of(octets: &[u8]) -> u64

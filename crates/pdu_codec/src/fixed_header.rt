@@ -42,8 +42,6 @@ pub fn fixed_header_fault(fixed_header: &FixedHeader, field: &[u8]) -> Option<De
         Some(DecodeFault::BadVersion)
     } else if fixed_header.first / 2 % 2 == 1 {
         Some(DecodeFault::CrcPresent)
-    } else if fixed_header.first % 2 == 1 {
-        Some(DecodeFault::LargeFile)
     } else if field.len() != usize::from(fixed_header.size) {
         Some(DecodeFault::LengthMismatch)
     } else {
@@ -59,6 +57,7 @@ pub fn header_of(fixed_header: &FixedHeader) -> Header
     Header {
         direction: direction_of(fixed_header.first),
         class: class_of(fixed_header.first),
+        large: fixed_header.is_large(),
         entity_octets: fixed_header.entity_octets(),
         sequence_octets: fixed_header.sequence_octets(),
         source: EntityId(fixed_header.source),

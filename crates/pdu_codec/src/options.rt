@@ -1,16 +1,15 @@
 //! Readers of optional fields, each a type, a length and a value (CCSDS 727.0-B-5, 5.4), and of
 //! segment requests.
 
-ghost use Rattle.std.specs.Prelude.{◌≡◌, ◌<◌, [], ◌∷◌, ◌++◌, is_some, length, IsTrue, IfOk, IfSome, OnOk};
+ghost use Rattle.std.specs.Prelude.{◌≡◌, ◌<◌, ◌≤◌, [], ◌∷◌, ◌++◌, is_some, length, IsTrue, IfOk, IfSome, OnOk};
 ghost use Rattle.std.specs.Option.{option_map};
 ghost use Rattle.pdu_reading.specs.Items.{items_to_end};
-ghost use Rattle.pdu_values.specs.Spelling.{size_octets};
 ghost use Rattle.pdu_values.specs.Tlvs.{location_in, messages_in, may_locate};
 ghost use Rattle.pdu_reading.specs.Reading.{Gives, tlv_at, location_tlv_at, request_at};
 ghost use Rattle.cfdp_types.specs.Steps.{older_or};
 ghost use Rattle.pdu_codec.specs.Parts.{tlv_of_parts, messages_at, requests_at};
 
-use crate::fields::{lv_at, number_of, octet_at, word_at};
+use crate::fields::{lv_at, number_at, number_of, octet_at};
 use cfdp_types::{EntityId, Messages, Octets};
 use pdu_values::{SegmentRequest, SegmentRequests};
 use std::alloc::{AllocError, Global};
@@ -150,22 +149,26 @@ pub fn messages_at(alloc: Global, octets: &[u8]) -> Result<Messages, AllocError>
 
 /// A segment request, and the octets behind it.
 #[tactic(auto, unfolding(pdu_reading::specs::Reading::request_at))]
-pub fn request_at(octets: &[u8]) -> Option<(SegmentRequest, &[u8])>
-    ensures value { Gives (λ x. (x.0, x.1.now)) result (request_at size_octets octets.now) }
+pub fn request_at(width: u8, octets: &[u8]) -> Option<(SegmentRequest, &[u8])>
+    requires least { 1 ≤ width }
+    requires most { width ≤ 8 }
+    ensures value { Gives (λ x. (x.0, x.1.now)) result (request_at width octets.now) }
     ensures shorter { IfSome result (λ x. length x.1.now < length octets.now) }
 {
-    let (start, rest) = word_at(octets)?;
-    let (end, rest) = word_at(rest)?;
+    let (start, rest) = number_at(usize::from(width), octets)?;
+    let (end, rest) = number_at(usize::from(width), rest)?;
     Some((SegmentRequest { start, end }, rest))
 }
 
 /// Whether octets are segment requests up to their end.
-pub fn are_requests(octets: &[u8]) -> bool
-    ensures { result ≡ is_some (items_to_end (request_at size_octets) octets.now) }
+pub fn are_requests(width: u8, octets: &[u8]) -> bool
+    requires least { 1 ≤ width }
+    requires most { width ≤ 8 }
+    ensures { result ≡ is_some (items_to_end (request_at width) octets.now) }
 {
     let mut rest = octets;
     while !rest.is_empty() {
-        let Some((_, behind)) = request_at(rest) else {
+        let Some((_, behind)) = request_at(width, rest) else {
             return false;
         };
         rest = behind;
@@ -174,12 +177,17 @@ pub fn are_requests(octets: &[u8]) -> bool
 }
 
 /// The segment requests in octets.
-pub fn requests_at(alloc: Global, octets: &[u8]) -> Result<SegmentRequests, AllocError>
-    ensures { IfOk result (λ requests. requests ≡ requests_at octets.now) }
+pub fn requests_at(alloc: Global, width: u8, octets: &[u8]) -> Result<SegmentRequests, AllocError>
+    requires least { 1 ≤ width }
+    requires most { width ≤ 8 }
+    ensures { IfOk result (λ requests. requests ≡ requests_at width octets.now) }
 {
-    let mut requests = SegmentRequests::with_capacity(alloc, octets.len() / 8)?;
+    let mut requests = SegmentRequests::with_capacity(
+        alloc,
+        octets.len() / (2 * usize::from(width)),
+    )?;
     let mut rest = octets;
-    while let Some((request, behind)) = request_at(rest) {
+    while let Some((request, behind)) = request_at(width, rest) {
         requests.push(request)?;
         rest = behind;
     }

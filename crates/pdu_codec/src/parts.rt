@@ -2,11 +2,11 @@
 
 ghost use Rattle.std.specs.Prelude.{◌≡◌, IfOk};
 ghost use Rattle.pdu_codec.specs.declared.parts.Parts.TheVariants as borrowed;
-ghost use Rattle.pdu_values.specs.Spelling.{size_octets};
 ghost use Rattle.pdu_reading.specs.Reading.{Gives, eof_at, finished_at, ack_at, metadata_at, nak_at, prompt_at, keep_alive_at, file_data_at, behind_segment_metadata, delivery_of, file_status_of, transaction_status_of, prompt_of, lacks_name};
 ghost use Rattle.pdu_codec.specs.Parts.{body_of_parts};
+ghost use Rattle.pdu_values.specs.Requests.{size_octets};
 
-use crate::fields::{lv_at, octet_at, octets_at, word_at};
+use crate::fields::{lv_at, number_at, octet_at, octets_at, size_octets, word_at};
 use crate::options::{are_options, are_requests, location_at, messages_at, requests_at};
 use cfdp_types::{ChecksumType, Condition, Delivery, EntityId, FileStatus, Octets};
 use pdu_values::{
@@ -34,7 +34,7 @@ pub struct EofParts {
     /// Condition and spare bits.
     pub flags: u8,
     pub checksum: u32,
-    pub size: u32,
+    pub size: u64,
     pub location: Option<EntityId>,
 }
 
@@ -59,7 +59,7 @@ pub struct AckParts {
 pub struct MetadataParts<'a> {
     /// Closure bit, checksum type and reserved bits.
     pub flags: u8,
-    pub size: u32,
+    pub size: u64,
     pub source_name: &'a [u8],
     pub destination_name: &'a [u8],
     /// Optional fields up to the end.
@@ -69,8 +69,10 @@ pub struct MetadataParts<'a> {
 /// The fields of a NAK, borrowed from the datagram.
 #[derive(Clone, Copy)]
 pub struct NakParts<'a> {
-    pub start: u32,
-    pub end: u32,
+    /// Whether offsets have eight octets, and not four.
+    pub large: bool,
+    pub start: u64,
+    pub end: u64,
     /// Segment requests up to the end.
     pub requests: &'a [u8],
 }
@@ -78,18 +80,19 @@ pub struct NakParts<'a> {
 /// The fields of File Data, borrowed from the datagram.
 #[derive(Clone, Copy)]
 pub struct FileDataParts<'a> {
-    pub offset: u32,
+    pub offset: u64,
     pub octets: &'a [u8],
 }
 
 /// EOF.
 #[tactic(auto, unfolding(pdu_reading::specs::Reading::eof_at))]
-pub fn eof_at(octets: &[u8]) -> Option<Parts<'_>>
-    ensures { Gives body_of_parts result (eof_at size_octets octets.now) }
+pub fn eof_at(large: bool, octets: &[u8]) -> Option<Parts<'_>>
+    ensures { Gives body_of_parts result (eof_at (size_octets large) octets.now) }
 {
+    let width = size_octets(large);
     let (flags, rest) = octet_at(octets)?;
     let (checksum, rest) = word_at(rest)?;
-    let (size, rest) = word_at(rest)?;
+    let (size, rest) = number_at(usize::from(width), rest)?;
     let location = location_at(rest)?;
     Some(Parts::Eof(EofParts {
         flags,
@@ -123,11 +126,12 @@ pub fn ack_at(of: Acknowledged, octets: &[u8]) -> Option<Parts<'_>>
 
 /// Metadata.
 #[tactic(auto, unfolding(pdu_reading::specs::Reading::metadata_at))]
-pub fn metadata_at(octets: &[u8]) -> Option<Parts<'_>>
-    ensures { Gives body_of_parts result (metadata_at size_octets octets.now) }
+pub fn metadata_at(large: bool, octets: &[u8]) -> Option<Parts<'_>>
+    ensures { Gives body_of_parts result (metadata_at (size_octets large) octets.now) }
 {
+    let width = size_octets(large);
     let (flags, rest) = octet_at(octets)?;
-    let (size, rest) = word_at(rest)?;
+    let (size, rest) = number_at(usize::from(width), rest)?;
     let (source_name, rest) = lv_at(rest)?;
     let (destination_name, options) = lv_at(rest)?;
     if !are_options(options) {
@@ -144,15 +148,17 @@ pub fn metadata_at(octets: &[u8]) -> Option<Parts<'_>>
 
 /// A NAK.
 #[tactic(auto, unfolding(pdu_reading::specs::Reading::nak_at))]
-pub fn nak_at(octets: &[u8]) -> Option<Parts<'_>>
-    ensures { Gives body_of_parts result (nak_at size_octets octets.now) }
+pub fn nak_at(large: bool, octets: &[u8]) -> Option<Parts<'_>>
+    ensures { Gives body_of_parts result (nak_at (size_octets large) octets.now) }
 {
-    let (start, rest) = word_at(octets)?;
-    let (end, requests) = word_at(rest)?;
-    if !are_requests(requests) {
+    let width = size_octets(large);
+    let (start, rest) = number_at(usize::from(width), octets)?;
+    let (end, requests) = number_at(usize::from(width), rest)?;
+    if !are_requests(width, requests) {
         return None;
     }
     Some(Parts::Nak(NakParts {
+        large,
         start,
         end,
         requests,
@@ -183,10 +189,11 @@ pub fn prompt_at(octets: &[u8]) -> Option<Parts<'_>>
 
 /// A Keep Alive.
 #[tactic(auto, unfolding(pdu_reading::specs::Reading::keep_alive_at))]
-pub fn keep_alive_at(octets: &[u8]) -> Option<Parts<'_>>
-    ensures { Gives body_of_parts result (keep_alive_at size_octets octets.now) }
+pub fn keep_alive_at(large: bool, octets: &[u8]) -> Option<Parts<'_>>
+    ensures { Gives body_of_parts result (keep_alive_at (size_octets large) octets.now) }
 {
-    let (progress, rest) = word_at(octets)?;
+    let width = size_octets(large);
+    let (progress, rest) = number_at(usize::from(width), octets)?;
     if !rest.is_empty() {
         return None;
     }
@@ -208,11 +215,12 @@ fn behind_segment_metadata(has_it: bool, octets: &[u8]) -> Option<&[u8]>
 
 /// File Data: all octets behind the offset are the file's.
 #[tactic(auto, unfolding(pdu_reading::specs::Reading::file_data_at))]
-pub fn file_data_at(has_segment_metadata: bool, octets: &[u8]) -> Option<Parts<'_>>
-    ensures { Gives body_of_parts result (file_data_at size_octets has_segment_metadata octets.now) }
+pub fn file_data_at(large: bool, has_segment_metadata: bool, octets: &[u8]) -> Option<Parts<'_>>
+    ensures { Gives body_of_parts result (file_data_at (size_octets large) has_segment_metadata octets.now) }
 {
+    let width = size_octets(large);
     let fields = behind_segment_metadata(has_segment_metadata, octets)?;
-    let (offset, octets) = word_at(fields)?;
+    let (offset, octets) = number_at(usize::from(width), fields)?;
     Some(Parts::FileData(FileDataParts { offset, octets }))
 }
 
@@ -299,7 +307,7 @@ pub fn body_of_parts(alloc: Global, parts: Parts<'_>) -> Result<Body, AllocError
         Parts::Nak(nak) => Ok(Body::Nak(Nak {
             start: nak.start,
             end: nak.end,
-            requests: requests_at(alloc, nak.requests)?,
+            requests: requests_at(alloc, size_octets(nak.large), nak.requests)?,
         })),
         Parts::Prompt(prompt) => Ok(Body::Prompt(prompt)),
         Parts::KeepAlive(keep_alive) => Ok(Body::KeepAlive(keep_alive)),

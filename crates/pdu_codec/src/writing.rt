@@ -4,7 +4,7 @@ ghost use Rattle.std.specs.Prelude.{◌≡◌, ◌<◌, ◌≤◌, ◌+◌, ◌^
 ghost use Rattle.std.specs.List.{flat_map, AllByRecursion};
 ghost use Rattle.pdu_values.specs.Numbers.{digits};
 ghost use Rattle.pdu_values.specs.Tlvs.{message_tlv, location_tlvs};
-ghost use Rattle.pdu_values.specs.Spelling.{size_octets, lv, tlv, request, IsIdLength, IsLocation, IsMessage};
+ghost use Rattle.pdu_values.specs.Spelling.{lv, tlv, request, RequestFits, IsIdLength, IsLocation, IsMessage};
 ghost use Rattle.pdu_codec.specs.Writing.{HasRoom, Writes};
 
 use crate::options::{ENTITY_ID, MESSAGE};
@@ -94,20 +94,24 @@ pub fn put_messages(out: &mut Vec<u8>, messages: &Messages)
 }
 
 // A segment request.
-fn put_request(out: &mut Vec<u8>, asked: SegmentRequest)
-    requires { HasRoom out.old (request size_octets asked) }
-    ensures { Writes out.old out.new (request size_octets asked) }
+fn put_request(out: &mut Vec<u8>, width: u8, asked: SegmentRequest)
+    requires short { width ≤ 8 }
+    requires fits { RequestFits width asked }
+    requires room { HasRoom out.old (request width asked) }
+    ensures { Writes out.old out.new (request width asked) }
 {
-    put_number(out, 4, u64::from(asked.start));
-    put_number(out, 4, u64::from(asked.end));
+    put_number(out, width, asked.start);
+    put_number(out, width, asked.end);
 }
 
 /// Segment requests.
-pub fn put_requests(out: &mut Vec<u8>, requests: &SegmentRequests)
-    requires { HasRoom out.old (flat_map (request size_octets) requests.now) }
-    ensures { Writes out.old out.new (flat_map (request size_octets) requests.now) }
+pub fn put_requests(out: &mut Vec<u8>, width: u8, requests: &SegmentRequests)
+    requires short { width ≤ 8 }
+    requires fits { AllByRecursion (RequestFits width) requests.now }
+    requires room { HasRoom out.old (flat_map (request width) requests.now) }
+    ensures { Writes out.old out.new (flat_map (request width) requests.now) }
 {
     for asked in requests.as_slice() {
-        put_request(out, *asked);
+        put_request(out, width, *asked);
     }
 }

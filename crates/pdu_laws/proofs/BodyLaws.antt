@@ -10,7 +10,7 @@ use Rattle.pdu_values.specs.declared.directive.Directive.TheVariants as directiv
 use Rattle.pdu_values.specs.declared.pdu.Body.{Body}
 use Rattle.pdu_values.specs.declared.pdu.Body.TheVariants as bodies
 use Rattle.pdu_reading.specs.declared.fault.DecodeFault.{DecodeFault}
-use Rattle.pdu_reading.specs.declared.fault.DecodeFault.TheVariants.{TooShort, BadVersion, CrcPresent, LargeFile, LengthMismatch, UnknownDirective, FieldCut, NoFileName, NoMemory}
+use Rattle.pdu_reading.specs.declared.fault.DecodeFault.TheVariants.{TooShort, BadVersion, CrcPresent, LengthMismatch, UnknownDirective, FieldCut, NoFileName, NoMemory}
 use Rattle.pdu_values.specs.Directive.{directive_code}
 use Rattle.pdu_values.specs.Numbers.{digits}
 use Rattle.pdu_values.specs.Tlvs.{Tlv, messages_in, location_in}
@@ -353,7 +353,6 @@ IsAll (Err NoFileName) = Unit {0}
 IsAll (Err TooShort) = ⊥
 IsAll (Err BadVersion) = ⊥
 IsAll (Err CrcPresent) = ⊥
-IsAll (Err LargeFile) = ⊥
 IsAll (Err LengthMismatch) = ⊥
 IsAll (Err UnknownDirective) = ⊥
 IsAll (Err FieldCut) = ⊥

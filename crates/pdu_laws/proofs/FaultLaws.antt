@@ -9,7 +9,7 @@ use Rattle.pdu_values.specs.declared.directive.Directive.TheVariants as directiv
 use Rattle.pdu_reading.specs.declared.fixed_header.FixedHeader.{FixedHeader}
 use Rattle.pdu_values.specs.declared.pdu.Body.{Body}
 use Rattle.pdu_reading.specs.declared.fault.DecodeFault.{DecodeFault}
-use Rattle.pdu_reading.specs.declared.fault.DecodeFault.TheVariants.{TooShort, BadVersion, CrcPresent, LargeFile, LengthMismatch, UnknownDirective, FieldCut, NoFileName, NoMemory}
+use Rattle.pdu_reading.specs.declared.fault.DecodeFault.TheVariants.{TooShort, BadVersion, CrcPresent, LengthMismatch, UnknownDirective, FieldCut, NoFileName, NoMemory}
 use Rattle.pdu_values.specs.Directive.{directive_with_code}
 use Rattle.pdu_values.specs.Pdu.{PduValue}
 use Rattle.pdu_values.specs.Numbers.{number_of}
@@ -207,24 +207,24 @@ unknown_ack : (fields : List ℕ) → acknowledges_other fields ≡ true → ack
 unknown_ack [] e = absurd cc
 unknown_ack (first ∷ more) e = rw (octet_front first more, none_is (acknowledged_with_code (first / 16)) e) refl
 
-unknown_fields : (code : ℕ) (fields : List ℕ) (kind : Option Directive) → directive_with_code code ≡ kind → (is_none kind || ((code == 6) && acknowledges_other fields)) ≡ true → fields_of kind fields ≡ Err UnknownDirective
-unknown_fields code fields None kind_is e = refl
-unknown_fields code fields (Some d) kind_is e =
+unknown_fields : (code : ℕ) (fields : List ℕ) (kind : Option Directive) → directive_with_code code ≡ kind → (is_none kind || ((code == 6) && acknowledges_other fields)) ≡ true → (width : ℕ) → fields_of width kind fields ≡ Err UnknownDirective
+unknown_fields code fields None kind_is e width = refl
+unknown_fields code fields (Some d) kind_is e width =
     let both = and_parts (code == 6) (acknowledges_other fields) e in
     let code_is : code ≡ 6 = eqb-true code 6 both.0 in
     let ack_is : found_ack ≡ Some d = sym (ap directive_with_code code_is) ∙ kind_is in
-    subst (λ (k : Option Directive). fields_of k fields ≡ Err UnknownDirective) ack_is (unknown_ack fields both.1)
+    subst (λ (k : Option Directive). fields_of width k fields ≡ Err UnknownDirective) ack_is (unknown_ack fields both.1)
   where
     found_ack : Option Directive
     found_ack = Some directives.Ack
 
-unknown_code : (field : List ℕ) → has_unknown_code field ≡ true → directive_of (number_at 1 field) ≡ Err UnknownDirective
-unknown_code [] e = absurd cc
-unknown_code (code ∷ fields) e = rw (octet_front code fields) (unknown_fields code fields (directive_with_code code) refl e)
+unknown_code : (width : ℕ) (field : List ℕ) → has_unknown_code field ≡ true → directive_of width (number_at 1 field) ≡ Err UnknownDirective
+unknown_code width [] e = absurd cc
+unknown_code width (code ∷ fields) e = rw (octet_front code fields) (unknown_fields code fields (directive_with_code code) refl e width)
 
 unknown_body : (o : FixedHeader) (field : List ℕ) → is_file_data o.first ≡ false → has_unknown_code field ≡ true → body_of o field ≡ Err UnknownDirective
 unfolding body_of
-unknown_body o field directive unknown = rw directive (unknown_code field unknown)
+unknown_body o field directive unknown = rw directive (unknown_code (size_octets (is_large o.first)) field unknown)
 
 not-true-is : (b : Bool) → not b ≡ true → b ≡ false
 not-true-is true e = absurd cc
@@ -267,37 +267,37 @@ late_ack (first ∷ more) fault known e =
     let fields_fault : ack_of_kind (acknowledged_with_code (first / 16)) more ≡ Err fault = sym (ap ack_of (octet_front first more)) ∙ e in
     late_kind (acknowledged_with_code (first / 16)) more fault known fields_fault
 
-late_fields : (code : ℕ) (fields : List ℕ) (kind : Option Directive) (fault : DecodeFault) → directive_with_code code ≡ kind → (is_none kind || ((code == 6) && acknowledges_other fields)) ≡ false → fields_of kind fields ≡ Err fault → IsLate fault
-late_fields code fields None fault kind_is known e = absurd cc
-late_fields code fields (Some directives.Eof) fault kind_is known e = late_whole (eof_at size_octets fields) fault e
-late_fields code fields (Some directives.Finished) fault kind_is known e = late_whole (finished_at fields) fault e
-late_fields code fields (Some directives.Ack) fault kind_is known e =
+late_fields : (width code : ℕ) (fields : List ℕ) (kind : Option Directive) (fault : DecodeFault) → directive_with_code code ≡ kind → (is_none kind || ((code == 6) && acknowledges_other fields)) ≡ false → fields_of width kind fields ≡ Err fault → IsLate fault
+late_fields width code fields None fault kind_is known e = absurd cc
+late_fields width code fields (Some directives.Eof) fault kind_is known e = late_whole (eof_at width fields) fault e
+late_fields width code fields (Some directives.Finished) fault kind_is known e = late_whole (finished_at fields) fault e
+late_fields width code fields (Some directives.Ack) fault kind_is known e =
     let code_is : code ≡ 6 = directive_code-is code directives.Ack kind_is in
     let is_ack : (code == 6) ≡ true = eq-eqb code 6 code_is in
     let other : acknowledges_other fields ≡ false = subst (λ (b : Bool). (b && acknowledges_other fields) ≡ false) is_ack known in
     late_ack fields fault other e
-late_fields code fields (Some directives.Metadata) fault kind_is known e = late_whole (metadata_at size_octets fields) fault e
-late_fields code fields (Some directives.Nak) fault kind_is known e = late_whole (nak_at size_octets fields) fault e
-late_fields code fields (Some directives.Prompt) fault kind_is known e = late_whole (prompt_at fields) fault e
-late_fields code fields (Some directives.KeepAlive) fault kind_is known e = late_whole (keep_alive_at size_octets fields) fault e
+late_fields width code fields (Some directives.Metadata) fault kind_is known e = late_whole (metadata_at width fields) fault e
+late_fields width code fields (Some directives.Nak) fault kind_is known e = late_whole (nak_at width fields) fault e
+late_fields width code fields (Some directives.Prompt) fault kind_is known e = late_whole (prompt_at fields) fault e
+late_fields width code fields (Some directives.KeepAlive) fault kind_is known e = late_whole (keep_alive_at width fields) fault e
 
-late_code : (field : List ℕ) (fault : DecodeFault) → has_unknown_code field ≡ false → directive_of (number_at 1 field) ≡ Err fault → IsLate fault
+late_code : (width : ℕ) (field : List ℕ) (fault : DecodeFault) → has_unknown_code field ≡ false → directive_of width (number_at 1 field) ≡ Err fault → IsLate fault
 unfolding number_at
-late_code [] fault known e = inl cc
-late_code (code ∷ fields) fault known e =
-    let fields_fault : fields_of (directive_with_code code) fields ≡ Err fault = sym (ap directive_of (octet_front code fields)) ∙ e in
-    late_fields code fields (directive_with_code code) fault refl known fields_fault
+late_code width [] fault known e = inl cc
+late_code width (code ∷ fields) fault known e =
+    let fields_fault : fields_of width (directive_with_code code) fields ≡ Err fault = sym (ap (directive_of width) (octet_front code fields)) ∙ e in
+    late_fields width code fields (directive_with_code code) fault refl known fields_fault
 
 late_body : (o : FixedHeader) (field : List ℕ) (fault : DecodeFault) (b : Bool) → is_file_data o.first ≡ b → (not b && has_unknown_code field) ≡ false → body_of o field ≡ Err fault → IsLate fault
 unfolding body_of
 late_body o field fault true is known e =
-    let found = file_data_at size_octets (has_segment_metadata o.lengths) field in
-    let whole : whole_body found ≡ Err fault = subst (λ (b : Bool). cond b (whole_body found) (directive_of (number_at 1 field)) ≡ Err fault) is e in
+    let found = file_data_at (size_octets (is_large o.first)) (has_segment_metadata o.lengths) field in
+    let whole : whole_body found ≡ Err fault = subst (λ (b : Bool). cond b (whole_body found) (directive_of (size_octets (is_large o.first)) (number_at 1 field)) ≡ Err fault) is e in
     late_whole found fault whole
 late_body o field fault false is known e =
-    let found = file_data_at size_octets (has_segment_metadata o.lengths) field in
-    let directive : directive_of (number_at 1 field) ≡ Err fault = subst (λ (b : Bool). cond b (whole_body found) (directive_of (number_at 1 field)) ≡ Err fault) is e in
-    late_code field fault known directive
+    let found = file_data_at (size_octets (is_large o.first)) (has_segment_metadata o.lengths) field in
+    let directive : directive_of (size_octets (is_large o.first)) (number_at 1 field) ≡ Err fault = subst (λ (b : Bool). cond b (whole_body found) (directive_of (size_octets (is_large o.first)) (number_at 1 field)) ≡ Err fault) is e in
+    late_code (size_octets (is_large o.first)) field fault known directive
 
 late_pdu : (o : FixedHeader) (r : Result Body DecodeFault) (fault : DecodeFault) → pdu_with_body o r ≡ Err fault → r ≡ Err fault
 late_pdu o (Ok body) fault e = absurd cc
@@ -322,26 +322,24 @@ abbrev IsEarly : DecodeFault → Type 0
 IsEarly TooShort = Unit {0}
 IsEarly BadVersion = Unit {0}
 IsEarly CrcPresent = Unit {0}
-IsEarly LargeFile = Unit {0}
 IsEarly LengthMismatch = Unit {0}
 IsEarly UnknownDirective = ⊥
 IsEarly FieldCut = ⊥
 IsEarly NoFileName = ⊥
 IsEarly NoMemory = ⊥
 
-early_number : (a b c d : Bool) (fault : DecodeFault) → cond a (Some BadVersion) (cond b (Some CrcPresent) (cond c (Some LargeFile) (cond d (Some LengthMismatch) None))) ≡ Some fault → IsEarly fault
-early_number true b c d fault e = let same : BadVersion ≡ fault = cc in subst IsEarly same tt
-early_number false true c d fault e = let same : CrcPresent ≡ fault = cc in subst IsEarly same tt
-early_number false false true d fault e = let same : LargeFile ≡ fault = cc in subst IsEarly same tt
-early_number false false false true fault e = let same : LengthMismatch ≡ fault = cc in subst IsEarly same tt
-early_number false false false false fault e = absurd cc
+early_number : (a b d : Bool) (fault : DecodeFault) → cond a (Some BadVersion) (cond b (Some CrcPresent) (cond d (Some LengthMismatch) None)) ≡ Some fault → IsEarly fault
+early_number true b d fault e = let same : BadVersion ≡ fault = cc in subst IsEarly same tt
+early_number false true d fault e = let same : CrcPresent ≡ fault = cc in subst IsEarly same tt
+early_number false false true fault e = let same : LengthMismatch ≡ fault = cc in subst IsEarly same tt
+early_number false false false fault e = absurd cc
 
 early_short : (fault : DecodeFault) → header_fault [] ≡ Some fault → IsEarly fault
 early_short fault e = let same : TooShort ≡ fault = cc in subst IsEarly same tt
 
 early_step : (b : Bool) (first size lengths behind : ℕ) (fault : DecodeFault) → cond b (Some TooShort) (number_fault first size lengths behind) ≡ Some fault → IsEarly fault
 early_step true first size lengths behind fault e = early_short fault e
-early_step false first size lengths behind fault e = early_number (not (version first == 1)) (has_crc first) (is_large first) (not (behind == ids_octets lengths + size)) fault e
+early_step false first size lengths behind fault e = early_number (not (version first == 1)) (has_crc first) (not (behind == ids_octets lengths + size)) fault e
 
 early : (octets : List ℕ) (fault : DecodeFault) → header_fault octets ≡ Some fault → IsEarly fault
 early [] fault e = early_short fault e
@@ -354,7 +352,6 @@ early_is_first : (octets : List ℕ) (fault : DecodeFault) → IsEarly fault →
 early_is_first octets TooShort is e = e
 early_is_first octets BadVersion is e = e
 early_is_first octets CrcPresent is e = e
-early_is_first octets LargeFile is e = e
 early_is_first octets LengthMismatch is e = e
 early_is_first octets UnknownDirective is e = absurd is
 early_is_first octets FieldCut is e = absurd is
@@ -418,7 +415,6 @@ pub first_fault_is_read : (octets : List ℕ) (fault : DecodeFault) → IsOctets
 first_fault_is_read octets TooShort h is = header_fault_is_read octets TooShort is
 first_fault_is_read octets BadVersion h is = header_fault_is_read octets BadVersion is
 first_fault_is_read octets CrcPresent h is = header_fault_is_read octets CrcPresent is
-first_fault_is_read octets LargeFile h is = header_fault_is_read octets LargeFile is
 first_fault_is_read octets LengthMismatch h is = header_fault_is_read octets LengthMismatch is
 first_fault_is_read octets UnknownDirective h is = unknown_is_read octets is.header is.unknown
 first_fault_is_read octets FieldCut h is = cut_is_read octets (reading octets) h is refl

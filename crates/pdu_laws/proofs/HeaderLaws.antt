@@ -7,7 +7,7 @@ use Rattle.pdu_values.specs.declared.pdu.Direction.{Direction}
 use Rattle.pdu_values.specs.declared.pdu.Direction.TheVariants.{TowardReceiver, TowardSender}
 use Rattle.pdu_values.specs.declared.pdu.Body.{Body}
 use Rattle.pdu_values.specs.declared.pdu.Body.TheVariants as bodies
-use Rattle.pdu_reading.specs.declared.fault.DecodeFault.TheVariants.{BadVersion, CrcPresent, LargeFile, LengthMismatch}
+use Rattle.pdu_reading.specs.declared.fault.DecodeFault.TheVariants.{BadVersion, CrcPresent, LengthMismatch}
 use Rattle.pdu_reading.specs.declared.fixed_header.FixedHeader.{FixedHeader}
 use Rattle.pdu_values.specs.Numbers.{digits}
 use Rattle.pdu_values.specs.Pdu.{PduValue}
@@ -91,7 +91,7 @@ fixed_header_again o rest fits =
 abbrev pub fixed_header_of : Choice → PduValue → FixedHeader
 fixed_header_of choice pdu = record {
   first = first_octet pdu;
-  size = length (data_field size_octets choice pdu.body);
+  size = length (data_field (size_octets pdu.header.large) choice pdu.body);
   lengths = lengths_octet choice pdu.header;
   source = pdu.header.source.0;
   sequence = pdu.header.sequence;
@@ -117,16 +117,23 @@ mode_bit-below Two = omega arith
 mode_bit-below One = omega arith
 
 -- the four fields of a spelled first octet
-direction_again : (t m : ℕ) (d : Direction) → t < 2 → m < 2 → direction_of (32 + 16 * t + 8 * direction_bit d + 4 * m) ≡ d
-direction_again t m TowardReceiver lt lm = rw (eq-eqb ((32 + 16 * t + 8 * 0 + 4 * m) / 8 % 2) 0 (omega arith)) refl
-direction_again t m TowardSender lt lm = rw (ne_eqb ((32 + 16 * t + 8 * 1 + 4 * m) / 8 % 2) 0 (λ e. omega arith)) refl
+direction_again : (t m l : ℕ) (d : Direction) → t < 2 → m < 2 → l < 2 → direction_of (32 + 16 * t + 8 * direction_bit d + 4 * m + l) ≡ d
+direction_again t m l TowardReceiver lt lm ll = rw (eq-eqb ((32 + 16 * t + 8 * 0 + 4 * m + l) / 8 % 2) 0 (omega arith)) refl
+direction_again t m l TowardSender lt lm ll = rw (ne_eqb ((32 + 16 * t + 8 * 1 + 4 * m + l) / 8 % 2) 0 (λ e. omega arith)) refl
 
-class_again : (t d : ℕ) (class : Class) → t < 2 → d < 2 → class_of (32 + 16 * t + 8 * d + 4 * mode_bit class) ≡ class
-class_again t d Two lt ld = rw (eq-eqb ((32 + 16 * t + 8 * d + 4 * 0) / 4 % 2) 0 (omega arith)) refl
-class_again t d One lt ld = rw (ne_eqb ((32 + 16 * t + 8 * d + 4 * 1) / 4 % 2) 0 (λ e. omega arith)) refl
+class_again : (t d l : ℕ) (class : Class) → t < 2 → d < 2 → l < 2 → class_of (32 + 16 * t + 8 * d + 4 * mode_bit class + l) ≡ class
+class_again t d l Two lt ld ll = rw (eq-eqb ((32 + 16 * t + 8 * d + 4 * 0 + l) / 4 % 2) 0 (omega arith)) refl
+class_again t d l One lt ld ll = rw (ne_eqb ((32 + 16 * t + 8 * d + 4 * 1 + l) / 4 % 2) 0 (λ e. omega arith)) refl
+
+large_again : (t d m : ℕ) (large : Bool) → is_large (32 + 16 * t + 8 * d + 4 * m + bit large) ≡ large
+large_again t d m true = eq-eqb ((32 + 16 * t + 8 * d + 4 * m + 1) % 2) 1 (omega arith)
+large_again t d m false = ne_eqb ((32 + 16 * t + 8 * d + 4 * m + 0) % 2) 1 (λ e. omega arith)
+
+pub flag_of_first : (pdu : PduValue) → is_large (first_octet pdu) ≡ pdu.header.large
+flag_of_first pdu = large_again (type_bit pdu.body) (direction_bit pdu.header.direction) (mode_bit pdu.header.class) pdu.header.large
 
 pub kind_again : (pdu : PduValue) → first_octet pdu / 16 % 2 ≡ type_bit pdu.body
-kind_again pdu = omega (arith, type_bit-below pdu.body, direction_bit-below pdu.header.direction, mode_bit-below pdu.header.class)
+kind_again pdu = omega (arith, type_bit-below pdu.body, direction_bit-below pdu.header.direction, mode_bit-below pdu.header.class, bit-below pdu.header.large)
 
 -- the three fields of a spelled octet of lengths
 pub record LengthsAgain (control entity : ℕ) (flag : Bool) (sequence : ℕ) : Type 0 where
@@ -154,7 +161,7 @@ pub FixedHeaderFits-fixed_header_of : (choice : Choice) (pdu : PduValue) → Hea
 FixedHeaderFits-fixed_header_of choice pdu fits is_choice =
     let again = lengths_of choice pdu fits is_choice in
     record {
-      first = omega (arith, type_bit-below pdu.body, direction_bit-below pdu.header.direction, mode_bit-below pdu.header.class);
+      first = omega (arith, type_bit-below pdu.body, direction_bit-below pdu.header.direction, mode_bit-below pdu.header.class, bit-below pdu.header.large);
       size = is_choice.data_field;
       lengths = again.small;
       source = subst (λ (k : ℕ). pdu.header.source.0 < 256 ^ k) (sym again.entity_again) fits.source;
@@ -162,7 +169,7 @@ FixedHeaderFits-fixed_header_of choice pdu fits is_choice =
       destination = subst (λ (k : ℕ). pdu.header.destination.0 < 256 ^ k) (sym again.entity_again) fits.destination;
     }
 
-pub spelling-is : (choice : Choice) (pdu : PduValue) → HeaderFits pdu.header → IsChoice choice pdu → spelling choice pdu ≡ fixed_header_text (fixed_header_of choice pdu) ++ data_field size_octets choice pdu.body
+pub spelling-is : (choice : Choice) (pdu : PduValue) → HeaderFits pdu.header → IsChoice choice pdu → spelling choice pdu ≡ fixed_header_text (fixed_header_of choice pdu) ++ data_field (size_octets pdu.header.large) choice pdu.body
 unfolding spelling
 spelling-is choice pdu fits is_choice =
     let again = lengths_of choice pdu fits is_choice in
@@ -174,20 +181,22 @@ header_again choice pdu fits is_choice =
     let again = lengths_of choice pdu fits is_choice in
     let t = type_bit pdu.body in
     rw (
-      direction_again t (mode_bit pdu.header.class) pdu.header.direction (type_bit-below pdu.body) (mode_bit-below pdu.header.class),
-      class_again t (direction_bit pdu.header.direction) pdu.header.class (type_bit-below pdu.body) (direction_bit-below pdu.header.direction),
+      direction_again t (mode_bit pdu.header.class) (bit pdu.header.large) pdu.header.direction (type_bit-below pdu.body) (mode_bit-below pdu.header.class) (bit-below pdu.header.large),
+      class_again t (direction_bit pdu.header.direction) (bit pdu.header.large) pdu.header.class (type_bit-below pdu.body) (direction_bit-below pdu.header.direction) (bit-below pdu.header.large),
+      flag_of_first pdu,
       again.entity_again,
       again.sequence_again,
     ) refl
 
-pub no_fault_again : (choice : Choice) (pdu : PduValue) → fixed_header_fault (fixed_header_of choice pdu) (data_field size_octets choice pdu.body) ≡ None
+pub no_fault_again : (choice : Choice) (pdu : PduValue) → fixed_header_fault (fixed_header_of choice pdu) (data_field (size_octets pdu.header.large) choice pdu.body) ≡ None
 unfolding fixed_header_fault
 no_fault_again choice pdu =
     let t = type_bit-below pdu.body in
     let d = direction_bit-below pdu.header.direction in
     let m = mode_bit-below pdu.header.class in
-    let size = length (data_field size_octets choice pdu.body) in
-    rw (eq-eqb (first_octet pdu / 32) 1 (omega arith), ne_eqb (first_octet pdu / 2 % 2) 1 (λ e. omega arith), ne_eqb (first_octet pdu % 2) 1 (λ e. omega arith), eq-eqb size size refl) refl
+    let l = bit-below pdu.header.large in
+    let size = length (data_field (size_octets pdu.header.large) choice pdu.body) in
+    rw (eq-eqb (first_octet pdu / 32) 1 (omega arith), ne_eqb (first_octet pdu / 2 % 2) 1 (λ e. omega arith), eq-eqb size size refl) refl
 
 -- ---- the other way
 
@@ -203,7 +212,6 @@ none_then false x o e = (refl, e)
 pub record HasNoFault (o : FixedHeader) (field : List ℕ) : Type 0 where
   pub version_is : o.first / 32 ≡ 1
   pub no_crc : o.first / 2 % 2 ≡ 0
-  pub small : o.first % 2 ≡ 0
   pub size_is : length field ≡ o.size
 
 bit_zero : (n : ℕ) → eqb (n % 2) 1 ≡ false → n % 2 ≡ 0
@@ -212,14 +220,12 @@ bit_zero n e = omega (arith, eqb-false (n % 2) 1 e)
 pub HasNoFault-from_none : (o : FixedHeader) (field : List ℕ) → fixed_header_fault o field ≡ None → HasNoFault o field
 unfolding fixed_header_fault
 HasNoFault-from_none o field e =
-    let a = none_then (not (version o.first == 1)) BadVersion (cond (has_crc o.first) (Some CrcPresent) (cond (is_large o.first) (Some LargeFile) (cond (not (length field == o.size)) (Some LengthMismatch) None))) e in
-    let b = none_then (has_crc o.first) CrcPresent (cond (is_large o.first) (Some LargeFile) (cond (not (length field == o.size)) (Some LengthMismatch) None)) a.1 in
-    let c = none_then (is_large o.first) LargeFile (cond (not (length field == o.size)) (Some LengthMismatch) None) b.1 in
-    let d = none_then (not (length field == o.size)) LengthMismatch None c.1 in
+    let a = none_then (not (version o.first == 1)) BadVersion (cond (has_crc o.first) (Some CrcPresent) (cond (not (length field == o.size)) (Some LengthMismatch) None)) e in
+    let b = none_then (has_crc o.first) CrcPresent (cond (not (length field == o.size)) (Some LengthMismatch) None) a.1 in
+    let d = none_then (not (length field == o.size)) LengthMismatch None b.1 in
     record {
       version_is = eqb-true (version o.first) 1 (not-false (version o.first == 1) a.0);
       no_crc = bit_zero (o.first / 2) b.0;
-      small = bit_zero o.first c.0;
       size_is = eqb-true (length field) o.size (not-false (length field == o.size) d.0);
     }
 
@@ -240,7 +246,7 @@ mode_bit-class_of first =
 pub first_octet-is : (o : FixedHeader) (field : List ℕ) (body : Body) → HasNoFault o field → type_bit body ≡ o.first / 16 % 2 → first_octet (record { header = header_of o; body = body }) ≡ o.first
 unfolding header_of
 first_octet-is o field body sound kind =
-    omega (arith, kind, sound.version_is, sound.no_crc, sound.small, direction_bit-direction_of o.first, mode_bit-class_of o.first)
+    omega (arith, kind, sound.version_is, sound.no_crc, bit-eqb (o.first % 2) (omega arith), direction_bit-direction_of o.first, mode_bit-class_of o.first)
 
 pub lengths_octet-is : (o : FixedHeader) (choice : Choice) → choice.control ≡ o.lengths / 128 → choice.flag ≡ has_segment_metadata o.lengths → lengths_octet choice (header_of o) ≡ o.lengths
 unfolding header_of

@@ -7,7 +7,7 @@ use Rattle.pdu_values.specs.declared.directive.Directive.TheVariants as directiv
 use Rattle.pdu_values.specs.declared.pdu.Body.{Body}
 use Rattle.pdu_reading.specs.declared.fixed_header.FixedHeader.{FixedHeader}
 use Rattle.pdu_reading.specs.declared.fault.DecodeFault.{DecodeFault}
-use Rattle.pdu_reading.specs.declared.fault.DecodeFault.TheVariants.{BadVersion, CrcPresent, LargeFile, LengthMismatch, NoFileName, NoMemory}
+use Rattle.pdu_reading.specs.declared.fault.DecodeFault.TheVariants.{BadVersion, CrcPresent, LengthMismatch, NoFileName, NoMemory}
 use Rattle.pdu_values.specs.Directive.{directive_with_code}
 use Rattle.pdu_values.specs.Pdu.{PduValue}
 use Rattle.pdu_values.specs.Spelling.{size_octets}
@@ -35,35 +35,34 @@ ack_is : (found : Option (ℕ × List ℕ)) → IsRead (ack_of found)
 ack_is None = λ e. cc
 ack_is (Some x) = ack_kind_is (acknowledged_with_code (x.0 / 16)) x.1
 
-fields_is : (kind : Option Directive) (octets : List ℕ) → IsRead (fields_of kind octets)
-fields_is None octets = λ e. cc
-fields_is (Some directives.Eof) octets = whole_is (eof_at size_octets octets)
-fields_is (Some directives.Finished) octets = whole_is (finished_at octets)
-fields_is (Some directives.Ack) octets = ack_is (number_at 1 octets)
-fields_is (Some directives.Metadata) octets = whole_is (metadata_at size_octets octets)
-fields_is (Some directives.Nak) octets = whole_is (nak_at size_octets octets)
-fields_is (Some directives.Prompt) octets = whole_is (prompt_at octets)
-fields_is (Some directives.KeepAlive) octets = whole_is (keep_alive_at size_octets octets)
+fields_is : (width : ℕ) (kind : Option Directive) (octets : List ℕ) → IsRead (fields_of width kind octets)
+fields_is width None octets = λ e. cc
+fields_is width (Some directives.Eof) octets = whole_is (eof_at width octets)
+fields_is width (Some directives.Finished) octets = whole_is (finished_at octets)
+fields_is width (Some directives.Ack) octets = ack_is (number_at 1 octets)
+fields_is width (Some directives.Metadata) octets = whole_is (metadata_at width octets)
+fields_is width (Some directives.Nak) octets = whole_is (nak_at width octets)
+fields_is width (Some directives.Prompt) octets = whole_is (prompt_at octets)
+fields_is width (Some directives.KeepAlive) octets = whole_is (keep_alive_at width octets)
 
-directive_is : (found : Option (ℕ × List ℕ)) → IsRead (directive_of found)
-directive_is None = λ e. cc
-directive_is (Some x) = fields_is (directive_with_code x.0) x.1
+directive_is : (width : ℕ) (found : Option (ℕ × List ℕ)) → IsRead (directive_of width found)
+directive_is width None = λ e. cc
+directive_is width (Some x) = fields_is width (directive_with_code x.0) x.1
 
 body_is : (o : FixedHeader) (field : List ℕ) → IsRead (body_of o field)
 unfolding body_of
-body_is o field = IsRead-cond (is_file_data o.first) _ _ (whole_is (file_data_at size_octets (has_segment_metadata o.lengths) field)) (directive_is (number_at 1 field))
+body_is o field = IsRead-cond (is_file_data o.first) _ _ (whole_is (file_data_at (size_octets (is_large o.first)) (has_segment_metadata o.lengths) field)) (directive_is (size_octets (is_large o.first)) (number_at 1 field))
 
 pdu_is : (o : FixedHeader) (r : Result Body DecodeFault) → IsRead r → IsRead (pdu_with_body o r)
 pdu_is o (Ok body) p = tt
 pdu_is o (Err fault) p = p
 
 -- a fault of the fixed_header is not want of memory
-fault_is : (a b c d : Bool) (fault : DecodeFault) → cond a (Some BadVersion) (cond b (Some CrcPresent) (cond c (Some LargeFile) (cond d (Some LengthMismatch) None))) ≡ Some fault → fault ≢ NoMemory
-fault_is true b c d fault e = λ h. cc
-fault_is false true c d fault e = λ h. cc
-fault_is false false true d fault e = λ h. cc
-fault_is false false false true fault e = λ h. cc
-fault_is false false false false fault e = absurd cc
+fault_is : (a b d : Bool) (fault : DecodeFault) → cond a (Some BadVersion) (cond b (Some CrcPresent) (cond d (Some LengthMismatch) None)) ≡ Some fault → fault ≢ NoMemory
+fault_is true b d fault e = λ h. cc
+fault_is false true d fault e = λ h. cc
+fault_is false false true fault e = λ h. cc
+fault_is false false false fault e = absurd cc
 
 unless_is : (o : FixedHeader) (field : List ℕ) (fault : Option DecodeFault) → ((f : DecodeFault) → fault ≡ Some f → f ≢ NoMemory) → IsRead (pdu_from_field o field fault)
 unless_is o field None p = pdu_is o (body_of o field) (body_is o field)
@@ -72,7 +71,7 @@ unless_is o field (Some fault) p = p fault refl
 opened_is : (x : Option (FixedHeader × List ℕ)) → IsRead (pdu_from_fixed_header x)
 unfolding fixed_header_fault
 opened_is None = λ e. cc
-opened_is (Some x) = unless_is x.0 x.1 (fixed_header_fault x.0 x.1) (λ f e. fault_is (not (eqb (version x.0.first) 1)) (has_crc x.0.first) (is_large x.0.first) (not (eqb (length x.1) x.0.size)) f e)
+opened_is (Some x) = unless_is x.0 x.1 (fixed_header_fault x.0 x.1) (λ f e. fault_is (not (eqb (version x.0.first) 1)) (has_crc x.0.first) (not (eqb (length x.1) x.0.size)) f e)
 
 not_memory : {A : Type 0} (r : Result A DecodeFault) → IsRead r → r ≢ Err NoMemory
 not_memory (Ok x) p = λ e. cc

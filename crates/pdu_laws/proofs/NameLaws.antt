@@ -5,7 +5,7 @@ use Rattle.std.proofs.lemmas.List.{nil_from_length}
 use Rattle.pdu_values.specs.declared.bodies.Metadata as metadata_type
 use Rattle.pdu_values.specs.declared.pdu.Body.{Body}
 use Rattle.pdu_values.specs.declared.pdu.Body.TheVariants as bodies
-use Rattle.pdu_values.specs.Spelling.{size_octets, IsName, BodyFits}
+use Rattle.pdu_values.specs.Spelling.{IsName, BodyFits}
 use Rattle.pdu_reading.specs.Reading.{lacks_name}
 use Rattle.pdu_laws.proofs.BodyLaws.{FieldsFit}
 
@@ -14,11 +14,11 @@ is_name : (name : List ℕ) → length name < 256 → (length name == 0) ≡ fal
 is_name name short not_empty = record { least = omega (arith, eqb-false (length name) 0 not_empty); most = short }
 
 -- fields that fit, and no name left out
-pub fields_and_names : (body : Body) → FieldsFit size_octets body → lacks_name body ≡ false → BodyFits size_octets body
-fields_and_names (bodies.Eof e) fits named = fits
-fields_and_names (bodies.Finished f) fits named = fits
-fields_and_names (bodies.Ack a) fits named = fits
-fields_and_names (bodies.Metadata m) fits named =
+pub fields_and_names : (width : ℕ) (body : Body) → FieldsFit width body → lacks_name body ≡ false → BodyFits width body
+fields_and_names width (bodies.Eof e) fits named = fits
+fields_and_names width (bodies.Finished f) fits named = fits
+fields_and_names width (bodies.Ack a) fits named = fits
+fields_and_names width (bodies.Metadata m) fits named =
     let names = or_parts (length m.source_name == 0) (length m.destination_name == 0) named in
     record {
       checksum_type = fits.checksum_type;
@@ -27,40 +27,40 @@ fields_and_names (bodies.Metadata m) fits named =
       destination_name = is_name m.destination_name fits.destination_name names.1;
       messages = fits.messages;
     }
-fields_and_names (bodies.Nak n) fits named = fits
-fields_and_names (bodies.Prompt p) fits named = fits
-fields_and_names (bodies.KeepAlive k) fits named = fits
-fields_and_names (bodies.FileData f) fits named = fits
+fields_and_names width (bodies.Nak n) fits named = fits
+fields_and_names width (bodies.Prompt p) fits named = fits
+fields_and_names width (bodies.KeepAlive k) fits named = fits
+fields_and_names width (bodies.FileData f) fits named = fits
 
-pub fields_fit : (body : Body) → BodyFits size_octets body → FieldsFit size_octets body
-fields_fit (bodies.Eof e) fits = fits
-fields_fit (bodies.Finished f) fits = fits
-fields_fit (bodies.Ack a) fits = fits
-fields_fit (bodies.Metadata m) fits = record {
+pub fields_fit : (width : ℕ) (body : Body) → BodyFits width body → FieldsFit width body
+fields_fit width (bodies.Eof e) fits = fits
+fields_fit width (bodies.Finished f) fits = fits
+fields_fit width (bodies.Ack a) fits = fits
+fields_fit width (bodies.Metadata m) fits = record {
   checksum_type = fits.checksum_type;
   size = fits.size;
   source_name = fits.source_name.most;
   destination_name = fits.destination_name.most;
   messages = fits.messages;
 }
-fields_fit (bodies.Nak n) fits = fits
-fields_fit (bodies.Prompt p) fits = fits
-fields_fit (bodies.KeepAlive k) fits = fits
-fields_fit (bodies.FileData f) fits = fits
+fields_fit width (bodies.Nak n) fits = fits
+fields_fit width (bodies.Prompt p) fits = fits
+fields_fit width (bodies.KeepAlive k) fits = fits
+fields_fit width (bodies.FileData f) fits = fits
 
 -- a body that fits leaves no name out
-pub names_fit : (body : Body) → BodyFits size_octets body → lacks_name body ≡ false
-names_fit (bodies.Eof e) fits = refl
-names_fit (bodies.Finished f) fits = refl
-names_fit (bodies.Ack a) fits = refl
-names_fit (bodies.Metadata m) fits =
+pub names_fit : (width : ℕ) (body : Body) → BodyFits width body → lacks_name body ≡ false
+names_fit width (bodies.Eof e) fits = refl
+names_fit width (bodies.Finished f) fits = refl
+names_fit width (bodies.Ack a) fits = refl
+names_fit width (bodies.Metadata m) fits =
     let source = fits.source_name.least in
     let destination = fits.destination_name.least in
     or_from (length m.source_name == 0) (length m.destination_name == 0) (ne_eqb (length m.source_name) 0 (λ is. omega arith)) (ne_eqb (length m.destination_name) 0 (λ is. omega arith))
-names_fit (bodies.Nak n) fits = refl
-names_fit (bodies.Prompt p) fits = refl
-names_fit (bodies.KeepAlive k) fits = refl
-names_fit (bodies.FileData f) fits = refl
+names_fit width (bodies.Nak n) fits = refl
+names_fit width (bodies.Prompt p) fits = refl
+names_fit width (bodies.KeepAlive k) fits = refl
+names_fit width (bodies.FileData f) fits = refl
 
 -- ---- a name that is left out
 

@@ -1,14 +1,13 @@
--- The numbers of the faults of decoding.
+-- Meaning. The numbers of the faults of decoding.
 use Rattle.std.specs.Prelude.{ℕ}
 use Rattle.pdu_reading.specs.declared.fault.DecodeFault.{DecodeFault}
-use Rattle.pdu_reading.specs.declared.fault.DecodeFault.TheVariants.{TooShort, BadVersion, CrcPresent, LargeFile, LengthMismatch, UnknownDirective, FieldCut, NoFileName, NoMemory}
+use Rattle.pdu_reading.specs.declared.fault.DecodeFault.TheVariants.{TooShort, BadVersion, CrcPresent, LengthMismatch, UnknownDirective, FieldCut, NoFileName, NoMemory}
 
 -- the number that is printed for a fault
 abbrev pub fault_number : DecodeFault → ℕ
 fault_number TooShort = 1
 fault_number BadVersion = 2
 fault_number CrcPresent = 3
-fault_number LargeFile = 4
 fault_number LengthMismatch = 5
 fault_number UnknownDirective = 6
 fault_number FieldCut = 7

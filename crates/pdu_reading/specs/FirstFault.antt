@@ -1,15 +1,15 @@
--- Which fault a datagram has: the first that applies. The first six are told by the octets at their
+-- Meaning. Which fault a datagram has: the first that applies. The first six are told by the octets at their
 -- places; the others by what the datagram spells.
 use Rattle.std.specs.Prelude.{◌≡◌, ℕ, ◌+◌, ◌*◌, ◌/◌, Bool, true, false, ◌⊎◌, ◌&&◌, ◌||◌, not, List, [], ◌∷◌, length, drop, Option, Some, None, is_none, nat_lt, ◌==◌, if◌then◌else◌}
 use Rattle.pdu_reading.specs.declared.fault.DecodeFault.{DecodeFault}
-use Rattle.pdu_reading.specs.declared.fault.DecodeFault.TheVariants.{TooShort, BadVersion, CrcPresent, LargeFile, LengthMismatch, UnknownDirective, FieldCut, NoFileName, NoMemory}
+use Rattle.pdu_reading.specs.declared.fault.DecodeFault.TheVariants.{TooShort, BadVersion, CrcPresent, LengthMismatch, UnknownDirective, FieldCut, NoFileName, NoMemory}
 use Rattle.pdu_values.specs.declared.bodies.Metadata as metadata_type
 use Rattle.pdu_values.specs.declared.pdu.Header.{Header}
 use Rattle.pdu_values.specs.declared.pdu.Body.TheVariants as bodies
 use Rattle.pdu_values.specs.Pdu.{PduValue}
 use Rattle.pdu_values.specs.Spelling.{Choice, size_octets, spelling, HeaderFits, MetadataFieldsFit, IsChoice, Spells}
 use Rattle.pdu_values.specs.Directive.{directive_with_code}
-use Rattle.pdu_reading.specs.FixedHeader.{entity_octets, sequence_octets, version, is_file_data, has_crc, is_large}
+use Rattle.pdu_reading.specs.FixedHeader.{entity_octets, sequence_octets, version, is_file_data, has_crc}
 use Rattle.pdu_reading.specs.Reading.{acknowledged_with_code}
 
 -- the octets of two entity IDs and a sequence number, by the octet of lengths
@@ -21,8 +21,7 @@ abbrev pub number_fault : ℕ → ℕ → ℕ → ℕ → Option DecodeFault
 number_fault first size lengths behind =
     if not (version first == 1) then Some BadVersion else
     (if has_crc first then Some CrcPresent else
-    (if is_large first then Some LargeFile else
-    (if not (behind == ids_octets lengths + size) then Some LengthMismatch else None)))
+    (if not (behind == ids_octets lengths + size) then Some LengthMismatch else None))
 
 -- what is wrong with a datagram before its data field is looked at
 abbrev pub header_fault : List ℕ → Option DecodeFault
@@ -53,7 +52,7 @@ pub record SpellsNameless (octets : List ℕ) : Type 0 where
   pub metadata : metadata_type.Metadata
   pub choice : Choice
   pub header_fits : HeaderFits header
-  pub metadata_fits : MetadataFieldsFit size_octets metadata
+  pub metadata_fits : MetadataFieldsFit (size_octets header.large) metadata
   pub nameless : (metadata.source_name ≡ []) ⊎ (metadata.destination_name ≡ [])
   pub is_choice : IsChoice choice (record { header = header; body = bodies.Metadata metadata })
   pub spelled : octets ≡ spelling choice (record { header = header; body = bodies.Metadata metadata })
@@ -76,7 +75,6 @@ abbrev pub IsFirstFault : List ℕ → DecodeFault → Type 0
 IsFirstFault octets TooShort = header_fault octets ≡ Some TooShort
 IsFirstFault octets BadVersion = header_fault octets ≡ Some BadVersion
 IsFirstFault octets CrcPresent = header_fault octets ≡ Some CrcPresent
-IsFirstFault octets LargeFile = header_fault octets ≡ Some LargeFile
 IsFirstFault octets LengthMismatch = header_fault octets ≡ Some LengthMismatch
 IsFirstFault octets UnknownDirective = IsUnknown octets
 IsFirstFault octets FieldCut = IsCut octets

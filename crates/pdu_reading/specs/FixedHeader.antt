@@ -1,4 +1,4 @@
--- What the numbers of the fixed header mean (CCSDS 727.0-B-5, 5.1).
+-- Meaning. What the numbers of the fixed header mean (CCSDS 727.0-B-5, 5.1).
 use Rattle.std.specs.Prelude.{ℕ, ◌+◌, ◌/◌, ◌%◌, Bool, ◌==◌, if◌then◌else◌}
 use Rattle.cfdp_types.specs.declared.names.Class.{Class}
 use Rattle.cfdp_types.specs.declared.names.Class.TheVariants.{One, Two}
@@ -48,6 +48,7 @@ unfoldable pub header_of : FixedHeader → Header
 header_of o = record {
   direction = direction_of o.first;
   class = class_of o.first;
+  large = is_large o.first;
   entity_octets = entity_octets o.lengths;
   sequence_octets = sequence_octets o.lengths;
   source = record { 0 = o.source };

@@ -1,4 +1,4 @@
--- Readers: a reader answers a value and the octets behind it, or none.
+-- Of the code. Readers: a reader answers a value and the octets behind it, or none.
 use Rattle.std.specs.Prelude.{ℕ, zero, suc, List, [], ◌∷◌, length, Option, Some, None, ◌==◌, if◌then◌else◌}
 
 -- the first reader, and then one that goes on with what it read

@@ -1,4 +1,4 @@
--- Reading octets from left to right. A reader of fields answers the value and the octets behind it,
+-- Meaning. Reading octets from left to right. A reader of fields answers the value and the octets behind it,
 -- or none; which fault it is comes where a whole list of fields was read.
 use Rattle.std.specs.Prelude.{◌≡◌, ℕ, ◌/◌, ◌%◌, Bool, true, false, ◌||◌, not, List, length, take, drop, Option, Some, None, Result, Ok, Err, IsOk, ◌⊎◌, nat_lt, ◌==◌, if◌then◌else◌}
 use Rattle.cfdp_types.specs.declared.names.Delivery.{Delivery}
@@ -18,7 +18,7 @@ use Rattle.pdu_values.specs.declared.pdu.Body.{Body}
 use Rattle.pdu_values.specs.declared.pdu.Body.TheVariants as bodies
 use Rattle.pdu_reading.specs.declared.fixed_header.FixedHeader.{FixedHeader}
 use Rattle.pdu_reading.specs.declared.fault.DecodeFault.{DecodeFault}
-use Rattle.pdu_reading.specs.declared.fault.DecodeFault.TheVariants.{TooShort, BadVersion, CrcPresent, LargeFile, LengthMismatch, UnknownDirective, FieldCut, NoFileName, NoMemory}
+use Rattle.pdu_reading.specs.declared.fault.DecodeFault.TheVariants.{TooShort, BadVersion, CrcPresent, LengthMismatch, UnknownDirective, FieldCut, NoFileName, NoMemory}
 use Rattle.pdu_values.specs.Directive.{directive_with_code}
 use Rattle.pdu_values.specs.Pdu.{PduValue}
 use Rattle.pdu_values.specs.Numbers.{number_of}
@@ -93,8 +93,7 @@ unfoldable pub fixed_header_fault : FixedHeader → List ℕ → Option DecodeFa
 fixed_header_fault o field =
     if not (version o.first == 1) then Some BadVersion else
     (if has_crc o.first then Some CrcPresent else
-    (if is_large o.first then Some LargeFile else
-    (if not (length field == o.size) then Some LengthMismatch else None)))
+    (if not (length field == o.size) then Some LengthMismatch else None))
 
 -- ---- bits
 
@@ -230,27 +229,27 @@ abbrev pub ack_of : Option (ℕ × List ℕ) → Result Body DecodeFault
 ack_of None = Err FieldCut
 ack_of (Some x) = ack_of_kind (acknowledged_with_code (x.0 / 16)) x.1
 
--- the body of a directive, by what stands behind its code
-abbrev pub fields_of : Option Directive → List ℕ → Result Body DecodeFault
-fields_of None octets = Err UnknownDirective
-fields_of (Some directives.Eof) octets = whole_body (eof_at size_octets octets)
-fields_of (Some directives.Finished) octets = whole_body (finished_at octets)
-fields_of (Some directives.Ack) octets = ack_of (number_at 1 octets)
-fields_of (Some directives.Metadata) octets = whole_body (metadata_at size_octets octets)
-fields_of (Some directives.Nak) octets = whole_body (nak_at size_octets octets)
-fields_of (Some directives.Prompt) octets = whole_body (prompt_at octets)
-fields_of (Some directives.KeepAlive) octets = whole_body (keep_alive_at size_octets octets)
+-- the body of a directive, by what stands behind its code, for sizes and offsets of a width in octets
+abbrev pub fields_of : ℕ → Option Directive → List ℕ → Result Body DecodeFault
+fields_of width None octets = Err UnknownDirective
+fields_of width (Some directives.Eof) octets = whole_body (eof_at width octets)
+fields_of width (Some directives.Finished) octets = whole_body (finished_at octets)
+fields_of width (Some directives.Ack) octets = ack_of (number_at 1 octets)
+fields_of width (Some directives.Metadata) octets = whole_body (metadata_at width octets)
+fields_of width (Some directives.Nak) octets = whole_body (nak_at width octets)
+fields_of width (Some directives.Prompt) octets = whole_body (prompt_at octets)
+fields_of width (Some directives.KeepAlive) octets = whole_body (keep_alive_at width octets)
 
 -- the body of a directive, behind its code
-abbrev pub directive_of : Option (ℕ × List ℕ) → Result Body DecodeFault
-directive_of None = Err FieldCut
-directive_of (Some x) = fields_of (directive_with_code x.0) x.1
+abbrev pub directive_of : ℕ → Option (ℕ × List ℕ) → Result Body DecodeFault
+directive_of width None = Err FieldCut
+directive_of width (Some x) = fields_of width (directive_with_code x.0) x.1
 
 -- the body that a data field holds
 unfoldable pub body_of : FixedHeader → List ℕ → Result Body DecodeFault
 body_of o field =
-    if is_file_data o.first then whole_body (file_data_at size_octets (has_segment_metadata o.lengths) field)
-    else directive_of (number_at 1 field)
+    if is_file_data o.first then whole_body (file_data_at (size_octets (is_large o.first)) (has_segment_metadata o.lengths) field)
+    else directive_of (size_octets (is_large o.first)) (number_at 1 field)
 
 -- ---- the whole
 

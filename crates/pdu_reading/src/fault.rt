@@ -13,8 +13,6 @@ pub enum DecodeFault {
     BadVersion = 2,
     /// The CRC flag is set: a CRC is neither written nor checked here.
     CrcPresent = 3,
-    /// The large file flag is set.
-    LargeFile = 4,
     /// The datagram is not exactly the header and the data field.
     LengthMismatch = 5,
     /// The directive code is not one of those that the entity takes, or an ACK is of another

@@ -16,7 +16,7 @@ pub struct FixedHeader {
 
 impl FixedHeader {
     ghost use Rattle.std.specs.Prelude.{◌≡◌};
-    ghost use Rattle.pdu_reading.specs.FixedHeader.{entity_octets, sequence_octets, has_segment_metadata, is_file_data};
+    ghost use Rattle.pdu_reading.specs.FixedHeader.{entity_octets, sequence_octets, has_segment_metadata, is_file_data, is_large};
 
     /// Octets of an entity ID.
     pub fn entity_octets(&self) -> u8
@@ -37,6 +37,13 @@ impl FixedHeader {
         ensures { result ≡ has_segment_metadata self.now.lengths }
     {
         self.lengths / 8 % 2 == 1
+    }
+
+    /// Whether sizes and offsets have eight octets, and not four.
+    pub fn is_large(&self) -> bool
+        ensures { result ≡ is_large self.now.first }
+    {
+        self.first % 2 == 1
     }
 
     /// Whether the PDU is File Data, and no directive.

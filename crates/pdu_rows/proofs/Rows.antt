@@ -9,7 +9,7 @@ use Rattle.pdu_values.specs.declared.bodies.TransactionStatus.TheVariants.{Termi
 use Rattle.pdu_values.specs.declared.pdu.Direction.TheVariants.{TowardReceiver, TowardSender}
 use Rattle.pdu_values.specs.declared.pdu.Header.{Header}
 use Rattle.pdu_values.specs.declared.pdu.Body.TheVariants as bodies
-use Rattle.pdu_reading.specs.declared.fault.DecodeFault.TheVariants.{TooShort, BadVersion, CrcPresent, LargeFile, LengthMismatch, UnknownDirective, FieldCut, NoFileName}
+use Rattle.pdu_reading.specs.declared.fault.DecodeFault.TheVariants.{TooShort, BadVersion, CrcPresent, LengthMismatch, UnknownDirective, FieldCut, NoFileName}
 use Rattle.pdu_values.specs.Pdu.{PduValue}
 use Rattle.pdu_values.specs.Numbers.{number_of, digits}
 use Rattle.pdu_values.specs.Tlvs.{messages_in, location_in, width_from}
@@ -20,7 +20,7 @@ use Rattle.pdu_reading.specs.Reading.{number_at, lv_at, tlv_at, location_tlv_at,
 
 -- class 1, from entity 1 to entity 2, transaction 5
 abbrev header : Header
-header = record { direction = TowardReceiver; class = One; entity_octets = 1; sequence_octets = 1; source = record { 0 = 1 }; sequence = 5; destination = record { 0 = 2 } }
+header = record { direction = TowardReceiver; class = One; large = false; entity_octets = 1; sequence_octets = 1; source = record { 0 = 1 }; sequence = 5; destination = record { 0 = 2 } }
 
 -- ---- Metadata of the file "a" of three octets, to be "b"
 
@@ -105,7 +105,7 @@ spare_read = refl
 -- entity IDs of two octets and a sequence number of four
 abbrev wide_pdu : PduValue
 wide_pdu = record {
-  header = record { direction = TowardReceiver; class = One; entity_octets = 2; sequence_octets = 4; source = record { 0 = 1 }; sequence = 5; destination = record { 0 = 2 } };
+  header = record { direction = TowardReceiver; class = One; large = false; entity_octets = 2; sequence_octets = 4; source = record { 0 = 1 }; sequence = 5; destination = record { 0 = 2 } };
   body = eof_pdu.body;
 }
 
@@ -256,11 +256,6 @@ version_read = refl
 crc_read : reading (0x27 ∷ 0x00 ∷ 0x00 ∷ 0x00 ∷ 0x01 ∷ 0x05 ∷ 0x02 ∷ []) ≡ Err CrcPresent
 unfolding reading fixed_header_at fixed_header_fault number_at number_of
 crc_read = refl
-
--- a large file, and no data field of the length that is told
-large_read : reading (0x25 ∷ 0x00 ∷ 0x01 ∷ 0x00 ∷ 0x01 ∷ 0x05 ∷ 0x02 ∷ []) ≡ Err LargeFile
-unfolding reading fixed_header_at fixed_header_fault number_at number_of
-large_read = refl
 
 -- an octet behind the data field
 long_read : reading (0x24 ∷ 0x00 ∷ 0x01 ∷ 0x00 ∷ 0x01 ∷ 0x05 ∷ 0x02 ∷ 0x04 ∷ 0x00 ∷ []) ≡ Err LengthMismatch

@@ -4,13 +4,13 @@ use Rattle.cfdp_types.specs.declared.names.Delivery.TheVariants.{Complete, Incom
 use Rattle.cfdp_types.specs.declared.names.FileStatus.TheVariants.{Discarded, Rejected, Retained, Unreported}
 use Rattle.pdu_values.specs.declared.bodies.TransactionStatus.TheVariants.{Undefined, Active, Terminated, Unrecognized}
 use Rattle.pdu_values.specs.declared.bodies.Prompt.TheVariants as prompts
-use Rattle.pdu_reading.specs.declared.fault.DecodeFault.TheVariants.{TooShort, BadVersion, CrcPresent, LargeFile, LengthMismatch, UnknownDirective, FieldCut, NoFileName, NoMemory}
+use Rattle.pdu_reading.specs.declared.fault.DecodeFault.TheVariants.{TooShort, BadVersion, CrcPresent, LengthMismatch, UnknownDirective, FieldCut, NoFileName, NoMemory}
 use Rattle.pdu_reading.specs.Fault.{fault_number}
 use Rattle.pdu_reading.specs.Reading.{delivery_of, file_status_of, transaction_status_of, prompt_of}
 
 -- ---- numbers of faults
 
-fault_numbers : map fault_number (TooShort ∷ BadVersion ∷ CrcPresent ∷ LargeFile ∷ LengthMismatch ∷ UnknownDirective ∷ FieldCut ∷ NoFileName ∷ NoMemory ∷ []) ≡ 1 ∷ 2 ∷ 3 ∷ 4 ∷ 5 ∷ 6 ∷ 7 ∷ 8 ∷ 9 ∷ []
+fault_numbers : map fault_number (TooShort ∷ BadVersion ∷ CrcPresent ∷ LengthMismatch ∷ UnknownDirective ∷ FieldCut ∷ NoFileName ∷ NoMemory ∷ []) ≡ 1 ∷ 2 ∷ 3 ∷ 5 ∷ 6 ∷ 7 ∷ 8 ∷ 9 ∷ []
 fault_numbers = refl
 
 -- ---- bits as they are read

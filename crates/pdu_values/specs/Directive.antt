@@ -1,4 +1,4 @@
--- The codes of the file directives (CCSDS 727.0-B-5, 5.2.1).
+-- Meaning. The codes of the file directives (CCSDS 727.0-B-5, 5.2.1).
 use Rattle.std.specs.Prelude.{ℕ, Option, Some, None, ◌==◌, if◌then◌else◌}
 use Rattle.pdu_values.specs.declared.directive.Directive.{Directive}
 use Rattle.pdu_values.specs.declared.directive.Directive.TheVariants.{Eof, Finished, Ack, Metadata, Nak, Prompt, KeepAlive}

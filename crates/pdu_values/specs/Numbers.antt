@@ -1,4 +1,4 @@
--- Numbers as octets, the most significant first.
+-- Meaning. Numbers as octets, the most significant first.
 use Rattle.std.specs.Prelude.{ℕ, zero, suc, ◌+◌, ◌*◌, ◌/◌, ◌%◌, ◌^◌, List, [], ◌∷◌, length}
 
 -- the number that the octets stand for

@@ -1,4 +1,4 @@
--- A protocol data unit as contracts see it.
+-- Meaning. A protocol data unit as contracts see it.
 use Rattle.std.specs.Prelude.{Bool, true, false}
 use Rattle.pdu_values.specs.declared.bodies.Acknowledged.{Acknowledged}
 use Rattle.pdu_values.specs.declared.bodies.Acknowledged.TheVariants as acknowledged

@@ -1,11 +1,12 @@
--- The segment requests of a NAK.
-use Rattle.std.specs.Prelude.{ℕ, ◌^◌, ◌<◌, List, ◌++◌}
+-- Meaning. The segment requests of a NAK.
+use Rattle.std.specs.Prelude.{Bool, true, false, ℕ, ◌^◌, ◌<◌, List, ◌++◌}
 use Rattle.pdu_values.specs.declared.requests.SegmentRequest.{SegmentRequest}
 use Rattle.pdu_values.specs.Numbers.{digits}
 
--- octets of a file's size and of an offset in a file
-abbrev pub size_octets : ℕ
-size_octets = 4
+-- octets of a file's size and of an offset in a file, where the large file flag is set and where it is not
+abbrev pub size_octets : Bool → ℕ
+size_octets false = 4
+size_octets true = 8
 
 -- the two offsets of a segment request fit their fields
 pub record RequestFits (width : ℕ) (r : SegmentRequest) : Type 0 where

@@ -1,4 +1,4 @@
--- How a protocol data unit is spelled in octets (CCSDS 727.0-B-5, 5). What the standard leaves to
+-- Meaning. How a protocol data unit is spelled in octets (CCSDS 727.0-B-5, 5). What the standard leaves to
 -- the writer, as spare bits and optional fields without a meaning here, is a choice: there is one
 -- spelling for each.
 use Rattle.std.specs.Prelude.{◌≡◌, ℕ, ◌+◌, ◌-◌, ◌*◌, ◌^◌, ◌<◌, ◌≤◌, Bool, true, false, List, [], ◌++◌, length, map, Option, Some, None, IsTrue}
@@ -185,9 +185,10 @@ abbrev pub mode_bit : Class → ℕ
 mode_bit Two = 0
 mode_bit One = 1
 
--- the version 001, type, direction and mode, no CRC, no large file
+-- the version 001, type, direction, mode, no CRC, and the large file flag
 abbrev pub first_octet : PduValue → ℕ
-first_octet pdu = 32 + 16 * type_bit pdu.body + 8 * direction_bit pdu.header.direction + 4 * mode_bit pdu.header.class
+first_octet pdu =
+    32 + 16 * type_bit pdu.body + 8 * direction_bit pdu.header.direction + 4 * mode_bit pdu.header.class + bit pdu.header.large
 
 -- segmentation control, segment metadata flag, and the two lengths, less one each
 abbrev pub lengths_octet : Choice → Header → ℕ
@@ -203,7 +204,7 @@ ids header =
 -- a PDU in octets, under a choice
 unfoldable pub spelling : Choice → PduValue → List ℕ
 spelling choice pdu =
-    let field = data_field size_octets choice pdu.body in
+    let field = data_field (size_octets pdu.header.large) choice pdu.body in
     (digits 1 (first_octet pdu)
     ++ (digits 2 (length field) ++ (digits 1 (lengths_octet choice pdu.header) ++ ids pdu.header)))
     ++ field
@@ -336,17 +337,17 @@ pub record HeaderFits (header : Header) : Type 0 where
 
 -- the octets of a file in the longest data field
 abbrev pub file_data_limit : ℕ
-file_data_limit = 65531
+file_data_limit = 65527
 
 -- the segment requests in the longest data field
 abbrev pub requests_limit : ℕ
-requests_limit = 8190
+requests_limit = 4094
 
 -- every number fits its field, and the written data field its length
 pub record Fits (pdu : PduValue) : Type 0 where
   pub header : HeaderFits pdu.header
-  pub body : BodyFits size_octets pdu.body
-  pub data_field : length (data_field size_octets (plain_choice pdu) pdu.body) < 2 ^ 16
+  pub body : BodyFits (size_octets pdu.header.large) pdu.body
+  pub data_field : length (data_field (size_octets pdu.header.large) (plain_choice pdu) pdu.body) < 2 ^ 16
 
 -- ---- choices
 
@@ -405,7 +406,7 @@ pub record IsBodyChoice (choice : Choice) (body : Body) : Type 0 where
 pub record IsChoice (choice : Choice) (pdu : PduValue) : Type 0 where
   pub control : choice.control < 2
   pub body : IsBodyChoice choice pdu.body
-  pub data_field : length (data_field size_octets choice pdu.body) < 2 ^ 16
+  pub data_field : length (data_field (size_octets pdu.header.large) choice pdu.body) < 2 ^ 16
 
 -- the octets spell the PDU, under some choice
 pub record Spells (octets : List ℕ) (pdu : PduValue) : Type 0 where

@@ -1,4 +1,4 @@
--- Type, length and value: the optional fields behind the fixed ones of a directive (CCSDS 727.0-B-5, 5.4),
+-- Meaning. Type, length and value: the optional fields behind the fixed ones of a directive (CCSDS 727.0-B-5, 5.4),
 -- and what is kept of them.
 use Rattle.std.specs.Prelude.{ℕ, ◌+◌, ◌-◌, ◌^◌, zero, suc, List, [], ◌∷◌, length, Option, Some, None, Bool, true, ◌&&◌, nat_lt, ◌==◌, if◌then◌else◌}
 use Rattle.cfdp_types.specs.declared.key.EntityId.{EntityId}

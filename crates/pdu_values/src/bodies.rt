@@ -9,7 +9,7 @@ pub struct Eof {
     pub condition: Condition,
     pub checksum: u32,
     /// Octets of the file.
-    pub size: u32,
+    pub size: u64,
     /// The fault location: the entity that ended the transaction.
     pub location: Option<EntityId>,
 }
@@ -59,7 +59,7 @@ pub struct Metadata {
     pub closure: bool,
     pub checksum_type: ChecksumType,
     /// Octets of the file.
-    pub size: u32,
+    pub size: u64,
     pub source_name: Octets,
     pub destination_name: Octets,
     pub messages: Messages,
@@ -69,9 +69,9 @@ pub struct Metadata {
 #[derive(Clone, Debug, Drop, PartialEq, Eq)]
 pub struct Nak {
     /// The start of the scope, an offset in the file.
-    pub start: u32,
+    pub start: u64,
     /// The end of the scope: the offset behind it.
-    pub end: u32,
+    pub end: u64,
     pub requests: SegmentRequests,
 }
 
@@ -86,13 +86,13 @@ pub enum Prompt {
 #[derive(Clone, Copy, Debug, PartialEq, Eq)]
 pub struct KeepAlive {
     /// The greatest offset that came, plus one; 0 if none did.
-    pub progress: u32,
+    pub progress: u64,
 }
 
 /// A part of a file (5.3).
 #[derive(Clone, Debug, Drop, PartialEq, Eq)]
 pub struct FileData {
     /// The place of the first octet in the file.
-    pub offset: u32,
+    pub offset: u64,
     pub octets: Octets,
 }

@@ -19,6 +19,8 @@ pub struct Header {
     pub direction: Direction,
     /// The transmission mode: class 1 is unacknowledged.
     pub class: Class,
+    /// The large file flag: whether sizes and offsets are written in eight octets, and not in four.
+    pub large: bool,
     /// Octets of an entity ID, 1 to 8.
     pub entity_octets: u8,
     /// Octets of the transaction sequence number, 1 to 8.

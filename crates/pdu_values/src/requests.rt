@@ -2,9 +2,9 @@ ghost use Rattle.std.specs.Prelude.{◌≡◌, [], ◌∷◌, ◌++◌, ◌&&◌
 ghost use Rattle.std.proofs.lemmas.Cmp.{lists_equiv, and_equiv, on_equiv};
 ghost use Rattle.std.specs.Cmp as Cmp;
 ghost use lib.Pointwise.{pointwise};
-ghost use Rattle.pdu_values.specs.Requests.{RequestFits, size_octets};
+ghost use Rattle.pdu_values.specs.Requests.{RequestFits};
 
-use crate::sizes::word;
+use crate::sizes::long_word;
 use std::alloc::{AllocError, Global};
 use std::marker::Model;
 
@@ -12,8 +12,8 @@ use std::marker::Model;
 /// `(0, 0)` asks for the Metadata (CCSDS 727.0-B-5, 5.2.6).
 #[derive(Clone, Copy, Debug, PartialEq, Eq)]
 pub struct SegmentRequest {
-    pub start: u32,
-    pub end: u32,
+    pub start: u64,
+    pub end: u64,
 }
 
 /// The segment requests of a NAK PDU, in order. Contracts see the list of them.
@@ -25,20 +25,20 @@ pub struct SegmentRequests {
 impl Model for SegmentRequests {
     ghost use Rattle.std.specs.Prelude.{List};
     ghost use Rattle.std.specs.List.{AllByRecursion};
-    ghost use Rattle.pdu_values.specs.Requests.{RequestFits, size_octets};
+    ghost use Rattle.pdu_values.specs.Requests.{RequestFits};
     ghost use Rattle.pdu_values.specs.declared.requests.SegmentRequest.{SegmentRequest};
 
     ghost Value = { List SegmentRequest };
 
     ghost view = { λ r. r.items.items };
 
-    ghost invariant = { λ r. AllByRecursion (RequestFits size_octets) r.items.items };
+    ghost invariant = { λ r. AllByRecursion (RequestFits 8) r.items.items };
 }
 
 impl SegmentRequests {
     ghost use Rattle.std.specs.Prelude.{◌≡◌, [], ◌∷◌, ◌++◌, IfOk, OnOk, OnErr};
     ghost use Rattle.std.specs.List.{AllByRecursion};
-    ghost use Rattle.pdu_values.specs.Requests.{RequestFits, size_octets};
+    ghost use Rattle.pdu_values.specs.Requests.{RequestFits};
 
     pub fn new(alloc: Global) -> SegmentRequests
         ensures { result ≡ [] }
@@ -59,7 +59,7 @@ impl SegmentRequests {
 
     pub fn as_slice(&self) -> &[SegmentRequest]
         ensures value { result.now ≡ self.now }
-        ensures fits { AllByRecursion (RequestFits size_octets) self.now }
+        ensures fits { AllByRecursion (RequestFits 8) self.now }
     {
         self.items.as_slice()
     }
@@ -86,11 +86,11 @@ impl SegmentRequests {
 // What the types of the two offsets say of them.
 fn sized(request: SegmentRequest) -> SegmentRequest
     ensures value { result ≡ request }
-    ensures fits { RequestFits size_octets result }
+    ensures fits { RequestFits 8 result }
 {
     SegmentRequest {
-        start: word(request.start),
-        end: word(request.end),
+        start: long_word(request.start),
+        end: long_word(request.end),
     }
 }
 

@@ -12,8 +12,9 @@ pub(crate) fn word(number: u32) -> u32
     number
 }
 
-fn long_word(number: u64) -> u64
-    ensures { number < 2 ^ 64 }
+pub(crate) fn long_word(number: u64) -> u64
+    ensures value { result ≡ number }
+    ensures range { number < 2 ^ 64 }
 {
     number
 }

@@ -1,4 +1,4 @@
--- What becomes of what an entity refused, by the number of the refusal.
+-- Meaning. What becomes of what an entity refused, by the number of the refusal.
 use Rattle.std.specs.Prelude.{ℕ, Bool, ◌==◌, ◌||◌, nat_le, if◌then◌else◌}
 use Rattle.program_agenda.specs.declared.fate.Fate.{Fate}
 use Rattle.program_agenda.specs.declared.fate.Fate.TheVariants as fate

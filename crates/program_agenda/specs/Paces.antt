@@ -1,4 +1,4 @@
--- How fast octets may leave.
+-- Meaning. How fast octets may leave.
 use Rattle.std.specs.Prelude.{ℕ, ◌+◌, ◌-◌, ◌*◌, ◌/◌, min, max, Bool, nat_le, Option, Some, None}
 use Rattle.program_agenda.specs.declared.pace.Pace.{Pace}
 

@@ -1,4 +1,4 @@
--- What a program has to do by itself: timers that expire, files that are under way, deposits that wait.
+-- Meaning. What a program has to do by itself: timers that expire, files that are under way, deposits that wait.
 use Rattle.std.specs.Prelude.{ℕ, Bool, nat_le, min, fold, set, List, [], ◌∷◌, ◌++◌, Option, Some, None, position, slice_get, option_map, option_to_list}
 use Rattle.std.specs.List.{remove, list_all}
 use Rattle.cfdp_types.specs.declared.key.TxnKey.{TxnKey}

@@ -1,4 +1,4 @@
--- When the timers of a step expire.
+-- Meaning. When the timers of a step expire.
 use Rattle.std.specs.Prelude.{ℕ, ◌+◌, min, List, [], ◌∷◌}
 use Rattle.cfdp_types.specs.declared.timer_op.TimerOp.{TimerOp}
 use Rattle.cfdp_types.specs.declared.timer_op.TimerOp.TheVariants as op

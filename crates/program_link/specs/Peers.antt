@@ -1,4 +1,4 @@
--- Where a PDU goes.
+-- Meaning. Where a PDU goes.
 use Rattle.std.specs.Prelude.{◌≡◌, ℕ, List, Option, Some, find, if◌then◌else◌}
 use Rattle.std.specs.Option.{option_map}
 use Rattle.std.specs.Net.Grammar.{IsSocketText}

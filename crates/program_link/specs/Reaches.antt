@@ -1,4 +1,4 @@
--- How far into its file the data of PDUs reaches.
+-- Meaning. How far into its file the data of PDUs reaches.
 use Rattle.std.specs.Prelude.{ℕ, ◌+◌, min, max, List, [], ◌∷◌, length}
 use Rattle.pdu_values.specs.Pdu.{PduValue}
 use Rattle.pdu_values.specs.declared.pdu.Body.{Body}

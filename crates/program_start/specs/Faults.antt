@@ -1,4 +1,4 @@
--- What a program prints where it ends before its work is done.
+-- Meaning. What a program prints where it ends before its work is done.
 use Rattle.std.specs.Prelude.{ℕ, List, ◌++◌, codes, decimal}
 use Rattle.txn_events.specs.Refusal as lanes
 use Rattle.entity_routing.specs.Refusal as entities

@@ -1,11 +1,11 @@
 use crate::way_in::WayIn;
 use entity_workers::WorkersFault;
-use held_lanes::Names;
 use program_desk::{Desk, read_datagrams, read_lines};
 use program_link::wake_reader;
 use program_start::ProgramFault;
 use program_station::run_forwarders;
 use shared_entity::Entity;
+use shared_lanes::Names;
 use std::alloc::Global;
 use std::io::BufRead;
 use std::net::UdpSocket;
@@ -109,7 +109,7 @@ fn work_beside<'x, R: Threads + Wait + Sync, B: BufRead + Send + Drop, M: MainTh
     )
 }
 
-/// The same with one thread more, which reads lines of commands into the desk. It is started last: where the others can't be, nobody
+/// `run_beside` with one thread more, which reads lines of commands into the desk. It is started last: where the others can't be, nobody
 /// waits for a line.
 pub fn run_commanded<
     'x,

@@ -1,4 +1,4 @@
--- Numbers on a command line.
+-- Meaning. Numbers on a command line.
 use Rattle.std.specs.Prelude.{ℕ, nat_lt, if◌then◌else◌, List, Option, Some, None}
 use Rattle.line_words.specs.Words.{decimal_of}
 use Rattle.line_words.specs.Operands.{◌>>=◌}

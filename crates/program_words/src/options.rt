@@ -1,5 +1,7 @@
 //! What both command lines have.
-ghost use Rattle.std.specs.Prelude.{◌≡◌};
+ghost use Rattle.std.specs.Prelude.{◌≡◌, false, true};
+ghost use Rattle.clap.specs.Words.{rule_of};
+ghost use Rattle.program_words.specs.Lines.{flag, valued};
 ghost use Rattle.program_words.specs.Numbers.{number_within};
 
 use crate::fault::WordsFault;
@@ -14,17 +16,26 @@ use std::net::SocketAddrV4;
 const MOST_OCTETS_A_SECOND: u64 = 1_000_000_000;
 
 /// An option with a value that has to be given.
-pub(crate) fn required<'a>(alloc: Global, name: &'static str) -> Arg<'a> {
+pub(crate) fn required<'a>(alloc: Global, name: &'static str) -> Arg<'a>
+    ensures rule { rule_of result ≡ valued name.entry.now true }
+    ensures local { result.global ≡ false }
+{
     optional(alloc, name).required(true)
 }
 
 /// An option with a value.
-pub(crate) fn optional<'a>(alloc: Global, name: &'static str) -> Arg<'a> {
+pub(crate) fn optional<'a>(alloc: Global, name: &'static str) -> Arg<'a>
+    ensures rule { rule_of result ≡ valued name.entry.now false }
+    ensures local { result.global ≡ false }
+{
     Arg::new(alloc, name).long(name).action(ArgAction::Set)
 }
 
 /// A word that is there or not.
-pub(crate) fn flag<'a>(alloc: Global, name: &'static str) -> Arg<'a> {
+pub(crate) fn flag<'a>(alloc: Global, name: &'static str) -> Arg<'a>
+    ensures rule { rule_of result ≡ flag name.entry.now }
+    ensures local { result.global ≡ false }
+{
     Arg::new(alloc, name).long(name).action(ArgAction::SetTrue)
 }
 

@@ -1,5 +1,6 @@
-ghost use Rattle.std.specs.Prelude.{◌≡◌, IfSome, Some, codes};
-ghost use Rattle.clap.specs.Words.{first_value, found_of};
+ghost use Rattle.std.specs.Prelude.{◌≡◌, IfOk, IfSome, Some, codes, false, map, string_bytes};
+ghost use Rattle.clap.specs.Words.{app_of, first_value, found_of, rule_of};
+ghost use Rattle.program_words.specs.Lines.{Gives, placed, put_program};
 
 use crate::fault::WordsFault;
 use crate::options::{
@@ -51,7 +52,8 @@ Usage: cfdp_put --config FILE --bind ADDR --user NAME --remote ID --class N [--c
   --help          prints this, and ends
   --version       prints the version, and ends
 
-Status 0: the receiver keeps the whole file, as far as the class tells; 2: it ended otherwise; 1: a fault of the program.
+Status 0: the receiver says that it has the whole file. 2: the transaction ended otherwise, as it always does in class 1 without
+--closure, where the sender never learns what became of the file. 1: a fault of the program.
 ";
 
 /// What `--help` of the program prints.
@@ -65,12 +67,18 @@ pub fn put_version() -> &'static str {
 }
 
 // A word that stands by its place.
-fn word<'a>(alloc: Global, name: &'static str) -> Arg<'a> {
+fn word<'a>(alloc: Global, name: &'static str) -> Arg<'a>
+    ensures rule { rule_of result ≡ placed name.entry.now }
+    ensures local { result.global ≡ false }
+{
     Arg::new(alloc, name).required(true).action(ArgAction::Set)
 }
 
-fn command<'a>(alloc: Global) -> Result<Command<'a>, AllocError> {
-    Command::new(alloc, "cfdp_put")
+// The options and words of the program.
+fn command<'a>(alloc: Global) -> Result<Command<'a>, AllocError>
+    ensures { IfOk result (λ command. app_of command ≡ put_program) }
+{
+    let command = Command::new(alloc, "cfdp_put")
         .version("0.1")
         .arg(required(alloc, "config"))?
         .arg(required(alloc, "bind"))?
@@ -81,7 +89,8 @@ fn command<'a>(alloc: Global) -> Result<Command<'a>, AllocError> {
         .arg(flag(alloc, "closure"))?
         .arg(optional(alloc, "first"))?
         .arg(word(alloc, "source"))?
-        .arg(word(alloc, "target"))
+        .arg(word(alloc, "target"))?;
+    Ok(command)
 }
 
 fn class_of(word: &str) -> Option<Class> {
@@ -103,6 +112,8 @@ fn first_of(word: Option<&str>) -> Option<Option<u64>> {
 fn words_in<'a>(matches: &ArgMatches<'a>) -> Option<PutWords<'a>>
     ensures config { IfSome result
         (λ words. first_value (found_of matches.now) (codes "config") ≡ Some words.config.now) }
+    ensures bind { IfSome result
+        (λ words. first_value (found_of matches.now) (codes "bind") ≡ Some words.bind.now) }
     ensures user { IfSome result
         (λ words. first_value (found_of matches.now) (codes "user") ≡ Some words.user.now) }
     ensures source { IfSome result
@@ -137,13 +148,41 @@ fn words_in<'a>(matches: &ArgMatches<'a>) -> Option<PutWords<'a>>
     })
 }
 
-/// What a command line of the program says; its first word is the program's own name.
-pub fn put_words<'a>(alloc: Global, line: &'a [String]) -> Result<PutWords<'a>, WordsFault> {
-    let Ok(command) = command(alloc) else {
-        return Err(WordsFault::NoMemory);
-    };
+// What a line says to a command with the program's options.
+fn words_by<'a>(command: Command<'a>, line: &'a [String]) -> Result<PutWords<'a>, WordsFault>
+    requires { app_of command ≡ put_program }
+    ensures config { IfOk result
+        (λ words. Gives put_program (map string_bytes line.entry.now) (codes "config") words.config.now) }
+    ensures bind { IfOk result
+        (λ words. Gives put_program (map string_bytes line.entry.now) (codes "bind") words.bind.now) }
+    ensures user { IfOk result
+        (λ words. Gives put_program (map string_bytes line.entry.now) (codes "user") words.user.now) }
+    ensures source { IfOk result
+        (λ words. Gives put_program (map string_bytes line.entry.now) (codes "source") words.source.now) }
+    ensures target { IfOk result
+        (λ words. Gives put_program (map string_bytes line.entry.now) (codes "target") words.target.now) }
+{
     match command.try_get_matches_from(line) {
         Ok(matches) => words_in(&matches).ok_or(WordsFault::Usage),
         Err(error) => Err(fault_of(&error)),
+    }
+}
+
+/// What a command line of the program says; its first word is the program's own name.
+pub fn put_words<'a>(alloc: Global, line: &'a [String]) -> Result<PutWords<'a>, WordsFault>
+    ensures config { IfOk result
+        (λ words. Gives put_program (map string_bytes line.entry.now) (codes "config") words.config.now) }
+    ensures bind { IfOk result
+        (λ words. Gives put_program (map string_bytes line.entry.now) (codes "bind") words.bind.now) }
+    ensures user { IfOk result
+        (λ words. Gives put_program (map string_bytes line.entry.now) (codes "user") words.user.now) }
+    ensures source { IfOk result
+        (λ words. Gives put_program (map string_bytes line.entry.now) (codes "source") words.source.now) }
+    ensures target { IfOk result
+        (λ words. Gives put_program (map string_bytes line.entry.now) (codes "target") words.target.now) }
+{
+    match command(alloc) {
+        Ok(command) => words_by(command, line),
+        Err(AllocError) => Err(WordsFault::NoMemory),
     }
 }

@@ -1,5 +1,6 @@
-ghost use Rattle.std.specs.Prelude.{◌≡◌, IfSome, Some, codes};
-ghost use Rattle.clap.specs.Words.{first_value, found_of};
+ghost use Rattle.std.specs.Prelude.{◌≡◌, IfOk, IfSome, Some, codes, map, string_bytes};
+ghost use Rattle.clap.specs.Words.{app_of, first_value, found_of};
+ghost use Rattle.program_words.specs.Lines.{Gives, server_program};
 
 use crate::fault::WordsFault;
 use crate::options::{fault_of, flag, is_address, number_within, optional, rate_of, required};
@@ -54,15 +55,19 @@ pub fn server_version() -> &'static str {
     "cfdp_server 0.1\n"
 }
 
-fn command<'a>(alloc: Global) -> Result<Command<'a>, AllocError> {
-    Command::new(alloc, "cfdp_server")
+// The options of the server.
+fn command<'a>(alloc: Global) -> Result<Command<'a>, AllocError>
+    ensures { IfOk result (λ command. app_of command ≡ server_program) }
+{
+    let command = Command::new(alloc, "cfdp_server")
         .version("0.1")
         .arg(required(alloc, "config"))?
         .arg(required(alloc, "bind"))?
         .arg(required(alloc, "folder"))?
         .arg(optional(alloc, "workers"))?
         .arg(optional(alloc, "rate"))?
-        .arg(flag(alloc, "follow"))
+        .arg(flag(alloc, "follow"))?;
+    Ok(command)
 }
 
 // How many workers a word asks for: 4 where there is none.
@@ -101,13 +106,33 @@ fn words_in<'a>(matches: &ArgMatches<'a>) -> Option<ServerWords<'a>>
     })
 }
 
-/// What a command line of the server says; its first word is the program's own name.
-pub fn server_words<'a>(alloc: Global, line: &'a [String]) -> Result<ServerWords<'a>, WordsFault> {
-    let Ok(command) = command(alloc) else {
-        return Err(WordsFault::NoMemory);
-    };
+// What a line says to a command with the program's options.
+fn words_by<'a>(command: Command<'a>, line: &'a [String]) -> Result<ServerWords<'a>, WordsFault>
+    requires { app_of command ≡ server_program }
+    ensures config { IfOk result
+        (λ words. Gives server_program (map string_bytes line.entry.now) (codes "config") words.config.now) }
+    ensures bind { IfOk result
+        (λ words. Gives server_program (map string_bytes line.entry.now) (codes "bind") words.bind.now) }
+    ensures folder { IfOk result
+        (λ words. Gives server_program (map string_bytes line.entry.now) (codes "folder") words.folder.now) }
+{
     match command.try_get_matches_from(line) {
         Ok(matches) => words_in(&matches).ok_or(WordsFault::Usage),
         Err(error) => Err(fault_of(&error)),
+    }
+}
+
+/// What a command line of the server says; its first word is the program's own name.
+pub fn server_words<'a>(alloc: Global, line: &'a [String]) -> Result<ServerWords<'a>, WordsFault>
+    ensures config { IfOk result
+        (λ words. Gives server_program (map string_bytes line.entry.now) (codes "config") words.config.now) }
+    ensures bind { IfOk result
+        (λ words. Gives server_program (map string_bytes line.entry.now) (codes "bind") words.bind.now) }
+    ensures folder { IfOk result
+        (λ words. Gives server_program (map string_bytes line.entry.now) (codes "folder") words.folder.now) }
+{
+    match command(alloc) {
+        Ok(command) => words_by(command, line),
+        Err(AllocError) => Err(WordsFault::NoMemory),
     }
 }

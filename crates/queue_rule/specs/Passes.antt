@@ -1,4 +1,4 @@
--- The passes of a queue that are an outlet's and a port's.
+-- Of the code. The passes of a queue that are an outlet's and a port's.
 use Rattle.std.specs.Prelude.{◌≡◌}
 use Rattle.crossbeam_queue.specs.Passes.{Pass, view, IsPassOf, IsSamePass, ruled_capacity}
 use Rattle.crossbeam_queue.specs.declared.array_queue.Slotted.{Slotted}

@@ -1,4 +1,4 @@
--- The rule of a queue that threads share: what was taken of each lane, and behind it what is held, is what the lane sent.
+-- Of the code. The rule of a queue that threads share: what was taken of each lane, and behind it what is held, is what the lane sent.
 use Rattle.std.specs.Prelude.{◌≡◌, ℕ, ◌<◌, ◌≤◌, List, [], ◌++◌, length, Option, Some, None, IsSome, get_or}
 use mathlib.Core.Option.{some}
 use lib.ListN.{get_elem?}

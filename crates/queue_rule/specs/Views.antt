@@ -1,4 +1,4 @@
--- How what is known of a queue changes.
+-- Of the code. How what is known of a queue changes.
 use Rattle.std.specs.Prelude.{◌≡◌, ℕ, ◌<◌, List, [], ◌∷◌, ◌++◌, length, All, Some, None, get_or, set}
 use Rattle.cfdp_types.specs.declared.key.EntityId.{EntityId}
 use Rattle.indications.specs.declared.bundle.Bundle.{Bundle}

@@ -1,4 +1,4 @@
--- Lane lists of transactions that are over at once, with rising numbers.
+-- Rows. Lane lists of transactions that are over at once, with rising numbers.
 use Rattle.std.specs.Prelude.{◌≡◌, ℕ, ◌%◌, ◌^◌, ◌≤◌, true, All, List, [], ◌∷◌}
 use Rattle.cfdp_types.specs.declared.key.EntityId.{EntityId}
 use Rattle.indications.specs.declared.bundle.Bundle.{Bundle}

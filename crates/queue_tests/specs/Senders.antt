@@ -1,4 +1,4 @@
--- Lanes that send transactions which are over at once, and what the queues keep of them.
+-- Rows. Lanes that send transactions which are over at once, and what the queues keep of them.
 use Rattle.std.specs.Prelude.{◌≡◌, ℕ, List, []}
 use Rattle.indications.specs.declared.bundle.Bundle.{Bundle}
 use Rattle.user_queues.specs.Queue.{Queue, all_put}

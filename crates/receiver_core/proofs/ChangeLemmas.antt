@@ -19,20 +19,20 @@ use Rattle.txn_events.specs.Events.{body_of_event}
 use Rattle.pdu_values.specs.declared.bodies.Metadata.{Metadata}
 use Rattle.receiver_table.specs.Reception.{State, step, is_received, added_runs, octet_at, extent_of, metadata_of, file_data_of, brings_more}
 use Rattle.receiver_table.specs.Answers.{answer_at}
-use Rattle.reception_parts.specs.ControlBlock.{state_from}
+use Rattle.receiver_parts.specs.ControlBlock.{state_from, IsSmall}
 use Rattle.receiver_core.specs.declared.plan.Plan.{Plan}
-use Rattle.reception_parts.specs.declared.control.ControlBlock.{ControlBlock}
-use Rattle.reception_parts.specs.ReceivedFile.{received_of, with_segment, end_of, IsSegmentOf}
-use Rattle.reception_parts.specs.Offsets.{IsInside}
-use Rattle.reception_parts.specs.Steps.{IsWithEvent}
-use Rattle.reception_parts.specs.FileChange.{received_after, covered_after, word_after, FitsFile, HasRoom, IsReady, runs_in, segment_of, metadata_after}
+use Rattle.receiver_parts.specs.declared.control.ControlBlock.{ControlBlock}
+use Rattle.receiver_parts.specs.ReceivedFile.{received_of, with_segment, end_of, IsSegmentOf}
+use Rattle.receiver_parts.specs.Offsets.{IsInside}
+use Rattle.receiver_parts.specs.Steps.{IsWithEvent}
+use Rattle.receiver_parts.specs.FileChange.{received_after, covered_after, word_after, FitsFile, HasRoom, IsReady, runs_in, segment_of, metadata_after}
 use Rattle.receiver_core.specs.Core.{shown, reception_of, IsChange, IsSame, IsPlanOf, plan_answer}
-use Rattle.reception_parts.specs.declared.received_file.ReceivedFile.{ReceivedFile}
-use Rattle.reception_parts.specs.declared.received_file.NewSegment.{NewSegment}
-use Rattle.reception_parts.specs.declared.file_change.FileChange.{FileChange}
-use Rattle.reception_parts.specs.declared.file_change.FileChange.TheVariants as change
+use Rattle.receiver_parts.specs.declared.received_file.ReceivedFile.{ReceivedFile}
+use Rattle.receiver_parts.specs.declared.received_file.NewSegment.{NewSegment}
+use Rattle.receiver_parts.specs.declared.file_change.FileChange.{FileChange}
+use Rattle.receiver_parts.specs.declared.file_change.FileChange.TheVariants as change
 use Rattle.receiver_core.specs.declared.receiver.ReceiverCore.{ReceiverCore}
-use Rattle.reception_parts.proofs.ReceivedFileLemmas.{there}
+use Rattle.receiver_parts.proofs.ReceivedFileLemmas.{there}
 
 older_none : {A : Type 0} (o : Option A) → o ≡ older_or o None
 older_none None = refl
@@ -131,8 +131,9 @@ past_progress core d i past =
 
 -- what a look goes by
 pub ready : (core : ReceiverCore) (event : What) (more : Bool) (now : ControlBlock) (c : FileChange) → IsWithEvent core.control event more now
-    → IsChange core (body_of_event event) c → IsReady core.file now c
-ready core event more now c is brings = record {
+    → IsChange core (body_of_event event) c → IsSmall now → IsReady core.file now c
+ready core event more now c is brings small = record {
+  small = small;
   summed = summed_after core.file c brings.fits;
   reached = λ i past.
       ap (λ d. older_or (received_of core.file i) (octet_at d i)) brings.file_data

@@ -2,7 +2,7 @@
 use Rattle.std.proofs.lemmas.Bool.{false≢true}
 use Rattle.std.proofs.Common.{◌≡◌, ℕ, true, false, if◌then◌else◌, Option, Some, None, refl, ap, ◌∙◌}
 use Rattle.std.specs.Prelude.{IsOk, Err}
-use Rattle.cfdp_types.specs.Params.{ParamsValue}
+use Rattle.cfdp_types.specs.declared.params.ParamsParts.{ParamsParts}
 use Rattle.cfdp_types.specs.declared.key.TxnKey.{TxnKey}
 use Rattle.cfdp_types.specs.declared.names.Class.{Class}
 use Rattle.cfdp_types.specs.declared.names.Class.TheVariants.{One, Two}
@@ -19,9 +19,9 @@ use Rattle.receiver_table.specs.Reception.{initial}
 use Rattle.receiver_table.specs.Refusals.{refusal_at, is_body_too_large}
 use Rattle.receiver_table.specs.Answers.{answer_at}
 use Rattle.receiver_laws.specs.LegalReceptions.{BodyOpens}
-use Rattle.reception_parts.specs.ControlBlock.{state_from, first}
+use Rattle.receiver_parts.specs.ControlBlock.{state_from, first}
 use Rattle.receiver_core.specs.Core.{reception_by}
-use Rattle.reception_parts.specs.declared.control.ControlBlock.{ControlBlock}
+use Rattle.receiver_parts.specs.declared.control.ControlBlock.{ControlBlock}
 use Rattle.receiver_core.proofs.PlanLemmas.{same_state, answered_is, refused_is}
 
 none_runs : (kind : TimerKind) → (state_from first None (λ i. None)).armed kind ≡ None
@@ -47,7 +47,7 @@ same_class : (class : Class) → is_same_class class class ≡ true
 same_class One = refl
 same_class Two = refl
 
-by_body : (key : TxnKey) (params : ParamsValue) (header : Header) (b : Body) → BodyOpens b
+by_body : (key : TxnKey) (params : ParamsParts) (header : Header) (b : Body) → BodyOpens b
     → refusal_at (reception_by key params header) initial (what.Pdu (record { header = header; body = b })) ≡ (if is_body_too_large b then Some refusal.TooLarge else None)
 unfolding initial
 by_body key params header (body.Metadata m) opens = rw (same_class header.class) refl
@@ -59,12 +59,12 @@ by_body key params header (body.Finished f) opens = absurd (false≢true opens)
 by_body key params header (body.Nak n) opens = absurd (false≢true opens)
 by_body key params header (body.KeepAlive k) opens = absurd (false≢true opens)
 
-pub first_refused : (key : TxnKey) (params : ParamsValue) (pdu : PduValue) → BodyOpens pdu.body → is_body_too_large pdu.body ≡ true
+pub first_refused : (key : TxnKey) (params : ParamsParts) (pdu : PduValue) → BodyOpens pdu.body → is_body_too_large pdu.body ≡ true
     → answer_at (reception_by key params pdu.header) initial (what.Pdu pdu) ≡ Err refusal.TooLarge
 first_refused key params pdu opens large =
     refused_is (reception_by key params pdu.header) initial (what.Pdu pdu) refusal.TooLarge (by_body key params pdu.header pdu.body opens ∙ rw large refl)
 
-pub first_taken : (key : TxnKey) (params : ParamsValue) (pdu : PduValue) → BodyOpens pdu.body → is_body_too_large pdu.body ≡ false
+pub first_taken : (key : TxnKey) (params : ParamsParts) (pdu : PduValue) → BodyOpens pdu.body → is_body_too_large pdu.body ≡ false
     → IsOk (answer_at (reception_by key params pdu.header) initial (what.Pdu pdu))
 first_taken key params pdu opens small =
     answered_is (reception_by key params pdu.header) initial (what.Pdu pdu) (by_body key params pdu.header pdu.body opens ∙ rw small refl)

@@ -1,11 +1,12 @@
 -- A plan holds the table's answer, and what follows it.
-use Rattle.cfdp_types.specs.declared.limits.TheConstants.{JOURNAL_ENTRIES, JOURNAL_ENTRIES_KEPT, NAK_REQUESTS}
-use Rattle.std.proofs.Common.{◌≡◌, ℕ, ◌+◌, ◌-◌, ◌<◌, ◌≤◌, Bool, true, false, not, ◌&&◌, ◌||◌, nat_lt, if◌then◌else◌, List, [], ◌++◌, length, Option, Some, None, Ok, Err, Result, refl, sym, ap, ◌∙◌, arith, inl, inr}
+use Rattle.cfdp_types.specs.declared.limits.TheConstants.{FILE_OCTETS, JOURNAL_ENTRIES, JOURNAL_ENTRIES_KEPT, NAK_REQUESTS}
+use Rattle.std.proofs.Common.{◌≡◌, ℕ, ◌+◌, ◌-◌, ◌<◌, ◌≤◌, Bool, true, false, not, ◌&&◌, ◌||◌, nat_lt, ◌==◌, if◌then◌else◌, List, [], ◌++◌, length, Option, Some, None, Ok, Err, Result, refl, sym, ap, ◌∙◌, arith, inl, inr}
 use Rattle.std.proofs.Math.Path.{fun_ext}
-use Rattle.std.proofs.lemmas.Bool.{leb-false, cases_Bool}
+use Rattle.std.proofs.lemmas.Bool.{leb-false, ltb-false, cases_Bool}
 use Rattle.std.specs.Prelude.{IsOk, IfOk, map, is_some}
 use Rattle.std.specs.declared.alloc.AllocError.{AllocError}
 use Rattle.std.specs.List.{list_any}
+use Rattle.cfdp_types.specs.Condition as condition
 use Rattle.cfdp_types.specs.Params.{timer_length}
 use Rattle.cfdp_types.specs.Steps.{operations, newer_or, older_or, is_kind, is_stamp}
 use Rattle.cfdp_types.specs.declared.key.Deposit.{Deposit}
@@ -29,23 +30,23 @@ use Rattle.pdu_values.specs.declared.pdu.Body.TheVariants as body
 use Rattle.pdu_values.specs.declared.bodies.Eof.{Eof}
 use Rattle.pdu_values.specs.declared.bodies.Finished.{Finished}
 use Rattle.pdu_values.specs.declared.bodies.Metadata.{Metadata}
-use Rattle.receiver_table.specs.Reception.{Reception, State, step, is_storing, octet_at, finished_among, finished_in, tries_after, waiting_after, brings_more}
-use Rattle.receiver_table.specs.Refusals.{refusal_at, is_stale_store, waits_for_store, is_misplaced, is_too_large, is_full}
+use Rattle.receiver_table.specs.Reception.{Reception, State, step, is_storing, eof_of, octet_at, finished_among, finished_in, tries_after, waiting_after, brings_more}
+use Rattle.receiver_table.specs.Refusals.{refusal_at, is_stale_store, waits_for_store, is_misplaced, is_body_too_large, is_too_large, is_full}
 use Rattle.receiver_table.specs.Answers as table
 use Rattle.receiver_table.specs.Answers.{response_to, with_event, without_timers, with_timers, accepted_at, answer_at, effect_of, bodies_of, pdu_to_sender, nak_of, ack_of, if_there, if_so, requests_of}
-use Rattle.reception_parts.specs.ControlBlock.{state_from, bare, IsSound}
-use Rattle.reception_parts.specs.ReceivedFile.{received_of}
-use Rattle.reception_parts.specs.Response.{IsResponse, response_value}
-use Rattle.reception_parts.specs.FileChange.{metadata_after, received_after, HasRoom, adds}
+use Rattle.receiver_parts.specs.ControlBlock.{state_from, bare, eof_size, IsSmall, IsSound}
+use Rattle.receiver_parts.specs.ReceivedFile.{received_of}
+use Rattle.receiver_parts.specs.Response.{IsResponse, response_value}
+use Rattle.receiver_parts.specs.FileChange.{metadata_after, received_after, HasRoom, adds}
 use Rattle.receiver_core.specs.Core.{shown, reception_of, now_state, IsChange, IsPlanOf, plan_answer}
-use Rattle.reception_parts.specs.Steps.{IsWithEvent}
+use Rattle.receiver_parts.specs.Steps.{IsWithEvent}
 use Rattle.receiver_core.specs.PlanParts.{HoldsResponse, effect_by, deposit_of}
-use Rattle.reception_parts.specs.declared.file_change.FileChange.{FileChange}
+use Rattle.receiver_parts.specs.declared.file_change.FileChange.{FileChange}
 use Rattle.receiver_core.specs.declared.plan.Plan.{Plan}
 use Rattle.receiver_core.specs.declared.receiver.ReceiverCore.{ReceiverCore}
-use Rattle.reception_parts.specs.declared.response.Response as response_type
-use Rattle.reception_parts.specs.declared.control.ControlBlock.{ControlBlock}
-use Rattle.reception_parts.proofs.ResponseLemmas.{response_is}
+use Rattle.receiver_parts.specs.declared.response.Response as response_type
+use Rattle.receiver_parts.specs.declared.control.ControlBlock.{ControlBlock}
+use Rattle.receiver_parts.proofs.ResponseLemmas.{response_is}
 
 -- ---- states
 
@@ -251,6 +252,41 @@ goes_on reception front now what.Abandon response deposit b taken is asks e =
 goes_on reception front now (what.Stored stamp kept) response deposit b taken is asks e =
     (asks (asked front.waiting stamp (taken_is reception front (what.Stored stamp kept) taken).0), λ waits. absurd cc)
 
+-- an EOF that is not refused is one of a file that is taken
+small_if : (fine : Bool) (e : Eof) → (fine && nat_lt FILE_OCTETS e.size) ≡ false → eof_size (if fine then Some e else None) ≤ FILE_OCTETS
+small_if true e is = ltb-false FILE_OCTETS e.size is
+small_if false e is = omega arith
+
+eof_small : (event : What) → is_too_large event ≡ false → eof_size (eof_of (body_of_event event)) ≤ FILE_OCTETS
+eof_small (what.Pdu pdu) is = by_body pdu.body is
+  where
+    by_body : (b : Body) → is_body_too_large b ≡ false → eof_size (eof_of (Some b)) ≤ FILE_OCTETS
+    by_body (body.Eof e) is = small_if (e.condition == condition.no_error) e is
+    by_body (body.Metadata m) is = omega arith
+    by_body (body.FileData d) is = omega arith
+    by_body (body.Prompt p) is = omega arith
+    by_body (body.Ack a) is = omega arith
+    by_body (body.Finished f) is = omega arith
+    by_body (body.Nak n) is = omega arith
+    by_body (body.KeepAlive k) is = omega arith
+eof_small (what.Timer kind stamp) is = omega arith
+eof_small (what.Stored stamp kept) is = omega arith
+eof_small what.Cancel is = omega arith
+eof_small what.Suspend is = omega arith
+eof_small what.Resume is = omega arith
+eof_small what.Report is = omega arith
+eof_small what.Abandon is = omega arith
+eof_small what.Pump is = omega arith
+
+older_small : (old new : Option Eof) → eof_size old ≤ FILE_OCTETS → eof_size new ≤ FILE_OCTETS → eof_size (older_or old new) ≤ FILE_OCTETS
+older_small None new first second = second
+older_small (Some e) new first second = first
+
+pub small_now : (core : ReceiverCore) (event : What) (more : Bool) (now : ControlBlock) → refusal_at (reception_of core) (shown core) event ≡ None
+    → IsWithEvent core.control event more now → IsSmall now
+small_now core event more now taken is =
+    rw is.eof (older_small core.control.eof _ core.sound.small (eof_small event (taken_is (reception_of core) (shown core) event taken).1))
+
 pub sound_after : (core : ReceiverCore) (event : What) (now : ControlBlock) (response : response_type.Response) (c : FileChange) (plan : Plan) → refusal_at (reception_of core) (shown core) event ≡ None
     → IsWithEvent core.control event (adds c) now → IsResponse response (response_to (reception_of core) (shown core) (now_state core now c) event) → HoldsResponse core event now response c plan
     → core.control.ended ≡ false → IsSound plan.next
@@ -261,6 +297,7 @@ sound_after core event now response c plan taken seen_is is planned runs =
     let more : core.control.entries + 1 ≤ JOURNAL_ENTRIES = core.sound.goes_on runs in
     let entries : plan.next.entries ≡ core.control.entries + 1 = next.entries ∙ seen_is.entries in
     record {
+      small = rw next.eof (small_now core event (adds c) now taken seen_is);
       few = record {
         entries = omega (arith, entries, more);
         tries = record {

@@ -1,6 +1,6 @@
--- How the code keeps a reception, and what it plans.
+-- Of the code. How the code keeps a reception, and what it plans.
 use Rattle.std.specs.Prelude.{◌≡◌, ℕ, ◌≤◌, Bool, true, false, List, [], Option, vec_len}
-use Rattle.cfdp_types.specs.Params.{ParamsValue}
+use Rattle.cfdp_types.specs.declared.params.ParamsParts.{ParamsParts}
 use Rattle.cfdp_types.specs.Steps.{older_or}
 use Rattle.cfdp_types.specs.declared.key.TxnKey.{TxnKey}
 use Rattle.gap_list.specs.Covered.{covered}
@@ -12,19 +12,19 @@ use Rattle.pdu_values.specs.declared.pdu.Header.{Header}
 use Rattle.receiver_table.specs.Reception.{Reception, State, Entry, step, state_of, metadata_of, file_data_of, added_runs, brings_more}
 use Rattle.receiver_table.specs.Answers.{answer_at}
 use Rattle.receiver_laws.specs.LegalReceptions.{BodyOpens}
-use Rattle.reception_parts.specs.ControlBlock.{state_from, IsSound}
-use Rattle.reception_parts.specs.ReceivedFile.{received_of}
+use Rattle.receiver_parts.specs.ControlBlock.{state_from, IsSound}
+use Rattle.receiver_parts.specs.ReceivedFile.{received_of}
 use Rattle.txn_events.specs.declared.answer.Answer.{Answer}
 pub use Rattle.txn_events.specs.Logs.{IsWhy}
 use Rattle.txn_events.specs.Logs.{StandsAt, IsAnswered}
-use Rattle.reception_parts.specs.FileChange.{metadata_after, segment_of, received_after, FitsFile, HasRoom, runs_in, adds}
-use Rattle.reception_parts.specs.declared.file_change.FileChange.{FileChange}
+use Rattle.receiver_parts.specs.FileChange.{metadata_after, segment_of, received_after, FitsFile, HasRoom, runs_in, adds}
+use Rattle.receiver_parts.specs.declared.file_change.FileChange.{FileChange}
 use Rattle.receiver_core.specs.declared.plan.Plan.{Plan}
 use Rattle.receiver_core.specs.declared.receiver.ReceiverCore.{ReceiverCore}
-use Rattle.reception_parts.specs.declared.control.ControlBlock.{ControlBlock}
+use Rattle.receiver_parts.specs.declared.control.ControlBlock.{ControlBlock}
 
 -- what is settled when a PDU with this header opens a reception
-abbrev pub reception_by : TxnKey → ParamsValue → Header → Reception
+abbrev pub reception_by : TxnKey → ParamsParts → Header → Reception
 reception_by key params header = record { key = key; params = params; header = header }
 
 abbrev pub reception_of : ReceiverCore → Reception
@@ -87,7 +87,7 @@ pub record IsPlanOf (core : ReceiverCore) (plan : Plan) (event : What) : Type 0 
   pub sound : core.control.ended ≡ false → IsSound plan.next
 
 -- a PDU opened the reception of a key: nothing happened to it yet, and the PDU is planned as its first event
-pub record IsOpenedBy (key : TxnKey) (params : ParamsValue) (pdu : PduValue) (core : ReceiverCore) (plan : Plan) : Type 0 where
+pub record IsOpenedBy (key : TxnKey) (params : ParamsParts) (pdu : PduValue) (core : ReceiverCore) (plan : Plan) : Type 0 where
   pub reception : reception_of core ≡ reception_by key params pdu.header
   pub stands : StandsAfter core []
   pub runs : (shown core).ended ≡ false

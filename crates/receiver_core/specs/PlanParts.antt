@@ -1,4 +1,4 @@
--- A plan that is made of a response.
+-- Of the code. A plan that is made of a response.
 use Rattle.std.specs.Prelude.{◌≡◌, if◌then◌else◌, map, Option, Some, None}
 use Rattle.std.specs.List.{list_any}
 use Rattle.cfdp_types.specs.Params.{timer_length}
@@ -9,16 +9,16 @@ use Rattle.txn_events.specs.Timers.{stamp_of, stamp_by}
 use Rattle.indications.specs.Words.{is_end}
 use Rattle.txn_events.specs.declared.event.What.{What}
 use Rattle.receiver_table.specs.Answers.{effect_of, bodies_of, pdu_to_sender}
-use Rattle.reception_parts.specs.ControlBlock.{bare}
-use Rattle.reception_parts.specs.Steps.{IsNext}
-use Rattle.reception_parts.specs.Response.{response_value}
-use Rattle.reception_parts.specs.FileChange.{adds}
+use Rattle.receiver_parts.specs.ControlBlock.{bare}
+use Rattle.receiver_parts.specs.Steps.{IsNext}
+use Rattle.receiver_parts.specs.Response.{response_value}
+use Rattle.receiver_parts.specs.FileChange.{adds}
 use Rattle.receiver_core.specs.Core.{reception_of, now_state}
-use Rattle.reception_parts.specs.declared.file_change.FileChange.{FileChange}
+use Rattle.receiver_parts.specs.declared.file_change.FileChange.{FileChange}
 use Rattle.receiver_core.specs.declared.plan.Plan.{Plan}
 use Rattle.receiver_core.specs.declared.receiver.ReceiverCore.{ReceiverCore}
-use Rattle.reception_parts.specs.declared.response.Response as response_type
-use Rattle.reception_parts.specs.declared.control.ControlBlock.{ControlBlock}
+use Rattle.receiver_parts.specs.declared.response.Response as response_type
+use Rattle.receiver_parts.specs.declared.control.ControlBlock.{ControlBlock}
 
 -- what a step does with the timers, by the control block that it leads to
 abbrev pub effect_by : ControlBlock → What → response_type.Response → TimerKind → Effect

@@ -7,10 +7,10 @@ use cfdp_types::{ChecksumType, Class, Condition, Delivery, FileStatus, TimerKind
 use gap_list::Run;
 use indications::{Indication, Indications};
 use pdu_values::{Body, Eof, Metadata, Prompt};
-use reception_parts::control::ControlBlock;
-use reception_parts::examine::look;
-use reception_parts::file_change::FileChange;
-use reception_parts::response::Response;
+use receiver_parts::control::ControlBlock;
+use receiver_parts::examine::look;
+use receiver_parts::file_change::FileChange;
+use receiver_parts::response::Response;
 use std::alloc::{AllocError, Global};
 use txn_events::What;
 
@@ -24,10 +24,10 @@ impl ReceiverCore {
     ghost use Rattle.receiver_table.specs.Reception.{added_runs, file_data_of};
     ghost use Rattle.receiver_table.specs.Answers as table;
     ghost use Rattle.receiver_table.specs.Answers.{tells, nothing, segment_told, ◌and_then◌};
-    ghost use Rattle.reception_parts.specs.Response.{IsResponse};
-    ghost use Rattle.reception_parts.specs.ControlBlock.{state_from};
+    ghost use Rattle.receiver_parts.specs.Response.{IsResponse};
+    ghost use Rattle.receiver_parts.specs.ControlBlock.{state_from};
     ghost use Rattle.pdu_values.specs.declared.bodies.Metadata.{Metadata};
-    ghost use Rattle.reception_parts.specs.FileChange.{metadata_after, runs_in, IsReady};
+    ghost use Rattle.receiver_parts.specs.FileChange.{metadata_after, runs_in, IsReady};
     ghost use Rattle.receiver_core.specs.Core.{shown, reception_of, now_state, is_request};
     ghost use Rattle.cfdp_types.specs.declared.names.Delivery.TheVariants.{Incomplete};
     ghost use Rattle.cfdp_types.specs.declared.names.FileStatus.TheVariants.{Discarded};

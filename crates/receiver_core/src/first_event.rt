@@ -3,8 +3,8 @@ use crate::plan::Plan;
 use crate::receiver::ReceiverCore;
 use cfdp_types::{Params, TxnKey};
 use pdu_values::{Header, Pdu};
-use reception_parts::control::ControlBlock;
-use reception_parts::received_file::ReceivedFile;
+use receiver_parts::control::ControlBlock;
+use receiver_parts::received_file::ReceivedFile;
 use std::alloc::Global;
 use txn_events::{Refusal, What, body_opens, is_body_too_large};
 

@@ -10,7 +10,7 @@ impl ReceiverCore {
     ghost use Rattle.receiver_table.specs.Reception.{Entry, state_of};
     ghost use Rattle.receiver_table.specs.Answers.{octets_from};
     ghost use Rattle.receiver_table.specs.Images.{image_at};
-    ghost use Rattle.reception_parts.specs.ReceivedFile.{received_of};
+    ghost use Rattle.receiver_parts.specs.ReceivedFile.{received_of};
     ghost use Rattle.receiver_core.specs.Core.{shown, StandsAfter, IsWhy};
 
     // The file that Metadata names, with the octets below a size.
@@ -42,7 +42,7 @@ impl ReceiverCore {
         let Some(eof) = self.control.eof else {
             return Err(Refusal::StaleStored);
         };
-        let image = self.file(metadata, eof.size)?;
+        let image = self.file(metadata, eof.size as u32)?;
         Ok(image)
     }
 

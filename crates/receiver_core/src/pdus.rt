@@ -8,10 +8,10 @@ use cfdp_types::limits::NAK_REQUESTS;
 use pdu_values::{
     Ack, Acknowledged, Body, Direction, Finished, Header, KeepAlive, Pdu, TransactionStatus,
 };
-use reception_parts::control::ControlBlock;
-use reception_parts::file_change::FileChange;
-use reception_parts::nak::nak;
-use reception_parts::response::Response;
+use receiver_parts::control::ControlBlock;
+use receiver_parts::file_change::FileChange;
+use receiver_parts::nak::nak;
+use receiver_parts::response::Response;
 use std::alloc::AllocError;
 use txn_events::Pdus;
 
@@ -21,8 +21,9 @@ impl ReceiverCore {
     ghost use Rattle.pdu_values.specs.declared.pdu.Body.{Body};
     ghost use Rattle.pdu_values.specs.declared.pdu.Body.TheVariants as body;
     ghost use Rattle.receiver_table.specs.Answers.{pdu_to_sender, ack_of, nak_of, if_there, if_so, bodies_of};
-    ghost use Rattle.reception_parts.specs.Response.{response_value};
-    ghost use Rattle.reception_parts.specs.FileChange.{metadata_after};
+    ghost use Rattle.receiver_parts.specs.Response.{response_value};
+    ghost use Rattle.receiver_parts.specs.FileChange.{metadata_after};
+    ghost use Rattle.receiver_parts.specs.ControlBlock.{IsSmall};
     ghost use Rattle.receiver_core.specs.Core.{reception_of, now_state};
 
     // The header of every PDU toward the sender.
@@ -53,6 +54,7 @@ impl ReceiverCore {
     fn keep_alive(&self, progress: u32) -> Pdu
         ensures { result ≡ pdu_to_sender (reception_of self.now) (body.KeepAlive (record { progress = progress })) }
     {
+        let progress = u64::from(progress);
         Pdu::keep_alive(self.reply_header(), KeepAlive { progress })
     }
 
@@ -71,6 +73,7 @@ impl ReceiverCore {
 
     // What is missing of the file.
     fn nak(&self, now: &ControlBlock, change: &FileChange) -> Result<Pdu, AllocError>
+        requires { IsSmall now.now }
         ensures { IfOk result
             (λ pdu. pdu ≡ pdu_to_sender (reception_of self.now) (nak_of (now_state self.now now.now change.now))) }
     {
@@ -103,6 +106,7 @@ impl ReceiverCore {
         now: &ControlBlock,
         change: &FileChange,
     ) -> Result<(), AllocError>
+        requires { IsSmall now.now }
         ensures { OnOk result (pdus.new ≡ pdus.old ++ map (pdu_to_sender (reception_of self.now))
             (if_so response.now.nak (nak_of (now_state self.now now.now change.now)))) }
     {
@@ -148,6 +152,7 @@ impl ReceiverCore {
         change: &FileChange,
         ended: bool,
     ) -> Result<Pdus, AllocError>
+        requires { IsSmall now.now }
         ensures { IfOk result (λ pdus. pdus ≡ map (pdu_to_sender (reception_of self.now))
             (bodies_of (now_state self.now now.now change.now) ended (response_value response.now))) }
     {

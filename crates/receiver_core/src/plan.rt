@@ -1,5 +1,5 @@
-use reception_parts::control::ControlBlock;
-use reception_parts::file_change::FileChange;
+use receiver_parts::control::ControlBlock;
+use receiver_parts::file_change::FileChange;
 use txn_events::Answer;
 
 /// An event that is accepted, with its answer and all memory that it takes. It can be carried out

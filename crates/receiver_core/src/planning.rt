@@ -3,10 +3,10 @@ use crate::plan::Plan;
 use crate::receiver::ReceiverCore;
 use cfdp_types::Deposit;
 use pdu_values::{Body, FileData, Metadata};
-use reception_parts::control::ControlBlock;
-use reception_parts::file_change::FileChange;
-use reception_parts::response::Response;
-use reception_parts::steps::{changes, next, with_event};
+use receiver_parts::control::ControlBlock;
+use receiver_parts::file_change::FileChange;
+use receiver_parts::response::Response;
+use receiver_parts::steps::{changes, next, with_event};
 use std::alloc::AllocError;
 use txn_events::{Answer, Refusal, TimerChanges, TimerContext, TimerOps, What, operations};
 
@@ -22,7 +22,8 @@ impl ReceiverCore {
     ghost use Rattle.receiver_table.specs.Refusals.{is_too_large, is_body_too_large, refusal_at};
     ghost use Rattle.receiver_table.specs.Answers.{answer_at};
     ghost use Rattle.receiver_core.specs.PlanParts.{HoldsResponse, deposit_of};
-    ghost use Rattle.reception_parts.specs.FileChange.{FitsFile, HasRoom};
+    ghost use Rattle.receiver_parts.specs.FileChange.{FitsFile, HasRoom};
+    ghost use Rattle.receiver_parts.specs.ControlBlock.{IsSmall};
     ghost use Rattle.receiver_core.specs.Core.{shown, reception_of, plan_answer, StandsAfter, IsChange, IsSame, IsPlanOf, IsWhy};
 
     // The change that Metadata brings: the first is kept.
@@ -40,7 +41,7 @@ impl ReceiverCore {
         requires { is_body_too_large (body.FileData file_data.now) ≡ false }
         ensures { IfOk result (λ change. IsChange self.now (Some (body.FileData file_data.now)) change) }
     {
-        let end = file_data.offset + file_data.octets.as_slice().len() as u32;
+        let end = (file_data.offset + file_data.octets.as_slice().len() as u64) as u32;
         Ok(FileChange::NewSegment(self.file.segment(file_data, end)?))
     }
 
@@ -103,6 +104,7 @@ impl ReceiverCore {
         response: Response,
         change: FileChange,
     ) -> Result<Plan, AllocError>
+        requires { IsSmall now }
         ensures { IfOk result (λ plan. HoldsResponse self.now event.now now response change plan) }
     {
         let deposit = self.deposit_of(&response);

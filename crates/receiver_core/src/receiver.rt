@@ -1,14 +1,14 @@
 ghost use Rattle.std.specs.Prelude.{◌≡◌, ℕ};
 ghost use Rattle.gap_list.specs.Covered.{covered};
 ghost use Rattle.pdu_values.specs.Spelling.{HeaderFits};
-ghost use Rattle.reception_parts.specs.ControlBlock.{IsSound};
-ghost use Rattle.reception_parts.specs.Offsets.{IsInside};
+ghost use Rattle.receiver_parts.specs.ControlBlock.{IsSound};
+ghost use Rattle.receiver_parts.specs.Offsets.{IsInside};
 
 use crate::plan::Plan;
 use cfdp_types::{Params, TxnKey};
 use pdu_values::{Header, Metadata};
-use reception_parts::control::ControlBlock;
-use reception_parts::received_file::ReceivedFile;
+use receiver_parts::control::ControlBlock;
+use receiver_parts::received_file::ReceivedFile;
 use std::alloc::Global;
 use txn_events::Answer;
 

@@ -6,9 +6,9 @@ use crate::receiver::ReceiverCore;
 use cfdp_types::{Class, Condition, Delivery, EntityId, FileStatus, Handler, Role, TimerKind};
 use indications::{Indication, Indications};
 use pdu_values::Finished;
-use reception_parts::control::ControlBlock;
-use reception_parts::examine::Finding;
-use reception_parts::response::Response;
+use receiver_parts::control::ControlBlock;
+use receiver_parts::examine::Finding;
+use receiver_parts::response::Response;
 use std::alloc::AllocError;
 
 impl ReceiverCore {
@@ -17,9 +17,9 @@ impl ReceiverCore {
     ghost use Rattle.pdu_values.specs.declared.bodies.Metadata.{Metadata};
     ghost use Rattle.receiver_table.specs.Answers as table;
     ghost use Rattle.receiver_table.specs.Answers.{tells, ◌and_then◌};
-    ghost use Rattle.reception_parts.specs.ControlBlock.{state_from};
-    ghost use Rattle.reception_parts.specs.Response.{IsResponse};
-    ghost use Rattle.reception_parts.specs.Finding.{found_response};
+    ghost use Rattle.receiver_parts.specs.ControlBlock.{state_from};
+    ghost use Rattle.receiver_parts.specs.Response.{IsResponse};
+    ghost use Rattle.receiver_parts.specs.Finding.{found_response};
     ghost use Rattle.receiver_core.specs.Core.{reception_of};
 
     // The fault location of a Finished PDU: this entity, where there was a fault.

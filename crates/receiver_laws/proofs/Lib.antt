@@ -5,3 +5,4 @@ pub mod ReceptionTelling
 pub mod ReceptionEvents
 pub mod ReceptionLegal
 pub mod ReceptionDeposits
+pub mod ReceptionClosure

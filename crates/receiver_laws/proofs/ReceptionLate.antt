@@ -1,5 +1,5 @@
 -- Rows that tell nothing of the file: faults, the look at the file, and single indications.
-use Rattle.std.proofs.Common.{◌≡◌, ℕ, ◌<◌, ◌≤◌, Bool, true, false, not, ◌||◌, ◌&&◌, if◌then◌else◌, eqb, List, [], ◌∷◌, length, Option, Some, None, refl, sym, ap, ◌∙◌, arith}
+use Rattle.std.proofs.Common.{◌≡◌, ℕ, ◌<◌, ◌≤◌, Bool, true, false, not, ◌||◌, ◌&&◌, if◌then◌else◌, eqb, List, [], ◌∷◌, length, Option, Some, None, refl, sym, ap, ◌∙◌, arith, ◌⊎◌, inl, inr}
 use Rattle.std.specs.Prelude.{is_some}
 use Rattle.std.specs.List.{list_any}
 use Rattle.std.proofs.lemmas.Bool.{cond_both, and_parts, eqb-true, ltb-false, not-false}
@@ -138,11 +138,23 @@ fault_late reception state kinds code good before goes runs =
 
 -- ---- the look at the file
 
+-- one of two types
+one_of_two : (n : ℕ) (modular : Bool) → eqb n checksum.modular ≡ modular → (not modular && not (eqb n checksum.null)) ≡ false
+    → (n ≡ checksum.modular) ⊎ (n ≡ checksum.null)
+one_of_two n true is fine = inl (eqb-true n checksum.modular is)
+one_of_two n false is fine = inr (eqb-true n checksum.null (not-false _ fine))
+
 -- Metadata without another type of checksum
-supported : (state : State) (m : Metadata) → is_unsupported state ≡ false → state.metadata ≡ Some m → m.checksum_type ≡ checksum.modular
+supported : (state : State) (m : Metadata) → is_unsupported state ≡ false → state.metadata ≡ Some m → (m.checksum_type ≡ checksum.modular) ⊎ (m.checksum_type ≡ checksum.null)
 supported state m fine some =
-    let e : not (eqb m.checksum_type checksum.modular) ≡ false = rw some at fine in
-    eqb-true m.checksum_type checksum.modular (not-false _ e)
+    let e : (not (eqb m.checksum_type checksum.modular) && not (eqb m.checksum_type checksum.null)) ≡ false = rw some at fine in
+    one_of_two m.checksum_type (eqb m.checksum_type checksum.modular) refl e
+
+-- where the type is modular the checksum counts
+summed : (n sum kept : ℕ) → (eqb n checksum.null || eqb sum kept) ≡ true → n ≡ checksum.modular → sum ≡ kept
+summed n sum kept agree modular =
+    let e : (eqb 0 15 || eqb sum kept) ≡ true = rw modular at agree in
+    eqb-true sum kept e
 
 empty_is : {A : Type 0} (xs : List A) → eqb (length xs) 0 ≡ true → xs ≡ []
 empty_is [] e = refl
@@ -168,10 +180,10 @@ whole_good state e (Some m) came eof fine within whole agree reached =
       eof = e;
       metadata_came = came;
       eof_came = eof;
-      modular = supported state m fine came;
+      supported = supported state m fine came;
       none_missing = λ i inside. full_from_missing_runs (is_received state) e.size (empty_is _ parts.1) i inside;
       none_beyond = λ i there. let reaches : i < state.progress = reached i there in omega arith;
-      agrees = eqb-true (sum (octets_from state.received 0 e.size)) e.checksum agree;
+      agrees = λ modular. summed m.checksum_type (sum (octets_from state.received 0 e.size)) e.checksum (rw came at agree) modular;
     }
 
 stores_late : (good : Type 0) (before : List Indication) → good → is_paused before ≡ false → LateRow good before stores

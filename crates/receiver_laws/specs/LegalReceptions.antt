@@ -1,5 +1,5 @@
--- Which logs a reception of either class can have, and when its file is good.
-use Rattle.std.specs.Prelude.{◌≡◌, ℕ, ◌<◌, false, IsSome, List, [], ◌∷◌, Some, Ok}
+-- Meaning. Which logs a reception of either class can have, and when its file is good.
+use Rattle.std.specs.Prelude.{◌≡◌, ◌⊎◌, ℕ, ◌<◌, false, IsSome, List, [], ◌∷◌, Some, Ok}
 use Rattle.cfdp_types.specs.ChecksumType as checksum
 use Rattle.txn_events.specs.declared.event.What.{What}
 use Rattle.txn_events.specs.declared.event.What.TheVariants as what
@@ -44,7 +44,8 @@ pub record IsGood (state : State) : Type 0 where
   pub eof : Eof
   pub metadata_came : state.metadata ≡ Some metadata
   pub eof_came : state.eof ≡ Some eof
-  pub modular : metadata.checksum_type ≡ checksum.modular
+  pub supported : (metadata.checksum_type ≡ checksum.modular) ⊎ (metadata.checksum_type ≡ checksum.null)
   pub none_missing : (i : ℕ) → i < eof.size → IsSome (state.received i)
   pub none_beyond : (i : ℕ) → IsSome (state.received i) → i < eof.size
-  pub agrees : sum (octets_from state.received 0 eof.size) ≡ eof.checksum
+  -- the null type asks nothing of it
+  pub agrees : metadata.checksum_type ≡ checksum.modular → sum (octets_from state.received 0 eof.size) ≡ eof.checksum

@@ -1,5 +1,5 @@
--- What holds of every reception of either class, whatever its parameters are.
-use Rattle.std.specs.Prelude.{◌≡◌, ℕ, ◌<◌, true, List, length, slice_get, Some, Ok, Contains}
+-- Meaning. What holds of every reception of either class, whatever its parameters are.
+use Rattle.std.specs.Prelude.{◌≡◌, ℕ, ◌<◌, true, List, length, slice_get, option_map, Some, Ok, Contains}
 use Rattle.cfdp_types.specs.declared.image.Image.{Image}
 use Rattle.cfdp_types.specs.declared.names.Delivery.TheVariants.{Complete}
 use Rattle.cfdp_types.specs.declared.names.FileStatus.{FileStatus}
@@ -33,3 +33,7 @@ pub record IsGiven (state : State) (stamp : ℕ) : Type 0 where
 abbrev pub DepositsGood : Type 0
 DepositsGood = (reception : Reception) (log : List Entry) (stamp : ℕ) → IsLegal reception log
     → (state_of log).waiting ≡ Some stamp → IsGiven (state_of log) stamp
+
+-- closure is asked for where the first Metadata asks for it
+abbrev pub AsksAsMetadata : Type 0
+AsksAsMetadata = (log : List Entry) → (state_of log).closure ≡ option_map (λ first. first.closure) (state_of log).metadata

@@ -1,7 +1,7 @@
 //! What holds of every reception, over its definitions alone.
 #![tactic(auto)]
 
-ghost use Rattle.receiver_laws.specs.ReceptionLaws.{TellsWords, CompletesGood, DepositsGood};
+ghost use Rattle.receiver_laws.specs.ReceptionLaws.{AsksAsMetadata, CompletesGood, DepositsGood, TellsWords};
 
 /// What a reception tells its user is a beginning of a receiver's word, and a word once the reception has
 /// ended: with any parameters, also where it is suspended and resumed, where timers expire, where the
@@ -11,7 +11,7 @@ pub fn words()
 {}
 
 /// A user is told of a complete delivery only where Metadata and EOF came, every octet below the EOF's
-/// size was received and none at or above it, and the modular checksum agrees.
+/// size was received and none at or above it, and the modular checksum agrees, unless the file has none.
 pub fn complete()
     ensures { CompletesGood }
 {}
@@ -20,4 +20,10 @@ pub fn complete()
 /// Metadata and, at each offset below the EOF's size, the octet that was received there.
 pub fn deposits()
     ensures { DepositsGood }
+{}
+
+/// What a reception knows of closure is what its first Metadata says: nothing before it came, and nothing
+/// that comes later changes it.
+pub fn closure()
+    ensures { AsksAsMetadata }
 {}

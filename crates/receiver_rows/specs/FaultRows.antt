@@ -1,4 +1,4 @@
--- Rows on faults: what is declared, and what each handler answers.
+-- Rows. Rows on faults: what is declared, and what each handler answers.
 use Rattle.std.specs.Prelude.{◌≡◌, true, false, [], ◌∷◌, Some, refl}
 use Rattle.cfdp_types.specs.declared.names.Class.TheVariants.{One, Two}
 use Rattle.cfdp_types.specs.declared.names.Delivery.TheVariants.{Incomplete}
@@ -57,7 +57,7 @@ pub other_type : tells (last class_one [] (metadata_of One 1 3))
 unfolding initial step state_of answer_at runs_of runs_from digits
 other_type = refl
 
-pub other_type_finished : sends (last class_two [] (metadata_of Two 15 3)) ≡ Some (digits 9 0x2800020001050205b4 ∷ [])
+pub other_type_finished : sends (last class_two [] (metadata_of Two 14 3)) ≡ Some (digits 9 0x2800020001050205b4 ∷ [])
 unfolding initial step state_of answer_at runs_of runs_from written spelling digits width_from
 other_type_finished = refl
 

@@ -1,4 +1,4 @@
--- Rows on the file: what of it the user is told, when it is handed out, and what is kept of what comes twice.
+-- Rows. Rows on the file: what of it the user is told, when it is handed out, and what is kept of what comes twice.
 use Rattle.std.specs.Prelude.{◌≡◌, true, List, [], ◌∷◌, ◌++◌, Some, Ok, Err, refl}
 use Rattle.cfdp_types.specs.declared.names.Class.{Class}
 use Rattle.cfdp_types.specs.declared.names.Class.TheVariants.{One, Two}

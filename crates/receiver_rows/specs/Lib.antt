@@ -6,3 +6,4 @@ pub mod NakRows
 pub mod UserRows
 pub mod TimerRows
 pub mod ClosureRows
+pub mod LargeRows

@@ -1,4 +1,4 @@
--- Rows on what is sent while the file comes: ACK, NAK and Keep Alive, and how NAKs are counted.
+-- Rows. Rows on what is sent while the file comes: ACK, NAK and Keep Alive, and how NAKs are counted.
 use Rattle.std.specs.Prelude.{◌≡◌, ℕ, zero, suc, ◌+◌, true, List, [], ◌∷◌, ◌++◌, Some, refl}
 use Rattle.cfdp_types.specs.declared.names.Class.TheVariants.{One, Two}
 use Rattle.cfdp_types.specs.declared.names.Delivery.TheVariants.{Complete, Incomplete}

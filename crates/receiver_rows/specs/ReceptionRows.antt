@@ -1,12 +1,12 @@
--- Worked receptions of both classes, computed: whole transactions, with what makes their logs legal, and the
+-- Rows. Worked receptions of both classes, computed: whole transactions, with what makes their logs legal, and the
 -- words that the rows of the other files share.
 use Rattle.std.specs.Prelude.{◌≡◌, ℕ, zero, suc, ◌+◌, ◌-◌, ◌<◌, ◌≤◌, nat_le, Bool, true, false, if◌then◌else◌, is_some, List, [], ◌∷◌, map, Option, Some, None, IsSome, Result, Ok, Err, refl, ◌++◌}
 use Rattle.std.specs.List.{slice_get}
-use Rattle.std.proofs.Common.{ap, sym, ◌∙◌, arith}
+use Rattle.std.proofs.Common.{ap, sym, ◌∙◌, arith, inl}
 use Rattle.std.proofs.lemmas.Bool.{true≢false, false≢true}
 use Rattle.std.proofs.lemmas.Option.{slice_get_past}
 use Rattle.cfdp_types.specs.Handlers.{with_handler}
-use Rattle.cfdp_types.specs.Params.{ParamsValue}
+use Rattle.cfdp_types.specs.declared.params.ParamsParts.{ParamsParts}
 use Rattle.cfdp_types.specs.Steps.{older_or}
 use Rattle.cfdp_types.specs.Reference.{all_cancel, reference}
 use Rattle.cfdp_types.specs.declared.key.Deposit.{Deposit}
@@ -66,7 +66,7 @@ two_with code handler =
     record class_two { params = record reference { tables = record (reference.tables) { receive_two = with_handler (all_cancel RecvTwo) code handler } } }
 
 -- the reference with limits and timer lengths that all differ
-abbrev pub unequal : ParamsValue
+abbrev pub unequal : ParamsParts
 unequal = record reference {
   timers = record { ack = 1000; nak = 1001; check = 1002; inactivity = 1003 };
   limits = record { ack = 2; nak = 3; check = 4 };
@@ -439,10 +439,10 @@ whole_is_good = record {
   eof = eof_value 0 0x6162_6300 3;
   metadata_came = refl;
   eof_came = refl;
-  modular = refl;
+  supported = inl refl;
   none_missing = all_below;
   none_beyond = none_above;
-  agrees = refl;
+  agrees = λ modular. refl;
 }
 
 -- the size of an EOF, 0 if there is none

@@ -1,4 +1,4 @@
--- Rows on events that are refused, and on those next to them that are taken.
+-- Rows. Rows on events that are refused, and on those next to them that are taken.
 use Rattle.std.specs.Prelude.{◌≡◌, ℕ, true, List, [], ◌∷◌, Some, None, Err, refl}
 use Rattle.cfdp_types.specs.declared.names.Class.TheVariants.{One, Two}
 use Rattle.cfdp_types.specs.declared.names.Delivery.TheVariants.{Complete, Incomplete}
@@ -139,11 +139,11 @@ unfolding initial step state_of answer_at runs_of runs_from digits
 abandon_while_closing = refl
 
 -- what has no place there is not asked for its size, and an EOF is
-pub misplaced_before_too_large : last class_two (metadata Two ∷ what.Cancel ∷ []) (metadata_of Two 0 4194305) ≡ Err refusal.WrongState
+pub misplaced_before_too_large : last class_two (metadata Two ∷ what.Cancel ∷ []) (metadata_of Two 0 16777217) ≡ Err refusal.WrongState
 unfolding initial step state_of answer_at runs_of runs_from digits
 misplaced_before_too_large = refl
 
-pub large_eof_while_closing : last class_two (metadata Two ∷ what.Cancel ∷ []) (eof_of Two 0 0 4194305) ≡ Err refusal.TooLarge
+pub large_eof_while_closing : last class_two (metadata Two ∷ what.Cancel ∷ []) (eof_of Two 0 0 16777217) ≡ Err refusal.TooLarge
 unfolding initial step state_of answer_at runs_of runs_from digits
 large_eof_while_closing = refl
 
@@ -205,52 +205,52 @@ pump_at_a_receiver = refl
 -- ---- too large
 
 -- a file past the limit, and the largest
-pub large_metadata : last class_one [] (metadata_of One 0 4194305) ≡ Err refusal.TooLarge
+pub large_metadata : last class_one [] (metadata_of One 0 16777217) ≡ Err refusal.TooLarge
 unfolding initial step state_of answer_at runs_of runs_from digits
 large_metadata = refl
 
-pub largest_metadata : tells (last class_one [] (metadata_of One 0 4194304))
-    ≡ Some (told.MetadataRecv (record { 0 = 1 }) 4194304 (97 ∷ []) (98 ∷ []) [] ∷ [])
+pub largest_metadata : tells (last class_one [] (metadata_of One 0 16777216))
+    ≡ Some (told.MetadataRecv (record { 0 = 1 }) 16777216 (97 ∷ []) (98 ∷ []) [] ∷ [])
 unfolding initial step state_of answer_at runs_of runs_from digits
 largest_metadata = refl
 
 -- the end of a part counts
-pub large_part : last class_one (metadata One ∷ []) (file_data One 4194302 abc) ≡ Err refusal.TooLarge
+pub large_part : last class_one (metadata One ∷ []) (file_data One 16777214 abc) ≡ Err refusal.TooLarge
 unfolding initial step state_of answer_at runs_of runs_from digits
 large_part = refl
 
 -- it may end at the limit: then it is taken
-pub largest_part : hands_out (last class_one [] (file_data One 4194301 abc)) ≡ Some []
+pub largest_part : hands_out (last class_one [] (file_data One 16777213 abc)) ≡ Some []
 unfolding initial step state_of answer_at runs_of runs_from digits
 largest_part = refl
 
-pub largest_part_and_one_octet : last class_one [] (file_data One 4194301 (97 ∷ 98 ∷ 99 ∷ 100 ∷ [])) ≡ Err refusal.TooLarge
+pub largest_part_and_one_octet : last class_one [] (file_data One 16777213 (97 ∷ 98 ∷ 99 ∷ 100 ∷ [])) ≡ Err refusal.TooLarge
 unfolding initial step state_of answer_at runs_of runs_from digits
 largest_part_and_one_octet = refl
 
 -- one without octets ends at its offset
-pub empty_part_at_the_limit : hands_out (last class_one [] (file_data One 4194304 [])) ≡ Some []
+pub empty_part_at_the_limit : hands_out (last class_one [] (file_data One 16777216 [])) ≡ Some []
 unfolding initial step state_of answer_at runs_of runs_from digits
 empty_part_at_the_limit = refl
 
-pub empty_part_above_the_limit : last class_one [] (file_data One 4194305 []) ≡ Err refusal.TooLarge
+pub empty_part_above_the_limit : last class_one [] (file_data One 16777217 []) ≡ Err refusal.TooLarge
 unfolding initial step state_of answer_at runs_of runs_from digits
 empty_part_above_the_limit = refl
 
 -- the size of an EOF counts where it has no error
-pub large_eof : last class_one (metadata One ∷ []) (eof_of One 0 0 4194305) ≡ Err refusal.TooLarge
+pub large_eof : last class_one (metadata One ∷ []) (eof_of One 0 0 16777217) ≡ Err refusal.TooLarge
 unfolding initial step state_of answer_at runs_of runs_from digits
 large_eof = refl
 
-pub largest_eof : tells (last class_one (part One ∷ []) (eof_of One 0 0 4194304)) ≡ Some (told.EofRecv ∷ [])
+pub largest_eof : tells (last class_one (part One ∷ []) (eof_of One 0 0 16777216)) ≡ Some (told.EofRecv ∷ [])
 unfolding initial step state_of answer_at runs_of runs_from digits
 largest_eof = refl
 
-pub large_first_eof_in_class_two : last class_two [] (eof_of Two 0 0 4194305) ≡ Err refusal.TooLarge
+pub large_first_eof_in_class_two : last class_two [] (eof_of Two 0 0 16777217) ≡ Err refusal.TooLarge
 unfolding initial step state_of answer_at runs_of runs_from digits
 large_first_eof_in_class_two = refl
 
-pub large_eof_with_an_error : tells (last class_two (metadata Two ∷ []) (eof_of Two 15 0 4194305))
+pub large_eof_with_an_error : tells (last class_two (metadata Two ∷ []) (eof_of Two 15 0 16777217))
     ≡ Some (told.TransactionFinished 15 Incomplete Discarded ∷ [])
 unfolding initial step state_of answer_at runs_of runs_from digits
 large_eof_with_an_error = refl
@@ -262,32 +262,32 @@ abbrev pub with_entries : ℕ → State
 with_entries n = record (state_of (after class_two (metadata Two ∷ part Two ∷ []))) { entries = n }
 
 -- the last two entries are kept for the file store's answer and for Abandon
-pub full_for_report : answer_at class_two (with_entries 65534) what.Report ≡ Err refusal.JournalFull
+pub full_for_report : answer_at class_two (with_entries 262142) what.Report ≡ Err refusal.JournalFull
 unfolding initial step state_of answer_at runs_of runs_from digits
 full_for_report = refl
 
-pub full_for_eof : answer_at class_two (with_entries 65534) (eof Two) ≡ Err refusal.JournalFull
+pub full_for_eof : answer_at class_two (with_entries 262142) (eof Two) ≡ Err refusal.JournalFull
 unfolding initial step state_of answer_at runs_of runs_from digits
 full_for_eof = refl
 
 -- every other reason comes before this one
-pub large_when_full : answer_at class_two (with_entries 65534) (metadata_of Two 0 4194305) ≡ Err refusal.TooLarge
+pub large_when_full : answer_at class_two (with_entries 262142) (metadata_of Two 0 16777217) ≡ Err refusal.TooLarge
 unfolding initial step state_of answer_at runs_of runs_from digits
 large_when_full = refl
 
-pub misplaced_when_full : answer_at class_two (with_entries 65534) what.Resume ≡ Err refusal.WrongState
+pub misplaced_when_full : answer_at class_two (with_entries 262142) what.Resume ≡ Err refusal.WrongState
 unfolding initial step state_of answer_at runs_of runs_from digits
 misplaced_when_full = refl
 
-pub room_for_report : tells (answer_at class_two (with_entries 65533) what.Report) ≡ Some (told.Report phase.Active 3 ∷ [])
+pub room_for_report : tells (answer_at class_two (with_entries 262141) what.Report) ≡ Some (told.Report phase.Active 3 ∷ [])
 unfolding initial step state_of answer_at runs_of runs_from digits
 room_for_report = refl
 
-pub room_for_eof : hands_out (answer_at class_two (with_entries 65533) (eof Two)) ≡ Some (65533 ∷ [])
+pub room_for_eof : hands_out (answer_at class_two (with_entries 262141) (eof Two)) ≡ Some (262141 ∷ [])
 unfolding initial step state_of answer_at runs_of runs_from digits
 room_for_eof = refl
 
-pub room_for_abandon : tells (answer_at class_two (with_entries 65535) what.Abandon) ≡ Some (told.Abandoned 15 3 ∷ [])
+pub room_for_abandon : tells (answer_at class_two (with_entries 262143) what.Abandon) ≡ Some (told.Abandoned 15 3 ∷ [])
 unfolding initial step state_of answer_at runs_of runs_from digits
 room_for_abandon = refl
 
@@ -296,34 +296,34 @@ abbrev pub suspended_with_entries : ℕ → State
 suspended_with_entries n = record (state_of (after class_two (metadata Two ∷ part Two ∷ what.Suspend ∷ []))) { entries = n }
 
 -- suspended, it is full at the same place
-pub full_for_report_while_suspended : answer_at class_two (suspended_with_entries 65534) what.Report ≡ Err refusal.JournalFull
+pub full_for_report_while_suspended : answer_at class_two (suspended_with_entries 262142) what.Report ≡ Err refusal.JournalFull
 unfolding initial step state_of answer_at runs_of runs_from digits
 full_for_report_while_suspended = refl
 
-pub full_for_resume : answer_at class_two (suspended_with_entries 65534) what.Resume ≡ Err refusal.JournalFull
+pub full_for_resume : answer_at class_two (suspended_with_entries 262142) what.Resume ≡ Err refusal.JournalFull
 unfolding initial step state_of answer_at runs_of runs_from digits
 full_for_resume = refl
 
-pub full_for_part_while_suspended : answer_at class_two (suspended_with_entries 65534) (part Two) ≡ Err refusal.JournalFull
+pub full_for_part_while_suspended : answer_at class_two (suspended_with_entries 262142) (part Two) ≡ Err refusal.JournalFull
 unfolding initial step state_of answer_at runs_of runs_from digits
 full_for_part_while_suspended = refl
 
 -- and not before
-pub room_for_report_while_suspended : tells (answer_at class_two (suspended_with_entries 65533) what.Report)
+pub room_for_report_while_suspended : tells (answer_at class_two (suspended_with_entries 262141) what.Report)
     ≡ Some (told.Report phase.Suspended 3 ∷ [])
 unfolding initial step state_of answer_at runs_of runs_from digits
 room_for_report_while_suspended = refl
 
-pub room_for_resume : tells (answer_at class_two (suspended_with_entries 65533) what.Resume) ≡ Some (told.Resumed 3 ∷ [])
+pub room_for_resume : tells (answer_at class_two (suspended_with_entries 262141) what.Resume) ≡ Some (told.Resumed 3 ∷ [])
 unfolding initial step state_of answer_at runs_of runs_from digits
 room_for_resume = refl
 
-pub room_for_part_while_suspended : tells (answer_at class_two (suspended_with_entries 65533) (file_data Two 3 (0 ∷ [])))
+pub room_for_part_while_suspended : tells (answer_at class_two (suspended_with_entries 262141) (file_data Two 3 (0 ∷ [])))
     ≡ Some (told.FileSegmentRecv 3 1 ∷ [])
 unfolding initial step state_of answer_at runs_of runs_from digits
 room_for_part_while_suspended = refl
 
-pub room_for_abandon_while_suspended : tells (answer_at class_two (suspended_with_entries 65534) what.Abandon) ≡ Some (told.Abandoned 15 3 ∷ [])
+pub room_for_abandon_while_suspended : tells (answer_at class_two (suspended_with_entries 262142) what.Abandon) ≡ Some (told.Abandoned 15 3 ∷ [])
 unfolding initial step state_of answer_at runs_of runs_from digits
 room_for_abandon_while_suspended = refl
 
@@ -331,11 +331,11 @@ room_for_abandon_while_suspended = refl
 abbrev pub storing_with_entries : ℕ → State
 storing_with_entries n = record (state_of (after class_one (metadata One ∷ part One ∷ eof One ∷ []))) { entries = n }
 
-pub room_for_stored : tells (answer_at class_one (storing_with_entries 65534) (what.Stored 2 true))
+pub room_for_stored : tells (answer_at class_one (storing_with_entries 262142) (what.Stored 2 true))
     ≡ Some (told.TransactionFinished 0 Complete Retained ∷ [])
 unfolding initial step state_of answer_at runs_of runs_from digits
 room_for_stored = refl
 
-pub storing_when_full : answer_at class_one (storing_with_entries 65534) (metadata One) ≡ Err refusal.Storing
+pub storing_when_full : answer_at class_one (storing_with_entries 262142) (metadata One) ≡ Err refusal.Storing
 unfolding initial step state_of answer_at runs_of runs_from digits
 storing_when_full = refl

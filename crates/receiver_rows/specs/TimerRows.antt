@@ -1,4 +1,4 @@
--- Rows on timers, kind by kind, with the place of the step as the stamp.
+-- Rows. Rows on timers, kind by kind, with the place of the step as the stamp.
 use Rattle.std.specs.Prelude.{◌≡◌, true, [], ◌∷◌, Some, refl}
 use Rattle.cfdp_types.specs.declared.names.Class.TheVariants.{One, Two}
 use Rattle.cfdp_types.specs.declared.names.Delivery.TheVariants.{Complete, Incomplete}

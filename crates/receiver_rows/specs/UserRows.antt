@@ -1,4 +1,4 @@
--- Rows on what the user asks for: Cancel, Suspend, Resume, Report and Abandon.
+-- Rows. Rows on what the user asks for: Cancel, Suspend, Resume, Report and Abandon.
 use Rattle.std.specs.Prelude.{◌≡◌, [], ◌∷◌, Some, refl}
 use Rattle.cfdp_types.specs.declared.names.Class.TheVariants.{One, Two}
 use Rattle.cfdp_types.specs.declared.names.Delivery.TheVariants.{Incomplete}

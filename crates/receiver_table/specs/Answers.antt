@@ -1,4 +1,4 @@
--- What a reception answers to the events that it takes, in both classes.
+-- Meaning. What a reception answers to the events that it takes, in both classes.
 use Rattle.std.specs.Prelude.{ℕ, zero, suc, ◌+◌, ◌-◌, Bool, true, false, not, ◌||◌, ◌&&◌, nat_lt, ◌==◌, is_some, unwrap_or, if◌then◌else◌, List, [], ◌∷◌, ◌++◌, length, map, take, Option, Some, None, Result}
 use Rattle.std.specs.List.{list_any}
 use Rattle.cfdp_types.specs.Condition as condition
@@ -156,7 +156,7 @@ is_unsupported state = by_type state.metadata
   where
     by_type : Option Metadata → Bool
     by_type None = false
-    by_type (Some m) = not (m.checksum_type == checksum.modular)
+    by_type (Some m) = not (m.checksum_type == checksum.modular) && not (m.checksum_type == checksum.null)
 
 -- an offset at or above the EOF's size was received
 abbrev pub is_beyond : State → Eof → Bool
@@ -166,9 +166,17 @@ is_beyond state e = nat_lt e.size state.progress
 abbrev pub is_whole : State → Eof → Bool
 is_whole state e = is_some state.metadata && (length (missing_below state e.size) == 0)
 
--- the octets below the size have the EOF's checksum
+-- the file has no checksum
+abbrev pub has_no_sum : State → Bool
+has_no_sum state = by_type state.metadata
+  where
+    by_type : Option Metadata → Bool
+    by_type None = false
+    by_type (Some m) = m.checksum_type == checksum.null
+
+-- the octets below the size have the EOF's checksum, where the file has one
 abbrev pub agrees : State → Eof → Bool
-agrees state e = sum (octets_from state.received 0 e.size) == e.checksum
+agrees state e = has_no_sum state || (sum (octets_from state.received 0 e.size) == e.checksum)
 
 -- the file is whole, and handed out to be stored
 abbrev pub stores : Response

@@ -1,4 +1,4 @@
--- What the file store is given.
+-- Meaning. What the file store is given.
 use Rattle.std.specs.Prelude.{ℕ, if◌then◌else◌, Option, Some, None, Result, Ok, Err}
 use Rattle.cfdp_types.specs.Steps.{is_stamp}
 use Rattle.cfdp_types.specs.declared.image.Image.{Image}

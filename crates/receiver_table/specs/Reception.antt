@@ -1,9 +1,9 @@
--- The receiving end of a transaction in both classes: what a log of its events and answers gives.
+-- Meaning. The receiving end of a transaction in both classes: what a log of its events and answers gives.
 use Rattle.std.specs.Prelude.{ℕ, ◌+◌, ◌-◌, max, Bool, false, not, ◌||◌, ◌&&◌, nat_le, ◌==◌, is_some, if◌then◌else◌, List, [], ◌∷◌, length, slice_get, Option, Some, None}
 use Rattle.std.specs.List.{list_any}
 use Rattle.cfdp_types.specs.Condition as condition
 use Rattle.cfdp_types.specs.Steps.{armed_after, is_kind, older_or, newer_or}
-use Rattle.cfdp_types.specs.Params.{ParamsValue}
+use Rattle.cfdp_types.specs.declared.params.ParamsParts.{ParamsParts}
 use Rattle.cfdp_types.specs.declared.key.TxnKey.{TxnKey}
 use Rattle.cfdp_types.specs.declared.key.Deposit.{Deposit}
 use Rattle.cfdp_types.specs.declared.names.TimerKind.{TimerKind}
@@ -29,7 +29,7 @@ use Rattle.txn_events.specs.Logs as logs
 -- what is settled when a reception opens
 pub record Reception : Type 0 where
   pub key : TxnKey
-  pub params : ParamsValue
+  pub params : ParamsParts
   -- of the PDU that opened it: its mode is the transaction's class, and PDUs are written with its lengths
   pub header : Header
 

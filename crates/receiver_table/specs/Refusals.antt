@@ -1,4 +1,4 @@
--- Which events a reception refuses, and why: the first reason that applies, in the order of their numbers.
+-- Meaning. Which events a reception refuses, and why: the first reason that applies, in the order of their numbers.
 use Rattle.std.specs.Prelude.{◌-◌, Bool, true, false, not, ◌||◌, ◌&&◌, nat_le, if◌then◌else◌, Option, Some, None}
 use Rattle.cfdp_types.specs.declared.limits.TheConstants.{JOURNAL_ENTRIES, JOURNAL_ENTRIES_KEPT}
 use Rattle.txn_events.specs.declared.event.What.{What}

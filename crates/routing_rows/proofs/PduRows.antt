@@ -33,7 +33,7 @@ metadata = body.Metadata (record { closure = false; checksum_type = 0; size = 3;
 
 abbrev pdu : Direction → ℕ → ℕ → Body → PduValue
 pdu direction source destination content = record {
-  header = record { direction = direction; class = One; entity_octets = 1; sequence_octets = 1; source = record { 0 = source }; sequence = 5; destination = record { 0 = destination } };
+  header = record { direction = direction; class = One; large = false; entity_octets = 1; sequence_octets = 1; source = record { 0 = source }; sequence = 5; destination = record { 0 = destination } };
   body = content;
 }
 

@@ -3,7 +3,7 @@ use Rattle.std.proofs.Common.{◌≡◌, ℕ, true, false, List, [], ◌∷◌, 
 use Rattle.cfdp_types.specs.declared.key.TxnKey.{TxnKey}
 use Rattle.cfdp_types.specs.declared.names.Class.TheVariants.{One}
 use Rattle.cfdp_types.specs.declared.names.TimerKind.TheVariants as timer
-use Rattle.cfdp_types.specs.Params.{ParamsValue}
+use Rattle.cfdp_types.specs.declared.params.ParamsParts.{ParamsParts}
 use Rattle.cfdp_types.specs.Put.{PutValue}
 use Rattle.cfdp_types.specs.Reference.{reference}
 use Rattle.txn_events.specs.declared.event.Event.TheVariants.{Put, On}
@@ -30,7 +30,7 @@ abbrev at : ℕ → ℕ → Option Place
 at user lane = Some (record { user = user; lane = lane })
 
 -- a remote entity with parameters that tell it from others
-abbrev params : ℕ → ParamsValue
+abbrev params : ℕ → ParamsParts
 params segment_octets = record reference { segment_octets = segment_octets }
 
 abbrev peer : ℕ → Option ℕ → PeerValue

@@ -9,11 +9,11 @@ use Rattle.entity_routing.specs.Routes.{Routed, route}
 use Rattle.indications.specs.declared.bundle.Bundle.{Bundle}
 use Rattle.lane_table.specs.declared.done.Done.{Done}
 use Rattle.world_table.specs.Histories.{Happening, takes, held_for, IsHistory}
-use Rattle.entity_refusals.specs.declared.refusal.EntityRefusal.{EntityRefusal}
-use Rattle.entity_lanes.specs.FirstLanes.{first_lane}
-use Rattle.entity_world.specs.Routed.{AreRouted}
-use Rattle.entity_world.specs.Worlds.{MayCome, IsAnswered, IsUnread, history_after}
-use Rattle.entity_laws.proofs.RouteHomes.{routes_home}
+use Rattle.entity_parts.specs.declared.refusal.EntityRefusal.{EntityRefusal}
+use Rattle.entity_parts.specs.FirstLanes.{first_lane}
+use Rattle.world_core.specs.Routed.{AreRouted}
+use Rattle.world_core.specs.Worlds.{MayCome, IsAnswered, IsUnread, history_after}
+use Rattle.world_laws.proofs.RouteHomes.{routes_home}
 use Rattle.script_lines.specs.declared.command.Command.{Command}
 use Rattle.script_lines.specs.declared.command.Command.TheVariants as command
 use Rattle.script_replay.specs.Sessions.{Session, fresh, with_history, Answers, IsSet, IsTold, IsTakenBy, Gives, history_taken}

@@ -14,7 +14,7 @@ use Rattle.config_reading.specs.Texts.{is_within}
 use Rattle.config_reading.specs.Values.{ConfigValue, are_of, are_routes, are_users, is_config, is_entity, is_id, route_of}
 use Rattle.entity_config.specs.declared.setting.Setting.{Setting}
 use Rattle.entity_config.specs.declared.setting.Setting.TheVariants as setting
-use Rattle.entity_config.specs.Settings.{if_within, with_all_params, with_role_handler, with_setting}
+use Rattle.entity_config.specs.Settings.{if_within, with_all_params, with_checksum, with_role_handler, with_setting}
 use Rattle.entity_config.proofs.Kept.{config_kept}
 
 -- a test that held is put in another's place
@@ -83,6 +83,7 @@ setting_kept (setting.First n) config holds =
 setting_kept (setting.AckLimit n) config holds = kept_within key.AckLimit 1 EXPIRATIONS n _ (λ within. config_kept _ config (λ params. refl) holds)
 setting_kept (setting.NakLimit n) config holds = kept_within key.NakLimit 1 EXPIRATIONS n _ (λ within. config_kept _ config (λ params. refl) holds)
 setting_kept (setting.CheckLimit n) config holds = kept_within key.CheckLimit 1 EXPIRATIONS n _ (λ within. config_kept _ config (λ params. refl) holds)
+setting_kept (setting.Checksum checksum) config holds = config_kept (with_checksum checksum) config (λ params. refl) holds
 setting_kept (setting.Handler role condition handler) config holds = by (is_allowed role condition handler)
   where
     by : (allowed : Bool) → IsKept (if allowed then Ok (with_all_params (with_role_handler role condition handler) config) else Err (fault.HandlerNotAllowed (table_key role)))

@@ -1,9 +1,9 @@
--- What holds of every script that is played.
+-- Meaning. What holds of every script that is played.
 use Rattle.std.specs.Prelude.{ℕ, IsTrue, List}
 use Rattle.config_reading.specs.Values.{is_config}
 use Rattle.world_table.specs.Histories.{IsHistory}
-use Rattle.entity_lanes.specs.FirstLanes.{first_lane}
-use Rattle.entity_world.specs.Routed.{AreRouted}
+use Rattle.entity_parts.specs.FirstLanes.{first_lane}
+use Rattle.world_core.specs.Routed.{AreRouted}
 use Rattle.script_replay.specs.Sessions.{Session, fresh}
 use Rattle.script_replay.specs.Run.{Plays}
 

@@ -3,6 +3,7 @@ use Rattle.std.proofs.Common.{◌≡◌, true, false, [], ◌∷◌, ◌++◌, m
 use Rattle.hex.specs.Hex.{decode_pairs}
 use Rattle.cfdp_types.specs.declared.key.TxnKey.{TxnKey}
 use Rattle.cfdp_types.specs.declared.names.Class.TheVariants.{One, Two}
+use Rattle.cfdp_types.specs.declared.names.Checksum.TheVariants.{Modular, Null}
 use Rattle.cfdp_types.specs.declared.names.Handler.TheVariants as handler
 use Rattle.cfdp_types.specs.declared.names.Role.TheVariants.{Send, RecvOne, RecvTwo}
 use Rattle.cfdp_types.specs.declared.names.TimerKind.TheVariants.{Ack, Nak, Check, Inactivity}
@@ -63,9 +64,14 @@ handlers_set : map command_of (codes "set recv1 10 ignore" ∷ codes "set recv2 
     ∷ setting.Handler Send 15 handler.Abandon ∷ setting.Handler Send 0 handler.Cancel ∷ [])
 handlers_set = refl
 
+checksums_set : map command_of (codes "set checksum modular" ∷ codes "set checksum null" ∷ [])
+    ≡ map (λ s. Some (command.Set s)) (setting.Checksum Modular ∷ setting.Checksum Null ∷ [])
+checksums_set = refl
+
 bad_settings : map command_of (codes "set" ∷ codes "set capacity" ∷ codes "set capacity -1" ∷ codes "set capacity 1 " ∷ codes "set users 2"
-    ∷ codes "set recv1 16 ignore" ∷ codes "set recv3 10 ignore" ∷ codes "set recv1 10 drop" ∷ codes "set recv1 10 ignore 1" ∷ [])
-    ≡ replicate 9 None
+    ∷ codes "set recv1 16 ignore" ∷ codes "set recv3 10 ignore" ∷ codes "set recv1 10 drop" ∷ codes "set recv1 10 ignore 1"
+    ∷ codes "set checksum" ∷ codes "set checksum 0" ∷ codes "set checksum crc" ∷ codes "set checksum null null" ∷ [])
+    ≡ replicate 13 None
 bad_settings = refl
 
 -- ---- requests

@@ -1,4 +1,4 @@
--- What a line of a script says.
+-- Meaning. What a line of a script says.
 use Rattle.std.specs.Prelude.{ℕ, ◌-◌, ◌^◌, ◌==◌, Bool, true, false, if◌then◌else◌, List, [], ◌∷◌, length, Option, Some, None, is_some, codes, option_and_then}
 use Rattle.std.specs.Option.{option_map}
 use Rattle.std.specs.Result.{result_ok}
@@ -6,6 +6,8 @@ use Rattle.std.specs.Str.{bytes_eq}
 use Rattle.hex.specs.Hex.{decode_of}
 use Rattle.cfdp_types.specs.Put.{PutValue, put_fault}
 use Rattle.cfdp_types.specs.declared.names.Class.{Class}
+use Rattle.cfdp_types.specs.declared.names.Checksum.{Checksum}
+use Rattle.cfdp_types.specs.declared.names.Checksum.TheVariants.{Modular, Null}
 use Rattle.cfdp_types.specs.declared.names.Handler.{Handler}
 use Rattle.cfdp_types.specs.declared.names.Handler.TheVariants as handler
 use Rattle.cfdp_types.specs.declared.names.Role.{Role}
@@ -74,6 +76,12 @@ handler_of word =
     else if bytes_eq word (codes "abandon") then Some handler.Abandon
     else None
 
+abbrev pub checksum_of : List ℕ → Option Checksum
+checksum_of word =
+    if bytes_eq word (codes "modular") then Some Modular
+    else if bytes_eq word (codes "null") then Some Null
+    else None
+
 -- ---- lines
 
 -- set NAME N, by its two words
@@ -86,6 +94,12 @@ set_number name n =
     else if bytes_eq name (codes "check_limit") then Some (command.Set (setting.CheckLimit n))
     else None
 
+-- the same, or set checksum CHECKSUM
+abbrev pub set_value : List ℕ → List ℕ → Option Command
+set_value name value =
+    if bytes_eq name (codes "checksum") then option_map (λ c. command.Set (setting.Checksum c)) (checksum_of value)
+    else option_and_then (set_number name) (number_of value)
+
 -- set ROLE CONDITION HANDLER, by its three words
 abbrev pub set_handler : List ℕ → List ℕ → List ℕ → Option Command
 set_handler role condition handler = do
@@ -96,7 +110,7 @@ set_handler role condition handler = do
 
 -- by what stands behind two words
 abbrev pub set_with : List ℕ → List ℕ → List (List ℕ) → Option Command
-set_with name n [] = option_and_then (set_number name) (number_of n)
+set_with name value [] = set_value name value
 set_with role condition (handler ∷ []) = set_handler role condition handler
 set_with name n operands = None
 

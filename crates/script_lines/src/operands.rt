@@ -1,8 +1,8 @@
 //! What single words of a line write.
 ghost use Rattle.std.specs.Prelude.{◌≡◌, IfOk};
-ghost use Rattle.script_lines.specs.Commands.{stamp_of, user_of, lane_of, octets_of, file_of, answer_of, kind_of, role_of, handler_of};
+ghost use Rattle.script_lines.specs.Commands.{stamp_of, user_of, lane_of, octets_of, file_of, answer_of, kind_of, role_of, handler_of, checksum_of};
 
-use cfdp_types::{Handler, Octets, Role, TimerKind};
+use cfdp_types::{Checksum, Handler, Octets, Role, TimerKind};
 use hex::FromHexError;
 use line_words::decimal;
 use std::alloc::{AllocError, Global};
@@ -110,6 +110,18 @@ pub(crate) fn handler_of(word: &[u8]) -> Option<Handler>
         Some(Handler::Ignore)
     } else if word == b"abandon".as_slice() {
         Some(Handler::Abandon)
+    } else {
+        None
+    }
+}
+
+pub(crate) fn checksum_of(word: &[u8]) -> Option<Checksum>
+    ensures { result ≡ checksum_of word.now }
+{
+    if word == b"modular".as_slice() {
+        Some(Checksum::Modular)
+    } else if word == b"null".as_slice() {
+        Some(Checksum::Null)
     } else {
         None
     }

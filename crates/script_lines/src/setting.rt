@@ -1,11 +1,11 @@
 //! Lines that change the configuration.
 ghost use Rattle.std.specs.Prelude.{◌≡◌};
 ghost use Rattle.std.specs.Option.{option_copied};
-ghost use Rattle.script_lines.specs.Commands.{set_of, set_with, set_number, set_handler};
+ghost use Rattle.script_lines.specs.Commands.{set_of, set_with, set_value, set_number, set_handler};
 ghost use Rattle.line_words.specs.Words.{words_left};
 
 use crate::command::Command;
-use crate::operands::{handler_of, role_of};
+use crate::operands::{checksum_of, handler_of, role_of};
 use cfdp_types::Condition;
 use entity_config::Setting;
 use line_words::{Rest, decimal, last_word, next_word, number_of};
@@ -23,9 +23,20 @@ fn set_with(name: &[u8], value: &[u8], operands: Rest<'_>) -> Option<Command>
     ensures { result ≡ set_with name.now value.now (words_left (option_copied operands.entry)) }
 {
     if operands.is_none() {
-        return set_number(name, number_of(value)?);
+        return set_value(name, value);
     }
     set_handler(name, value, last_word(operands)?)
+}
+
+fn set_value(name: &[u8], value: &[u8]) -> Option<Command>
+    ensures { result ≡ set_value name.now value.now }
+{
+    if name == b"checksum".as_slice() {
+        let checksum = checksum_of(value)?;
+        Some(Command::Set(Setting::Checksum(checksum)))
+    } else {
+        set_number(name, number_of(value)?)
+    }
 }
 
 fn set_number(name: &[u8], n: u64) -> Option<Command>

@@ -17,7 +17,7 @@ use Rattle.entity_config.specs.Reference.{reference_config}
 use Rattle.entity_routing.specs.declared.refusal.RouteRefusal.TheVariants as routes
 use Rattle.entity_routing.specs.declared.world_event.Request.TheVariants as requests
 use Rattle.entity_routing.specs.declared.world_event.WorldEvent.TheVariants as events
-use Rattle.entity_refusals.specs.declared.refusal.EntityRefusal.TheVariants as answer
+use Rattle.entity_parts.specs.declared.refusal.EntityRefusal.TheVariants as answer
 use Rattle.script_lines.specs.Commands.{command_of}
 use Rattle.script_lines.specs.declared.command.Command.{Command}
 use Rattle.script_lines.specs.declared.command.Command.TheVariants as command

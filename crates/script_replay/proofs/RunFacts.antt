@@ -1,6 +1,6 @@
 -- A run goes on line by line.
 use Rattle.std.proofs.Common.{◌≡◌, ℕ, zero, suc, ◌+◌, ◌≤◌, ◌<◌, true, List, [], ◌∷◌, ◌++◌, length, take, Option, Some, None, Result, Ok, Err, refl, sym, ap, subst, ◌∙◌, arith, ◌⊎◌, inl, inr, append_assoc, append-nil}
-use Rattle.std.specs.Prelude.{slice_get, ⊤}
+use Rattle.std.specs.Prelude.{slice_get, ⊤, OnOk, OnErr, IfErr}
 use Rattle.std.specs.Io.KnownBytes.{Appends}
 use Rattle.std.proofs.KnownBytes.{Appends-nil, Appends-trans}
 use Rattle.std.proofs.lemmas.List.{length-append, take_at}
@@ -124,6 +124,20 @@ module _ (lines : List (List ℕ)) (rest : List ℕ) (count : ℕ) (kept : Kept)
       let same : ran.front ++ buffer ≡ (ran.front ++ handed.0) ++ buffer' = ap (λ t. ran.front ++ t) handed.2 ∙ sym (append_assoc ran.front handed.0 buffer') in
       (ran.front ++ handed.0, subst (StopsBehind lines) same stops_behind, Appends-trans old new new' ran.front handed.0 ran.written handed.1)
 
+  -- what the buffer holds is handed on
+  pub handed_more : (new' : Option (List ℕ)) (buffer' : List ℕ) → HandsOn new new' (buffer ++ []) buffer' → Ran lines (Some rest) count kept old new' buffer'
+  handed_more new' buffer' handed = record {
+    done = ran.done;
+    session = ran.session;
+    front = ran.front ++ handed.0;
+    counted = ran.counted;
+    few = ran.few;
+    others = ran.others;
+    plays = subst (λ t. Plays fresh ran.done ran.session t) (sym (append-nil (ran.front ++ buffer)) ∙ regroup ran.front buffer [] handed.0 buffer' handed.2) ran.plays;
+    stands = ran.stands;
+    written = Appends-trans old new new' ran.front handed.0 ran.written handed.1;
+  }
+
 -- ---- one turn, by what comes next
 
 pub read_ends : (why : ReplayFault) (lines : List (List ℕ)) (left : Option (List ℕ)) (count : ℕ) (kept : Kept) (old new : Option (List ℕ)) (buffer : List ℕ) → (why ≡ fault.Read) ⊎ (why ≡ fault.NoMemory) → Ran lines left count kept old new buffer
@@ -173,6 +187,23 @@ buffer_ends fault.Read lines (Some rest) count kept old mid new buffer buffer' t
 buffer_ends (fault.BadLine number) lines (Some rest) count kept old mid new buffer buffer' text buffers ran = absurd buffers
 
 -- ---- before the first line, after the last that there may be, and at the end
+
+pub handed_on : (lines : List (List ℕ)) (left : Option (List ℕ)) (count : ℕ) (kept : Kept) (old mid new : Option (List ℕ)) (buffer buffer' : List ℕ) → HandsOn mid new (buffer ++ []) buffer' → Ran lines left count kept old mid buffer → Ran lines left count kept old new buffer'
+handed_on lines None count kept old mid new buffer buffer' handed ran = absurd ran.others
+handed_on lines (Some rest) count kept old mid new buffer buffer' handed ran = handed_more lines rest count kept old mid buffer ran new buffer' handed
+
+-- a buffer that is written whole, or not
+pub flush_hands : (result : Result ⊤ ReplayFault) (old new : Option (List ℕ)) (buffer buffer' : List ℕ) → OnOk result (Appends old new buffer) → OnErr result (AppendsFront old new buffer) → IfErr result (λ why. why ≡ fault.Write) → buffer' ≡ []
+    → Buffers result old new buffer [] buffer'
+flush_hands (Ok done) old new buffer buffer' whole front why emptied = (buffer, whole, ap (λ t. buffer ++ t) (sym emptied))
+flush_hands (Err fault.Write) old new buffer buffer' whole front why emptied = (front, emptied)
+flush_hands (Err fault.Read) old new buffer buffer' whole front why emptied = cc why
+flush_hands (Err fault.NoMemory) old new buffer buffer' whole front why emptied = cc why
+flush_hands (Err (fault.BadLine number)) old new buffer buffer' whole front why emptied = cc why
+
+-- and one that stays
+pub stay_hands : (old : Option (List ℕ)) (buffer : List ℕ) → HandsOn old old (buffer ++ []) buffer
+stay_hands old buffer = ([], Appends-nil old, append-nil buffer)
 
 pub begins : (script : List ℕ) (kept : Kept) (old : Option (List ℕ)) → Stands kept fresh → Appends old old [] → Ran (lines_of script) (Some script) 0 kept old old []
 begins script kept old stands none = record { done = []; session = fresh; front = []; counted = refl; few = omega arith; others = refl; plays = (refl, refl); stands = stands; written = none }

@@ -9,9 +9,9 @@ use Rattle.entity_routing.specs.Routes.{route}
 use Rattle.indications.specs.declared.bundle.Bundle.{Bundle}
 use Rattle.lane_table.specs.declared.done.Done.{Done}
 use Rattle.world_table.specs.Histories.{Happening, takes, held_for}
-use Rattle.entity_refusals.specs.declared.refusal.EntityRefusal.{EntityRefusal}
-use Rattle.entity_lanes.specs.FirstLanes.{first_lane}
-use Rattle.entity_world.specs.Worlds.{WorldValue, StandsAfter, MayCome, IsAnswered, IsUnread, IsFront, history_after}
+use Rattle.entity_parts.specs.declared.refusal.EntityRefusal.{EntityRefusal}
+use Rattle.entity_parts.specs.FirstLanes.{first_lane}
+use Rattle.world_core.specs.Worlds.{WorldValue, StandsAfter, MayCome, IsAnswered, IsUnread, IsFront, history_after}
 use Rattle.script_lines.specs.declared.command.Command.{Command}
 use Rattle.script_lines.specs.declared.command.Command.TheVariants as command
 use Rattle.script_lines.specs.Commands.{command_of}

@@ -1,4 +1,4 @@
--- What a whole script prints.
+-- Meaning. What a whole script prints.
 use Rattle.std.specs.Prelude.{◌≡◌, ℕ, ◌+◌, ◌<◌, ◌≤◌, List, [], ◌∷◌, ◌++◌, length, take, slice_get, Option, Some, Result, Ok, Err, is_ok, if◌then◌else◌, ◌⊎◌, ⊤}
 use Rattle.std.specs.Io.KnownBytes.{Appends}
 use Rattle.script_io.specs.declared.fault.ReplayFault.{ReplayFault}

@@ -1,8 +1,8 @@
--- Where a run stands between two lines.
+-- Of the code. Where a run stands between two lines.
 use Rattle.std.specs.Prelude.{◌≡◌, ℕ, ◌+◌, ◌≤◌, Bool, true, false, List, [], ◌++◌, length, Option, Some, None, Result, Ok, Err}
 use Rattle.std.specs.Io.KnownBytes.{Appends}
 use Rattle.entity_config.specs.declared.setting.Setting.{Setting}
-use Rattle.entity_world.specs.Worlds.{WorldValue, StandsAfter}
+use Rattle.world_core.specs.Worlds.{WorldValue, StandsAfter}
 use Rattle.script_io.specs.declared.fault.ReplayFault.{ReplayFault}
 use Rattle.script_io.specs.declared.fault.ReplayFault.TheVariants as fault
 use Rattle.script_io.specs.Lines.{lines_of}

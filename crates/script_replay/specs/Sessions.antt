@@ -1,4 +1,4 @@
--- What the lines of a script do to an entity, and what they are answered.
+-- Meaning. What the lines of a script do to an entity, and what they are answered.
 use Rattle.std.specs.Prelude.{◌≡◌, ℕ, ◌<◌, ◌≤◌, Bool, true, false, List, [], ◌∷◌, length, Option, Some, None, Result, Ok, IsErr, ◌⊎◌}
 use Rattle.config_reading.specs.Values.{ConfigValue}
 use Rattle.entity_config.specs.declared.setting.Setting.{Setting}
@@ -11,9 +11,9 @@ use Rattle.entity_routing.specs.Routes.{route}
 use Rattle.indications.specs.declared.bundle.Bundle.{Bundle}
 use Rattle.lane_table.specs.declared.done.Done.{Done}
 use Rattle.world_table.specs.Histories.{Happening, takes, held_for}
-use Rattle.entity_refusals.specs.declared.refusal.EntityRefusal.{EntityRefusal}
-use Rattle.entity_lanes.specs.FirstLanes.{first_lane}
-use Rattle.entity_world.specs.Worlds.{MayCome, IsAnswered, IsUnread, IsFront, history_after}
+use Rattle.entity_parts.specs.declared.refusal.EntityRefusal.{EntityRefusal}
+use Rattle.entity_parts.specs.FirstLanes.{first_lane}
+use Rattle.world_core.specs.Worlds.{MayCome, IsAnswered, IsUnread, IsFront, history_after}
 use Rattle.script_lines.specs.declared.command.Command.{Command}
 use Rattle.script_lines.specs.declared.command.Command.TheVariants as command
 use Rattle.script_replay.specs.Texts.{answer_text, taken_text}

@@ -1,10 +1,10 @@
--- What is printed for the lines of a script.
+-- Meaning. What is printed for the lines of a script.
 use Rattle.std.specs.Prelude.{ℕ, ◌==◌, if◌then◌else◌, Bool, List, Option, Some, None, Result, Ok, Err, codes}
 use Rattle.answer_texts.specs.AnswerTexts.{done_text, refusal_text, fault_line, refused_text}
 use Rattle.answer_texts.specs.ToldTexts.{bundle_text}
-use Rattle.entity_refusals.specs.declared.refusal.EntityRefusal.{EntityRefusal}
-use Rattle.entity_refusals.specs.declared.refusal.EntityRefusal.TheVariants as answer
-use Rattle.entity_refusals.specs.Refusals.{number_of, name_of}
+use Rattle.entity_parts.specs.declared.refusal.EntityRefusal.{EntityRefusal}
+use Rattle.entity_parts.specs.declared.refusal.EntityRefusal.TheVariants as answer
+use Rattle.entity_parts.specs.Refusals.{number_of, name_of}
 use Rattle.entity_routing.specs.declared.refusal.RouteRefusal.{RouteRefusal}
 use Rattle.entity_routing.specs.declared.refusal.RouteRefusal.TheVariants.{DecodeFault}
 use Rattle.entity_routing.specs.Refusal.{refusal_number, refusal_name}

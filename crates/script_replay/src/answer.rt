@@ -3,10 +3,10 @@ ghost use Rattle.std.specs.Prelude.{◌≡◌, ◌++◌, OnOk, string_bytes};
 ghost use Rattle.script_replay.specs.Texts.{answer_text, route_text, taken_text, user_name};
 
 use answer_texts::{push_bundle, push_decode_fault, push_done, push_refusal, push_refused};
-use entity_world::{EntityRefusal, RouteRefusal};
 use indications::Bundle;
 use lane_table::Done;
 use std::alloc::{AllocError, Global};
+use world_core::{EntityRefusal, RouteRefusal};
 
 /// Adds the lines for an event that was taken or refused: for a Put, also that of the transaction that it opened.
 pub fn push_answer(

@@ -3,23 +3,24 @@ ghost use Rattle.std.specs.Prelude.{◌≤◌, IfSome};
 ghost use Rattle.script_io.specs.Lines.{lines_of};
 ghost use Rattle.script_replay.specs.Run.{EndsRun};
 
-use crate::run::replay;
+use crate::run::{Pace, replay};
 use script_io::conclude;
 use std::alloc::Global;
 use std::io::{Read, Write};
 
-/// Runs the script that the reader holds, and writes all that it prints. Says there which line is a bad one, and in
+/// Runs the script that the reader holds, and writes all that it prints, at this pace. Says there which line is a bad one, and in
 /// `errors` any other fault. Answers the exit status.
 pub fn play_to_end<R: Read, W: Write, E: Write>(
     alloc: Global,
     reader: &mut R,
     writer: &mut W,
     errors: &mut E,
+    pace: Pace,
 ) -> u8
     ensures ended { IfSome (R.remaining reader.old) (λ script. EndsRun result (lines_of script)
         (W.contents writer.old) (W.contents writer.new) (E.contents errors.old) (E.contents errors.new)) }
     ensures status { result ≤ 1 }
 {
-    let ended = replay(alloc, reader, writer);
+    let ended = replay(alloc, reader, writer, pace);
     conclude(ended, writer, errors)
 }

@@ -1,6 +1,7 @@
 //! Runs a whole script.
 ghost use Rattle.std.specs.Prelude.{◌≡◌, ℕ, ◌<◌, ◌≤◌, ◌+◌, List, [], length, max, Option, IfSome, OnOk, string_bytes};
 ghost use Rattle.script_io.specs.Lines.{lines_of};
+ghost use Rattle.script_io.specs.Output.{Buffers};
 ghost use Rattle.script_replay.specs.declared.session.Session.{Session};
 ghost use Rattle.script_replay.specs.Run.{Replays};
 ghost use Rattle.script_replay.specs.Running.{Ran, Ends, GoesOn};
@@ -15,6 +16,15 @@ use std::io::{BufRead, Read, Write};
 /// The most lines of a script.
 pub const LINES: u32 = 1_000_000;
 
+/// When answers are written.
+#[derive(Clone, Copy, Debug, PartialEq, Eq)]
+pub enum Pace {
+    /// By blocks: an answer may come later than its line.
+    ByBlocks,
+    /// Each before the next line is read, for a person who waits for it.
+    ByLines,
+}
+
 // The line that is played, and what it prints.
 #[derive(Drop)]
 struct Scratch {
@@ -23,18 +33,19 @@ struct Scratch {
 }
 
 /// Runs the script that the reader holds through an entity, and writes what it answers, line by
-/// line. It reads ahead, by blocks: where it ends before the text does, the reader stands further
-/// than the last line that was played. It writes by blocks too: an answer may come later than its line.
+/// line, at this pace. It reads ahead, by blocks: where it ends before the text does, the reader stands
+/// further than the last line that was played.
 pub fn replay<R: Read, W: Write>(
     alloc: Global,
     reader: &mut R,
     writer: &mut W,
+    pace: Pace,
 ) -> Result<(), ReplayFault>
     ensures { IfSome (R.remaining reader.old)
         (λ script. Replays result (lines_of script) (W.contents writer.old) (W.contents writer.new)) }
 {
     let mut buffer = Vec::new(alloc);
-    let ended = play_script(alloc, reader, writer, &mut buffer);
+    let ended = play_script(alloc, reader, writer, &mut buffer, pace);
     flush_buffer(writer, &mut buffer)?;
     ended
 }
@@ -45,6 +56,7 @@ fn play_script<R: Read, W: Write>(
     reader: &mut R,
     writer: &mut W,
     buffer: &mut Vec<u8>,
+    pace: Pace,
 ) -> Result<(), ReplayFault>
     requires { buffer.old.items ≡ [] }
     ensures { IfSome (R.remaining reader.old)
@@ -52,7 +64,7 @@ fn play_script<R: Read, W: Write>(
 {
     let mut blocks = in_blocks(alloc, reader)?;
     let mut session = Session::new(alloc)?;
-    play_lines(alloc, &mut session, &mut blocks, writer, buffer)
+    play_lines(alloc, &mut session, &mut blocks, writer, buffer, pace)
 }
 
 // The same for a session that begins, and a reader that shows its blocks.
@@ -62,6 +74,7 @@ fn play_lines<B: BufRead, W: Write>(
     reader: &mut B,
     writer: &mut W,
     buffer: &mut Vec<u8>,
+    pace: Pace,
 ) -> Result<(), ReplayFault>
     ensures { (lines : List (List ℕ)) (old : Option (List ℕ))
         → Ran lines (B.remaining reader.old) 0 session.old old (W.contents writer.old) buffer.old.items
@@ -75,8 +88,19 @@ fn play_lines<B: BufRead, W: Write>(
         if !turn(alloc, session, &mut scratch, reader, writer, buffer, count)? {
             return Ok(());
         }
+        hand_on(writer, buffer, pace)?;
     }
     ends(reader, &mut scratch.line)
+}
+
+// Writes what the buffer holds, where answers are written line by line.
+fn hand_on<W: Write>(writer: &mut W, buffer: &mut Vec<u8>, pace: Pace) -> Result<(), ReplayFault>
+    ensures { Buffers result (W.contents writer.old) (W.contents writer.new) buffer.old.items [] buffer.new.items }
+{
+    match pace {
+        Pace::ByBlocks => Ok(()),
+        Pace::ByLines => flush_buffer(writer, buffer),
+    }
 }
 
 // Behind the last line that a script may have no line comes.

@@ -1,16 +1,15 @@
 //! What the lines of a script do.
-ghost use Rattle.std.specs.Prelude.{◌≡◌, true, false, IfOk, OnOk, string_bytes};
-ghost use Rattle.entity_world.specs.Worlds.{MayCome};
+ghost use Rattle.std.specs.Prelude.{◌≡◌, IfOk, OnOk, string_bytes};
 ghost use Rattle.script_replay.specs.Sessions.{Session as Played, fresh, is_put};
 ghost use Rattle.script_replay.specs.Running.{Stands, RunsAs, HasBegun, SetsTo, ToldTo, ObeysTo, PlaysTo};
 ghost use Rattle.script_lines.specs.declared.command.Command.TheVariants as command;
 
 use crate::answer::{push_answer, push_taken};
 use entity_config::{Config, Setting};
-use entity_world::{Request, World, WorldEvent};
 use script_lines::{Command, command_of};
 use std::alloc::{AllocError, Global};
 use std::mem;
+use world_core::{Request, World, WorldEvent};
 
 /// What a script drives: a configuration, as long as it may be changed, and then the entity that goes by it.
 #[derive(Drop)]
@@ -121,20 +120,6 @@ impl Session {
     }
 }
 
-// Whether the users and lanes that an event names are the entity's.
-fn may_come(world: &World, event: &WorldEvent) -> bool
-    ensures may { result ≡ true → MayCome world.now.config event.now }
-    ensures unknown { result ≡ false → MayCome world.now.config event.now → ⊥ }
-{
-    match event {
-        WorldEvent::Request(user, Request::Put(lane, _)) => {
-            *user < world.users() && *lane < world.put_lanes()
-        }
-        WorldEvent::Request(user, _) => *user < world.users(),
-        _ => true,
-    }
-}
-
 fn is_put(event: &WorldEvent) -> bool
     ensures { result ≡ is_put event.now }
 {
@@ -152,7 +137,7 @@ fn tell(
         → IfOk result (λ good. ToldTo good played (command.Event event.now) world.new (string_bytes text.old)
         (string_bytes text.new)) }
 {
-    if !may_come(world, event) {
+    if !world.may_come(event) {
         return Ok(false);
     }
     let answer = world.step(event);

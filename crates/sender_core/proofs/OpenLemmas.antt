@@ -101,6 +101,7 @@ put_plan core plan stands next is_left inds pdus timers nothing =
         few = record { entries = omega arith; tries = record { ack = omega arith; nak = omega arith; check = omega arith; inactivity = omega arith } };
         goes_on = λ e. omega arith;
         progress = omega arith;
+        eof = omega arith;
       });
     }
 

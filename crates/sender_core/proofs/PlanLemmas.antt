@@ -28,8 +28,9 @@ use Rattle.pdu_values.specs.declared.bodies.Eof.{Eof}
 use Rattle.sender_table.specs.Sending.{Sending, State, Event, happens, step, covers, asks_for, requests_of, eof_among, extent_of}
 use Rattle.sender_table.specs.Refusals.{refusal_of, is_stale_store, is_misplaced, is_full}
 use Rattle.sender_table.specs.Answers.{Response, cancel_response, fault_response, response_to, with_event, without_timers, with_timers, accepted_at, answer_at, effect_of}
-use Rattle.sender_core.specs.ControlBlock.{state_from, nowhere, IsSound, IsInside}
+use Rattle.sender_core.specs.ControlBlock.{state_from, nowhere, eof_size, IsSound, IsInside}
 use Rattle.txn_events.specs.Timers.{AreFew, stamp_of}
+use Rattle.sender_core.proofs.ResponseData.{eof_short}
 use Rattle.txn_events.proofs.AnswerLemmas.{answer_of_parts, same_answer}
 use Rattle.txn_events.proofs.TimerLemmas.{armed_follows, counted}
 use Rattle.sender_core.specs.Remaining.{to_send}
@@ -196,6 +197,11 @@ goes_on sending front what.Abandon response b taken is e =
     let yes : (b || true) ≡ true = ends_true b in absurd cc
 goes_on sending front (what.Stored stamp kept) response b taken is e = let stale = (refused_not (is_of_other_class sending.request.class (what.Stored stamp kept)) (is_stale_timer front.armed (what.Stored stamp kept)) (is_stale_store (what.Stored stamp kept)) (is_misplaced sending front (what.Stored stamp kept)) (is_full front && needs_room (what.Stored stamp kept)) refusal.ModeMismatch refusal.StaleTimer refusal.StaleStored refusal.WrongState refusal.JournalFull taken).0 in absurd cc
 
+newer_short : (sending : Sending) (new old : Option Eof) → eof_size new ≤ length sending.request.file → eof_size old ≤ length sending.request.file
+    → eof_size (newer_or new old) ≤ length sending.request.file
+newer_short sending None old first second = second
+newer_short sending (Some e) old first second = first
+
 pub sound_after : (core : SenderCore) (event : What) (response : response_type.Response) (remainder : Remainder) (plan : Plan) → refusal_of (sending_of core) (shown core) event ≡ None
     → IsResponse (sending_of core) response (response_to (sending_of core) (shown core) (shown core) (happens event)) → HoldsResponse core event response remainder plan
     → extent_of (option_to_list response.pdu) ≤ length core.request.file → core.control.ended ≡ false → IsSound (length core.request.file) plan.next
@@ -216,6 +222,7 @@ sound_after core event response remainder plan taken is planned inside runs =
       };
       goes_on = λ e. rw entries (goes_on (sending_of core) (shown core) event response core.control.ended taken is (sym next.ended ∙ e));
       progress = omega (arith, next.progress, inside, core.sound.progress);
+      eof = rw (next.eof, is.pdus) (newer_short (sending_of core) (eof_among (pdus_of_response (sending_of core) (response_to (sending_of core) (shown core) (shown core) (happens event)))) core.control.eof (eof_short (sending_of core) (shown core) event core.sound.eof core.sound.progress) core.sound.eof);
     }
 
 inside_after : (state_has lt covered asked : Bool) → ((state_has && covered) || (lt && asked)) ≡ true → (state_has ≡ true) ⊎ (lt ≡ true)

@@ -22,10 +22,11 @@ use Rattle.pdu_values.specs.declared.pdu.Body.{Body}
 use Rattle.pdu_values.specs.declared.pdu.Body.TheVariants as body
 use Rattle.pdu_values.specs.declared.bodies.Eof.{Eof}
 use Rattle.pdu_values.specs.declared.bodies.Finished.{Finished}
-use Rattle.sender_table.specs.Sending.{Sending, State, happens, covers, extent_of, asks_for, requests_of, is_closing}
+use Rattle.sender_table.specs.Sending.{Sending, State, happens, covers, extent_of, eof_among, asks_for, requests_of, is_closing}
 use Rattle.sender_table.specs.Refusals.{runs_to_send}
 use Rattle.sender_table.specs.Answers.{Response, cancel_response, fault_response, sends_eof, sends_next, on_pump, on_body, on_timer, response_to, last_eof, ends_unreported, nothing, acks_of, header_of}
 use Rattle.sender_core.specs.Remaining.{with_requests}
+use Rattle.sender_core.specs.ControlBlock.{eof_size}
 use Rattle.sender_core.specs.Core.{pdus_of_response, remains_after}
 use Rattle.sender_core.proofs.CoreLemmas.{IsLowest, lowest}
 
@@ -132,6 +133,82 @@ extent_inside sending state event =
     at_pump what.Report is = absurd cc
     at_pump what.Abandon is = absurd cc
     at_pump (what.Stored stamp kept) is = absurd cc
+
+-- ---- the size in an EOF
+
+abbrev IsShort : Sending → Option Eof → Type 0
+IsShort sending eof = eof_size eof ≤ length sending.request.file
+
+abbrev EofShort : Sending → Response → Type 0
+EofShort sending response = IsShort sending (eof_among (pdus_of_response sending response))
+
+short_if : (sending : Sending) (b : Bool) (x y : Response) → EofShort sending x → EofShort sending y → EofShort sending (if b then x else y)
+short_if sending true x y p q = p
+short_if sending false x y p q = q
+
+short_cancels : (sending : Sending) (state : State) (code : Condition) (class : Class) → sending.request.class ≡ class → state.progress ≤ length sending.request.file
+    → EofShort sending (cancel_response sending state code)
+short_cancels sending state code One is inside = rw is inside
+short_cancels sending state code Two is inside = rw is inside
+
+short_faults : (sending : Sending) (state : State) (kind : TimerKind) (code : Condition) (h : Handler) → handler_in sending.params.tables.send code ≡ h
+    → state.progress ≤ length sending.request.file → EofShort sending (fault_response sending state kind code)
+short_faults sending state kind code handler.Cancel is inside = rw is (short_cancels sending state code sending.request.class refl inside)
+short_faults sending state kind code handler.Suspend is inside = rw is (omega arith)
+short_faults sending state kind code handler.Ignore is inside = rw is (omega arith)
+short_faults sending state kind code handler.Abandon is inside = rw is (omega arith)
+
+short_eof : (sending : Sending) (class : Class) (asked : Bool) → sending.request.class ≡ class → sending.request.closure ≡ asked → EofShort sending (sends_eof sending)
+short_eof sending One true is asks = rw (is, asks) (omega arith)
+short_eof sending One false is asks = rw (is, asks) (omega arith)
+short_eof sending Two asked is asks = rw is (omega arith)
+
+short_next : (sending : Sending) (runs : List Run) → EofShort sending (sends_next sending runs)
+short_next sending [] = short_eof sending _ _ refl refl
+short_next sending (run ∷ runs) = omega arith
+
+short_again : (sending : Sending) (o : Option Eof) → IsShort sending o → EofShort sending (record nothing { bodies = last_eof o; arms = Ack ∷ [] })
+short_again sending None short = omega arith
+short_again sending (Some e) short = short
+
+short_acks : (sending : Sending) (f : Finished) (class : Class) → IsShort sending (eof_among (map (λ b. record { header = header_of sending; body = b }) (acks_of class f)))
+short_acks sending f One = omega arith
+short_acks sending f Two = omega arith
+
+short_body : (sending : Sending) (state : State) (b : Body) → EofShort sending (on_body sending state b)
+short_body sending state (body.Ack a) = short_if sending (is_closing state) (ends_unreported a.condition) nothing (omega arith) (omega arith)
+short_body sending state (body.Finished f) = short_acks sending f sending.request.class
+short_body sending state (body.Metadata m) = omega arith
+short_body sending state (body.FileData d) = omega arith
+short_body sending state (body.Eof e) = omega arith
+short_body sending state (body.Nak n) = omega arith
+short_body sending state (body.Prompt p) = omega arith
+short_body sending state (body.KeepAlive k) = omega arith
+
+short_timer : (sending : Sending) (state : State) (kind : TimerKind) → IsShort sending state.eof → state.progress ≤ length sending.request.file
+    → EofShort sending (on_timer sending state state kind)
+short_timer sending state Ack short inside =
+    short_if sending (nat_lt (state.tries Ack + 1) sending.params.limits.ack) _ _ (short_again sending state.eof short)
+    (short_if sending (is_closing state) _ (fault_response sending state Ack condition.positive_ack_limit) (omega arith)
+    (short_faults sending state Ack condition.positive_ack_limit _ refl inside))
+short_timer sending state Inactivity short inside = short_faults sending state Inactivity condition.inactivity _ refl inside
+short_timer sending state Nak short inside = omega arith
+short_timer sending state Check short inside =
+    short_if sending (nat_lt (state.tries Check + 1) sending.params.limits.check) _ (fault_response sending state Check condition.check_limit) (omega arith)
+    (short_faults sending state Check condition.check_limit _ refl inside)
+
+-- no EOF says more than the file has
+pub eof_short : (sending : Sending) (state : State) (event : What) → IsShort sending state.eof → state.progress ≤ length sending.request.file
+    → EofShort sending (response_to sending state state (happens event))
+eof_short sending state (what.Pdu pdu) short inside = short_body sending state pdu.body
+eof_short sending state (what.Timer kind stamp) short inside = short_timer sending state kind short inside
+eof_short sending state what.Pump short inside = short_if sending state.metadata_remains _ (sends_next sending (runs_to_send sending state)) (omega arith) (short_next sending (runs_to_send sending state))
+eof_short sending state what.Cancel short inside = short_cancels sending state condition.cancel_request _ refl inside
+eof_short sending state what.Suspend short inside = omega arith
+eof_short sending state what.Resume short inside = omega arith
+eof_short sending state what.Report short inside = omega arith
+eof_short sending state what.Abandon short inside = omega arith
+eof_short sending state (what.Stored stamp kept) short inside = omega arith
 
 -- ---- what is left to send
 

@@ -1,6 +1,7 @@
--- How the code keeps where a sender stands.
-use Rattle.std.specs.Prelude.{◌≡◌, ℕ, ◌-◌, ◌<◌, ◌≤◌, Bool, true, false, None}
+-- Of the code. How the code keeps where a sender stands.
+use Rattle.std.specs.Prelude.{◌≡◌, ℕ, ◌-◌, ◌<◌, ◌≤◌, Bool, true, false, Option, Some, None}
 use Rattle.cfdp_types.specs.declared.limits.TheConstants.{JOURNAL_ENTRIES, JOURNAL_ENTRIES_KEPT}
+use Rattle.pdu_values.specs.declared.bodies.Eof.{Eof}
 use Rattle.sender_table.specs.Sending.{State}
 use Rattle.txn_events.specs.Timers.{stamp_of, tries_of, AreFew}
 use Rattle.sender_core.specs.declared.control.ControlBlock.{ControlBlock}
@@ -38,11 +39,17 @@ first entries = record {
 abbrev pub nowhere : ℕ → Bool
 nowhere i = false
 
+-- the size that an EOF has, 0 if there is none
+abbrev pub eof_size : Option Eof → ℕ
+eof_size None = 0
+eof_size (Some e) = e.size
+
 -- numbers can be counted up, the journal has room where the transaction goes on, and nothing was sent that is not in the file
 pub record IsSound (size : ℕ) (control : ControlBlock) : Type 0 where
   pub few : AreFew control.entries control.tries
   pub goes_on : control.ended ≡ false → control.entries ≤ JOURNAL_ENTRIES - JOURNAL_ENTRIES_KEPT
   pub progress : control.progress ≤ size
+  pub eof : eof_size control.eof ≤ size
 
 -- only offsets of the file are still to be sent
 abbrev pub IsInside : ℕ → (ℕ → Bool) → Type 0

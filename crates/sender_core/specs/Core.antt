@@ -1,11 +1,12 @@
--- How the code keeps a sender, and what it plans.
+-- Of the code. How the code keeps a sender, and what it plans.
 use Rattle.std.specs.Prelude.{◌≡◌, ℕ, ◌+◌, max, nat_lt, not, ◌&&◌, ◌||◌, Bool, false, List, [], ◌∷◌, length, map, Option, None}
 use Rattle.std.specs.Option.{option_to_list}
 use Rattle.cfdp_types.specs.declared.key.TxnKey.{TxnKey}
 use Rattle.cfdp_types.specs.declared.names.TimerKind.TheVariants.{Ack}
 use Rattle.cfdp_types.specs.declared.names.TimerKind.{TimerKind}
 use Rattle.cfdp_types.specs.Steps.{newer_or, Effect, operations}
-use Rattle.cfdp_types.specs.Params.{ParamsValue, timer_length}
+use Rattle.cfdp_types.specs.Params.{timer_length}
+use Rattle.cfdp_types.specs.declared.params.ParamsParts.{ParamsParts}
 use Rattle.indications.specs.Words.{paused_after}
 use Rattle.indications.specs.Words.{is_end}
 use Rattle.std.specs.List.{list_any}
@@ -31,7 +32,7 @@ use Rattle.sender_core.specs.declared.response.Response as response_type
 use Rattle.sender_core.specs.declared.sender.SenderCore.{SenderCore}
 
 -- what is settled when a file is put
-abbrev pub sending_by : TxnKey → ParamsValue → PutValue → Sending
+abbrev pub sending_by : TxnKey → ParamsParts → PutValue → Sending
 sending_by key params request = record { key = key; params = params; request = request }
 
 abbrev pub sending_of : SenderCore → Sending

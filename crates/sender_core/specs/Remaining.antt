@@ -1,4 +1,4 @@
--- The offsets of a file that are still to be sent.
+-- Of the code. The offsets of a file that are still to be sent.
 use Rattle.std.specs.Prelude.{ℕ, ◌+◌, Bool, ◌||◌, ◌&&◌, nat_lt, List, length}
 use Rattle.std.specs.List.{list_any}
 use Rattle.gap_list.specs.Covered.{covered, HasRoomWith}

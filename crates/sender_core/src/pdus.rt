@@ -1,5 +1,6 @@
 //! The PDUs that a sender sends.
 ghost use Rattle.std.specs.Prelude.{◌≡◌, ◌<◌, ◌≤◌, ◌^◌, ◌+◌, ◌&&◌, not, length, take, drop, IfOk};
+ghost use Rattle.cfdp_types.specs.ChecksumType.{type_of};
 ghost use Rattle.pdu_values.specs.Spelling.{HeaderFits, file_data_limit};
 ghost use Rattle.pdu_values.specs.declared.pdu.Body.TheVariants as body;
 ghost use Rattle.pdu_values.specs.declared.bodies.Acknowledged.TheVariants as acknowledged;
@@ -7,7 +8,7 @@ ghost use Rattle.pdu_values.specs.declared.bodies.TransactionStatus.TheVariants.
 ghost use Rattle.sender_table.specs.Answers.{header_of};
 ghost use Rattle.txn_events.specs.Events.{is_two};
 
-use cfdp_types::{ChecksumType, Class, Condition, Octets, Params, PutRequest, TxnKey};
+use cfdp_types::{Checksum, ChecksumType, Class, Condition, Octets, Params, PutRequest, TxnKey};
 use pdu_values::{
     Ack, Acknowledged, Direction, FileData, Header, Metadata, Pdu, TransactionStatus, octets_for,
 };
@@ -23,6 +24,7 @@ pub(crate) fn header_of(key: TxnKey, params: &Params, request: &PutRequest) -> H
     Header {
         direction: Direction::TowardReceiver,
         class: request.class(),
+        large: false,
         entity_octets: octets_for(lengths.entity_octets, id),
         sequence_octets: octets_for(lengths.sequence_octets, key.seq),
         source: key.source,
@@ -32,14 +34,18 @@ pub(crate) fn header_of(key: TxnKey, params: &Params, request: &PutRequest) -> H
 }
 
 /// The PDU that tells what file it is.
-pub(crate) fn metadata(header: Header, request: &PutRequest) -> Result<Pdu, AllocError>
+pub(crate) fn metadata(
+    header: Header,
+    request: &PutRequest,
+    checksum: Checksum,
+) -> Result<Pdu, AllocError>
     requires header { HeaderFits header }
     requires size { length request.now.file < 2 ^ 32 }
     ensures { IfOk result (λ pdu. pdu ≡ record {
       header = header;
       body = body.Metadata (record {
         closure = not (is_two request.now.class) && request.now.closure;
-        checksum_type = 0;
+        checksum_type = type_of checksum;
         size = length request.now.file;
         source_name = request.now.source_name;
         destination_name = request.now.destination_name;
@@ -49,8 +55,8 @@ pub(crate) fn metadata(header: Header, request: &PutRequest) -> Result<Pdu, Allo
 {
     let metadata = Metadata {
         closure: request.class() == Class::One && request.closure(),
-        checksum_type: ChecksumType::MODULAR,
-        size: request.file().as_slice().len() as u32,
+        checksum_type: ChecksumType::of(checksum),
+        size: request.file().as_slice().len() as u64,
         source_name: request.source_name().copy()?,
         destination_name: request.destination_name().copy()?,
         messages: request.messages().copy()?,
@@ -77,7 +83,7 @@ pub(crate) fn file_data(
 {
     let from = start as usize;
     let octets = Octets::from_slice(alloc, &file[from..from + count as usize])?;
-    let offset = start;
+    let offset = u64::from(start);
     Ok(Pdu::file_data(header, FileData { offset, octets }))
 }
 

@@ -87,9 +87,9 @@ fn add_requests(offsets: &mut Gaps, requests: &[SegmentRequest], limit: u32)
     ensures { SameSet (covered offsets.new) (with_requests (covered offsets.old) requests.now limit) }
 {
     for request in requests {
-        let end = request.end.min(limit);
+        let end = request.end.min(u64::from(limit));
         if request.start < end {
-            offsets.add(request.start, end);
+            offsets.add(request.start as u32, end as u32);
         }
     }
 }

@@ -4,7 +4,7 @@ ghost use Rattle.std.specs.Prelude.{◌≡◌, IfOk};
 use crate::pdus;
 use crate::response::Response;
 use crate::sender::SenderCore;
-use cfdp_types::{Class, Condition, Delivery, FileStatus, Handler, TimerKind};
+use cfdp_types::{Checksum, Class, Condition, Delivery, FileStatus, Handler, TimerKind};
 use gap_list::Run;
 use indications::{Indication, Indications};
 use modular_sum::sum_of;
@@ -15,14 +15,14 @@ use txn_events::What;
 impl SenderCore {
     ghost use Rattle.sender_table.specs.Refusals.{runs_to_send};
     ghost use Rattle.cfdp_types.specs.declared.limits.TheConstants.{SEGMENT_OCTETS_MOST};
-    ghost use Rattle.std.specs.Prelude.{◌≡◌, ◌≤◌, IfOk, ◌-◌, min, [], ◌∷◌, None, Some, length, slice_get};
+    ghost use Rattle.std.specs.Prelude.{◌≡◌, ◌≤◌, ◌<◌, ◌^◌, IfOk, ◌-◌, min, [], ◌∷◌, None, Some, length, slice_get};
     ghost use Rattle.txn_events.specs.declared.event.What.TheVariants as what;
     ghost use Rattle.pdu_values.specs.declared.pdu.Body.TheVariants as body;
     ghost use Rattle.indications.specs.declared.indication.Indication.TheVariants as told;
     ghost use Rattle.sender_table.specs.Sending.{happens};
     ghost use Rattle.std.specs.Option.{option_to_list};
     ghost use Rattle.sender_core.specs.Core.{shown, sending_of, IsResponse, eof_again};
-    ghost use Rattle.sender_table.specs.Answers.{cancel_eof, whole_eof, cancel_response, fault_response, sends_eof, sends_next, on_pump, on_ack, on_body, on_ack_timer, on_check_timer, on_timer, waiting_timer, response_to, ends_unreported};
+    ghost use Rattle.sender_table.specs.Answers.{cancel_eof, whole_eof, sum_by, cancel_response, fault_response, sends_eof, sends_next, on_pump, on_ack, on_body, on_ack_timer, on_check_timer, on_timer, waiting_timer, response_to, ends_unreported};
 
     // Nothing is known of the file at the receiver.
     fn ends_unreported(&self, condition: Condition) -> Result<Response, AllocError>
@@ -31,29 +31,41 @@ impl SenderCore {
         Response::telling(self.alloc, unreported(condition))
     }
 
+    // The checksum of some octets of the file.
+    fn checksum_of(&self, octets: &[u8]) -> u32
+        ensures { result ≡ sum_by self.now.params.checksum octets.now }
+    {
+        match self.params.checksum() {
+            Checksum::Modular => sum_of(octets),
+            Checksum::Null => 0,
+        }
+    }
+
     // The EOF of the whole file.
     fn whole_eof(&self) -> Eof
-        ensures { result ≡ whole_eof (sending_of self.now) }
+        ensures eof { result ≡ whole_eof (sending_of self.now) }
+        ensures size { result.size < 2 ^ 32 }
     {
         let file = self.request.file().as_slice();
         Eof {
             condition: Condition::NO_ERROR,
-            checksum: sum_of(file),
-            size: file.len() as u32,
+            checksum: self.checksum_of(file),
+            size: file.len() as u64,
             location: None,
         }
     }
 
     // The EOF that cancels.
     fn cancel_eof(&self, condition: Condition) -> Eof
-        ensures { result ≡ cancel_eof (sending_of self.now) (shown self.now) condition }
+        ensures eof { result ≡ cancel_eof (sending_of self.now) (shown self.now) condition }
+        ensures size { result.size < 2 ^ 32 }
     {
         let progress = self.control.progress;
         let prefix = &self.request.file().as_slice()[..progress as usize];
         Eof {
             condition,
-            checksum: sum_of(prefix),
-            size: progress,
+            checksum: self.checksum_of(prefix),
+            size: u64::from(progress),
             location: Some(self.params.local()),
         }
     }
@@ -184,7 +196,7 @@ impl SenderCore {
             (λ response. IsResponse (sending_of self.now) response (on_pump (sending_of self.now) (shown self.now))) }
     {
         if self.control.metadata_remains {
-            let pdu = pdus::metadata(self.header, &self.request)?;
+            let pdu = pdus::metadata(self.header, &self.request, self.params.checksum())?;
             Ok(Response::sending(self.alloc, pdu))
         } else {
             self.sends_next()

@@ -54,7 +54,7 @@ fn extent_of(pdu: &Option<Pdu>) -> u32
                 if count == 0 {
                     0
                 } else {
-                    data.offset + count as u32
+                    (data.offset + count as u64) as u32
                 }
             }
             _ => 0,

@@ -1,4 +1,4 @@
--- Which logs a sender of either class can have.
+-- Meaning. Which logs a sender of either class can have.
 use Rattle.std.specs.Prelude.{◌≡◌, false, List, [], ◌∷◌, Ok}
 use Rattle.txn_events.specs.Logs.{log_after}
 use Rattle.txn_events.specs.declared.answer.Answer.{Answer}

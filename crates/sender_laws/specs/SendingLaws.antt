@@ -1,4 +1,4 @@
--- What holds of every sender.
+-- Meaning. What holds of every sender.
 use Rattle.std.specs.Prelude.{◌≡◌, true, List}
 use Rattle.indications.specs.Words.{IsBegunOf, IsWordOf}
 use Rattle.indications.specs.declared.side.Side.TheVariants.{Sender}

@@ -1,4 +1,4 @@
--- Rows on a class 1 sender that asks to be told at the end what became of the file.
+-- Rows. Rows on a class 1 sender that asks to be told at the end what became of the file.
 use Rattle.std.specs.Prelude.{◌≡◌, true, ℕ, List, [], ◌∷◌, ◌++◌, Some, None, Err, refl}
 use Rattle.cfdp_types.specs.Handlers.{with_handler}
 use Rattle.cfdp_types.specs.Reference.{all_cancel, reference}
@@ -19,7 +19,7 @@ use Rattle.pdu_values.specs.declared.pdu.Body.TheVariants as body
 use Rattle.indications.specs.declared.indication.Indication.TheVariants as told
 use Rattle.indications.specs.declared.indication.Phase.TheVariants as phase
 use Rattle.gap_list.specs.Runs.{runs_of, runs_from}
-use Rattle.sender_table.specs.Sending.{Sending, Event, put, happens, initial, step, state_of, issued, is_waiting}
+use Rattle.sender_table.specs.Sending.{Sending, Event, put, happens, initial, step, state_of, issued}
 use Rattle.sender_table.specs.Answers.{answer_at}
 use Rattle.sender_laws.specs.LegalSendings.{IsLegal}
 use Rattle.sender_rows.specs.SendingRows.{one, two, unequal_two, pump, report, pdu_in, finished, after, last, tells, sends, operates, sent_all}
@@ -56,10 +56,6 @@ eof_told_alone = refl
 pub check_armed : operates (last closed (put ∷ pump ∷ pump ∷ []) pump) ≡ Some (op.Arm closed.key Check 3 1000 ∷ [])
 unfolding initial step state_of answer_at runs_of runs_from
 check_armed = refl
-
-pub waits_behind_eof : is_waiting closed (state_of closed (after closed sent_all)) ≡ true
-unfolding initial step state_of answer_at runs_of runs_from
-waits_behind_eof = refl
 
 -- one expiration, and then the Finished PDU, to which no ACK goes
 pub checked_once : operates (last closed sent_all (checked 3)) ≡ Some (op.Arm closed.key Check 4 1000 ∷ [])

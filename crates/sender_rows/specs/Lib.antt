@@ -3,3 +3,4 @@ pub mod SendingPduRows
 pub mod SendingRefusalRows
 pub mod SendingTimerRows
 pub mod ClosureRows
+pub mod LargeRows

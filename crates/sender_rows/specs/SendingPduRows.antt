@@ -1,4 +1,4 @@
--- Rows on what a sender sends, and on what it tells with it.
+-- Rows. Rows on what a sender sends, and on what it tells with it.
 use Rattle.std.specs.Prelude.{◌≡◌, [], ◌∷◌, ◌++◌, Some, None, Err, refl}
 use Rattle.cfdp_types.specs.Reference.{reference}
 use Rattle.cfdp_types.specs.declared.names.Class.TheVariants.{One}

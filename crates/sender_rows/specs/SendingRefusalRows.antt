@@ -1,4 +1,4 @@
--- Rows on events that a sender refuses, and on those next to them that it takes.
+-- Rows. Rows on events that a sender refuses, and on those next to them that it takes.
 use Rattle.std.specs.Prelude.{◌≡◌, ℕ, zero, suc, ◌+◌, nat_lt, true, false, List, [], ◌∷◌, ◌++◌, length, replicate, Some, None, Err, refl}
 use Rattle.std.proofs.Common.{ap, subst, arith}
 use Rattle.cfdp_types.specs.declared.limits.TheConstants.{FILE_OCTETS}
@@ -155,8 +155,8 @@ pub small_put : (file : List ℕ) (state : State) (small : nat_lt FILE_OCTETS (l
     ≡ None
 small_put file state small = rw small refl
 
--- the limit is 4 MiB
-pub limit_of_put : FILE_OCTETS ≡ 4194304
+-- the limit is 16 MiB
+pub limit_of_put : FILE_OCTETS ≡ 16777216
 limit_of_put = refl
 
 -- ---- a journal that is full but for its last entries
@@ -199,31 +199,31 @@ waits_at_first : Waits (state_of two (after two (put ∷ []))) 1
 unfolding initial step state_of runs_of runs_from
 waits_at_first = record { entries_are = refl; metadata_remains = refl; progress = refl; no_eof = refl; runs_on = refl; not_ended = refl }
 
--- the state with 65,534 entries
+-- the state with 262,142 entries
 unfoldable pub full : State
-full = reported 65533
+full = reported 262141
 
--- the state with 65,533 entries
+-- the state with 262,141 entries
 unfoldable pub nearly_full : State
-nearly_full = reported 65532
+nearly_full = reported 262140
 
-full_waits : Waits full 65534
+full_waits : Waits full 262142
 unfolding full reported
-full_waits = waits_on 65533 1 (after two (put ∷ [])) waits_at_first
+full_waits = waits_on 262141 1 (after two (put ∷ [])) waits_at_first
 
-nearly_full_waits : Waits nearly_full 65533
+nearly_full_waits : Waits nearly_full 262141
 unfolding nearly_full reported
-nearly_full_waits = waits_on 65532 1 (after two (put ∷ [])) waits_at_first
+nearly_full_waits = waits_on 262140 1 (after two (put ∷ [])) waits_at_first
 
 -- then Pump and Report are refused, and Abandon is taken
-pump_is_refused : (state : State) → Waits state 65534 → answer_at two state pump ≡ Err refusal.JournalFull
+pump_is_refused : (state : State) → Waits state 262142 → answer_at two state pump ≡ Err refusal.JournalFull
 unfolding answer_at
 pump_is_refused state waits = rw (waits.runs_on, waits.no_eof, waits.metadata_remains, waits.entries_are) refl
 
 pub full_for_pump : answer_at two full pump ≡ Err refusal.JournalFull
 full_for_pump = pump_is_refused full full_waits
 
-report_is_refused : (state : State) → Waits state 65534 → answer_at two state report ≡ Err refusal.JournalFull
+report_is_refused : (state : State) → Waits state 262142 → answer_at two state report ≡ Err refusal.JournalFull
 unfolding answer_at
 report_is_refused state waits = rw waits.entries_are refl
 
@@ -231,14 +231,14 @@ pub full_for_report : answer_at two full report ≡ Err refusal.JournalFull
 full_for_report = report_is_refused full full_waits
 
 -- every other reason comes before this one
-resume_is_misplaced : (state : State) → Waits state 65534 → answer_at two state (happens what.Resume) ≡ Err refusal.WrongState
+resume_is_misplaced : (state : State) → Waits state 262142 → answer_at two state (happens what.Resume) ≡ Err refusal.WrongState
 unfolding answer_at
 resume_is_misplaced state waits = rw waits.runs_on refl
 
 pub misplaced_when_full : answer_at two full (happens what.Resume) ≡ Err refusal.WrongState
 misplaced_when_full = resume_is_misplaced full full_waits
 
-abandon_is_taken : (state : State) → Waits state 65534 → tells (answer_at two state (happens what.Abandon)) ≡ Some (told.Abandoned 15 0 ∷ [])
+abandon_is_taken : (state : State) → Waits state 262142 → tells (answer_at two state (happens what.Abandon)) ≡ Some (told.Abandoned 15 0 ∷ [])
 unfolding answer_at step
 abandon_is_taken state waits = rw (waits.entries_are, waits.progress) refl
 
@@ -246,14 +246,14 @@ pub room_for_abandon : tells (answer_at two full (happens what.Abandon)) ≡ Som
 room_for_abandon = abandon_is_taken full full_waits
 
 -- one entry before that, both are taken
-pump_is_taken : (state : State) → Waits state 65533 → sends (answer_at two state pump) ≡ Some (digits 17 0x20000a0002040107000000000301610162 ∷ [])
+pump_is_taken : (state : State) → Waits state 262141 → sends (answer_at two state pump) ≡ Some (digits 17 0x20000a0002040107000000000301610162 ∷ [])
 unfolding answer_at step written spelling digits width_from
 pump_is_taken state waits = rw (waits.runs_on, waits.no_eof, waits.metadata_remains, waits.entries_are) refl
 
 pub room_for_pump : sends (answer_at two nearly_full pump) ≡ Some (digits 17 0x20000a0002040107000000000301610162 ∷ [])
 room_for_pump = pump_is_taken nearly_full nearly_full_waits
 
-report_is_taken : (state : State) → Waits state 65533 → tells (answer_at two state report) ≡ Some (told.Report phase.Active 0 ∷ [])
+report_is_taken : (state : State) → Waits state 262141 → tells (answer_at two state report) ≡ Some (told.Report phase.Active 0 ∷ [])
 unfolding answer_at step
 report_is_taken state waits = rw (waits.runs_on, waits.no_eof, waits.progress, waits.entries_are) refl
 

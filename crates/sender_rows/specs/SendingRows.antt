@@ -1,4 +1,4 @@
--- Worked transactions of a sender in both classes, computed: whole transactions, with what makes their logs
+-- Rows. Worked transactions of a sender in both classes, computed: whole transactions, with what makes their logs
 -- legal, and the words that the rows of the other files share.
 use Rattle.std.specs.Prelude.{◌≡◌, false, ℕ, List, [], ◌∷◌, ◌++◌, map, Option, Some, None, Result, Ok, Err, refl}
 use Rattle.std.proofs.Common.{ap}
@@ -85,6 +85,7 @@ pdu_in class b = happens (what.Pdu (record {
   header = record {
     direction = TowardSender;
     class = class;
+    large = false;
     entity_octets = 1;
     sequence_octets = 1;
     source = record { 0 = 2 };

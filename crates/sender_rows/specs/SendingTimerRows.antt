@@ -1,4 +1,4 @@
--- Rows on a sender's timers, with the place of the step as the stamp, and on the faults that they declare.
+-- Rows. Rows on a sender's timers, with the place of the step as the stamp, and on the faults that they declare.
 use Rattle.std.specs.Prelude.{◌≡◌, List, [], ◌∷◌, ◌++◌, Some, refl}
 use Rattle.cfdp_types.specs.Handlers.{with_handler}
 use Rattle.cfdp_types.specs.Reference.{all_cancel, reference}

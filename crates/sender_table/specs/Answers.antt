@@ -1,11 +1,13 @@
--- What a sender answers to the events that it takes, in both classes.
+-- Meaning. What a sender answers to the events that it takes, in both classes.
 use Rattle.std.specs.Prelude.{ℕ, ◌+◌, ◌-◌, min, max, Bool, false, not, ◌||◌, ◌&&◌, nat_lt, is_some, if◌then◌else◌, List, [], ◌∷◌, ◌++◌, length, map, take, drop, Option, Some, None, Result}
 use Rattle.std.specs.List.{list_any}
 use Rattle.cfdp_types.specs.Condition as condition
-use Rattle.cfdp_types.specs.ChecksumType as checksum
+use Rattle.cfdp_types.specs.ChecksumType.{type_of}
 use Rattle.cfdp_types.specs.Steps.{Effect, arms, keeps, stops, is_kind, operations}
 use Rattle.cfdp_types.specs.Handlers.{handler_in}
 use Rattle.cfdp_types.specs.Params.{timer_length}
+use Rattle.cfdp_types.specs.declared.names.Checksum.{Checksum}
+use Rattle.cfdp_types.specs.declared.names.Checksum.TheVariants.{Modular, Null}
 use Rattle.cfdp_types.specs.declared.names.Class.{Class}
 use Rattle.cfdp_types.specs.declared.names.Class.TheVariants.{One, Two}
 use Rattle.cfdp_types.specs.declared.names.Delivery.TheVariants.{Incomplete}
@@ -71,6 +73,7 @@ abbrev pub header_of : Sending → Header
 header_of sending = record {
   direction = TowardReceiver;
   class = sending.request.class;
+  large = false;
   entity_octets = octets_for sending.params.lengths.entity_octets (max (sending.key.source.0) (sending.request.destination.0));
   sequence_octets = octets_for sending.params.lengths.sequence_octets sending.key.seq;
   source = sending.key.source;
@@ -78,11 +81,11 @@ header_of sending = record {
   destination = sending.request.destination;
 }
 
--- the Metadata of the file: closure is asked for in class 1 where the Put does, and the checksum is modular
+-- the Metadata of the file: closure is asked for in class 1 where the Put does, and the checksum is the one that is set
 abbrev pub metadata_of : Sending → Body
 metadata_of sending = body.Metadata (record {
   closure = asks_closure sending;
-  checksum_type = checksum.modular;
+  checksum_type = type_of sending.params.checksum;
   size = length sending.request.file;
   source_name = sending.request.source_name;
   destination_name = sending.request.destination_name;
@@ -94,15 +97,20 @@ abbrev pub file_data_of : Sending → Run → Body
 file_data_of sending run =
     body.FileData (record { offset = run.start; octets = take (min sending.params.segment_octets (run.end - run.start)) (drop run.start sending.request.file) })
 
+-- the checksum of some octets of the file
+abbrev pub sum_by : Checksum → List ℕ → ℕ
+sum_by Modular octets = sum octets
+sum_by Null octets = 0
+
 -- the EOF of the whole file
 abbrev pub whole_eof : Sending → Eof
-whole_eof sending = record { condition = condition.no_error; checksum = sum sending.request.file; size = length sending.request.file; location = None }
+whole_eof sending = record { condition = condition.no_error; checksum = sum_by sending.params.checksum sending.request.file; size = length sending.request.file; location = None }
 
 -- the EOF that cancels: of what was sent, up to the greatest offset
 abbrev pub cancel_eof : Sending → State → ℕ → Eof
 cancel_eof sending state code = record {
   condition = code;
-  checksum = sum (take state.progress sending.request.file);
+  checksum = sum_by sending.params.checksum (take state.progress sending.request.file);
   size = state.progress;
   location = Some sending.params.local;
 }

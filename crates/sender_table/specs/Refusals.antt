@@ -1,4 +1,4 @@
--- Which events a sender refuses, and why: the first reason that applies, in the order of their numbers.
+-- Meaning. Which events a sender refuses, and why: the first reason that applies, in the order of their numbers.
 use Rattle.std.specs.Prelude.{ℕ, ◌-◌, Bool, true, false, not, ◌||◌, ◌&&◌, nat_le, nat_lt, ◌==◌, is_some, if◌then◌else◌, List, length, Option, Some, None}
 use Rattle.cfdp_types.specs.declared.limits.TheConstants.{FILE_OCTETS, JOURNAL_ENTRIES, JOURNAL_ENTRIES_KEPT}
 use Rattle.gap_list.specs.Runs.{runs_of}

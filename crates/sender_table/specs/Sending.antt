@@ -1,9 +1,9 @@
--- The sending end of a transaction in both classes: what a log of its events and answers gives.
+-- Meaning. The sending end of a transaction in both classes: what a log of its events and answers gives.
 use Rattle.std.specs.Prelude.{ℕ, ◌+◌, max, Bool, true, false, not, ◌||◌, ◌&&◌, nat_lt, ◌==◌, is_some, if◌then◌else◌, List, [], ◌∷◌, length, Option, Some, None}
 use Rattle.std.specs.List.{list_any}
 use Rattle.cfdp_types.specs.Condition as condition
 use Rattle.cfdp_types.specs.Steps.{armed_after, is_kind, newer_or}
-use Rattle.cfdp_types.specs.Params.{ParamsValue}
+use Rattle.cfdp_types.specs.declared.params.ParamsParts.{ParamsParts}
 use Rattle.cfdp_types.specs.Put.{PutValue}
 use Rattle.cfdp_types.specs.declared.key.TxnKey.{TxnKey}
 use Rattle.cfdp_types.specs.declared.names.TimerKind.{TimerKind}
@@ -25,7 +25,7 @@ use Rattle.indications.specs.Words.{paused_after, is_resumed, is_fault}
 -- what is settled when a file is put
 pub record Sending : Type 0 where
   pub key : TxnKey
-  pub params : ParamsValue
+  pub params : ParamsParts
   pub request : PutValue
 
 -- an event of a sender: the Put that opens it, or what happens after
@@ -78,10 +78,6 @@ is_suspended state = state.paused && not (is_cancel state.eof) && not state.ende
 -- the receiver is asked to say at the end what became of the file: in class 1, where the Put asks for it
 abbrev pub asks_closure : Sending → Bool
 asks_closure sending = not (is_two sending.request.class) && sending.request.closure
-
--- class 1 waits for the Finished PDU that it asked for: the EOF without an error was sent, and the end was not told
-abbrev pub is_waiting : Sending → State → Bool
-is_waiting sending state = asks_closure sending && is_some state.eof && not (is_cancel state.eof) && not state.ended
 
 -- ---- what an answer sends
 

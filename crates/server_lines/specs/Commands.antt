@@ -1,4 +1,4 @@
--- What a line of a server's commands asks for, by a configuration.
+-- Meaning. What a line of a server's commands asks for, by a configuration.
 use Rattle.std.specs.Prelude.{ℕ, ◌==◌, ◌||◌, Bool, nat_lt, if◌then◌else◌, List, [], ◌∷◌, length, Option, Some, None, codes, position}
 use Rattle.std.specs.Option.{option_map}
 use Rattle.std.specs.Str.{bytes_eq}

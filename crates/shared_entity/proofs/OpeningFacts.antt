@@ -2,9 +2,9 @@
 use Rattle.std.proofs.Common.{◌≡◌, ℕ, List, [], Option, Some, None, refl, sym, ap, ◌∙◌, subst}
 use Rattle.atomic_table.specs.Seated.{TableId}
 use Rattle.config_reading.specs.Values.{ConfigValue, PeerValue}
-use Rattle.entity_lanes.specs.FirstLanes.{numbers_of, greatest_of, lane_for, first_lane}
+use Rattle.entity_parts.specs.FirstLanes.{numbers_of, greatest_of, lane_for, first_lane}
 use Rattle.entity_routing.specs.Places.{source_of_lane}
-use Rattle.held_lanes.specs.Held.{IsBehindLock}
+use Rattle.shared_lanes.specs.Held.{IsBehindLock}
 use Rattle.lane_table.specs.Keeping.{Keeps}
 use Rattle.lane_table.specs.Lane.{State, IsSound}
 use Rattle.lane_table.specs.declared.lane_side.LaneSide.TheVariants.{Sending, Receiving}

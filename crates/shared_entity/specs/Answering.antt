@@ -1,21 +1,21 @@
--- What an entity that threads share may answer.
+-- Meaning. What an entity that threads share may answer.
 use Rattle.std.specs.Prelude.{◌≡◌, ◌⊎◌, ℕ, Result, Ok, Err, IfOk, IfErr}
 use Rattle.atomic_table.specs.Seated.{TableId}
 use Rattle.cfdp_types.specs.declared.image.Image.{Image}
 use Rattle.cfdp_types.specs.declared.key.TxnKey.{TxnKey}
-use Rattle.txn_core.specs.Transactions.{IsWhy}
+use Rattle.txn_lane.specs.Transactions.{IsWhy}
 use Rattle.txn_events.specs.declared.event.Event.{Event}
 use Rattle.txn_events.specs.declared.refusal.Refusal.{Refusal}
 use Rattle.lane_table.specs.Steps.{image_of, plainly}
-use Rattle.lane_images.specs.Images.{IsOwnFile}
+use Rattle.lane_table.specs.Images.{IsOwnFile}
 use Rattle.lane_traces.specs.Traces.{how_far, IsHowFar}
 use Rattle.lane_traces.specs.declared.traced.Traced.{Traced}
 use Rattle.entity_routing.specs.Routes.{Routed}
 use Rattle.entity_routing.specs.declared.place.Place.{Place}
 use Rattle.entity_routing.specs.declared.refusal.RouteRefusal.{RouteRefusal}
-use Rattle.held_lanes.specs.Held.{HeldValue, IsBehindLock}
-use Rattle.entity_refusals.specs.declared.refusal.EntityRefusal.{EntityRefusal}
-use Rattle.entity_refusals.specs.declared.refusal.EntityRefusal.TheVariants as answer
+use Rattle.shared_lanes.specs.Held.{HeldValue, IsBehindLock}
+use Rattle.entity_parts.specs.declared.refusal.EntityRefusal.{EntityRefusal}
+use Rattle.entity_parts.specs.declared.refusal.EntityRefusal.TheVariants as answer
 
 -- what lies behind a lock is the lane of a place
 pub record IsAt (queue : ℕ → TableId) (place : Place) (held : HeldValue) : Type 0 where

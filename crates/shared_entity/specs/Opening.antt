@@ -1,4 +1,4 @@
--- The queues and outlets that an entity is opened with.
+-- Meaning. The queues and outlets that an entity is opened with.
 use Rattle.std.specs.Prelude.{◌≡◌, ℕ, List, [], slice_get}
 use Rattle.std.specs.Option.{option_map, unwrap_or}
 use Rattle.atomic_table.specs.Seated.{TableId}

@@ -6,14 +6,14 @@ use crate::opening::add_lanes;
 use crate::outlets::OutletRoom;
 use cfdp_types::{Image, PutRequest, TimerKind, TxnKey};
 use entity_config::Config;
-use entity_refusals::{EntityRefusal, read_pdu};
+use entity_parts::{EntityRefusal, may_request, read_pdu};
 use entity_routing::{
     Place, Request, key_of_pdu, params_of_put, place_of_key, place_of_own, place_of_pdu,
 };
-use held_lanes::{Gate, Held, Names, Point};
 use lane_table::Refused;
 use lane_traces::{Traced, how_far};
 use pdu_codec::Pdu;
+use shared_lanes::{Gate, Held, Names, Point};
 use std::alloc::{AllocError, Global};
 use std::marker::Model;
 use std::sync::{Mutex, Wait};
@@ -46,8 +46,9 @@ impl<N: Names, R: Copy> Model for Entity<N, R> {
 }
 
 impl<N: Names, R: Copy> Entity<N, R> {
-    ghost use Rattle.std.specs.Prelude.{◌≡◌, ℕ, All, IfOk, Some, length, map, slice_get, vec_len};
+    ghost use Rattle.std.specs.Prelude.{◌≡◌, ℕ, true, false, All, IfOk, Some, length, map, slice_get, vec_len};
     ghost use Rattle.std.specs.List.{sum_by};
+    ghost use Rattle.entity_parts.specs.Asking.{MayRequest};
     ghost use Rattle.entity_routing.specs.Places.{lanes_of};
     ghost use Rattle.user_queues.specs.Opened.{IsOpenedFor};
 
@@ -110,6 +111,15 @@ impl<N: Names, R: Copy> Entity<N, R> {
         &self.config
     }
 
+    /// Whether a user may ask for this ([`Entity::request`]): the user is one of the entity's, and a Put names one of the
+    /// user's sending lanes.
+    pub fn may_request(&self, user: usize, request: &Request) -> bool
+        ensures may { result ≡ true → MayRequest self.now user request.now }
+        ensures never { result ≡ false → MayRequest self.now user request.now → ⊥ }
+    {
+        may_request(&self.config, user, request)
+    }
+
     /// The outlets of all lanes, in order, for the users' ports to take back. It takes no memory.
     pub fn into_lanes(self) -> Vec<LaneOutlet<R>>
         ensures count { vec_len result ≡ N.lanes }
@@ -136,9 +146,9 @@ impl<N: Names, R: Wait + Copy> Entity<N, R> {
     ghost use Rattle.txn_events.specs.declared.event.Event.TheVariants.{On};
     ghost use Rattle.txn_events.specs.declared.event.What.TheVariants as what;
     ghost use Rattle.lane_table.specs.Steps.{IsKeyed};
-    ghost use Rattle.entity_lanes.specs.Asking.{MayRequest};
+    ghost use Rattle.entity_parts.specs.Asking.{MayRequest};
     ghost use Rattle.entity_routing.specs.Routes.{key_place, routed_key, routed_own, routed_request, routed_reading, routed_put, routed_pdu, put_params};
-    ghost use Rattle.entity_refusals.specs.Refusals.{IsUnreadFrom};
+    ghost use Rattle.entity_parts.specs.Refusals.{IsUnreadFrom};
     ghost use Rattle.shared_entity.specs.Answering.{MayAnswer, MayAnswerAt, MayGiveImage, MayTrace};
 
     /// A user asks for something.

@@ -7,8 +7,8 @@ mod outlets;
 mod queues;
 
 pub use entity::Entity;
-pub use entity_refusals::EntityRefusal;
+pub use entity_parts::EntityRefusal;
 pub use entity_routing::{Place, Request, RouteRefusal};
-pub use held_lanes::{Gate, Held, Names, NoGate, Point};
 pub use lane_traces::Traced;
 pub use queues::queues_of;
+pub use shared_lanes::{Gate, Held, Names, NoGate, Point};

@@ -1,11 +1,11 @@
 //! How the lanes of an entity are laid behind their locks.
 ghost use Rattle.std.specs.Prelude.{◌≡◌, ◌+◌, All, OnOk, vec_len};
-ghost use Rattle.entity_lanes.specs.FirstLanes.{first_lane};
+ghost use Rattle.entity_parts.specs.FirstLanes.{first_lane};
 ghost use Rattle.shared_entity.specs.Opening.{IsFresh};
 
 use entity_config::Config;
-use entity_lanes::lane_for;
-use held_lanes::{Held, Names};
+use entity_parts::lane_for;
+use shared_lanes::{Held, Names};
 use std::alloc::{AllocError, Global};
 use std::sync::Mutex;
 use user_queues::LaneOutlet;

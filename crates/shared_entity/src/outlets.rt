@@ -1,6 +1,6 @@
 ghost use Rattle.std.specs.Prelude.{◌≡◌, ◌≤◌, [], vec_capacity};
 
-use held_lanes::Names;
+use shared_lanes::Names;
 use std::alloc::{AllocError, Global};
 use std::marker::PhantomData;
 use user_queues::LaneOutlet;

@@ -22,9 +22,9 @@ use Rattle.entity_routing.specs.declared.refusal.RouteRefusal.{RouteRefusal}
 use Rattle.entity_routing.specs.declared.refusal.RouteRefusal.TheVariants as routes
 use Rattle.user_queues.specs.Names.{no_queue}
 use Rattle.user_queues.specs.Shared.{OutletEnd}
-use Rattle.held_lanes.specs.Held.{HeldValue, HasStepped}
-use Rattle.entity_refusals.specs.declared.refusal.EntityRefusal.{EntityRefusal}
-use Rattle.entity_refusals.specs.declared.refusal.EntityRefusal.TheVariants as answer
+use Rattle.shared_lanes.specs.Held.{HeldValue, HasStepped}
+use Rattle.entity_parts.specs.declared.refusal.EntityRefusal.{EntityRefusal}
+use Rattle.entity_parts.specs.declared.refusal.EntityRefusal.TheVariants as answer
 use Rattle.shared_entity.specs.Answering.{IsAt, MayGive, MayAnswerAt, MayAnswer, MayBeImage, MayLackImage, MayGiveImage}
 use Rattle.shared_entity.specs.Opening.{IsFresh, queue_at}
 use Rattle.shared_rows.proofs.HeldRows.{queue, outlet, at_first, after_put, done, behind_at_first, not_bobs_queue, answers_taken, answers_refused}

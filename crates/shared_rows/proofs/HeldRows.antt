@@ -25,7 +25,7 @@ use Rattle.lane_rows.specs.LaneKeepingRows.{bundle}
 use Rattle.txn_lane.specs.Stepping.{RanOut, WasFull}
 use Rattle.user_queues.specs.Names.{no_queue}
 use Rattle.user_queues.specs.Shared.{OutletEnd}
-use Rattle.held_lanes.specs.Held.{HeldValue, IsBehindLock, with_bundles, HasTaken, HasRefused, HasStepped}
+use Rattle.shared_lanes.specs.Held.{HeldValue, IsBehindLock, with_bundles, HasTaken, HasRefused, HasStepped}
 
 -- ---- a lane of alice's with its outlet
 

@@ -24,8 +24,8 @@ use Rattle.lane_table.proofs.StepFacts.{idle_keeps, idle_sound}
 use Rattle.lane_table.proofs.RunFacts.{steps_keep}
 use Rattle.lane_table.proofs.SentFacts.{some_is}
 use Rattle.lane_rows.specs.ReceivingLaneRows.{fresh, key, metadata, part, eof, after, storing, image, image_waits}
-use Rattle.lane_images.specs.Images.{IsOwnFile}
-use Rattle.lane_images.proofs.ImageFacts.{gives_own_files}
+use Rattle.lane_table.specs.Images.{IsOwnFile}
+use Rattle.lane_table.proofs.ImageFacts.{gives_own_files}
 
 -- ---- a lane whose deposit waits
 

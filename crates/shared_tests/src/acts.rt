@@ -3,10 +3,10 @@
 use crate::told::{pause, put};
 use cfdp_types::{TimerKind, TxnKey};
 use entity_routing::{Place, Request};
-use held_lanes::{Gate, Held, Names, Point};
 use indications::Indication;
 use lane_table::Done;
 use shared_entity::{Entity, EntityRefusal};
+use shared_lanes::{Gate, Held, Names, Point};
 use std::alloc::{AllocError, Global};
 use std::sync::Wait;
 use txn_events::{Event, Refusal};
@@ -85,7 +85,7 @@ fn ask<N: Names, R: Wait + Copy>(
     user: usize,
     request: Request,
 ) -> Result<Outcome, EntityRefusal> {
-    if user >= entity.users() || matches!(&request, Request::Put(_, _)) {
+    if matches!(&request, Request::Put(_, _)) || !entity.may_request(user, &request) {
         return Ok(Outcome::Failed);
     }
     entity.request(rt, gate, user, request)

@@ -4,9 +4,9 @@ use crate::runs::{Run, play};
 use crate::told::{pause, push_answer, push_answer_or, push_line, put};
 use entity_config::Config;
 use entity_routing::Place;
-use held_lanes::{Gate, Held, Names, Point};
 use lane_table::{Done, Refused};
 use shared_entity::Entity;
+use shared_lanes::{Gate, Held, Names, Point};
 use std::alloc::{AllocError, Global};
 use std::sync::Wait;
 use std::sync::atomic::{AtomicBool, AtomicU64, Ordering};
@@ -61,7 +61,7 @@ impl Points {
 }
 
 impl<N: Names, R: Wait + Copy> Gate<N, R> for Points {
-    ghost use Rattle.held_lanes.specs.Held.{HasStepped};
+    ghost use Rattle.shared_lanes.specs.Held.{HasStepped};
 
     type Answer = Result<Done, Refused>;
 
@@ -118,7 +118,7 @@ impl<R: Wait + Copy> Holding<R> {
 }
 
 impl<N: Names, R: Wait + Copy> Gate<N, R> for Holding<R> {
-    ghost use Rattle.held_lanes.specs.Held.{HasStepped};
+    ghost use Rattle.shared_lanes.specs.Held.{HasStepped};
 
     type Answer = Result<Done, Refused>;
 

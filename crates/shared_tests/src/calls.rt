@@ -5,9 +5,9 @@ use crate::told::{Answered, key, push_answer, push_answer_or, push_line, push_pu
 use cfdp_types::{Image, TimerKind, TxnKey};
 use entity_config::Config;
 use entity_routing::{Place, Request};
-use held_lanes::{Names, NoGate};
 use pdu_codec::decode;
 use shared_entity::{Entity, Traced};
+use shared_lanes::{Names, NoGate};
 use std::alloc::{AllocError, Global};
 use std::sync::Wait;
 use std::test::*;
@@ -35,7 +35,7 @@ fn push_request<N: Names, R: Wait + Copy>(
     user: usize,
     request: Request,
 ) -> Result<(), AllocError> {
-    if user >= entity.users() || matches!(&request, Request::Put(_, _)) {
+    if matches!(&request, Request::Put(_, _)) || !entity.may_request(user, &request) {
         return push_line(text, "no user");
     }
     push_answer(text, entity.request(rt, &NoGate, user, request))
@@ -184,7 +184,7 @@ fn deliver<N: Names, R: Wait + Copy>(
     Some(entity.deliver(rt, &NoGate, octets.as_slice()))
 }
 
-// The same for a PDU that was read before.
+// Adds a line for a PDU that is read, from hex, before the entity is told of it.
 fn push_pdu<N: Names, R: Wait + Copy>(
     rt: &R,
     alloc: Global,

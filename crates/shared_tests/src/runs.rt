@@ -4,10 +4,10 @@ ghost use Rattle.std.specs.List.{sum_by};
 ghost use Rattle.entity_routing.specs.Places.{lanes_of};
 ghost use Rattle.user_queues.specs.Opened.{IsOpenedFor};
 
-use crate::{apart, calls, crowd, deliveries, settings};
+use crate::{apart, calls, crowd, deliveries, narrow, settings};
 use entity_config::Config;
-use held_lanes::Names;
 use shared_entity::{Entity, queues_of};
+use shared_lanes::Names;
 use std::alloc::{AllocError, Global};
 use std::marker::Brand;
 use std::sync::Wait;
@@ -29,6 +29,8 @@ pub(crate) enum Run {
     Crowd,
     /// A queue is filled, and its user takes.
     Full,
+    /// Two threads deliver to a queue that holds one bundle.
+    Narrow,
     /// Files come from entities with parameters of their own.
     Sources,
 }
@@ -44,7 +46,7 @@ pub(crate) fn play<R: Threads + Wait + Copy + Send + Sync>(
     play_named::<Brand, R>(rt, alloc, config, queues, run)
 }
 
-// The same, over queues that are named.
+// Plays over queues that `N` names: what is proved of an entity speaks of them by that name, so it is a parameter.
 fn play_named<N: Names + Send + Sync, R: Threads + Wait + Copy + Send + Sync>(
     rt: R,
     alloc: Global,
@@ -85,6 +87,7 @@ fn play_all<N: Names + Send + Sync, R: Threads + Wait + Copy + Send + Sync>(
         Run::Apart => apart::hold_back(rt, alloc, text, entity),
         Run::Crowd => crowd::crowd(rt, alloc, text, entity, ports),
         Run::Full => settings::fill(rt, alloc, text, entity, ports),
+        Run::Narrow => narrow::squeeze(rt, alloc, text, entity, ports),
         Run::Sources => settings::listen(rt, text, entity),
     }
 }

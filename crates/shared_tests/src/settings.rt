@@ -1,19 +1,25 @@
 //! What a configuration says is what its lanes do: how much a queue holds, and the parameters of each source.
 
-use crate::crowds::TWO_SOURCES;
 use crate::runs::{Run, play};
 use crate::told::{Answered, is_done, push_line, push_put, put, taken};
 use cfdp_types::{TimerKind, TimerOp, TxnKey};
-use entity_config::read_config;
+use entity_config::{Config, read_config};
 use entity_routing::Place;
-use held_lanes::{Names, NoGate};
 use shared_entity::Entity;
+use shared_lanes::{Names, NoGate};
 use std::alloc::{AllocError, Global};
 use std::sync::Wait;
 use std::test::*;
+use test_configs::{TWO_SOURCES, text_of};
 use user_queues::UserPort;
 
 const PLACE: Place = Place { user: 0, lane: 0 };
+
+/// Entity 2 with two users, each with a source of its own.
+pub(crate) fn two_sources(alloc: Global) -> Option<Config> {
+    let text = text_of(alloc, &TWO_SOURCES).ok()?;
+    read_config(alloc, text.as_str()).ok()
+}
 
 /// The first user puts files until the queue is full, is refused again, takes all, and is refused no more.
 pub(crate) fn fill<N: Names, R: Wait + Copy>(
@@ -91,9 +97,7 @@ fn push_waits(text: &mut String, timers: &[TimerOp]) -> Result<(), AllocError> {
 #[test]
 fn as_much_as_its_capacity(rt: HostRuntime) -> Result<(), Fail> {
     let alloc = rt.alloc();
-    let config = read_config(alloc, TWO_SOURCES)
-        .ok()
-        .ok_or("no configuration")?;
+    let config = two_sources(alloc).ok_or("no configuration")?;
     let text = play(rt, alloc, config, Run::Full)?;
     assert_eq!(rt; text.as_str(), "QueueFull\nQueueFull\n8\n0\n20\n");
     Ok(())
@@ -102,9 +106,7 @@ fn as_much_as_its_capacity(rt: HostRuntime) -> Result<(), Fail> {
 #[test]
 fn parameters_of_each_source(rt: HostRuntime) -> Result<(), Fail> {
     let alloc = rt.alloc();
-    let config = read_config(alloc, TWO_SOURCES)
-        .ok()
-        .ok_or("no configuration")?;
+    let config = two_sources(alloc).ok_or("no configuration")?;
     let text = play(rt, alloc, config, Run::Sources)?;
     assert_eq!(rt; text.as_str(), "1 1000\n3 3000\n");
     Ok(())

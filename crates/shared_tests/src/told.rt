@@ -3,10 +3,10 @@ ghost use Rattle.std.specs.Prelude.{◌≡◌};
 
 use cfdp_types::{Class, EntityId, PutRequest, TxnKey};
 use entity_routing::{Place, Request};
-use held_lanes::{Gate, Names, NoGate};
 use indications::{Bundle, Indication};
 use lane_table::{Done, Refused};
 use shared_entity::{Entity, EntityRefusal};
+use shared_lanes::{Gate, Names, NoGate};
 use std::alloc::{AllocError, Global};
 use std::sync::Wait;
 use std::thread::Parker;

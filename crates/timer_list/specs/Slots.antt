@@ -1,4 +1,4 @@
--- How the list stands in a map: the timers in order, with places between them that nothing uses any more.
+-- Of the code. How the list stands in a map: the timers in order, with places between them that nothing uses any more.
 use Rattle.std.specs.Prelude.{ℕ, ◌+◌, Bool, true, false, ◌&&◌, ◌==◌, List, [], ◌∷◌, Option, Some, None, is_some, option_and_then, nat_le, min, fold}
 use Rattle.std.specs.List.{filter_map, list_all}
 use Rattle.std.specs.Map.{lookup}

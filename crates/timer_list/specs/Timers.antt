@@ -1,4 +1,4 @@
--- A list of timers that run, and how each operation changes it.
+-- Meaning. A list of timers that run, and how each operation changes it.
 use Rattle.std.specs.Prelude.{ℕ, ◌+◌, Bool, ◌&&◌, ◌==◌, nat_lt, nat_le, min, if◌then◌else◌, List, [], ◌∷◌, Option, find, false, not}
 use Rattle.std.specs.List.{list_any}
 use Rattle.cfdp_types.specs.declared.key.TxnKey.{TxnKey}

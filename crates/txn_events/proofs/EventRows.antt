@@ -23,6 +23,7 @@ abbrev pub header : Class → Direction → Header
 header class direction = record {
   direction = direction;
   class = class;
+  large = false;
   entity_octets = 1;
   sequence_octets = 1;
   source = record { 0 = 1 };
@@ -35,6 +36,7 @@ abbrev pub wide_header : Direction → Header
 wide_header direction = record {
   direction = direction;
   class = Two;
+  large = false;
   entity_octets = 2;
   sequence_octets = 3;
   source = record { 0 = 0x0102 };

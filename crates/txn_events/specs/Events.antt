@@ -1,4 +1,4 @@
--- What the two ends of a transaction ask of an event.
+-- Meaning. What the two ends of a transaction ask of an event.
 use Rattle.std.specs.Prelude.{ℕ, ◌+◌, Bool, true, false, not, ◌&&◌, ◌==◌, nat_lt, if◌then◌else◌, IsTrue, length, Option, Some, None}
 use Rattle.cfdp_types.specs.Condition as condition
 use Rattle.cfdp_types.specs.declared.limits.TheConstants.{FILE_OCTETS}

@@ -1,4 +1,4 @@
--- The PDUs and the Put that worked transactions of both ends and of lanes go by.
+-- Rows. The PDUs and the Put that worked transactions of both ends and of lanes go by.
 use Rattle.std.specs.Prelude.{ℕ, false, List, [], ◌∷◌, None}
 use Rattle.cfdp_types.specs.Put.{PutValue}
 use Rattle.cfdp_types.specs.declared.names.Class.{Class}
@@ -18,6 +18,7 @@ abbrev pub header : Class → Header
 header class = record {
   direction = TowardReceiver;
   class = class;
+  large = false;
   entity_octets = 1;
   sequence_octets = 1;
   source = record { 0 = 1 };

@@ -1,4 +1,4 @@
--- Logs of either end of a transaction: its events, and what each was answered.
+-- Meaning. Logs of either end of a transaction: its events, and what each was answered.
 use Rattle.std.specs.Prelude.{◌≡◌, List, [], ◌∷◌, ◌++◌, None, ◌⊎◌, Result, Ok, Err, IsOk}
 use Rattle.indications.specs.declared.indication.Indication.{Indication}
 use Rattle.txn_events.specs.declared.refusal.Refusal.{Refusal}

@@ -1,4 +1,4 @@
--- The numbers and names of the refusals of events.
+-- Meaning. The numbers and names of the refusals of events.
 use Rattle.std.specs.Prelude.{ℕ, List, codes, Option, Some, None, Result, Ok, Err}
 use Rattle.txn_events.specs.declared.refusal.Refusal.{Refusal}
 use Rattle.txn_events.specs.declared.refusal.Refusal.TheVariants.{NoTransaction, OldTransaction, LaneBusy, ModeMismatch, StaleTimer, StaleStored, Storing, WrongState, SeqExhausted, TooLarge, JournalFull, NoMemory, QueueFull}

@@ -1,4 +1,4 @@
--- How the code of either end keeps its timers.
+-- Of the code. How the code of either end keeps its timers.
 use Rattle.std.specs.Prelude.{ℕ, ◌+◌, ◌≤◌, Bool, false, ◌||◌, ◌&&◌, if◌then◌else◌, List, Option, Some, None}
 use Rattle.std.specs.List.{list_any}
 use Rattle.cfdp_types.specs.declared.limits.TheConstants.{JOURNAL_ENTRIES}

@@ -78,11 +78,14 @@ pub fn is_body_too_large(body: &Body) -> bool
     ensures { result ≡ asked.is_body_too_large body.now }
 {
     match body {
-        Body::Metadata(metadata) => metadata.size > FILE_OCTETS,
+        Body::Metadata(metadata) => metadata.size > u64::from(FILE_OCTETS),
         Body::FileData(part) => {
-            part.offset as usize + part.octets.as_slice().len() > FILE_OCTETS as usize
+            let limit = u64::from(FILE_OCTETS);
+            part.offset > limit || part.offset + part.octets.as_slice().len() as u64 > limit
         }
-        Body::Eof(eof) => eof.condition == Condition::NO_ERROR && eof.size > FILE_OCTETS,
+        Body::Eof(eof) => {
+            eof.condition == Condition::NO_ERROR && eof.size > u64::from(FILE_OCTETS)
+        }
         _ => false,
     }
 }

@@ -4,10 +4,10 @@ use Rattle.txn_events.specs.declared.answer.Answer.{Answer}
 use Rattle.txn_events.specs.declared.event.Event.{Event}
 use Rattle.lane_table.specs.Logs.{Transaction, Log, log_by, first_answer, extended}
 use Rattle.lane_table.proofs.LogFacts.{nothing_ended}
-use Rattle.txn_core.specs.Transactions.{StandsAfter, StandsBehind, log_at_first, IsPlanOf, plan_answer}
-use Rattle.txn_core.specs.declared.transaction.TransactionCore.{TransactionCore}
-use Rattle.txn_core.specs.declared.transaction.TransactionPlan.{TransactionPlan}
-use Rattle.txn_core.proofs.PlanFacts.{answered_planned}
+use Rattle.txn_lane.specs.Transactions.{StandsAfter, StandsBehind, log_at_first, IsPlanOf, plan_answer}
+use Rattle.txn_lane.specs.declared.transaction.TransactionCore.{TransactionCore}
+use Rattle.txn_lane.specs.declared.transaction.TransactionPlan.{TransactionPlan}
+use Rattle.txn_lane.proofs.PlanFacts.{answered_planned}
 use Rattle.txn_lane.specs.declared.running.Running.{Running}
 use Rattle.txn_lane.specs.RunningCode.{GoesOn, IsGoing, IsUnmoved, log_of_first}
 

@@ -9,8 +9,8 @@ use Rattle.lane_table.specs.declared.lane_side.LaneSide.{LaneSide}
 use Rattle.lane_table.specs.Lane.{State, key_at, key_of, IsSound}
 use Rattle.lane_table.specs.Logs.{Transaction, IsOfKey, opened_by, log_by, extended}
 use Rattle.lane_table.specs.Steps.{is_new, is_unknown, number_in, new_transaction, log_before, stepped, stepped_by}
-use Rattle.txn_core.specs.Transactions.{StandsAfter, StandsBehind}
-use Rattle.txn_core.specs.declared.transaction.TransactionCore.{TransactionCore}
+use Rattle.txn_lane.specs.Transactions.{StandsAfter, StandsBehind}
+use Rattle.txn_lane.specs.declared.transaction.TransactionCore.{TransactionCore}
 use Rattle.txn_lane.specs.LaneCode.{lane_state}
 use Rattle.txn_lane.specs.RunningCode.{log_of_first}
 use Rattle.txn_lane.specs.Stepping.{IsFirst}

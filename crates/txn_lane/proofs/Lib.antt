@@ -1,3 +1,4 @@
+pub mod PlanFacts
 pub mod HandFacts
 pub mod CarryFacts
 pub mod TakenFacts

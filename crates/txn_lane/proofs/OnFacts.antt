@@ -8,7 +8,7 @@ use Rattle.txn_events.specs.declared.event.Event.TheVariants.{On}
 use Rattle.lane_table.specs.declared.lane_side.LaneSide.{LaneSide}
 use Rattle.txn_lane.specs.declared.running.Running.{Running}
 use Rattle.lane_table.specs.Lane.{State, log_of}
-use Rattle.txn_core.specs.Transactions.{StandsAfter}
+use Rattle.txn_lane.specs.Transactions.{StandsAfter}
 use Rattle.lane_table.specs.Logs.{Log}
 use Rattle.txn_lane.specs.LaneCode.{lane_state, journal_of, IsHeld}
 use Rattle.lane_table.specs.Steps.{new_transaction, stepped, stepped_by}

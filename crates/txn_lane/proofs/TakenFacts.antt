@@ -18,7 +18,7 @@ use Rattle.lane_table.specs.Keeping.{Keeps, bundle_by, bundle_of}
 use Rattle.lane_table.specs.Lane.{State, key_at, key_of, log_of, goes_on, is_running, IsSound}
 use Rattle.txn_lane.specs.LaneCode.{Stands, IsHeld}
 use Rattle.lane_table.specs.Logs.{Log, issued, has_ended, answered_behind, extended}
-use Rattle.txn_core.specs.Transactions.{StandsAfter}
+use Rattle.txn_lane.specs.Transactions.{StandsAfter}
 use Rattle.txn_lane.specs.Stepping.{IsOffered, IsWhyNot, IsNotCarried}
 use Rattle.lane_table.specs.Steps.{IsKeyed, new_transaction, log_before, is_foreign, is_new, is_old, is_unknown, plainly, refused_by_end, refused_by_lane, refusal_at, stepped, stepped_by, answer_in, answer_of, IsDone}
 use Rattle.txn_lane.proofs.HandFacts.{may_hand_over}

@@ -1,4 +1,4 @@
--- How a step's bundle is handed to the user's queue.
+-- Of the code. How a step's bundle is handed to the user's queue.
 use Rattle.std.specs.Prelude.{◌≡◌, ℕ, List, [], ◌∷◌, ◌++◌, Option, Some, None}
 use Rattle.cfdp_types.specs.declared.key.TxnKey.{TxnKey}
 use Rattle.indications.specs.declared.bundle.Bundle.{Bundle}

@@ -1,4 +1,4 @@
--- How the code keeps a lane.
+-- Of the code. How the code keeps a lane.
 use Rattle.std.specs.Prelude.{◌≡◌, ℕ, Bool, not, ◌||◌, ◌&&◌, ◌==◌, if◌then◌else◌, List, [], Option, Some, None}
 use Rattle.std.specs.Option.{option_map}
 use Rattle.cfdp_types.specs.Steps.{is_stamp}
@@ -14,7 +14,7 @@ use Rattle.lane_table.specs.declared.lane_side.LaneSide.{LaneSide}
 use Rattle.lane_table.specs.Logs.{Log, issued}
 use Rattle.lane_table.specs.Steps.{plainly, echo_to}
 use Rattle.lane_table.specs.Lane.{State, is_above, log_of, IsSound}
-use Rattle.txn_core.specs.Transactions.{StandsAfter}
+use Rattle.txn_lane.specs.Transactions.{StandsAfter}
 use Rattle.txn_lane.specs.declared.running.Running.{Running}
 
 -- what a lane stands at, by its parts

@@ -1,3 +1,4 @@
+pub mod Transactions
 pub mod LaneCode
 pub mod Handing
 pub mod Stepping

@@ -1,11 +1,11 @@
--- How the code keeps the transaction that a lane runs, and the step that it plans.
+-- Of the code. How the code keeps the transaction that a lane runs, and the step that it plans.
 use Rattle.std.specs.Prelude.{◌≡◌, ◌+◌, ◌<◌, ◌≤◌, false, [], ◌∷◌, ◌++◌, Option, Some, None, Ok, length, vec_len, vec_capacity}
 use Rattle.cfdp_types.specs.declared.key.TxnKey.{TxnKey}
 use Rattle.txn_events.specs.declared.answer.Answer.{Answer}
 use Rattle.txn_events.specs.declared.event.Event.{Event}
 use Rattle.lane_table.specs.declared.done.Done.{Done}
 use Rattle.lane_table.specs.Logs.{Transaction, Log, log_by, has_ended, first_answer, answered_behind, extended}
-use Rattle.txn_core.specs.Transactions.{StandsAfter, StandsBehind, log_at_first, IsPlanOf, plan_answer}
+use Rattle.txn_lane.specs.Transactions.{StandsAfter, StandsBehind, log_at_first, IsPlanOf, plan_answer}
 use Rattle.txn_lane.specs.declared.running.Running.{Running}
 use Rattle.txn_lane.specs.declared.running.Step.{Step}
 

@@ -1,11 +1,11 @@
--- What a step does with the outlet, and why an event is not taken.
+-- Meaning. What a step does with the outlet, and why an event is not taken.
 use Rattle.std.specs.Prelude.{◌≡◌, ℕ, List, [], ◌∷◌, ◌++◌, Option, None, Some, ◌⊎◌, Result, Ok, IsSome}
 use Rattle.txn_events.specs.declared.answer.Answer.{Answer}
 use Rattle.cfdp_types.specs.declared.key.TxnKey.{TxnKey}
 use Rattle.indications.specs.declared.bundle.Bundle.{Bundle}
 use Rattle.txn_events.specs.declared.refusal.Refusal.{Refusal}
 use Rattle.txn_events.specs.declared.refusal.Refusal.TheVariants as refusal
-use Rattle.txn_core.specs.Transactions.{IsWhy}
+use Rattle.txn_lane.specs.Transactions.{IsWhy}
 use Rattle.lane_table.specs.declared.done.Done.{Done}
 use Rattle.txn_events.specs.declared.event.Event.{Event}
 use Rattle.lane_table.specs.declared.refused.Refused.{Refused}

@@ -40,7 +40,7 @@ impl Lane {
     ghost use Rattle.lane_table.specs.Keeping.{bundle_of};
     ghost use Rattle.txn_lane.specs.Stepping.{IsOutletOf, IsOffered, IsHanded, IsTaken, IsLeft, IsNotTaken, IsFirst, IsLater, Passes};
     ghost use Rattle.lane_table.specs.Steps.{IsKeyed, plainly, refused_by_lane, refused_number, next_number, new_transaction, image_of};
-    ghost use Rattle.txn_core.specs.Transactions.{IsWhy};
+    ghost use Rattle.txn_lane.specs.Transactions.{IsWhy};
     ghost use Rattle.txn_events.specs.declared.event.Event.TheVariants.{On};
     ghost use Rattle.lane_table.specs.declared.lane_side.LaneSide.TheVariants.{Sending, Receiving};
     ghost use Rattle.lane_table.specs.Lane.{idle, key_of, is_running, issued_by, IsNumbered, IsSound};

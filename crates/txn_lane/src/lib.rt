@@ -1,5 +1,6 @@
 //! Lanes: each runs one transaction after the other, those of its user or those that come from one source,
-//! and hands the indications of each step to its user's queue.
+//! and hands the indications of each step to its user's queue. A transaction is opened, planned and carried
+//! out alike, whether its file is sent or received.
 #![tactic(auto)]
 
 mod copying;
@@ -7,9 +8,11 @@ mod handing;
 mod lane;
 mod lane_refusals;
 pub mod laws;
+mod opening;
 mod put;
 mod running;
 mod stepping;
+mod transaction;
 
 pub use cfdp_types::{Deposit, Image, TimerOp};
 pub use indications::Outlet;

@@ -8,14 +8,14 @@ use txn_events::Refusal;
 
 impl Lane {
     ghost use Rattle.std.specs.Prelude.{◌≡◌};
-    ghost use Rattle.cfdp_types.specs.Params.{ParamsValue};
+    ghost use Rattle.cfdp_types.specs.declared.params.ParamsParts.{ParamsParts};
     ghost use Rattle.txn_events.specs.declared.event.Event.TheVariants.{Put};
     ghost use Rattle.lane_table.specs.Steps.{refusal_at};
 
     /// Why the lane would refuse a Put of this request, whatever its parameters: for a caller that found no memory to
     /// make the event.
     pub fn refuses_put(&self, request: &PutRequest) -> Option<Refused>
-        ensures { (params : ParamsValue) → result ≡ refusal_at self.now (Put request.now params) }
+        ensures { (params : ParamsParts) → result ≡ refusal_at self.now (Put request.now params) }
     {
         if let Some(refused) = refused_put(self.is_running(), self.next_number()) {
             return Some(refused);

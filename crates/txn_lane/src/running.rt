@@ -2,10 +2,10 @@ ghost use Rattle.std.specs.Prelude.{◌≡◌, ◌++◌, ◌+◌, ◌≤◌, vec
 
 use crate::copying::{Copies, copies_to_begin, copies_to_go_on};
 use crate::handing::LaneAddress;
+use crate::transaction::{TransactionCore, TransactionPlan};
 use cfdp_types::TxnKey;
 use indications::{Bundle, Indication};
 use lane_table::{Done, LaneSide};
-use txn_core::{TransactionCore, TransactionPlan};
 use txn_events::{Answer, Event, Refusal, What};
 
 /// The transaction that a lane runs or ran last.
@@ -29,7 +29,7 @@ impl Running {
     ghost use Rattle.std.specs.Prelude.{◌≡◌, ◌∷◌, ◌++◌, [], IsSome, IfOk, IfErr};
     ghost use Rattle.txn_events.specs.declared.event.Event.TheVariants.{On};
     ghost use Rattle.lane_table.specs.Logs.{Log, IsOfKey, opened_by, first_answer, answered_behind, extended};
-    ghost use Rattle.txn_core.specs.Transactions.{StandsAfter, IsWhy, plan_answer};
+    ghost use Rattle.txn_lane.specs.Transactions.{StandsAfter, IsWhy, plan_answer};
     ghost use Rattle.txn_lane.specs.Handing.{bundle_for};
     ghost use Rattle.txn_lane.specs.RunningCode.{IsStepOf, IsOpenedBy, IsUnmoved, MayCommit, IsDoneBy};
 

@@ -4,7 +4,7 @@ ghost use Rattle.std.specs.Prelude.{◌≡◌, IsSome, Ok, IfOk, IfErr, OnOk, On
 ghost use Rattle.txn_events.specs.declared.answer.Answer.{Answer as AnswerValue};
 ghost use Rattle.txn_events.specs.declared.event.Event.TheVariants.{On};
 ghost use Rattle.lane_table.specs.Logs.{Log, IsOfKey, opened_by, first_answer, answered_behind};
-ghost use Rattle.txn_core.specs.Transactions.{StandsAfter, plan_answer};
+ghost use Rattle.txn_lane.specs.Transactions.{StandsAfter, plan_answer};
 ghost use Rattle.txn_lane.specs.Handing.{bundle_for, MayHandOver, IsHandedOver};
 ghost use Rattle.txn_lane.specs.RunningCode.{IsGoing, IsUnmoved, GoesOn, MayCommit, IsDoneBy};
 ghost use Rattle.txn_lane.specs.Stepping.{HasBegun, HasGoneOn, IsNotCarried, IsGivenBack};

@@ -1,4 +1,4 @@
--- The queues that a run's types agree on.
+-- Of the code. The queues that a run's types agree on.
 use Rattle.std.specs.Prelude.{ℕ, []}
 use Rattle.atomic_table.specs.Seated.{TableId}
 

@@ -1,4 +1,4 @@
--- The ends of a queue that was just opened.
+-- Meaning. The ends of a queue that was just opened.
 use Rattle.std.specs.Prelude.{◌≡◌, ℕ, zero, suc, List, [], ◌∷◌, ◌++◌, Option, None}
 use Rattle.atomic_table.specs.Seated.{TableId}
 use Rattle.indications.specs.declared.bundle.Bundle.{Bundle}

@@ -1,4 +1,4 @@
--- A user's queue, and what is put into it and taken from it.
+-- Meaning. A user's queue, and what is put into it and taken from it.
 use Rattle.std.specs.Prelude.{◌≡◌, ℕ, ◌<◌, List, [], ◌∷◌, ◌++◌, length}
 use Rattle.indications.specs.declared.bundle.Bundle.{Bundle}
 use Rattle.indications.specs.LaneLists.{of_lane}

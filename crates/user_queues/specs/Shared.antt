@@ -1,4 +1,4 @@
--- The ends of a queue that threads share: which queue it is, and what the end knows of it.
+-- Meaning. The ends of a queue that threads share: which queue it is, and what the end knows of it.
 use Rattle.std.specs.Prelude.{Bool, List, map, Option, is_some}
 use Rattle.atomic_table.specs.Seated.{TableId}
 use Rattle.crossbeam_queue.specs.Passes.{Pass, view}

@@ -1,4 +1,4 @@
--- What a lane sent through an outlet that threads share.
+-- Of the code. What a lane sent through an outlet that threads share.
 use Rattle.std.proofs.Common.{◌≡◌, List, [], ◌∷◌, ◌++◌, ap, ◌∙◌}
 use Rattle.indications.specs.declared.bundle.Bundle.{Bundle}
 use Rattle.queue_rule.specs.declared.view.OutletView.{OutletView}

@@ -1,4 +1,4 @@
--- What a lane sent ends in what is held of it, whatever goes in.
+-- Of the code. What a lane sent ends in what is held of it, whatever goes in.
 use Rattle.std.proofs.Common.{◌≡◌, ℕ, List, [], ◌∷◌, ◌++◌, ap, sym, ◌∙◌, append_assoc, subst}
 use Rattle.indications.specs.declared.bundle.Bundle.{Bundle}
 use Rattle.indications.specs.LaneLists.{of_lane}

@@ -79,6 +79,8 @@ fn is_step(answer: &Answered) -> bool {
 pub(crate) enum Fails {
     /// The first so many.
     First(u64),
+    /// One of them.
+    Only(u64),
     /// Each seventh.
     Seventh,
 }
@@ -87,6 +89,7 @@ impl Fails {
     fn at(self, call: u64) -> bool {
         match self {
             Fails::First(calls) => call <= calls,
+            Fails::Only(failing) => call == failing,
             Fails::Seventh => call % 7 == 0,
         }
     }

@@ -8,6 +8,8 @@ mod intake;
 #[cfg(test)]
 mod keeping;
 #[cfg(test)]
+mod narrow;
+#[cfg(test)]
 mod receiving;
 #[cfg(test)]
 mod runs;

@@ -9,9 +9,9 @@ use entity_config::Config;
 use entity_workers::{
     DepositRest, Filestore, Intake, IntakeSend, MemoryStore, StoredFile, deposit_one, run_workers,
 };
-use held_lanes::{Names, NoGate};
 use lane_table::Done;
 use shared_entity::Entity;
+use shared_lanes::{Names, NoGate};
 use std::alloc::{AllocError, Global};
 use std::sync::Wait;
 use std::test::*;
@@ -73,7 +73,11 @@ pub(crate) fn receive<N: Names + Send + Sync, R: Threads + Wait + Copy + Send + 
     writeln!(text, "{whole:?}")
 }
 
-fn push_deposit(text: &mut String, made: Result<Done, DepositRest>) -> Result<(), AllocError> {
+/// Adds a line for a deposit that was told, or for what comes back of one.
+pub(crate) fn push_deposit(
+    text: &mut String,
+    made: Result<Done, DepositRest>,
+) -> Result<(), AllocError> {
     match made {
         Ok(_) => text.push_str("told\n"),
         Err(rest) => {
@@ -84,7 +88,8 @@ fn push_deposit(text: &mut String, made: Result<Done, DepositRest>) -> Result<()
     }
 }
 
-fn push_files(text: &mut String, files: &[StoredFile]) -> Result<(), AllocError> {
+/// Adds a line for each file that a store has.
+pub(crate) fn push_files(text: &mut String, files: &[StoredFile]) -> Result<(), AllocError> {
     for file in files {
         let name = str::from_utf8(file.name.as_slice()).unwrap_or("?");
         let octets = str::from_utf8(file.octets.as_slice()).unwrap_or("?");

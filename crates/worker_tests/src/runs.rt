@@ -4,10 +4,10 @@ ghost use Rattle.std.specs.List.{sum_by};
 ghost use Rattle.entity_routing.specs.Places.{lanes_of};
 ghost use Rattle.user_queues.specs.Opened.{IsOpenedFor};
 
-use crate::{receiving, soak, taken};
+use crate::{narrow, receiving, soak, taken};
 use entity_config::Config;
-use held_lanes::Names;
 use shared_entity::{Entity, queues_of};
+use shared_lanes::Names;
 use std::alloc::{AllocError, Global};
 use std::marker::Brand;
 use std::sync::Wait;
@@ -21,6 +21,10 @@ pub(crate) enum Run {
     Receiving { failures: u64 },
     /// A deposit that does not wait is made.
     Stale,
+    /// A file is stored before its user's queue has room to be told.
+    Narrow,
+    /// Three files come to a store that fails at one of its calls.
+    Rejecting { call: u64 },
     /// Two workers are each to take a datagram before either goes on.
     Taken,
     /// Four workers receive many files, whose datagrams are lost, doubled and reordered.
@@ -38,7 +42,7 @@ pub(crate) fn play<R: Threads + Wait + Copy + Send + Sync>(
     play_named::<Brand, R>(rt, alloc, config, queues, run)
 }
 
-// The same, over queues that are named.
+// Plays over queues that `N` names: what is proved of an entity speaks of them by that name, so it is a parameter.
 fn play_named<N: Names + Send + Sync, R: Threads + Wait + Copy + Send + Sync>(
     rt: R,
     alloc: Global,
@@ -60,6 +64,8 @@ fn play_named<N: Names + Send + Sync, R: Threads + Wait + Copy + Send + Sync>(
             receiving::receive(&rt, alloc, &mut text, &entity, ports, failures)?
         }
         Run::Stale => receiving::store_stale(&rt, alloc, &mut text, &entity)?,
+        Run::Narrow => narrow::squeeze(&rt, alloc, &mut text, &entity, ports)?,
+        Run::Rejecting { call } => { narrow::reject(&rt, alloc, &mut text, &entity, ports, call)? }
         Run::Taken => taken::meet(&rt, alloc, &mut text, &entity)?,
         Run::Soak => soak::soak(&rt, alloc, &mut text, &entity, ports)?,
     }

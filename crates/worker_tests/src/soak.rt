@@ -11,16 +11,17 @@ use entity_workers::{
     Carrier, DepositRest, Filestore, Intake, IntakeSend, StoredFile, deposit_one, finish,
     run_workers,
 };
-use held_lanes::{Names, NoGate};
 use indications::Bundle;
 use lane_table::{Done, Refused};
 use shared_entity::Entity;
+use shared_lanes::{Names, NoGate};
 use std::alloc::{AllocError, Global};
 use std::sync::atomic::{AtomicU64, Ordering};
 use std::sync::{Mutex, Wait};
 use std::test::*;
 use std::thread;
 use std::thread::Threads;
+use test_configs::{EntityText, REFERENCE, REMOTE_ONE, RemoteText, text_of};
 use user_queues::UserPort;
 
 /// Entities that send, with numbers from 11 on; the files of each; and how often each datagram is tried before it is sent
@@ -417,46 +418,45 @@ pub(crate) fn soak<N: Names + Send + Sync, R: Threads + Wait + Copy + Send + Syn
     writeln!(text, "{calls} {failures} {right} {whole:?}")
 }
 
-const ENTITY: &str = r#"
-[entity]
-id = 2
-id_octets = 1
-seq_octets = 1
-first = 1
-put_lanes = 2
-recv_lanes = 2
-capacity = 8
-segment = 256
-[[user]]
-name = "alice"
-[[user]]
-name = "bob"
-"#;
+const FOR_BOB: RemoteText<'static> = RemoteText {
+    user: "bob",
+    ..REMOTE_ONE
+};
 
-// Adds a source, whose files go to one user or the other.
-fn push_source(text: &mut String, id: u8) -> Result<(), AllocError> {
-    let user = if id % 4 < 2 { "alice" } else { "bob" };
-    writeln!(
-        text,
-        "[[remote]]\nid = {id}\naddress = \"127.0.0.1:7001\"\nuser = \"{user}\""
-    )?;
-    text.push_str("ack_ms = 1000\nnak_ms = 1000\ncheck_ms = 1000\ninactivity_ms = 1000\n")?;
-    text.push_str("ack_limit = 2\nnak_limit = 2\ncheck_limit = 2\n")
-}
+// The sources: the files of some are for alice, those of the others for bob.
+const ALL_SOURCES: [RemoteText<'static>; 8] = [
+    RemoteText { id: 11, ..FOR_BOB },
+    RemoteText {
+        id: 12,
+        ..REMOTE_ONE
+    },
+    RemoteText {
+        id: 13,
+        ..REMOTE_ONE
+    },
+    RemoteText { id: 14, ..FOR_BOB },
+    RemoteText { id: 15, ..FOR_BOB },
+    RemoteText {
+        id: 16,
+        ..REMOTE_ONE
+    },
+    RemoteText {
+        id: 17,
+        ..REMOTE_ONE
+    },
+    RemoteText { id: 18, ..FOR_BOB },
+];
 
 // An entity with all sources.
-fn config_text(alloc: Global) -> Result<String, AllocError> {
-    let mut text = String::from_str(alloc, ENTITY)?;
-    for number in 0..SOURCES {
-        push_source(&mut text, FIRST_SOURCE + number)?;
-    }
-    Ok(text)
-}
+const ENTITY: EntityText<'static> = EntityText {
+    remotes: &ALL_SOURCES,
+    ..REFERENCE
+};
 
 #[test]
 fn many_files(rt: HostRuntime) -> Result<(), Fail> {
     let alloc = rt.alloc();
-    let text = config_text(alloc)?;
+    let text = text_of(alloc, &ENTITY)?;
     let config = read_config(alloc, text.as_str())
         .ok()
         .ok_or("no configuration")?;

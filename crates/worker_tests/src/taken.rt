@@ -6,9 +6,9 @@ use crate::runs::{Run, play};
 use crate::told::pause;
 use entity_config::Config;
 use entity_workers::{Intake, IntakeSend, run_workers};
-use held_lanes::{Gate, Held, Names, Point};
 use lane_table::{Done, Refused};
 use shared_entity::Entity;
+use shared_lanes::{Gate, Held, Names, Point};
 use std::alloc::{AllocError, Global};
 use std::sync::Wait;
 use std::sync::atomic::{AtomicU64, Ordering};
@@ -26,7 +26,7 @@ struct Meeting<R> {
 }
 
 impl<N: Names, R: Wait + Copy> Gate<N, R> for Meeting<R> {
-    ghost use Rattle.held_lanes.specs.Held.{HasStepped};
+    ghost use Rattle.shared_lanes.specs.Held.{HasStepped};
 
     type Answer = Result<Done, Refused>;
 

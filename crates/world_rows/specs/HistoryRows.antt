@@ -1,4 +1,4 @@
--- Worked histories of two users, computed.
+-- Rows. Worked histories of two users, computed.
 use Rattle.std.proofs.Common.{◌≡◌, ℕ, List, [], ◌∷◌, Some, None, arith, refl}
 use Rattle.cfdp_types.specs.declared.names.Class.TheVariants.{One}
 use Rattle.cfdp_types.specs.declared.names.Delivery.TheVariants.{Incomplete}

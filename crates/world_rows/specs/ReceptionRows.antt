@@ -1,4 +1,4 @@
--- Worked histories of lanes that receive, computed: two files one after the other in a lane, and another user's beside them.
+-- Rows. Worked histories of lanes that receive, computed: two files one after the other in a lane, and another user's beside them.
 use Rattle.std.proofs.Common.{◌≡◌, ℕ, true, All, List, [], ◌∷◌, Option, Some, None, Ok, Err, Contains, refl, ap, ◌∙◌, arith}
 use Rattle.cfdp_types.specs.Reference.{reference}
 use Rattle.cfdp_types.specs.declared.key.TxnKey.{TxnKey}

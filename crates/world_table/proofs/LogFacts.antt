@@ -21,7 +21,7 @@ use Rattle.lane_table.proofs.LogFacts.{log_side}
 use Rattle.lane_table.proofs.RunFacts.{completes_good}
 use Rattle.lane_table.proofs.SentFacts.{some_is}
 use Rattle.lane_table.proofs.StepFacts.{both_true}
-use Rattle.lane_images.proofs.ImageFacts.{log_under, no_image, IsGivenBy, given_by, stamp_is, same_key, waits_by, given_is}
+use Rattle.lane_table.proofs.ImageFacts.{log_under, no_image, IsGivenBy, given_by, stamp_is, same_key, waits_by, given_is}
 use Rattle.world_table.specs.Histories.{Happening, lane_after, events_for, log_for, AreIdle, IsHistory}
 use Rattle.world_table.specs.HistoryLaws.{IsLogged, IsReceived, HasGoodFile, IsImageOf, LogsAreLegal, DeliversGood, GivesImages}
 use Rattle.world_table.proofs.HistoryFacts.{runs, tells_what_logs_tell}

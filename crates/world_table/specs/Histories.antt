@@ -1,4 +1,4 @@
--- What happens in an entity of one thread: lanes take events, and users take what they are told.
+-- Meaning. What happens in an entity of one thread: lanes take events, and users take what they are told.
 use Rattle.std.specs.Prelude.{◌≡◌, ℕ, ◌==◌, Bool, ◌&&◌, if◌then◌else◌, List, [], ◌∷◌, ◌++◌, Option, Some, None}
 use Rattle.indications.specs.declared.bundle.Bundle.{Bundle}
 use Rattle.txn_events.specs.declared.event.Event.{Event}

@@ -1,4 +1,4 @@
--- What holds of every run of an entity of one thread.
+-- Meaning. What holds of every run of an entity of one thread.
 use Rattle.std.specs.Prelude.{◌≡◌, ℕ, All, List, [], ◌∷◌, ◌++◌, Option, Some, None, Ok, Contains}
 use Rattle.cfdp_types.specs.declared.image.Image.{Image}
 use Rattle.cfdp_types.specs.declared.key.TxnKey.{TxnKey}

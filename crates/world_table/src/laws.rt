@@ -50,7 +50,7 @@ pub fn sound()
 {}
 
 /// Where a receiving lane tells its user of a complete delivery, Metadata and EOF came, every octet below the EOF's
-/// size was received and none above it, and the modular checksum agrees.
+/// size was received and none above it, and the modular checksum agrees, unless the file has none.
 pub fn complete()
     ensures { DeliversGood }
 {}

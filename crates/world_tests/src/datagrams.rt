@@ -1,9 +1,9 @@
 //! What a datagram is read as, and the numbers and names of refusals that no script shows.
 
-use entity_refusals::read_pdu;
-use entity_world::EntityRefusal;
+use entity_parts::read_pdu;
 use std::alloc::Global;
 use std::test::*;
+use world_core::EntityRefusal;
 
 fn is_read(alloc: Global, datagram: &[u8]) -> bool {
     read_pdu(alloc, datagram).is_ok()

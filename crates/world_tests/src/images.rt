@@ -3,9 +3,9 @@
 use crate::entities::entity_two;
 use crate::telling::deliver;
 use cfdp_types::{EntityId, Image, TxnKey};
-use entity_world::World;
 use std::alloc::{AllocError, Global};
 use std::test::*;
+use world_core::World;
 
 // The names and octets of a file in hex.
 fn shown(alloc: Global, image: &Image) -> Result<String, AllocError> {

@@ -3,11 +3,11 @@
 use crate::entities::{deliver, expire, file_for_one, pump, put, store};
 use crate::seen::{Seen, count};
 use cfdp_types::{Class, Delivery, Deposit, Image, Octets, PutRequest, TimerKind, TimerOp, TxnKey};
-use entity_world::{EntityRefusal, World};
 use indications::{Bundle, Indication};
 use lane_table::{Done, Refused};
 use pdu_codec::{Body, Pdu, encode};
 use std::alloc::{AllocError, Global};
+use world_core::{EntityRefusal, World};
 
 /// One of the two.
 #[derive(Clone, Copy)]

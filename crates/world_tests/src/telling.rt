@@ -1,11 +1,11 @@
 //! Short ways to tell an entity something, and to see what it tells.
-ghost use Rattle.entity_world.specs.Worlds.{MayCome};
+ghost use Rattle.world_core.specs.Worlds.{MayCome};
 
 use answer_texts::push_bundle;
 use cfdp_types::Octets;
-use entity_world::{EntityRefusal, World, WorldEvent};
 use lane_table::Done;
 use std::alloc::{AllocError, Global};
+use world_core::{EntityRefusal, World, WorldEvent};
 
 /// The octets of a datagram in hex.
 pub(crate) fn octets_of(alloc: Global, digits: &str) -> Option<Octets> {

@@ -4,11 +4,11 @@ use crate::entities::{deliver, entity_one, entity_two, file_for_one, pump, put, 
 use crate::telling::octets_of;
 use answer_texts::{push_bundle, push_done, push_refused};
 use cfdp_types::{Class, EntityId, TxnKey};
-use entity_world::{EntityRefusal, World};
 use indications::Bundle;
 use lane_table::Done;
 use std::alloc::{AllocError, Global};
 use std::test::*;
+use world_core::{EntityRefusal, World};
 
 const KEY: TxnKey = TxnKey {
     source: EntityId(2),

@@ -1,4 +1,4 @@
-//! A sender that is asked for parts of its file again and again.
+//! A sender of a large file, and one that is asked for parts of it again and again.
 use crate::cores::datagrams::{KEY, TOWARD_SENDER, arrival};
 use crate::cores::setting::params;
 use crate::fault::Fault;
@@ -50,16 +50,16 @@ impl Parts {
     }
 }
 
-// The Put of the file.
-fn request(alloc: Global) -> Result<PutRequest, Fault> {
-    let file = vec![in alloc; 90; FILE as usize]?;
+// The Put of a file of this size.
+fn request(alloc: Global, size: u32) -> Result<PutRequest, Fault> {
+    let file = vec![in alloc; 90; size as usize]?;
     let octets = file.as_slice();
     Ok(PutRequest::new(alloc, EntityId(2), Class::Two, b"a", b"b", &[], octets)?)
 }
 
 // The sender that it opens.
-fn opened(alloc: Global) -> Result<SenderCore, Fault> {
-    let request = request(alloc)?;
+fn opened(alloc: Global, size: u32) -> Result<SenderCore, Fault> {
+    let request = request(alloc, size)?;
     let (mut core, plan) = SenderCore::open(alloc, KEY, &request, params()?)?;
     let _ = core.commit(plan);
     Ok(core)
@@ -79,12 +79,20 @@ fn tell(core: &mut SenderCore, event: What) -> Result<(), Fault> {
     step(core, &event)
 }
 
-// Sends the Metadata, the file and its EOF.
-fn send(core: &mut SenderCore) -> Result<(), Fault> {
-    for _ in 0..FILE / SEGMENT + 2 {
+// Sends the Metadata, so many segments and the EOF.
+fn send(core: &mut SenderCore, segments: u32) -> Result<(), Fault> {
+    tell(core, What::Pump)?;
+    for _ in 0..segments {
         tell(core, What::Pump)?;
     }
-    Ok(())
+    tell(core, What::Pump)
+}
+
+/// A file of so many segments that is sent once.
+pub(crate) fn file(alloc: Global, segments: u32) -> Result<u64, Fault> {
+    let mut core = opened(alloc, segments.saturating_mul(SEGMENT))?;
+    send(&mut core, segments)?;
+    Ok(u64::from(segments))
 }
 
 // Takes so many NAKs, and sends one part behind each.
@@ -98,8 +106,8 @@ fn send_again(alloc: Global, core: &mut SenderCore, parts: Parts, count: u32) ->
 
 /// A file that is sent, and so many NAKs, each for parts of it all over; one part is sent between two NAKs.
 pub(crate) fn naks(alloc: Global, parts: Parts, count: u32) -> Result<u64, Fault> {
-    let mut core = opened(alloc)?;
-    send(&mut core)?;
+    let mut core = opened(alloc, FILE)?;
+    send(&mut core, FILE / SEGMENT)?;
     send_again(alloc, &mut core, parts, count)?;
     Ok(u64::from(count))
 }

@@ -1,8 +1,8 @@
 //! What the measured transactions go by.
 use crate::fault::Fault;
 use cfdp_types::{
-    EntityId, ExpirationLimits, FaultTable, FaultTables, HandlerNotAllowed, HeaderLengths, Params,
-    Role, TimerLengths,
+    Checksum, EntityId, ExpirationLimits, FaultTable, FaultTables, HandlerNotAllowed,
+    HeaderLengths, Params, ParamsParts, Role, TimerLengths,
 };
 
 // Tables that cancel at each fault.
@@ -31,5 +31,14 @@ pub(crate) fn params() -> Result<Params, Fault> {
         nak: 2,
         check: 2,
     };
-    Params::new(EntityId(1), lengths, 256, timers, limits, tables()?).ok_or(Fault::BadSetting)
+    let parts = ParamsParts {
+        local: EntityId(1),
+        lengths,
+        segment_octets: 256,
+        timers,
+        limits,
+        tables: tables()?,
+        checksum: Checksum::Modular,
+    };
+    Params::new(parts).ok_or(Fault::BadSetting)
 }

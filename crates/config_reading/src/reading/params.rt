@@ -2,16 +2,19 @@
 ghost use Rattle.std.specs.Prelude.{◌≡◌, IfOk, IsTrue};
 ghost use Rattle.cfdp_types.specs.Params.{AreExpirationLimits, AreFaultTables, AreTimerLengths, IsExpirationLimit, IsTimerLength};
 ghost use Rattle.config_reading.specs.Values.{is_entity};
-ghost use Rattle.config_reading.specs.Walk.{limits_in, number_at, params_in, tables_in, timers_in};
-ghost use Rattle.toml.specs.View.{table_view};
+ghost use Rattle.config_reading.specs.Walk.{checksum_at, checksum_named, checksum_of, limits_in, number_at, params_in, tables_in, timers_in};
+ghost use Rattle.toml.specs.View.{table_view, view};
 
 use crate::entity::EntitySettings;
 use crate::fault::{ConfigFault, Key};
 use crate::reading::handlers::handlers_at;
 use crate::reading::numbers::number_at;
+use crate::reading::tables::value_at;
 use cfdp_types::limits::{EXPIRATIONS, TIMER_MILLISECONDS};
-use cfdp_types::{ExpirationLimits, FaultTables, Params, Role, TimerLengths};
-use toml::Table;
+use cfdp_types::{
+    Checksum, ExpirationLimits, FaultTables, Params, ParamsParts, Role, TimerLengths,
+};
+use toml::{Table, Value};
 
 /// The parameters in the table of a remote entity.
 pub(crate) fn params_in(table: &Table, entity: EntitySettings) -> Result<Params, ConfigFault>
@@ -21,14 +24,16 @@ pub(crate) fn params_in(table: &Table, entity: EntitySettings) -> Result<Params,
     let timers = timers_in(table)?;
     let limits = limits_in(table)?;
     let tables = tables_in(table)?;
-    let params = Params::new(
-        entity.local,
-        entity.lengths,
-        entity.segment_octets,
+    let checksum = checksum_at(table)?;
+    let params = Params::new(ParamsParts {
+        local: entity.local,
+        lengths: entity.lengths,
+        segment_octets: entity.segment_octets,
         timers,
         limits,
         tables,
-    );
+        checksum,
+    });
     Ok(params.unwrap())
 }
 
@@ -78,4 +83,38 @@ fn tables_in(table: &Table) -> Result<FaultTables, ConfigFault>
         receive_one: handlers_at(table, Role::RecvOne)?,
         receive_two: handlers_at(table, Role::RecvTwo)?,
     })
+}
+
+// The checksum of the files that are sent to the remote entity, modular if the table names none.
+fn checksum_at(table: &Table) -> Result<Checksum, ConfigFault>
+    ensures { result ≡ checksum_at (table_view table.now) }
+{
+    match value_at(table, Key::Checksum) {
+        Some(value) => checksum_of(value),
+        None => Ok(Checksum::Modular),
+    }
+}
+
+fn checksum_of(value: &Value) -> Result<Checksum, ConfigFault>
+    ensures { result ≡ checksum_of (view value.now) }
+{
+    let Some(word) = value.as_str() else {
+        return Err(ConfigFault::WrongType(Key::Checksum));
+    };
+    match checksum_named(word) {
+        Some(checksum) => Ok(checksum),
+        None => Err(ConfigFault::OutOfRange(Key::Checksum)),
+    }
+}
+
+fn checksum_named(word: &str) -> Option<Checksum>
+    ensures { result ≡ checksum_named word.now }
+{
+    if word == "modular" {
+        Some(Checksum::Modular)
+    } else if word == "null" {
+        Some(Checksum::Null)
+    } else {
+        None
+    }
 }

@@ -21,7 +21,7 @@ use cfdp_types::limits::SOURCES_OF_A_USER;
 use std::alloc::Global;
 use toml::{Table, Value};
 
-const KEYS: [Key; 13] = [
+const KEYS: [Key; 14] = [
     Key::Id,
     Key::Address,
     Key::User,
@@ -35,6 +35,7 @@ const KEYS: [Key; 13] = [
     Key::Send,
     Key::ReceiveOne,
     Key::ReceiveTwo,
+    Key::Checksum,
 ];
 
 /// The remote entities, in the order of their tables.

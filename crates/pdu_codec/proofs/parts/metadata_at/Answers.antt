@@ -8,4 +8,5 @@ pub returns : goal.returns
 unfolding metadata_at
 returns c =
     let options = all_read tlv_at tlv_behind c.in_ok-destination_name.options.now (sym c.if-not-are_options.ensures) in
-    rw (c.in_ok-flags.ensures.value, c.in_ok-size.ensures.value, c.in_ok-source_name.ensures.value, c.in_ok-destination_name.ensures.value, options) refl
+    let size = rw (c.from.ensures, c.size_octets-width.ensures.value) at c.in_ok-size.ensures.value in
+    rw (c.in_ok-flags.ensures.value, size, c.in_ok-source_name.ensures.value, c.in_ok-destination_name.ensures.value, options) refl

@@ -1,6 +1,6 @@
 use Rattle.std.proofs.Common.{ap, ◌++◌, ◌∙◌, rules, Bool}
 use Rattle.std.specs.Prelude.{string_bytes}
-use Rattle.entity_world.specs.Worlds.{MayCome}
+use Rattle.world_core.specs.Worlds.{MayCome}
 use Rattle.script_replay.specs.Texts.{answer_text}
 use Rattle.script_replay.proofs.SessionFacts.{told}
 use Rattle.script_replay.proofs.session.tell.Goals as goal

@@ -43,14 +43,14 @@ loop-request-preserved c =
       | then-request-end w ↦ rw w.offsets-is (record {
         room = omega (arith, w.add.ensures.room, inv.room);
         same = λ i. more (covered c.args.offsets.now) c.args.requests.now c.args.limit k none i _ _ c.loop-request-test.true
-            (w.add.ensures.added i ∙ ap (λ end. covered c.loop-request.offsets i || is_within request.start end i) c.min-end.ensures)
+            (w.add.ensures.added i ∙ ap (λ end. covered c.loop-request.offsets i || is_within request.start end i) (rw c.from.ensures at c.min-end.ensures))
             (inv.same i);
       })
       | else-request-end w ↦ rw w.offsets-is (record {
         room = omega (arith, inv.room);
         same = λ i. more (covered c.args.offsets.now) c.args.requests.now c.args.limit k none i _ _ c.loop-request-test.true
             (sym (ap (λ b. covered c.loop-request.offsets i || b)
-            (empty request.start (min request.end c.args.limit) i (omega (arith, w.if-request-end.false, c.min-end.ensures)))
+            (empty request.start (min request.end c.args.limit) i (omega (arith, w.if-request-end.false, c.min-end.ensures, c.from.ensures)))
             ∙ or-false (covered c.loop-request.offsets i)))
             (inv.same i);
       })

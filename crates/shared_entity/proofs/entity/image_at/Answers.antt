@@ -1,5 +1,5 @@
 use Rattle.std.proofs.Common.{refl}
-use Rattle.lane_images.proofs.ImageFacts.{gives_own_files}
+use Rattle.lane_table.proofs.ImageFacts.{gives_own_files}
 use Rattle.shared_entity.specs.Answering.{IsAt}
 use Rattle.shared_entity.proofs.entity.image_at.Goals as goal
 

@@ -1,8 +1,8 @@
 use Rattle.std.proofs.Common.{inl, inr, refl, subst, IsSome}
 use Rattle.std.proofs.lemmas.Result.{err_from_is_err_and, IfOk-weaker, IfErr-weaker}
 use Rattle.txn_events.specs.declared.event.Event.TheVariants.{On}
-use Rattle.txn_core.specs.Transactions.{plan_answer}
-use Rattle.txn_core.proofs.PlanFacts.{answered_planned}
+use Rattle.txn_lane.specs.Transactions.{plan_answer}
+use Rattle.txn_lane.proofs.PlanFacts.{answered_planned}
 use Rattle.txn_lane.proofs.CarryFacts.{on_err, goes_from, unmoved_as, still_going, both_ok, ok_always}
 use Rattle.txn_lane.proofs.stepping.advance.Goals as goal
 

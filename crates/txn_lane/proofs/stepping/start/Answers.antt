@@ -1,7 +1,7 @@
 use Rattle.std.proofs.Common.{inr, subst, IsSome}
 use Rattle.std.proofs.lemmas.Result.{err_from_is_err_and}
 use Rattle.lane_table.specs.Logs.{opened_by, extended}
-use Rattle.txn_core.specs.Transactions.{StandsAfter, plan_answer}
+use Rattle.txn_lane.specs.Transactions.{StandsAfter, plan_answer}
 use Rattle.txn_lane.proofs.CarryFacts.{first_planned, first_goes, first_stands}
 use Rattle.txn_lane.proofs.stepping.start.Goals as goal
 

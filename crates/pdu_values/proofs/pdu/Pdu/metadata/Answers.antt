@@ -3,5 +3,5 @@ use Rattle.pdu_values.proofs.FitLaws.{put_metadata_fits}
 use Rattle.pdu_values.proofs.pdu.Pdu.metadata.Goals as goal
 
 pub new-requires : goal.new-requires
-new-requires c = put_metadata_fits c.args.header c.args.metadata c.requires.header (omega (arith, c.number-number.ensures.value, c.number-number.ensures.below)) (omega (arith, c.word-size.ensures.range))
+new-requires c = put_metadata_fits c.args.header c.args.metadata c.requires.header (omega (arith, c.number-number.ensures.value, c.number-number.ensures.below)) c.requires.size
     c.requires.source_name c.requires.destination_name c.requires.messages

@@ -3,8 +3,8 @@ use Rattle.std.specs.Prelude.{IfOk}
 use Rattle.cfdp_types.specs.declared.names.Delivery.TheVariants.{Incomplete}
 use Rattle.cfdp_types.specs.declared.names.FileStatus.{FileStatus}
 use Rattle.receiver_table.specs.Answers.{tells, ◌and_then◌, finish_response}
-use Rattle.reception_parts.specs.ControlBlock.{state_from}
-use Rattle.reception_parts.specs.Response.{IsResponse}
+use Rattle.receiver_parts.specs.ControlBlock.{state_from}
+use Rattle.receiver_parts.specs.Response.{IsResponse}
 use Rattle.receiver_core.specs.Core.{reception_of}
 use Rattle.receiver_core.proofs.receiver.ReceiverCore.cancel_response.Goals as goal
 

@@ -1,6 +1,6 @@
 use Rattle.std.proofs.Common.{ap, ◌∙◌}
 use Rattle.receiver_table.specs.Reception.{step, state_of}
-use Rattle.reception_parts.specs.ReceivedFile.{received_of}
+use Rattle.receiver_parts.specs.ReceivedFile.{received_of}
 use Rattle.receiver_core.specs.Core.{plan_answer}
 use Rattle.receiver_core.proofs.ChangeLemmas.{committed, reached_after}
 use Rattle.receiver_core.proofs.receiver.ReceiverCore.commit.Goals as goal

@@ -1,4 +1,4 @@
-use Rattle.reception_parts.specs.ReceivedFile.{received_of}
+use Rattle.receiver_parts.specs.ReceivedFile.{received_of}
 use Rattle.receiver_core.proofs.FirstLemmas.{first_is}
 use Rattle.receiver_core.proofs.receiver.ReceiverCore.empty.Goals as goal
 

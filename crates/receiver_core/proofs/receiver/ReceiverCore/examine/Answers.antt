@@ -1,11 +1,11 @@
 use Rattle.std.proofs.Common.{◌≡◌, ap, sym, ◌∙◌}
 use Rattle.receiver_table.specs.Answers.{examines}
-use Rattle.reception_parts.specs.FileChange.{metadata_after, received_after, covered_after, word_after}
+use Rattle.receiver_parts.specs.FileChange.{metadata_after, received_after, covered_after, word_after}
 use Rattle.receiver_core.specs.Core.{reception_of, now_state}
-use Rattle.reception_parts.specs.Finding.{found_response}
-use Rattle.reception_parts.specs.declared.examine.Finding.{Finding}
+use Rattle.receiver_parts.specs.Finding.{found_response}
+use Rattle.receiver_parts.specs.declared.examine.Finding.{Finding}
 use Rattle.receiver_core.proofs.ChangeLemmas.{came_after}
-use Rattle.reception_parts.proofs.FindingLemmas.{examined}
+use Rattle.receiver_parts.proofs.FindingLemmas.{examined}
 use Rattle.receiver_core.proofs.receiver.ReceiverCore.examine.Goals as goal
 
 pub returns-clause-response : goal.returns-clause-response

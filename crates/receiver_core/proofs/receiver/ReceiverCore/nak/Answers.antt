@@ -4,12 +4,12 @@ use Rattle.gap_list.specs.Runs.{missing_runs}
 use Rattle.pdu_values.specs.declared.pdu.Body.{Body}
 use Rattle.pdu_values.specs.declared.pdu.Body.TheVariants as body
 use Rattle.receiver_table.specs.Answers.{pdu_to_sender, missing_below}
-use Rattle.reception_parts.specs.FileChange.{metadata_after, received_after, covered_after}
+use Rattle.receiver_parts.specs.FileChange.{metadata_after, received_after, covered_after}
 use Rattle.receiver_core.specs.Core.{reception_of, now_state}
-use Rattle.reception_parts.specs.Naks.{nak_with}
+use Rattle.receiver_parts.specs.Naks.{nak_with}
 use Rattle.receiver_core.proofs.ChangeLemmas.{came_after}
-use Rattle.reception_parts.proofs.FindingLemmas.{missing_same}
-use Rattle.reception_parts.proofs.NakLemmas.{nak_front, nak_is}
+use Rattle.receiver_parts.proofs.FindingLemmas.{missing_same}
+use Rattle.receiver_parts.proofs.NakLemmas.{nak_front, nak_is}
 use Rattle.receiver_core.proofs.receiver.ReceiverCore.nak.Goals as goal
 
 pub returns : goal.returns

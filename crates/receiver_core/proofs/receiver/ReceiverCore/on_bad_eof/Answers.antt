@@ -4,9 +4,9 @@ use Rattle.cfdp_types.specs.declared.names.FileStatus.TheVariants.{Discarded}
 use Rattle.indications.specs.declared.indication.Indication.{Indication}
 use Rattle.indications.specs.declared.indication.Indication.TheVariants as told
 use Rattle.receiver_table.specs.Answers.{tells}
-use Rattle.reception_parts.specs.Response.{IsResponse}
+use Rattle.receiver_parts.specs.Response.{IsResponse}
 use Rattle.receiver_core.specs.Core.{reception_of}
-use Rattle.reception_parts.proofs.ResponseLemmas.{only_is, acknowledged_last}
+use Rattle.receiver_parts.proofs.ResponseLemmas.{only_is, acknowledged_last}
 use Rattle.receiver_core.proofs.receiver.ReceiverCore.on_bad_eof.Goals as goal
 
 pub returns : goal.returns

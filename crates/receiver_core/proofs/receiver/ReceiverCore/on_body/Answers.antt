@@ -1,4 +1,4 @@
-use Rattle.reception_parts.specs.FileChange.{metadata_after, received_after}
+use Rattle.receiver_parts.specs.FileChange.{metadata_after, received_after}
 use Rattle.receiver_core.proofs.receiver.ReceiverCore.on_body.Goals as goal
 
 pub returns-in-Prompt : goal.returns-in-Prompt

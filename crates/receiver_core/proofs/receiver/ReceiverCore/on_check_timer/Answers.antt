@@ -3,9 +3,9 @@ use Rattle.std.proofs.lemmas.Bool.{le-ltb}
 use Rattle.cfdp_types.specs.Condition as condition
 use Rattle.cfdp_types.specs.declared.names.TimerKind.TheVariants.{Check}
 use Rattle.receiver_table.specs.Answers.{fault_response}
-use Rattle.reception_parts.specs.ControlBlock.{state_from}
+use Rattle.receiver_parts.specs.ControlBlock.{state_from}
 use Rattle.receiver_core.specs.Core.{reception_of}
-use Rattle.reception_parts.proofs.ResponseLemmas.{alone}
+use Rattle.receiver_parts.proofs.ResponseLemmas.{alone}
 use Rattle.receiver_core.proofs.receiver.ReceiverCore.on_check_timer.Goals as goal
 
 pub returns-else-self-from : goal.returns-else-self-from

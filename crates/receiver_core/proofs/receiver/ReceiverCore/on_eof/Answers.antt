@@ -1,9 +1,9 @@
 use Rattle.std.proofs.Common.{◌≡◌, true, [], sym, ◌∙◌}
 use Rattle.receiver_table.specs.Reception.{is_closing}
 use Rattle.receiver_table.specs.Answers.{tells}
-use Rattle.reception_parts.specs.Response.{IsResponse}
+use Rattle.receiver_parts.specs.Response.{IsResponse}
 use Rattle.receiver_core.specs.Core.{shown, reception_of}
-use Rattle.reception_parts.proofs.ResponseLemmas.{only_is, acknowledged_alone}
+use Rattle.receiver_parts.proofs.ResponseLemmas.{only_is, acknowledged_alone}
 use Rattle.receiver_core.proofs.receiver.ReceiverCore.on_eof.Goals as goal
 
 pub returns-then-is_closing : goal.returns-then-is_closing

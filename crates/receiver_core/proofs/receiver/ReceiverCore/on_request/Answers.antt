@@ -1,9 +1,9 @@
 use Rattle.cfdp_types.specs.Condition as condition
 use Rattle.receiver_table.specs.Answers.{cancel_response}
-use Rattle.reception_parts.specs.ControlBlock.{state_from}
-use Rattle.reception_parts.specs.FileChange.{metadata_after, received_after}
+use Rattle.receiver_parts.specs.ControlBlock.{state_from}
+use Rattle.receiver_parts.specs.FileChange.{metadata_after, received_after}
 use Rattle.receiver_core.specs.Core.{reception_of}
-use Rattle.reception_parts.proofs.ResponseLemmas.{alone}
+use Rattle.receiver_parts.proofs.ResponseLemmas.{alone}
 use Rattle.receiver_core.proofs.receiver.ReceiverCore.on_request.Goals as goal
 
 pub returns-in-Stored : goal.returns-in-Stored

@@ -3,9 +3,9 @@ use Rattle.cfdp_types.specs.Condition as condition
 use Rattle.cfdp_types.specs.declared.names.Delivery.TheVariants.{Complete}
 use Rattle.cfdp_types.specs.declared.names.FileStatus.TheVariants.{Retained}
 use Rattle.receiver_table.specs.Answers.{finish_response, fault_response}
-use Rattle.reception_parts.specs.ControlBlock.{state_from}
+use Rattle.receiver_parts.specs.ControlBlock.{state_from}
 use Rattle.receiver_core.specs.Core.{reception_of}
-use Rattle.reception_parts.proofs.ResponseLemmas.{alone}
+use Rattle.receiver_parts.proofs.ResponseLemmas.{alone}
 use Rattle.receiver_core.proofs.receiver.ReceiverCore.on_stored.Goals as goal
 
 pub returns-then-kept : goal.returns-then-kept

@@ -2,9 +2,9 @@ use Rattle.std.proofs.Common.{[], ◌∷◌}
 use Rattle.cfdp_types.specs.Condition as condition
 use Rattle.cfdp_types.specs.declared.names.TimerKind.TheVariants.{Inactivity}
 use Rattle.receiver_table.specs.Answers.{fault_response}
-use Rattle.reception_parts.specs.ControlBlock.{state_from}
+use Rattle.receiver_parts.specs.ControlBlock.{state_from}
 use Rattle.receiver_core.specs.Core.{reception_of}
-use Rattle.reception_parts.proofs.ResponseLemmas.{alone}
+use Rattle.receiver_parts.proofs.ResponseLemmas.{alone}
 use Rattle.receiver_core.proofs.receiver.ReceiverCore.on_timer.Goals as goal
 
 pub returns-in-Nak : goal.returns-in-Nak

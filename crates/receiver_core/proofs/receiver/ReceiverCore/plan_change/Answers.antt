@@ -1,8 +1,8 @@
 use Rattle.txn_events.specs.Events.{body_of_event}
-use Rattle.reception_parts.specs.FileChange.{adds}
-use Rattle.reception_parts.specs.Steps.{IsWithEvent}
+use Rattle.receiver_parts.specs.FileChange.{adds}
+use Rattle.receiver_parts.specs.Steps.{IsWithEvent}
 use Rattle.receiver_core.proofs.ChangeLemmas.{runs_filled, ready}
-use Rattle.receiver_core.proofs.PlanLemmas.{is_plan_if}
+use Rattle.receiver_core.proofs.PlanLemmas.{small_now, is_plan_if}
 use Rattle.receiver_core.proofs.receiver.ReceiverCore.plan_change.Goals as goal
 
 pub response_to-requires-clause-filled : goal.response_to-requires-clause-filled
@@ -11,6 +11,11 @@ response_to-requires-clause-filled c = runs_filled c.args.self.now (body_of_even
 pub response_to-requires-clause-ready : goal.response_to-requires-clause-ready
 response_to-requires-clause-ready c =
     ready c.args.self.now c.args.event.now (adds c.args.change) c.with_event-now.result c.args.change (rw c.adds.ensures at c.with_event-now.ensures) c.requires.change
+    (small_now c.args.self.now c.args.event.now (adds c.args.change) c.with_event-now.result c.requires.taken (rw c.adds.ensures at c.with_event-now.ensures))
+
+pub plan_response-requires : goal.plan_response-requires
+plan_response-requires c =
+    small_now c.args.self.now c.args.event.now (adds c.args.change) c.with_event-now.result c.requires.taken (rw c.adds.ensures at c.with_event-now.ensures)
 
 pub returns : goal.returns
 returns c =

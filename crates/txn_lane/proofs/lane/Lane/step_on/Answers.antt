@@ -5,7 +5,7 @@ use Rattle.txn_lane.specs.LaneCode.{IsHeld}
 use Rattle.txn_lane.specs.Stepping.{IsOffered}
 use Rattle.lane_table.specs.Steps.{IsDone}
 use Rattle.txn_events.specs.declared.event.Event.TheVariants.{On}
-use Rattle.txn_core.proofs.PlanFacts.{answered_same}
+use Rattle.txn_lane.proofs.PlanFacts.{answered_same}
 use Rattle.txn_lane.proofs.TakenFacts.{free_if, may_then, offered_then, why_not, held_then, done_then}
 use Rattle.txn_lane.proofs.OnFacts.{goes_on_by, held_same, next_on}
 use Rattle.txn_lane.proofs.lane.Lane.step_on.Goals as goal

@@ -1,5 +1,5 @@
 use Rattle.std.proofs.Common.{sym, subst}
-use Rattle.txn_core.specs.Transactions.{IsPlanOf}
+use Rattle.txn_lane.specs.Transactions.{IsPlanOf}
 use Rattle.txn_lane.proofs.running.Running.commit.Goals as goal
 
 pub returns-clause-stands : goal.returns-clause-stands

@@ -1,7 +1,7 @@
 use Rattle.std.proofs.Common.{inr}
 use Rattle.std.proofs.lemmas.Result.{err_from_is_err_and}
 use Rattle.lane_table.specs.Logs.{opened_by, first_answer}
-use Rattle.txn_core.specs.Transactions.{plan_answer}
+use Rattle.txn_lane.specs.Transactions.{plan_answer}
 use Rattle.txn_lane.proofs.CarryFacts.{is_ok_of, first_planned}
 use Rattle.txn_lane.proofs.running.Running.open.Goals as goal
 

@@ -2,8 +2,8 @@ use Rattle.std.proofs.Common.{inr}
 use Rattle.std.proofs.lemmas.Result.{err_from_is_err_and}
 use Rattle.txn_events.specs.declared.event.Event.TheVariants.{On}
 use Rattle.lane_table.specs.Logs.{answered_behind}
-use Rattle.txn_core.specs.Transactions.{plan_answer}
-use Rattle.txn_core.proofs.PlanFacts.{answered_planned}
+use Rattle.txn_lane.specs.Transactions.{plan_answer}
+use Rattle.txn_lane.proofs.PlanFacts.{answered_planned}
 use Rattle.txn_lane.proofs.CarryFacts.{is_ok_of}
 use Rattle.txn_lane.proofs.running.Running.plan.Goals as goal
 

@@ -1,5 +1,0 @@
-use Rattle.end_laws.proofs.ReceiverFacts.{deposits_the_put}
-use Rattle.end_laws.proofs.laws.deposits_the_put.Goals as goal
-
-pub returns : goal.returns
-returns c = deposits_the_put

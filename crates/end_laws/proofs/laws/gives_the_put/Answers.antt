@@ -1,5 +1,0 @@
-use Rattle.end_laws.proofs.ReceiverFacts.{gives_the_put}
-use Rattle.end_laws.proofs.laws.gives_the_put.Goals as goal
-
-pub returns : goal.returns
-returns c = gives_the_put

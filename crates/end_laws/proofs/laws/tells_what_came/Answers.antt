@@ -1,5 +1,0 @@
-use Rattle.end_laws.proofs.SenderFacts.{tells_what_came}
-use Rattle.end_laws.proofs.laws.tells_what_came.Goals as goal
-
-pub returns : goal.returns
-returns c = tells_what_came

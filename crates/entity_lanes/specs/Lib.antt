@@ -1,2 +1,0 @@
-pub mod FirstLanes
-pub mod Asking

@@ -1,5 +1,0 @@
-use Rattle.entity_laws.proofs.KeyFacts.{tells_at_home}
-use Rattle.entity_laws.proofs.laws.keys.Goals as goal
-
-pub returns : goal.returns
-returns c = tells_at_home

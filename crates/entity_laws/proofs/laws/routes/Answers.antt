@@ -1,5 +1,0 @@
-use Rattle.entity_laws.proofs.RouteHomes.{routes_home}
-use Rattle.entity_laws.proofs.laws.routes.Goals as goal
-
-pub returns : goal.returns
-returns c = routes_home

@@ -1,5 +1,0 @@
-use Rattle.entity_laws.proofs.WordFacts.{tells_words}
-use Rattle.entity_laws.proofs.laws.words.Goals as goal
-
-pub returns : goal.returns
-returns c = tells_words

@@ -1,0 +1,28 @@
+-- Meaning. The lanes of an entity's users, by its configuration, as they stand at first.
+use Rattle.std.specs.Prelude.{ℕ, ◌^◌, ◌-◌, length, Option, Some, None}
+use Rattle.config_reading.specs.Values.{ConfigValue, PeerValue}
+use Rattle.lane_table.specs.declared.lane_side.LaneSide.TheVariants.{Sending, Receiving}
+use Rattle.lane_table.specs.declared.lane_side.Numbers.{Numbers}
+use Rattle.lane_table.specs.Lane.{State, idle}
+use Rattle.entity_routing.specs.Places.{source_of_lane}
+
+-- how sending lanes number their transactions
+abbrev pub numbers_of : ConfigValue → Numbers
+numbers_of config = record { first = config.entity.first; lanes = config.entity.put_lanes; users = length config.users }
+
+-- the greatest number that a sequence number's octets hold
+abbrev pub greatest_of : ConfigValue → ℕ
+greatest_of config = 256 ^ config.entity.lengths.sequence_octets - 1
+
+-- a lane for what its user puts
+abbrev pub first_sending : ConfigValue → ℕ → ℕ → State
+first_sending config user lane = idle (Sending (numbers_of config) (greatest_of config)) user lane config.entity.local
+
+-- a lane for what comes from a remote entity, if it is for one
+abbrev pub lane_for : ConfigValue → ℕ → ℕ → Option PeerValue → State
+lane_for config user lane None = first_sending config user lane
+lane_for config user lane (Some peer) = idle (Receiving peer.remote.params) user lane peer.remote.id
+
+-- a user's lane
+abbrev pub first_lane : ConfigValue → ℕ → ℕ → State
+first_lane config user lane = lane_for config user lane (source_of_lane config user lane)

@@ -1,0 +1,3 @@
+pub mod FirstLanes
+pub mod Asking
+pub mod Refusals

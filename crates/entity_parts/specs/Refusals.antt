@@ -1,0 +1,33 @@
+-- Meaning. Why an entity has no answer of a lane to give, and why it does not read a datagram.
+use Rattle.std.specs.Prelude.{◌≡◌, ℕ, List, Result, Ok, Err, IsOk, codes}
+use Rattle.pdu_reading.specs.Reading.{reading}
+use Rattle.pdu_reading.specs.declared.fault.DecodeFault.{DecodeFault}
+use Rattle.pdu_values.specs.Pdu.{PduValue}
+use Rattle.txn_events.specs.Refusal as lanes
+use Rattle.txn_events.specs.declared.refusal.Refusal.TheVariants as refusal
+use Rattle.lane_table.specs.Steps.{plainly}
+use Rattle.entity_routing.specs.Refusal as entities
+use Rattle.entity_routing.specs.declared.refusal.RouteRefusal.TheVariants as routes
+use Rattle.entity_parts.specs.declared.refusal.EntityRefusal.{EntityRefusal}
+use Rattle.entity_parts.specs.declared.refusal.EntityRefusal.TheVariants as answer
+
+-- the number that is printed for a refusal
+abbrev pub number_of : EntityRefusal → ℕ
+number_of (answer.Route why) = entities.refusal_number why
+number_of (answer.Lane refused) = lanes.refusal_number refused.why
+number_of answer.WrongLane = 26
+
+-- the name that is printed for a refusal, as octets
+abbrev pub name_of : EntityRefusal → List ℕ
+name_of (answer.Route why) = entities.refusal_name why
+name_of (answer.Lane refused) = lanes.refusal_name refused.why
+name_of answer.WrongLane = codes "WrongLane"
+
+-- why octets are not read: they are no PDU, or there was no memory for it
+abbrev pub IsNotRead : Result PduValue DecodeFault → EntityRefusal → Type 0
+IsNotRead (Err fault) why = why ≡ answer.Route (routes.DecodeFault fault)
+IsNotRead (Ok pdu) why = why ≡ answer.Lane (plainly refusal.NoMemory)
+
+-- octets are a PDU, for which there was no memory
+abbrev pub IsUnreadFrom : {A : Type 0} → List ℕ → Result A EntityRefusal → Type 0
+IsUnreadFrom octets result = IsOk (reading octets) × (result ≡ Err (answer.Lane (plainly refusal.NoMemory)))

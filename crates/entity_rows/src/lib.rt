@@ -1,3 +1,0 @@
-//! Worked examples of what an entity of one thread stands at and answers, computed by the checker from the definitions of
-//! `entity_users`, `entity_world` and `entity_laws`. There is no code here: each row is a lemma in `proofs/`.
-#![tactic(auto)]

@@ -1,0 +1,135 @@
+//! A datagram goes through an intake, and through a worker.
+ghost use Rattle.std.specs.Prelude.{◌≡◌};
+
+use crate::fault::Fault;
+use crate::shared::{Answered, flat};
+use crate::transcript::Transcript;
+use entity_workers::{Carrier, Intake, IntakeEnd, IntakeFault, WorkersFault, run_workers};
+use lane_table::{Done, Refused};
+use shared_entity::{Entity, EntityRefusal};
+use shared_lanes::{Names, NoGate};
+use std::alloc::{AllocError, Global};
+use std::sync::Wait;
+use std::thread::Threads;
+
+// The Metadata of a file of three octets in class 1, in the lane of the file that was kept before.
+const METADATA: &[u8] = b"\x24\x00\x0a\x00\x01\x07\x02\x07\x00\x00\x00\x00\x03\x01\x61\x01\x62";
+
+/// Keeps the answer to the last datagram, without memory of its own.
+#[derive(Drop)]
+struct Slot {
+    answer: Option<Answered>,
+}
+
+impl Carrier<Result<Done, Refused>> for Slot {
+    ghost accepts = { λ slot answer. Unit {0} };
+
+    fn carry(&mut self, answer: Answered)
+        requires { Unit {0} }
+    {
+        self.answer = Some(answer);
+    }
+}
+
+// One carrier.
+fn one_slot(alloc: Global) -> Result<Vec<Slot>, AllocError> {
+    let made = Vec::with_capacity(alloc, 1);
+    let mut slots = made.or_else(|_error| Vec::with_capacity(alloc, 1))?;
+    slots.push(Slot { answer: None })?;
+    Ok(slots)
+}
+
+/// Notes whether an intake takes a datagram: one that waits for a worker, and one that no worker can receive.
+pub(crate) fn note_sent<R: Wait>(
+    rt: &R,
+    alloc: Global,
+    transcript: &mut Transcript,
+) -> Result<(), Fault> {
+    if !note_opened(alloc, transcript)? {
+        note_opened(alloc, transcript)?;
+    }
+    let made = Intake::new(alloc, 1);
+    let (send, end) = made.or_else(|_error| Intake::new(alloc, 1))?;
+    if !note_send(transcript, send.send(rt, METADATA))? {
+        note_send(transcript, send.send(rt, METADATA))?;
+    }
+    drop(end);
+    if !note_send(transcript, send.send(rt, METADATA))? {
+        note_send(transcript, send.send(rt, METADATA))?;
+    }
+    Ok(())
+}
+
+fn note_opened(alloc: Global, transcript: &mut Transcript) -> Result<bool, AllocError> {
+    transcript.note_made("Intake::new", Intake::new(alloc, 1).is_ok())
+}
+
+fn note_send(
+    transcript: &mut Transcript,
+    sent: Result<(), IntakeFault>,
+) -> Result<bool, AllocError> {
+    match sent {
+        Ok(()) => transcript.note_made("Intake::send", true),
+        Err(IntakeFault::NoMemory) => transcript.note_made("Intake::send", false),
+        Err(IntakeFault::Closed) => {
+            transcript.note("Intake::send", "closed")?;
+            Ok(true)
+        }
+        Err(IntakeFault::Decode(_)) => {
+            transcript.note("Intake::send", "no PDU")?;
+            Ok(true)
+        }
+    }
+}
+
+// An intake in which the datagram waits, and to which no other can come.
+fn filled<R: Wait>(rt: &R, alloc: Global) -> Result<IntakeEnd, Fault> {
+    let made = Intake::new(alloc, 1);
+    let (send, end) = made.or_else(|_error| Intake::new(alloc, 1))?;
+    if send.send(rt, METADATA).is_err() && send.send(rt, METADATA).is_err() {
+        return Err(Fault::NoMemory);
+    }
+    Ok(end)
+}
+
+/// A worker brings the datagram to its lane. A thread that finds no memory is not started, and that is told as such.
+pub(crate) fn carry<N: Names + Send + Sync, R: Threads + Wait + Copy + Send + Sync>(
+    rt: &R,
+    alloc: Global,
+    transcript: &mut Transcript,
+    entity: &Entity<N, R>,
+) -> Result<(), Fault> {
+    if !carry_once(rt, alloc, transcript, entity)? {
+        carry_once(rt, alloc, transcript, entity)?;
+    }
+    Ok(())
+}
+
+fn carry_once<N: Names + Send + Sync, R: Threads + Wait + Copy + Send + Sync>(
+    rt: &R,
+    alloc: Global,
+    transcript: &mut Transcript,
+    entity: &Entity<N, R>,
+) -> Result<bool, Fault> {
+    let end = filled(rt, alloc)?;
+    let slots = one_slot(alloc)?;
+    match run_workers(rt, alloc, entity, &end, slots, &NoGate) {
+        Ok(back) => note_back(transcript, back),
+        Err(WorkersFault::NoMemory) => Ok(transcript.note_made("run_workers", false)?),
+        Err(WorkersFault::Start) => {
+            transcript.note("run_workers", "no thread")?;
+            Ok(false)
+        }
+    }
+}
+
+// What the worker's lane answered.
+fn note_back(transcript: &mut Transcript, back: Vec<Slot>) -> Result<bool, Fault> {
+    for slot in back {
+        if let Some(answer) = slot.answer {
+            return Ok(transcript.note_answer("run_workers", false, &flat(answer))?);
+        }
+    }
+    transcript.note("run_workers", "no answer")?;
+    Ok(true)
+}

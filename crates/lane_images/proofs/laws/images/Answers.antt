@@ -1,5 +1,0 @@
-use Rattle.lane_images.proofs.ImageFacts.{gives_own_files}
-use Rattle.lane_images.proofs.laws.images.Goals as goal
-
-pub returns : goal.returns
-returns c = gives_own_files

@@ -1,0 +1,25 @@
+-- Meaning. Of which reception an image is that a lane gives.
+use Rattle.std.specs.Prelude.{◌≡◌, ℕ, List, Some, None, Ok}
+use Rattle.cfdp_types.specs.declared.image.Image.{Image}
+use Rattle.cfdp_types.specs.declared.key.TxnKey.{TxnKey}
+use Rattle.receiver_table.specs.Reception.{Reception, Entry, state_of}
+use Rattle.receiver_laws.specs.LegalReceptions.{IsLegal}
+use Rattle.receiver_laws.specs.ReceptionLaws.{IsGiven}
+use Rattle.lane_table.specs.Logs.{received}
+use Rattle.lane_table.specs.Lane.{State, IsSound, log_of}
+use Rattle.lane_table.specs.Steps.{image_of}
+
+-- an image is the good file of the log that a lane stands at, which is legal, of a reception under a key, and waits for the deposit of the stamp
+pub record IsOwnFile (state : State) (key : TxnKey) (stamp : ℕ) (image : Image) : Type 0 where
+  pub reception : Reception
+  pub log : List Entry
+  pub log_is : log_of state ≡ Some (received reception log)
+  pub key_is : reception.key ≡ key
+  pub legal : IsLegal reception log
+  pub waits : (state_of log).waiting ≡ Some stamp
+  pub given : IsGiven (state_of log) stamp
+  pub image_is : given.image ≡ image
+
+-- what a sound lane gives by key and stamp is so
+abbrev pub GivesOwnFiles : Type 0
+GivesOwnFiles = (state : State) (key : TxnKey) (stamp : ℕ) (image : Image) → IsSound state → image_of state key stamp ≡ Ok image → IsOwnFile state key stamp image

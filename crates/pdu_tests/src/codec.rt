@@ -1,0 +1,173 @@
+use pdu_codec::{DecodeFault, Header, Pdu, decode, encode, laws};
+use std::alloc::{AllocError, Global};
+use std::test::*;
+
+mod large_vectors;
+mod vectors;
+
+use vectors::{FAULTS, READ_AS, WRITTEN};
+
+// Its direction, class, octets of an ID and of the sequence number, its source, sequence number and
+// destination, and whether it has the large file flag.
+fn header_text(alloc: Global, header: &Header) -> Result<String, AllocError> {
+    let mut text = String::new(alloc);
+    write!(text, "{:?} {:?} ", header.direction, header.class)?;
+    write!(text, "{}/{} ", header.entity_octets, header.sequence_octets)?;
+    write!(
+        text,
+        "{}:{}:{}",
+        header.source.0, header.sequence, header.destination.0
+    )?;
+    if header.large {
+        text.push_str(" large")?;
+    }
+    Ok(text)
+}
+
+fn is_text(text: Result<String, AllocError>, expected: &str) -> bool {
+    match text {
+        Ok(text) => text.as_str() == expected,
+        Err(_) => false,
+    }
+}
+
+// Whether a PDU has this header and this body.
+fn has_texts(alloc: Global, pdu: &Pdu, header: &str, body: &str) -> bool {
+    is_text(header_text(alloc, pdu.header()), header)
+        && is_text(format!(in alloc; "{:?}", pdu.body()), body)
+}
+
+// Whether this is written for a PDU.
+fn is_written(alloc: Global, pdu: &Pdu, octets: &[u8]) -> bool {
+    let mut out = Vec::new(alloc);
+    encode(pdu, &mut out).is_ok() && out.as_slice() == octets
+}
+
+// Whether octets are read as a PDU of this header and body, and written for it.
+fn is_read(alloc: Global, octets: &[u8], header: &str, body: &str) -> bool {
+    match decode(alloc, octets) {
+        Ok(pdu) => has_texts(alloc, &pdu, header, body) && is_written(alloc, &pdu, octets),
+        Err(_) => false,
+    }
+}
+
+#[test]
+fn what_is_written_is_read(rt: HostRuntime) {
+    laws::round_trip();
+    for (octets, header, body) in WRITTEN.iter().chain(large_vectors::WRITTEN) {
+        assert!(rt;
+            is_read(rt.alloc(), octets, header, body),
+            "{header} {body}"
+        );
+    }
+}
+
+// Whether plain octets are written for the PDU that others are read as.
+fn is_written_so(alloc: Global, octets: &[u8], plain: &[u8]) -> bool {
+    match decode(alloc, octets) {
+        Ok(pdu) => is_written(alloc, &pdu, plain),
+        Err(_) => false,
+    }
+}
+
+#[test]
+fn what_has_no_meaning_is_not_written(rt: HostRuntime) {
+    for (octets, plain) in READ_AS.iter().chain(large_vectors::READ_AS) {
+        assert!(rt; is_written_so(rt.alloc(), octets, plain), "{octets:?}");
+    }
+}
+
+fn has_fault(alloc: Global, octets: &[u8], fault: DecodeFault) -> bool {
+    match decode(alloc, octets) {
+        Ok(_) => false,
+        Err(found) => found == fault,
+    }
+}
+
+#[test]
+fn faults(rt: HostRuntime) {
+    for (octets, fault) in FAULTS.iter().chain(large_vectors::FAULTS) {
+        assert!(rt; has_fault(rt.alloc(), octets, *fault), "{octets:?}");
+    }
+}
+
+// What is sent of two files that are received, one in each class, and of one that is put.
+const SENT: [&[u8]; 16] = [
+    b"\x24\x00\x0a\x00\x01\x05\x02\x07\x00\x00\x00\x00\x03\x01\x61\x01\x62",
+    b"\x34\x00\x07\x00\x01\x05\x02\x00\x00\x00\x00\x61\x62\x63",
+    b"\x24\x00\x0a\x00\x01\x05\x02\x04\x00\x61\x62\x63\x00\x00\x00\x00\x03",
+    b"\x20\x00\x0a\x00\x01\x05\x02\x07\x00\x00\x00\x00\x03\x01\x61\x01\x62",
+    b"\x30\x00\x07\x00\x01\x05\x02\x00\x00\x00\x00\x61\x62\x63",
+    b"\x20\x00\x0a\x00\x01\x05\x02\x04\x00\x61\x62\x63\x00\x00\x00\x00\x03",
+    b"\x28\x00\x03\x00\x01\x05\x02\x06\x40\x01",
+    b"\x28\x00\x02\x00\x01\x05\x02\x05\x02",
+    b"\x20\x00\x0a\x00\x02\x04\x01\x07\x00\x00\x00\x00\x03\x01\x61\x01\x62",
+    b"\x30\x00\x07\x00\x02\x04\x01\x00\x00\x00\x00\x61\x62\x63",
+    b"\x20\x00\x0a\x00\x02\x04\x01\x04\x00\x61\x62\x63\x00\x00\x00\x00\x03",
+    b"\x28\x00\x11\x00\x02\x04\x01\x08\x00\x00\x00\x00\x00\x00\x00\x03\x00\x00\x00\x01\x00\x00\x00\x02",
+    b"\x30\x00\x05\x00\x02\x04\x01\x00\x00\x00\x01\x62",
+    b"\x28\x00\x03\x00\x02\x04\x01\x06\x40\x01",
+    b"\x28\x00\x02\x00\x02\x04\x01\x05\x02",
+    b"\x20\x00\x03\x00\x02\x04\x01\x06\x51\x02",
+];
+
+// The octets of their fixed header.
+const HEADER: usize = 7;
+
+// Whether octets are too short for their header, or else of another length than it says, wherever they are cut.
+fn is_refused_cut(alloc: Global, octets: &[u8]) -> bool {
+    for length in 0..octets.len() {
+        let fault = if length < HEADER {
+            DecodeFault::TooShort
+        } else {
+            DecodeFault::LengthMismatch
+        };
+        if !has_fault(alloc, &octets[..length], fault) {
+            return false;
+        }
+    }
+    true
+}
+
+#[test]
+fn datagrams_that_are_cut(rt: HostRuntime) {
+    for octets in SENT {
+        assert!(rt; decode(rt.alloc(), octets).is_ok(), "{octets:?}");
+        assert!(rt; is_refused_cut(rt.alloc(), octets), "{octets:?}");
+    }
+}
+
+// Metadata with closure, and the messages "hi" and "x" behind an option of another type.
+const MESSAGES: &[u8] = b"\x24\x00\x13\x00\x01\x05\x02\x07\x40\x00\x00\x00\x03\x01\x61\x01\x62\
+    \x05\x00\x02\x02\x68\x69\x02\x01\x78";
+
+// What is written for it, behind a front.
+const MESSAGES_BEHIND: &[u8] = b"front\x24\x00\x11\x00\x01\x05\x02\x07\x40\x00\x00\x00\x03\x01\x61\
+    \x01\x62\x02\x02\x68\x69\x02\x01\x78";
+
+// Memory may run out anywhere here, and is there again at the next call: to be run with each
+// allocation refused in turn.
+#[test]
+fn memory(rt: HostRuntime) -> Result<(), Fail> {
+    let pdu = read_again(rt.alloc())?;
+    let mut out = Vec::from_slice(rt.alloc(), b"front")?;
+    assert!(rt; is_appended(&pdu, &mut out));
+    Ok(())
+}
+
+fn read_again(alloc: Global) -> Result<Pdu, DecodeFault> {
+    match decode(alloc, MESSAGES) {
+        Err(DecodeFault::NoMemory) => decode(alloc, MESSAGES),
+        other => other,
+    }
+}
+
+// Whether the PDU is written behind the front, at the second try where the first leaves it as it was.
+fn is_appended(pdu: &Pdu, out: &mut Vec<u8>) -> bool {
+    if encode(pdu, out).is_err()
+        && (out.as_slice() != b"front".as_slice() || encode(pdu, out).is_err())
+    {
+        return false;
+    }
+    out.as_slice() == MESSAGES_BEHIND
+}

@@ -1,0 +1,65 @@
+-- Of the code. What an event changes in what is kept of a file, and the file after it.
+use Rattle.std.specs.Prelude.{◌≡◌, ℕ, ◌<◌, ◌≤◌, Bool, true, false, not, ◌==◌, List, [], length, Option, Some, None, vec_len}
+use Rattle.gap_list.specs.Covered.{covered}
+use Rattle.gap_list.specs.Runs.{with_range}
+use Rattle.gap_list.specs.declared.run.Run.{Run}
+use Rattle.modular_sum.specs.Pieces.{IsSumOf}
+use Rattle.pdu_values.specs.declared.bodies.Metadata.{Metadata}
+use Rattle.pdu_values.specs.declared.bodies.FileData.{FileData}
+use Rattle.receiver_parts.specs.ControlBlock.{IsSmall}
+use Rattle.receiver_parts.specs.ReceivedFile.{received_of, with_segment, end_of, IsSegmentOf}
+use Rattle.receiver_parts.specs.declared.received_file.ReceivedFile.{ReceivedFile}
+use Rattle.receiver_parts.specs.declared.control.ControlBlock.{ControlBlock}
+use Rattle.receiver_parts.specs.declared.file_change.FileChange as change_type
+use Rattle.receiver_parts.specs.declared.file_change.FileChange.TheVariants as change
+
+-- the Metadata after a change
+abbrev pub metadata_after : Option Metadata → change_type.FileChange → Option Metadata
+metadata_after metadata (change.Metadata m) = Some m
+metadata_after metadata _ = metadata
+
+-- the segment of the file that a change adds
+abbrev pub segment_of : change_type.FileChange → Option FileData
+segment_of (change.NewSegment segment) = Some segment.file_data
+segment_of _ = None
+
+-- the octets that came, after a change
+abbrev pub received_after : ReceivedFile → change_type.FileChange → ℕ → Option ℕ
+received_after file c = with_segment (received_of file) (segment_of c)
+
+-- the offsets that came, after a change
+abbrev pub covered_after : ReceivedFile → change_type.FileChange → ℕ → Bool
+covered_after file (change.NewSegment segment) = with_range (covered file.gaps) segment.file_data.offset (end_of segment)
+covered_after file _ = covered file.gaps
+
+-- the checksum of the octets that came, after a change
+abbrev pub word_after : ReceivedFile → change_type.FileChange → ℕ
+word_after file (change.NewSegment segment) = segment.sum
+word_after file _ = file.sum
+
+-- a segment is one of what is kept
+abbrev pub FitsFile : ReceivedFile → change_type.FileChange → Type 0
+FitsFile file (change.NewSegment segment) = IsSegmentOf file segment
+FitsFile file _ = Unit {0}
+
+-- there is room for what a change adds
+abbrev pub HasRoom : ReceivedFile → change_type.FileChange → Type 0
+HasRoom file (change.NewSegment segment) = (end_of segment ≤ vec_len file.octets) × (0 < file.gaps.room)
+HasRoom file _ = Unit {0}
+
+-- the new runs of a change
+abbrev pub runs_in : change_type.FileChange → List Run
+runs_in (change.NewSegment segment) = segment.runs.items
+runs_in _ = []
+
+-- a change adds to the file, or is the first Metadata
+abbrev pub adds : change_type.FileChange → Bool
+adds (change.Metadata m) = true
+adds (change.NewSegment segment) = not (length segment.runs.items == 0)
+adds change.Nothing = false
+
+-- the checksum after a change is that of the octets that came, and these lie below the progress
+pub record IsReady (file : ReceivedFile) (now : ControlBlock) (c : change_type.FileChange) : Type 0 where
+  pub summed : IsSumOf (received_after file c) (word_after file c)
+  pub reached : (i : ℕ) → now.progress ≤ i → received_after file c i ≡ None
+  pub small : IsSmall now

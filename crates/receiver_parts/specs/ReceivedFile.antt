@@ -1,0 +1,28 @@
+-- Of the code. How the code keeps the octets of a file.
+use Rattle.std.specs.Prelude.{◌≡◌, ℕ, ◌+◌, length, Option, Some}
+use Rattle.cfdp_types.specs.Steps.{older_or}
+use Rattle.gap_list.specs.Covered.{covered}
+use Rattle.gap_list.specs.Runs.{new_runs}
+use Rattle.modular_sum.specs.Pieces.{IsSumOf}
+use Rattle.pdu_values.specs.declared.bodies.FileData.{FileData}
+use Rattle.receiver_table.specs.Reception.{octet_at}
+use Rattle.receiver_parts.specs.Offsets.{octets_in}
+use Rattle.receiver_parts.specs.declared.received_file.ReceivedFile.{ReceivedFile}
+use Rattle.receiver_parts.specs.declared.received_file.NewSegment.{NewSegment}
+
+-- the octets that came
+abbrev pub received_of : ReceivedFile → ℕ → Option ℕ
+received_of file = octets_in file.octets.items (covered file.gaps)
+
+-- the octets that came, and of a segment of the file those that did not
+abbrev pub with_segment : (ℕ → Option ℕ) → Option FileData → ℕ → Option ℕ
+with_segment received segment i = older_or (received i) (octet_at segment i)
+
+-- the end of a segment
+abbrev pub end_of : NewSegment → ℕ
+end_of segment = segment.file_data.offset + length segment.file_data.octets
+
+-- what of a segment is new to a file, and the checksum with it
+pub record IsSegmentOf (file : ReceivedFile) (segment : NewSegment) : Type 0 where
+  pub runs : segment.runs.items ≡ new_runs (covered file.gaps) segment.file_data.offset (end_of segment)
+  pub sum : IsSumOf (with_segment (received_of file) (Some segment.file_data)) segment.sum

@@ -1,0 +1,291 @@
+//! The octets of a file that came so far.
+ghost use Rattle.std.specs.Prelude.{◌≡◌, ℕ, ◌+◌, ◌-◌, ◌<◌, ◌≤◌, if◌then◌else◌, All, IfOk, OnOk, length, slice_get, vec_len, map, take, drop};
+ghost use Rattle.gap_list.specs.Covered.{covered};
+ghost use Rattle.gap_list.specs.Runs.{in_runs, is_within};
+ghost use Rattle.modular_sum.specs.Pieces.{IsSumOf, sum_after};
+ghost use Rattle.receiver_parts.specs.Offsets.{IsInside, octets_in, piece_of};
+
+use gap_list::{Gaps, Run};
+use modular_sum::Running;
+use pdu_values::FileData;
+use std::alloc::{AllocError, Global};
+
+/// The octets of a file that came so far, each as it came first.
+#[derive(Drop)]
+pub struct ReceivedFile {
+    /// At an offset that did not come stands any octet.
+    pub octets: Vec<u8>,
+    /// Which offsets came.
+    pub gaps: Gaps,
+    /// The checksum of the octets that came, each at its offset.
+    pub sum: Running,
+    ghost inside: { IsInside (length octets.items) (covered gaps) },
+    ghost summed: { IsSumOf (octets_in octets.items (covered gaps)) sum },
+}
+
+/// A segment of a file, and what it adds to what came before.
+#[derive(Drop)]
+pub struct NewSegment {
+    pub file_data: FileData,
+    /// Its first offset.
+    pub start: u32,
+    /// One more than its last offset.
+    pub end: u32,
+    /// The offsets of the segment that did not come before.
+    pub runs: Vec<Run>,
+    /// The checksum with the octets at these offsets.
+    pub sum: Running,
+    ghost starts: { start ≡ file_data.offset },
+    ghost ends: { end ≡ file_data.offset + length file_data.octets },
+}
+
+impl ReceivedFile {
+    ghost use Rattle.std.specs.Prelude.{◌≡◌, ℕ, ◌+◌, ◌<◌, ◌≤◌, IfOk, OnOk, IsTrue, false, None, Some, length, vec_len, not, unwrap_or};
+    ghost use Rattle.gap_list.specs.Runs.{in_runs, new_runs, with_range};
+    ghost use Rattle.receiver_table.specs.Answers.{octets_from};
+    ghost use Rattle.cfdp_types.specs.declared.limits.TheConstants.{FILE_OCTETS};
+    ghost use Rattle.gap_list.specs.Covered.{covered};
+    ghost use Rattle.modular_sum.specs.Pieces.{IsSumOf};
+    ghost use Rattle.receiver_parts.specs.Offsets.{octets_in};
+    ghost use Rattle.receiver_parts.specs.ReceivedFile.{received_of, with_segment, end_of, IsSegmentOf};
+
+    /// Nothing came.
+    pub fn new(alloc: Global) -> ReceivedFile
+        ensures received { (i : ℕ) → received_of result i ≡ None }
+        ensures gaps { (i : ℕ) → covered result.gaps i ≡ false }
+    {
+        ReceivedFile {
+            octets: Vec::new(alloc),
+            gaps: Gaps::new(alloc),
+            sum: Running::new(),
+        }
+    }
+
+    // The checksum with the octets of a segment at the runs of its offsets that did not come.
+    fn sum_with(&self, file_data: &FileData, start: u32, runs: &[Run]) -> Running
+        requires starts { start ≡ file_data.now.offset }
+        requires runs { runs.now ≡ new_runs (covered self.now.gaps) file_data.now.offset
+            (file_data.now.offset + length file_data.now.octets) }
+        ensures { IsSumOf (with_segment (received_of self.now) (Some file_data.now)) result }
+    {
+        sum_with_runs(self.sum, runs, start, file_data.octets.as_slice())
+    }
+
+    /// What a segment of the file adds.
+    pub fn segment(&self, file_data: &FileData, end: u32) -> Result<NewSegment, AllocError>
+        requires { end ≡ file_data.now.offset + length file_data.now.octets }
+        ensures whole { IfOk result (λ segment. segment.file_data ≡ file_data.now) }
+        ensures segment { IfOk result (λ segment. IsSegmentOf self.now segment) }
+    {
+        let start = file_data.offset as u32;
+        let runs = self.gaps.new_within(start, end)?;
+        let sum = self.sum_with(file_data, start, runs.as_slice());
+        let file_data = copy_of(file_data)?;
+        Ok(NewSegment {
+            file_data,
+            start,
+            end,
+            runs,
+            sum,
+        })
+    }
+
+    // The octet at an offset, and 0 where it is missing.
+    fn octet(&self, missing: &[Run], offset: u32) -> u8
+        requires { in_runs missing.now offset ≡ not (covered self.now.gaps offset) }
+        ensures { result ≡ unwrap_or (received_of self.now offset) 0 }
+    {
+        if is_among(missing, offset) {
+            0
+        } else {
+            self.octets[offset as usize]
+        }
+    }
+
+    // The octets below a size, with 0 for those that are missing.
+    fn filled_up(&self, size: u32) -> Result<Vec<u8>, AllocError>
+        ensures { IfOk result (λ octets. octets.items ≡ octets_from (received_of self.now) 0 size) }
+    {
+        let missing = self.gaps.missing(size)?;
+        let mut octets = Vec::with_capacity(*self.octets.allocator(), size as usize)?;
+        for offset in 0..size {
+            octets.push(self.octet(missing.as_slice(), offset))?;
+        }
+        Ok(octets)
+    }
+
+    // The octets below a size, where none of them is missing.
+    fn front(&self, size: u32) -> &[u8]
+        requires { (i : ℕ) → i < size → IsTrue (covered self.now.gaps i) }
+        ensures { result.now ≡ octets_from (received_of self.now) 0 size }
+    {
+        &self.octets.as_slice()[..size as usize]
+    }
+
+    /// The octets below a size, with 0 for those that are missing.
+    pub fn below(&self, size: u32) -> Result<Vec<u8>, AllocError>
+        ensures { IfOk result (λ octets. octets.items ≡ octets_from (received_of self.now) 0 size) }
+    {
+        if self.gaps.is_full(size) {
+            Vec::from_slice(*self.octets.allocator(), self.front(size))
+        } else {
+            self.filled_up(size)
+        }
+    }
+
+    // Makes room for the octets below an end.
+    fn lengthen(&mut self, end: u32) -> Result<(), AllocError>
+        ensures received { (i : ℕ) → received_of self.new i ≡ received_of self.old i }
+        ensures gaps { self.new.gaps ≡ self.old.gaps }
+        ensures longer { vec_len self.old.octets ≤ vec_len self.new.octets }
+        ensures octets { OnOk result (end ≤ vec_len self.new.octets) }
+    {
+        lengthen(&mut self.octets, end as usize)
+    }
+
+    // Makes room for one more run of offsets.
+    fn reserve_run(&mut self) -> Result<(), AllocError>
+        ensures received { (i : ℕ) → received_of self.new i ≡ received_of self.old i }
+        ensures gaps { (i : ℕ) → covered self.new.gaps i ≡ covered self.old.gaps i }
+        ensures octets { self.new.octets ≡ self.old.octets }
+        ensures kept { self.old.gaps.room ≤ self.new.gaps.room }
+        ensures run { OnOk result (0 < self.new.gaps.room) }
+    {
+        self.gaps.reserve(1)
+    }
+
+    /// Makes room for the offsets below an end, and for one more run of them.
+    pub fn make_room(&mut self, end: u32) -> Result<(), AllocError>
+        ensures received { (i : ℕ) → received_of self.new i ≡ received_of self.old i }
+        ensures gaps { (i : ℕ) → covered self.new.gaps i ≡ covered self.old.gaps i }
+        ensures longer { vec_len self.old.octets ≤ vec_len self.new.octets }
+        ensures kept { self.old.gaps.room ≤ self.new.gaps.room }
+        ensures octets { OnOk result (end ≤ vec_len self.new.octets) }
+        ensures run { OnOk result (0 < self.new.gaps.room) }
+    {
+        self.lengthen(end)?;
+        self.reserve_run()
+    }
+
+    // Lays the octets of a segment where none came.
+    fn lay(&mut self, segment: &NewSegment)
+        requires segment { IsSegmentOf self.old segment.now }
+        requires room { end_of segment.now ≤ vec_len self.old.octets }
+        ensures laid { (i : ℕ) → octets_in self.new.octets.items
+            (with_range (covered self.old.gaps) segment.now.file_data.offset (end_of segment.now)) i
+            ≡ with_segment (received_of self.old) (Some segment.now.file_data) i }
+        ensures gaps { self.new.gaps ≡ self.old.gaps }
+        ensures len { vec_len self.new.octets ≡ vec_len self.old.octets }
+    {
+        put(
+            &mut self.octets,
+            segment.runs.as_slice(),
+            segment.start,
+            segment.file_data.octets.as_slice(),
+        );
+    }
+
+    /// Takes a segment, in room that is there.
+    pub fn take(&mut self, segment: NewSegment)
+        requires segment { IsSegmentOf self.old segment }
+        requires octets { end_of segment ≤ vec_len self.old.octets }
+        requires run { 0 < self.old.gaps.room }
+        ensures received { (i : ℕ) → received_of self.new i
+            ≡ with_segment (received_of self.old) (Some segment.file_data) i }
+    {
+        self.lay(&segment);
+        self.gaps.add(segment.start, segment.end);
+        self.sum = segment.sum;
+    }
+}
+
+// A copy of a segment as it came.
+fn copy_of(file_data: &FileData) -> Result<FileData, AllocError>
+    ensures { IfOk result (λ copy. copy ≡ file_data.now) }
+{
+    file_data.clone()
+}
+
+// Whether one of the runs has an offset.
+fn is_among(runs: &[Run], offset: u32) -> bool
+    ensures { result ≡ in_runs runs.now offset }
+{
+    runs.iter()
+        .any(|run| run.start <= offset && offset < run.end)
+}
+
+// At least so many octets, of which the first are the same.
+fn lengthen(octets: &mut Vec<u8>, wanted: usize) -> Result<(), AllocError>
+    ensures same { (i : ℕ) → i < vec_len octets.old → slice_get octets.new.items i ≡ slice_get octets.old.items i }
+    ensures longer { vec_len octets.old ≤ vec_len octets.new }
+    ensures room { OnOk result (wanted ≤ vec_len octets.new) }
+{
+    let len = octets.len();
+    if len < wanted {
+        octets.reserve(wanted - len)?;
+        octets.resize(wanted, 0)?;
+    }
+    Ok(())
+}
+
+// Those octets of a segment that a run has.
+fn part_of(octets: &[u8], offset: u32, run: Run) -> &[u8]
+    requires begins { offset ≤ run.start }
+    requires ordered { run.start ≤ run.end }
+    requires ends { run.end ≤ offset + length octets.now }
+    ensures { result.now ≡ take (run.end - run.start) (drop (run.start - offset) octets.now) }
+{
+    &octets[(run.start - offset) as usize..(run.end - offset) as usize]
+}
+
+// The checksum with those octets of a segment that the runs have.
+fn sum_with_runs(sum: Running, runs: &[Run], offset: u32, octets: &[u8]) -> Running
+    requires inside { All
+        (λ run. (offset ≤ run.start) × (run.start ≤ run.end) × (run.end ≤ offset + length octets.now)) runs.now }
+    ensures { result ≡ sum_after sum (map (piece_of offset octets.now) runs.now) }
+{
+    let mut sum = sum;
+    for run in runs {
+        sum.add(run.start, part_of(octets, offset, *run));
+    }
+    sum
+}
+
+// Puts those octets of a segment that a run has at their offsets.
+fn put_run(kept: &mut [u8], run: Run, offset: u32, octets: &[u8])
+    requires begins { offset ≤ run.start }
+    requires ordered { run.start ≤ run.end }
+    requires ends { run.end ≤ offset + length octets.now }
+    requires room { run.end ≤ length kept.old }
+    ensures items { (i : ℕ) → slice_get kept.new i ≡
+        (if is_within run.start run.end i then slice_get octets.now (i - offset) else slice_get kept.old i) }
+    ensures len { length kept.new ≡ length kept.old }
+{
+    kept[run.start as usize..run.end as usize].copy_from_slice(part_of(octets, offset, run));
+}
+
+// Puts those octets of a segment that the runs have at their offsets.
+fn put_runs(kept: &mut [u8], runs: &[Run], offset: u32, octets: &[u8])
+    requires inside { All
+        (λ run. (offset ≤ run.start) × (run.start ≤ run.end) × (run.end ≤ offset + length octets.now)) runs.now }
+    requires room { offset + length octets.now ≤ length kept.old }
+    ensures items { (i : ℕ) → slice_get kept.new i ≡
+        (if in_runs runs.now i then slice_get octets.now (i - offset) else slice_get kept.old i) }
+    ensures len { length kept.new ≡ length kept.old }
+{
+    for run in runs {
+        put_run(kept, *run, offset, octets);
+    }
+}
+
+// The same in a vector.
+fn put(kept: &mut Vec<u8>, runs: &[Run], offset: u32, octets: &[u8])
+    requires inside { All
+        (λ run. (offset ≤ run.start) × (run.start ≤ run.end) × (run.end ≤ offset + length octets.now)) runs.now }
+    requires room { offset + length octets.now ≤ vec_len kept.old }
+    ensures items { (i : ℕ) → slice_get kept.new.items i ≡
+        (if in_runs runs.now i then slice_get octets.now (i - offset) else slice_get kept.old.items i) }
+    ensures len { vec_len kept.new ≡ vec_len kept.old }
+{
+    put_runs(kept, runs, offset, octets);
+}

@@ -1,8 +1,0 @@
-use Rattle.std.proofs.Common.{◌≡◌, drop, map}
-use Rattle.modular_sum.specs.Pieces.{sum_after}
-use Rattle.reception_parts.specs.Offsets.{piece_of}
-use Rattle.reception_parts.proofs.received_file.sum_with_runs.Given as goal
-
-abbrev pub invariant-loop-run : goal.invariant-loop-run
-invariant-loop-run l = sum_after l.sum (map (piece_of l.offset l.octets) (drop l.run-index l.runs))
-    ≡ sum_after l.initial.sum (map (piece_of l.offset l.octets) l.runs)

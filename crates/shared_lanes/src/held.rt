@@ -1,0 +1,114 @@
+use cfdp_types::{Image, TxnKey};
+use indications::Indication;
+use lane_table::{Done, Refused};
+use std::marker::{Model, PhantomData};
+use std::sync::Wait;
+use txn_events::{Event, Refusal};
+use txn_lane::Lane;
+use user_queues::{LaneOutlet, Names};
+
+/// A lane with its own outlet, of the queue that `N` names for its user. Contracts see both. Its type keeps that all
+/// that was sent through the outlet fits the lane, so nothing goes into the queue there but what a step of the lane tells.
+#[derive(Drop)]
+pub struct Held<N: Names, R: Copy> {
+    lane: Lane,
+    outlet: LaneOutlet<R>,
+    names: PhantomData<N>,
+}
+
+impl<N: Names, R: Copy> Model for Held<N, R> {
+    ghost use Rattle.shared_lanes.specs.Held.{HeldValue, IsBehindLock};
+
+    ghost Value = { HeldValue };
+
+    ghost view = { λ h. record { lane = h.lane; outlet = h.outlet } };
+
+    ghost invariant = { λ h. IsBehindLock N.queue (record { lane = h.lane; outlet = h.outlet }) };
+}
+
+impl<N: Names, R: Copy> Held<N, R> {
+    ghost use Rattle.std.specs.Prelude.{◌≡◌, Ok, IfOk, IfErr};
+    ghost use Rattle.shared_lanes.specs.Held.{IsBehindLock};
+    ghost use Rattle.lane_table.specs.Lane.{issued_by, key_of};
+    ghost use Rattle.lane_table.specs.Steps.{image_of};
+    ghost use Rattle.txn_lane.specs.Transactions.{IsWhy};
+
+    /// A lane with its outlet.
+    pub fn new(lane: Lane, outlet: LaneOutlet<R>) -> Held<N, R>
+        requires { IsBehindLock N.queue (record { lane = lane; outlet = outlet }) }
+        ensures { result ≡ record { lane = lane; outlet = outlet } }
+    {
+        Held {
+            lane,
+            outlet,
+            names: PhantomData,
+        }
+    }
+
+    /// The number of the user.
+    pub fn user(&self) -> usize
+        ensures user { result ≡ self.now.lane.user }
+        ensures kept { IsBehindLock N.queue self.now }
+    {
+        self.outlet.user()
+    }
+
+    /// The number of the user's lane.
+    pub fn lane(&self) -> usize
+        ensures { result ≡ self.now.lane.lane }
+    {
+        self.outlet.lane()
+    }
+
+    /// The key of the lane's last transaction, if there is one.
+    pub fn key(&self) -> Option<TxnKey>
+        ensures { result ≡ key_of self.now.lane }
+    {
+        self.lane.key()
+    }
+
+    /// The events of that transaction that were taken, in order.
+    pub fn journal(&self) -> &[Event]
+        ensures { result.now ≡ self.now.lane.journal }
+    {
+        self.lane.journal()
+    }
+
+    /// All that the user was told of that transaction, in order.
+    pub fn trace(&self) -> &[Indication]
+        ensures { result.now ≡ issued_by self.now.lane }
+    {
+        self.lane.trace()
+    }
+
+    /// The file of a deposit that waits at the lane, by its key and its stamp.
+    pub fn image(&self, key: TxnKey, stamp: u32) -> Result<Image, Refusal>
+        ensures image { IfOk result (λ image. image_of self.now.lane key stamp ≡ Ok image) }
+        ensures refused { IfErr result (λ why. IsWhy (image_of self.now.lane key stamp) why) }
+    {
+        self.lane.image(key, stamp)
+    }
+
+    /// The outlet alone, through which nothing comes any more.
+    pub fn into_outlet(self) -> LaneOutlet<R>
+        ensures outlet { result ≡ self.outlet }
+        ensures queue { result.queue ≡ N.queue result.knows.user }
+    {
+        let Held { outlet, .. } = self;
+        outlet
+    }
+}
+
+impl<N: Names, R: Wait + Copy> Held<N, R> {
+    ghost use Rattle.lane_table.specs.Steps.{IsKeyed};
+    ghost use Rattle.shared_lanes.specs.Held.{HasStepped};
+
+    /// Has the lane take an event: what the step tells goes into its user's queue, as one bundle, and only then is the
+    /// step made. An event that is not taken changes nothing.
+    pub fn step(&mut self, event: &Event) -> Result<Done, Refused>
+        requires { IsKeyed event.now }
+        ensures { HasStepped self.old event.now result self.new }
+    {
+        self.lane.step(event, &mut self.outlet)
+    }
+}

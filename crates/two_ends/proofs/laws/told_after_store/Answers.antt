@@ -1,5 +1,0 @@
-use Rattle.two_ends.proofs.ScheduleFacts.{tells_what_was_stored}
-use Rattle.two_ends.proofs.laws.told_after_store.Goals as goal
-
-pub returns : goal.returns
-returns c = tells_what_was_stored

@@ -1,0 +1,45 @@
+-- Of the code. What the code's transaction stands at, and what it plans, over the logs of both ends.
+use Rattle.std.specs.Prelude.{◌≡◌, [], Option, Some, None}
+use Rattle.txn_events.specs.declared.answer.Answer.{Answer}
+use Rattle.txn_events.specs.declared.event.Event.{Event}
+use Rattle.txn_events.specs.declared.event.Event.TheVariants.{On}
+pub use Rattle.txn_events.specs.Logs.{IsWhy}
+use Rattle.sender_core.specs.Core as sender
+use Rattle.receiver_core.specs.Core as receiver
+use Rattle.lane_table.specs.Logs.{Transaction, Log, sent, received, to_sender, log_by}
+use Rattle.txn_lane.specs.declared.transaction.TransactionCore.{TransactionCore}
+use Rattle.txn_lane.specs.declared.transaction.TransactionCore.TheVariants as core
+use Rattle.txn_lane.specs.declared.transaction.TransactionPlan.{TransactionPlan}
+use Rattle.txn_lane.specs.declared.transaction.TransactionPlan.TheVariants as plan
+
+-- what the transaction holds is what the log of its end gives
+abbrev pub StandsAfter : TransactionCore → Log → Type 0
+StandsAfter (core.Sender c) (sent sending log) = (sender.sending_of c ≡ sending) × sender.StandsAfter c log
+StandsAfter (core.Receiver c) (received reception log) = (receiver.reception_of c ≡ reception) × receiver.StandsAfter c log
+StandsAfter c log = ⊥
+
+-- the answer of a plan
+abbrev pub plan_answer : TransactionPlan → Answer
+plan_answer (plan.Sender p) = sender.plan_answer p.value
+plan_answer (plan.Receiver p) = receiver.plan_answer p.value
+
+-- in the present state the event is answered as planned
+abbrev pub IsPlanOf : TransactionCore → TransactionPlan → Event → Type 0
+IsPlanOf (core.Sender c) (plan.Sender p) event = sender.IsPlanOf c p.value (to_sender event)
+IsPlanOf (core.Receiver c) (plan.Receiver p) (On key event) = receiver.IsPlanOf c p.value event
+IsPlanOf c p event = ⊥
+
+-- what the transaction holds is what this log gives, and there is one
+abbrev pub StandsBehind : TransactionCore → Option Log → Type 0
+StandsBehind c None = ⊥
+StandsBehind c (Some log) = StandsAfter c log
+
+-- the log of a transaction to which nothing happened yet, if there is one
+abbrev pub log_at_first : Option Transaction → Option Log
+log_at_first None = None
+log_at_first (Some transaction) = Some (log_by transaction [])
+
+-- an event opened the transaction: nothing happened to it yet, and the event is planned as its first one
+pub record IsOpenedBy (opened : Option Transaction) (event : Event) (c : TransactionCore) (p : TransactionPlan) : Type 0 where
+  pub stands : StandsBehind c (log_at_first opened)
+  pub planned : IsPlanOf c p event

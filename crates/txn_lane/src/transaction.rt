@@ -1,0 +1,107 @@
+use cfdp_types::Image;
+use receiver_core::ReceiverCore;
+use sender_core::SenderCore;
+use std::alloc::Global;
+use txn_events::{Answer, Refusal, What};
+
+/// The transaction of a lane.
+#[derive(Drop)]
+pub(crate) enum TransactionCore {
+    /// Its file is sent.
+    Sender(SenderCore),
+    /// Its file is received.
+    Receiver(ReceiverCore),
+}
+
+/// An event that the transaction takes, with its answer and all memory that carrying it out needs. It
+/// can be carried out in the state that it was made in. A plan is large and is handed on often, so it
+/// stands in a box.
+#[derive(Drop)]
+pub(crate) enum TransactionPlan {
+    Sender(Box<sender_core::Plan>),
+    Receiver(Box<receiver_core::Plan>),
+}
+
+impl TransactionPlan {
+    ghost use Rattle.std.specs.Prelude.{◌≡◌};
+    ghost use Rattle.txn_lane.specs.Transactions.{plan_answer};
+
+    /// What the event will be answered.
+    pub(crate) fn answer(&self) -> &Answer
+        ensures { result.now ≡ plan_answer self.now }
+    {
+        match self {
+            TransactionPlan::Sender(plan) => plan.answer(),
+            TransactionPlan::Receiver(plan) => plan.answer(),
+        }
+    }
+}
+
+impl TransactionCore {
+    ghost use Rattle.std.specs.Prelude.{◌≡◌, false, Ok, IfOk, IfErr};
+    ghost use Rattle.txn_events.specs.declared.event.Event.{Event};
+    ghost use Rattle.txn_events.specs.declared.event.Event.TheVariants.{On};
+    ghost use Rattle.cfdp_types.specs.declared.key.TxnKey.{TxnKey as KeyValue};
+    ghost use Rattle.lane_table.specs.Logs.{Log, has_ended, answered_behind, extended, image_in};
+    ghost use Rattle.txn_lane.specs.Transactions.{StandsAfter, IsPlanOf, IsWhy, plan_answer};
+
+    /// Whether the user was told that the transaction is over: no event follows.
+    pub(crate) fn has_ended(&self) -> bool
+        ensures { (log : Log) → StandsAfter self.now log → result ≡ has_ended log }
+    {
+        match self {
+            TransactionCore::Sender(core) => core.has_ended(),
+            TransactionCore::Receiver(core) => core.has_ended(),
+        }
+    }
+
+    /// Plans an event in the present state, which stays as it is: the plan holds all memory that the
+    /// event takes, and room is made for the octets that it brings.
+    pub(crate) fn plan(&mut self, alloc: Global, what: &What) -> Result<TransactionPlan, Refusal>
+        ensures same { (log : Log) → StandsAfter self.old log → StandsAfter self.new log }
+        ensures planned { (key : KeyValue) → IfOk result (λ plan. IsPlanOf self.new plan (On key what.now)) }
+        ensures refused { (key : KeyValue) (log : Log) → StandsAfter self.old log
+            → IfErr result (λ why. IsWhy (answered_behind log (On key what.now)) why) }
+    {
+        match self {
+            TransactionCore::Sender(core) => {
+                let plan = core.plan(what)?;
+                Ok(TransactionPlan::Sender(Box::new(alloc, plan)?))
+            }
+            TransactionCore::Receiver(core) => {
+                let plan = core.plan(what)?;
+                Ok(TransactionPlan::Receiver(Box::new(alloc, plan)?))
+            }
+        }
+    }
+
+    /// Carries out a plan that was made in the present state, and hands out its answer.
+    pub(crate) fn commit(&mut self, plan: TransactionPlan) -> Answer
+        requires planned { (event : Event) × IsPlanOf self.old plan event }
+        requires runs { (log : Log) × StandsAfter self.old log × (has_ended log ≡ false) }
+        ensures answer { result ≡ plan_answer plan }
+        ensures stands { (event : Event) (log : Log) → IsPlanOf self.old plan event → StandsAfter self.old log
+            → StandsAfter self.new (extended log event (plan_answer plan)) }
+    {
+        match (self, plan) {
+            (TransactionCore::Sender(core), TransactionPlan::Sender(plan)) => {
+                core.commit(Box::into_inner(plan))
+            }
+            (TransactionCore::Receiver(core), TransactionPlan::Receiver(plan)) => {
+                core.commit(Box::into_inner(plan))
+            }
+            _ => unreachable!(),
+        }
+    }
+
+    /// The file of the deposit that waits, by its stamp; a sender has none.
+    pub(crate) fn image(&self, stamp: u32) -> Result<Image, Refusal>
+        ensures image { (log : Log) → StandsAfter self.now log → IfOk result (λ image. image_in log stamp ≡ Ok image) }
+        ensures refused { (log : Log) → StandsAfter self.now log → IfErr result (λ why. IsWhy (image_in log stamp) why) }
+    {
+        match self {
+            TransactionCore::Sender(_) => Err(Refusal::StaleStored),
+            TransactionCore::Receiver(core) => core.image(stamp),
+        }
+    }
+}

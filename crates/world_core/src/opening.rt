@@ -1,0 +1,45 @@
+//! How the users of an entity are made, by its configuration.
+ghost use Rattle.std.specs.Prelude.{◌≡◌, [], IfOk, IsTrue};
+ghost use Rattle.world_users.specs.Standing.{IsPostAfter, UsersStandAfter};
+ghost use Rattle.config_reading.specs.Values.{is_config};
+ghost use Rattle.world_core.specs.Opening.{layout_of};
+
+use entity_config::Config;
+use entity_parts::lane_for;
+use entity_routing::lanes_of;
+use std::alloc::{AllocError, Global};
+use user_queues::ListQueue;
+use world_users::{UserPart, Users};
+
+/// The users of an entity, to whom nothing has happened.
+pub(crate) fn users_for(alloc: Global, config: &Config) -> Result<Users, AllocError>
+    ensures stand { IfOk result (UsersStandAfter (layout_of config.now) []) }
+    ensures kept { IsTrue (is_config config.now) }
+{
+    let count = config.users();
+    let capacity = config.entity().capacity;
+    let mut parts = Vec::with_capacity(alloc, count)?;
+    for user in 0..count {
+        parts.push(part_for(alloc, config, user, capacity)?)?;
+    }
+    Ok(Users::new(parts))
+}
+
+// A user, with a queue for so many bundles and with lanes.
+fn part_for(
+    alloc: Global,
+    config: &Config,
+    user: usize,
+    capacity: usize,
+) -> Result<UserPart, AllocError>
+    requires { capacity ≡ config.now.entity.capacity }
+    ensures { IfOk result (IsPostAfter (layout_of config.now) [] user) }
+{
+    let count = lanes_of(config, user);
+    let queue = ListQueue::new(alloc, user, count, capacity)?;
+    let mut lanes = Vec::with_capacity(alloc, count)?;
+    for lane in 0..count {
+        lanes.push(lane_for(alloc, config, user, lane))?;
+    }
+    Ok(UserPart::new(queue, lanes))
+}

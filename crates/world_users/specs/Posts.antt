@@ -1,0 +1,73 @@
+-- Of the code. A user of an entity of one thread: the queue by which the user is told, and the user's lanes.
+use Rattle.std.specs.Prelude.{◌≡◌, ℕ, ◌<◌, List, [], ◌∷◌, ◌++◌, length, None, Some, slice_get, slice_set, ◌⊎◌}
+use Rattle.indications.specs.declared.bundle.Bundle.{Bundle}
+use Rattle.txn_events.specs.declared.event.Event.{Event}
+use Rattle.lane_table.specs.declared.done.Done.{Done}
+use Rattle.lane_table.specs.declared.refused.Refused.{Refused}
+use Rattle.lane_table.specs.Lane.{State}
+use Rattle.lane_table.specs.Keeping.{Keeps, bundle_of}
+use Rattle.lane_table.specs.Steps.{refusal_at, stepped, IsDone}
+use Rattle.txn_lane.specs.Stepping.{RanOut, WasFull}
+use Rattle.user_queues.specs.Queue.{Queue, EndsInHeld}
+
+-- the user's queue, and where each of the user's lanes stands
+pub record Post : Type 0 where
+  pub queue : Queue
+  pub lanes : List State
+
+-- ---- a lane and the queue of its user
+
+-- the queue is the lane's user's, and what the lane keeps of its bundles ends in what is held of it
+pub record Fits (lane : State) (number : ℕ) (queue : Queue) : Type 0 where
+  pub of_user : queue.user ≡ lane.user
+  pub of_lane : lane.lane ≡ number
+  pub in_queue : number < queue.lanes
+  pub kept : (bundles : List Bundle) × EndsInHeld queue number bundles × Keeps lane bundles
+
+-- what a step tells stands behind all that is held
+abbrev pub with_told : Queue → List Bundle → Queue
+with_told queue bundles = record queue { held = queue.held ++ bundles }
+
+-- there is room for what a step tells, if it tells anything
+abbrev pub HasRoomFor : Queue → List Bundle → Type 0
+HasRoomFor queue [] = Unit {0}
+HasRoomFor queue (bundle ∷ none) = length queue.held < queue.capacity
+
+-- what a step tells was put into the queue
+pub record IsToldTo (old : Queue) (bundles : List Bundle) (new : Queue) : Type 0 where
+  pub room : HasRoomFor old bundles
+  pub told : new ≡ with_told old bundles
+
+-- why an event is not taken: for a reason of the lane, for want of memory, or since the queue has no room for what it tells
+abbrev pub IsWhyRefused : State → Queue → Event → Refused → Type 0
+IsWhyRefused state queue event refused =
+    (refusal_at state event ≡ Some refused) ⊎ RanOut state event refused
+    ⊎ (WasFull state event refused × (length queue.held ≡ queue.capacity))
+
+-- ---- a step of a user's lane
+
+-- a lane of the user fits the queue
+pub record MayStep (post : Post) (lane : ℕ) : Type 0 where
+  pub state : State
+  pub is : slice_get post.lanes lane ≡ Some state
+  pub fits : Fits state lane post.queue
+
+-- the user after a step of a lane
+abbrev pub post_stepped : Post → ℕ → State → Post
+post_stepped post lane next = record { queue = with_told post.queue (bundle_of next); lanes = slice_set post.lanes lane next }
+
+-- a lane took an event, and the user's queue what it tells
+pub record IsStepOf (old : Post) (lane : ℕ) (event : Event) (new : Post) (done : Done) : Type 0 where
+  pub state : State
+  pub is : slice_get old.lanes lane ≡ Some state
+  pub free : refusal_at state event ≡ None
+  pub room : HasRoomFor old.queue (bundle_of (stepped state event))
+  pub done_is : IsDone (stepped state event) done
+  pub new_is : new ≡ post_stepped old lane (stepped state event)
+
+-- a lane did not take an event
+pub record IsNoStepOf (old : Post) (lane : ℕ) (event : Event) (new : Post) (refused : Refused) : Type 0 where
+  pub state : State
+  pub is : slice_get old.lanes lane ≡ Some state
+  pub why : IsWhyRefused state old.queue event refused
+  pub same : new ≡ old

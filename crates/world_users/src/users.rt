@@ -1,0 +1,98 @@
+use crate::user_part::UserPart;
+use cfdp_types::{Image, PutRequest, TxnKey};
+use indications::Bundle;
+use std::marker::Model;
+use txn_events::{Event, Refusal};
+use txn_lane::{Done, Refused};
+
+/// All users of an entity of one thread, in order.
+#[derive(Drop)]
+pub struct Users {
+    parts: Vec<UserPart>,
+}
+
+impl Model for Users {
+    ghost use Rattle.std.specs.Prelude.{List};
+    ghost use Rattle.world_users.specs.Posts.{Post};
+
+    ghost Value = { List Post };
+
+    ghost view = { λ u. u.parts.items };
+}
+
+impl Users {
+    ghost use Rattle.std.specs.Prelude.{◌≡◌, ◌<◌, [], List, Ok, length, IfOk, IfErr, OnErr, IfSome, IfNone};
+    ghost use Rattle.cfdp_types.specs.declared.params.ParamsParts.{ParamsParts};
+    ghost use Rattle.lane_table.specs.Steps.{IsKeyed, image_of};
+    ghost use Rattle.txn_lane.specs.Transactions.{IsWhy};
+    ghost use Rattle.txn_events.specs.declared.event.Event.TheVariants.{Put};
+    ghost use Rattle.world_table.specs.Histories.{Happening, held_for};
+    ghost use Rattle.world_users.specs.Standing.{
+      Layout,
+      IsLaneIn,
+      UsersStandAfter,
+      MayHappen,
+      IsTakenAt,
+      IsRefusedAt,
+      IsTakenFrom,
+      lane_in,
+    };
+
+    /// Users with their lanes and queues, in order.
+    pub fn new(parts: Vec<UserPart>) -> Users
+        ensures { result ≡ parts.items }
+    {
+        Users { parts }
+    }
+
+    /// Has a lane of a user take an event: what it tells goes into the user's queue.
+    pub fn step(&mut self, user: usize, lane: usize, event: &Event) -> Result<Done, Refused>
+        requires keyed { IsKeyed event.now }
+        requires stands { MayHappen self.old user lane }
+        ensures taken { (layout : Layout) (history : List Happening) → UsersStandAfter layout history self.old
+            → IsLaneIn layout user lane
+            → IfOk result (IsTakenAt layout history user lane event.now self.new) }
+        ensures refused { (layout : Layout) (history : List Happening) → UsersStandAfter layout history self.old
+            → IsLaneIn layout user lane
+            → IfErr result (IsRefusedAt layout history user lane event.now) }
+        ensures same { OnErr result (self.new ≡ self.old) }
+    {
+        self.parts[user].step(lane, event)
+    }
+
+    /// A user takes the bundle at the front, if any waits.
+    pub fn take(&mut self, user: usize) -> Option<Bundle>
+        requires { user < length self.old }
+        ensures none { (layout : Layout) (history : List Happening) → UsersStandAfter layout history self.old
+            → IfNone result (held_for layout.lanes history user ≡ []) }
+        ensures same { IfNone result (self.new ≡ self.old) }
+        ensures front { (layout : Layout) (history : List Happening) → UsersStandAfter layout history self.old
+            → IfSome result (IsTakenFrom layout history user self.new) }
+    {
+        self.parts[user].take()
+    }
+
+    /// Why a lane of a user does not take a Put of this request for which there is no memory: for a reason of its own,
+    /// or else for want of memory.
+    pub fn refuse_put(&self, user: usize, lane: usize, request: &PutRequest) -> Refused
+        requires { MayHappen self.now user lane }
+        ensures { (layout : Layout) (history : List Happening) (params : ParamsParts)
+            → UsersStandAfter layout history self.now → IsLaneIn layout user lane
+            → IsRefusedAt layout history user lane (Put request.now params) result }
+    {
+        self.parts[user].refuse_put(lane, request)
+    }
+
+    /// The file of a deposit that waits at a lane of a user, by its key and its stamp.
+    pub fn image(&self, user: usize, lane: usize, key: TxnKey, stamp: u32) -> Result<Image, Refusal>
+        requires { MayHappen self.now user lane }
+        ensures image { (layout : Layout) (history : List Happening) → UsersStandAfter layout history self.now
+            → IsLaneIn layout user lane
+            → IfOk result (λ image. image_of (lane_in layout history user lane) key stamp ≡ Ok image) }
+        ensures refused { (layout : Layout) (history : List Happening) → UsersStandAfter layout history self.now
+            → IsLaneIn layout user lane
+            → IfErr result (λ why. IsWhy (image_of (lane_in layout history user lane) key stamp) why) }
+    {
+        self.parts[user].image(lane, key, stamp)
+    }
+}

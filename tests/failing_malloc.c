@@ -1,0 +1,119 @@
+/* Stands between a program and the C library, and refuses one of its allocations.
+ *
+ *     gcc -O2 -shared -fPIC -o failing_malloc.so failing_malloc.c -ldl
+ *     FAIL_AT=7 LD_PRELOAD=./failing_malloc.so PROGRAM
+ *
+ * FAIL_AT is the number of the allocation that is refused, counted from 1 in the order in which all threads make them;
+ * without it none is. A block that grows counts as an allocation. FAIL_REPORT names a file into which the program's end
+ * writes how many there were.
+ */
+#define _GNU_SOURCE
+#include <dlfcn.h>
+#include <errno.h>
+#include <stdio.h>
+#include <stdlib.h>
+#include <sys/syscall.h>
+#include <unistd.h>
+
+static void *(*next_malloc)(size_t);
+static void *(*next_realloc)(void *, size_t);
+static void *(*next_aligned_alloc)(size_t, size_t);
+static int (*next_posix_memalign)(void **, size_t, size_t);
+
+static long count;
+static long refused;
+
+/* What the C library has under a name. */
+static void *next(const char *name)
+{
+    void *found = dlsym(RTLD_NEXT, name);
+    if (found == NULL) {
+        fprintf(stderr, "failing_malloc: the C library has no %s\n", name);
+        _Exit(125);
+    }
+    return found;
+}
+
+__attribute__((constructor)) static void begin(void)
+{
+    const char *number = getenv("FAIL_AT");
+    next_malloc = next("malloc");
+    next_realloc = next("realloc");
+    next_aligned_alloc = next("aligned_alloc");
+    next_posix_memalign = next("posix_memalign");
+    __atomic_store_n(&count, 0, __ATOMIC_SEQ_CST);
+    refused = number != NULL ? atol(number) : 0;
+}
+
+/* Writes how many allocations there were. */
+static void report_count(void)
+{
+    const char *path = getenv("FAIL_REPORT");
+    long made = __atomic_load_n(&count, __ATOMIC_SEQ_CST);
+    FILE *report = path != NULL ? fopen(path, "w") : NULL;
+    if (report != NULL) {
+        fprintf(report, "%ld\n", made);
+        fclose(report);
+    }
+}
+
+/* A program ends by leaving main, or at once. */
+__attribute__((destructor)) static void end(void)
+{
+    report_count();
+}
+
+void _exit(int status)
+{
+    report_count();
+    for (;;)
+        syscall(SYS_exit_group, status);
+}
+
+/* Whether the allocation that comes now is the one that is refused. */
+static int is_refused(void)
+{
+    return __atomic_add_fetch(&count, 1, __ATOMIC_SEQ_CST) == refused;
+}
+
+void *malloc(size_t size)
+{
+    if (next_malloc == NULL)
+        next_malloc = next("malloc");
+    if (is_refused()) {
+        errno = ENOMEM;
+        return NULL;
+    }
+    return next_malloc(size);
+}
+
+void *realloc(void *block, size_t size)
+{
+    if (next_realloc == NULL)
+        next_realloc = next("realloc");
+    if (is_refused()) {
+        errno = ENOMEM;
+        return NULL;
+    }
+    return next_realloc(block, size);
+}
+
+void *aligned_alloc(size_t alignment, size_t size)
+{
+    if (next_aligned_alloc == NULL)
+        next_aligned_alloc = next("aligned_alloc");
+    if (is_refused()) {
+        errno = ENOMEM;
+        return NULL;
+    }
+    return next_aligned_alloc(alignment, size);
+}
+
+int posix_memalign(void **block, size_t alignment, size_t size)
+{
+    if (next_posix_memalign == NULL)
+        next_posix_memalign = next("posix_memalign");
+    if (is_refused())
+        return ENOMEM;
+    return next_posix_memalign(block, alignment, size);
+}
