@@ -227,8 +227,10 @@ def a_file_at_the_limit():
 
 @case
 def a_port_that_is_taken():
-    with server() as one, server(port=one.port) as second:
-        want(second.ended(), (1, "cfdp_server: bind fault\n"))
+    with server() as one:
+        one.answers()
+        with server(port=one.port) as second:
+            want(second.ended(), (1, "cfdp_server: bind fault\n"))
         one.answers()
         one.quits()
 
