@@ -53,6 +53,7 @@ test:
 	@tests/trusted.py --check
 	rt ci
 	@tests/endings.sh $(program)
+	@tests/examples.sh $(program)
 	@tests/memory.py $(hostile)
 	@tests/terminal.py $(program)
 	@examples/transfer.sh $(server) $(put) 2 4194304 7 11

@@ -1,23 +1,13 @@
 #!/usr/bin/env bash
-# The examples have to be the texts that tests read: the configuration and each script. And the refusals and the faults of
-# decoding in docs/profile.md have to be those of the definitions, with their numbers.
+# The example of a configuration has to be the text that a test reads. And the refusals and the faults of decoding in
+# docs/profile.md have to be those of the definitions, with their numbers.
 set -euo pipefail
 cd "$(dirname "$0")/.."
 
-# compare FILE SOURCE NAME: the file is the text that the source has as a constant of that name.
-compare() {
-    sed -n "/^\(pub \)\?const $3: &str =\$/,/^\"#;\$/p" "$2" \
-        | sed -e 1d -e '/^"#;$/d' -e 's/^    r#"//' \
-        | diff "$1" - \
-        || { echo "$1 is not the text that a test in $2 reads"; exit 1; }
-}
-
-compare examples/entity.toml crates/cfdp_tests/src/configs/texts.rt EXAMPLE
-for script in examples/*.script; do
-    name=$(basename "$script" .script)
-    name=${name//-/_}
-    compare "$script" crates/script_tests/src/examples.rt "${name^^}"
-done
+texts=crates/cfdp_tests/src/configs/texts.rt
+sed -n '/^\(pub \)\?const EXAMPLE: &str =$/,/^"#;$/p' "$texts" | sed -e 1d -e '/^"#;$/d' -e 's/^    r#"//' \
+    | diff examples/entity.toml - \
+    || { echo "examples/entity.toml is not the text that a test in $texts reads"; exit 1; }
 
 # The number and the name of each refusal, by its definition.
 defined() {

@@ -60,10 +60,10 @@ def free_port():
 class Server:
     """A server that runs, with its commands, its answers and a socket that sends to it."""
 
-    def __init__(self, port=None, folder="received", peer=None, output=subprocess.PIPE, remote="127.0.0.1"):
+    def __init__(self, port=None, folder="received", peer=None, output=subprocess.PIPE, remote="127.0.0.1", keys=""):
         self.port = port or free_port()
         self.socket = socket.socket(socket.AF_INET, socket.SOCK_DGRAM)
-        pathlib.Path("config").write_text(CONFIG.format(remote=remote, peer=peer or free_port()))
+        pathlib.Path("config").write_text(CONFIG.format(remote=remote, peer=peer or free_port()) + keys)
         self.run = subprocess.Popen(
             [SERVER, "--config", "config", "--bind", f"127.0.0.1:{self.port}", "--folder", folder, "--workers", "2"],
             stdin=subprocess.PIPE, stdout=output, stderr=subprocess.PIPE,
@@ -223,6 +223,27 @@ def a_file_at_the_limit():
         want(one.line(), "txn 2 2")
         want(one.takes("alice 2 2 Transaction-Finished "), "alice 2 2 Transaction-Finished 0 incomplete unreported")
         one.quits()
+
+
+@case
+def files_without_a_checksum():
+    """One is put, and one comes whose EOF has any: with the large file flag, since it may."""
+    pathlib.Path("a").write_bytes(b"abc")
+    with socket.socket(socket.AF_INET, socket.SOCK_DGRAM) as peer:
+        peer.bind(("127.0.0.1", 0))
+        peer.settimeout(20)
+        with server(peer=peer.getsockname()[1], keys='checksum = "null"\n') as one:
+            want(one.ask("put alice 0 1 1 a b"), "ok")
+            want(one.line(), "txn 2 2")
+            for octets in ("24000a00020201070f0000000301610162", "3400070002020100000000616263",
+                           "24000a0002020104000000000000000003"):
+                want(peer.recv(65_536).hex(), octets)
+            one.send(bytes.fromhex("25000e00010502070f000000000000000301610162"),
+                     bytes.fromhex("35000b000105020000000000000000616263"),
+                     bytes.fromhex("25000e000105020400010203040000000000000003"))
+            want(one.takes(FINISHED), FINISHED + "0 complete retained")
+            want(pathlib.Path("received/b").read_bytes(), b"abc")
+            one.quits()
 
 
 @case

@@ -32,7 +32,7 @@ acknowledged_eof = record {
   body = body.Ack (record { of = acknowledged.Eof; condition = 0; status = Active });
 }
 
--- the same once the transaction is over
+-- the ACK of its EOF once the transaction is over
 echoed_eof : PduValue
 echoed_eof = record {
   header = record (header Two) { direction = TowardSender };

@@ -34,7 +34,7 @@ impl Handlers {
         unsupported_checksum_type: Handler::Cancel,
     };
 
-    // The same handlers but for one condition.
+    // These handlers with another one for a condition.
     fn with(mut self, condition: Condition, handler: Handler) -> Handlers
         ensures { result ≡ handlers_with self condition handler }
     {
@@ -90,7 +90,7 @@ impl FaultTable {
         Ok(table)
     }
 
-    /// The same table with another handler for one condition.
+    /// This table with another handler for one condition.
     pub fn with(
         self,
         condition: Condition,

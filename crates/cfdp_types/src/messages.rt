@@ -41,7 +41,7 @@ impl Messages {
         Ok(Messages { items })
     }
 
-    /// The same messages once more.
+    /// A copy, with memory of its own.
     pub fn copy(&self) -> Result<Messages, AllocError>
         ensures { IfOk result (λ copy. copy ≡ self.now) }
     {

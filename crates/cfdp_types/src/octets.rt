@@ -50,7 +50,7 @@ impl Octets {
         self.items
     }
 
-    /// The same octets once more.
+    /// A copy, with memory of its own.
     pub fn copy(&self) -> Result<Octets, AllocError>
         ensures { IfOk result (λ copy. copy ≡ self.now) }
     {

@@ -125,7 +125,7 @@ impl PutRequest {
         )?)
     }
 
-    // The same, of names and messages that keep their limits.
+    // A request for a file, with copies of names and messages that keep their limits.
     fn copied(
         alloc: Global,
         destination: EntityId,
@@ -159,7 +159,7 @@ impl PutRequest {
         })
     }
 
-    /// The same request once more.
+    /// A copy, with memory of its own.
     pub fn copy(&self) -> Result<PutRequest, AllocError>
         ensures { IfOk result (λ copy. copy ≡ self.now) }
     {
@@ -174,7 +174,7 @@ impl PutRequest {
         })
     }
 
-    /// The same request, with the receiver asked or not to say at the end what became of the file. That
+    /// This request, with the receiver asked or not to say at the end what became of the file. That
     /// changes nothing in class 2, whose receivers always do.
     pub fn with_closure(self, closure: bool) -> PutRequest
         ensures { result ≡ record self { closure = closure } }

@@ -9,7 +9,7 @@ abbrev pub seen : {A B : Type 0} → (A → B) → Result A ConfigFault → Read
 seen see (Ok x) = Ok (see x)
 seen see (Err f) = Err f
 
--- the same as what is to be read, unless there was no memory
+-- what was read is what is to be read, unless there was no memory
 abbrev pub Reads : {A B : Type 0} → (A → B) → Result A ConfigFault → Read B → Type 0
 Reads see (Ok x) meant = meant ≡ Ok (see x)
 Reads see (Err f) meant = (f ≡ fault.NoMemory) ⊎ (meant ≡ Err f)

@@ -8,7 +8,7 @@ use Rattle.cfdp_types.specs.declared.limits.TheConstants.{USER_NAME_OCTETS}
 abbrev pub is_within : ℕ → ℕ → ℕ → Bool
 is_within least most n = nat_le least n && nat_le n most
 
--- the same text
+-- two texts have the same octets
 abbrev pub is_same_text : List ℕ → List ℕ → Bool
 is_same_text xs ys = pointwise nat_eq xs ys
 

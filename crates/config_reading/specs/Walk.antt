@@ -79,7 +79,7 @@ abbrev pub required : {A : Type 0} → Key → (Data → Read A) → Option Data
 required k read None = Err (fault.MissingKey k)
 required k read (Some d) = read d
 
--- the same, or what stands for it where it is absent
+-- the value of a key, read, or what stands for it where the key is absent
 abbrev pub optional : {A : Type 0} → A → (Data → Read A) → Option Data → Read A
 optional absent read None = Ok absent
 optional absent read (Some d) = read d

@@ -46,7 +46,7 @@ abbrev pub pdu_of : What → Option PduValue
 pdu_of (what.Pdu pdu) = Some pdu
 pdu_of _ = None
 
--- the same of an event of a sender
+-- the PDU that an event of a sender is
 abbrev pub pdu_to_sender : sender.Event → Option PduValue
 pdu_to_sender sender.put = None
 pdu_to_sender (sender.happens event) = pdu_of event

@@ -21,7 +21,7 @@ use Rattle.config_reading.specs.Faults.{table_key}
 use Rattle.config_reading.specs.Texts.{is_within}
 use Rattle.config_reading.specs.Values.{ConfigValue, PeerValue}
 
--- the same remote entity with other parameters
+-- a remote entity with other parameters
 abbrev pub with_params : (ParamsParts → ParamsParts) → PeerValue → PeerValue
 with_params change peer = record { remote = record { id = peer.remote.id; user = peer.remote.user; params = change peer.remote.params }; address = peer.address }
 
@@ -57,7 +57,7 @@ with_checksum checksum params = record params { checksum = checksum }
 abbrev pub if_within : Key → ℕ → ℕ → ℕ → ConfigValue → Result ConfigValue ConfigFault
 if_within k least most n config = if is_within least most n then Ok config else Err (fault.OutOfRange k)
 
--- the same for a limit, in every remote
+-- the configuration with a limit in every remote, and else that the key is out of range
 abbrev pub limit_set : Limited → Key → ℕ → ConfigValue → Result ConfigValue ConfigFault
 limit_set limited k n config = if_within k 1 EXPIRATIONS n (with_all_params (with_limit limited n) config)
 

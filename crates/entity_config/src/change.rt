@@ -18,7 +18,7 @@ pub(crate) enum Limited {
     Check,
 }
 
-// The same parameters with other limits.
+// Parameters with other limits.
 fn with_limits(params: Params, limits: ExpirationLimits) -> Params
     requires { AreExpirationLimits limits }
     ensures { result ≡ record params { limits = limits } }
@@ -30,7 +30,7 @@ fn with_limits(params: Params, limits: ExpirationLimits) -> Params
     Params::new(parts).unwrap_or(params)
 }
 
-// The same parameters with other fault tables.
+// Parameters with other fault tables.
 fn with_tables(params: Params, tables: FaultTables) -> Params
     requires { AreFaultTables tables }
     ensures { result ≡ record params { tables = tables } }
@@ -42,7 +42,7 @@ fn with_tables(params: Params, tables: FaultTables) -> Params
     Params::new(parts).unwrap_or(params)
 }
 
-// The same parameters with another checksum.
+// Parameters with another checksum.
 fn params_with_checksum(params: Params, checksum: Checksum) -> Params
     ensures { result ≡ with_checksum checksum params }
 {

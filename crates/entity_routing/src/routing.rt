@@ -68,7 +68,7 @@ pub fn place_of_key(config: &Config, key: TxnKey) -> Result<Place, RouteRefusal>
     place_of(config, key).ok_or(RouteRefusal::NoRoute)
 }
 
-/// The same for a user who asks, and who has to be the one that the transaction belongs to.
+/// The lane that a transaction belongs to, for a user who asks, and who has to be its own.
 pub fn place_of_own(config: &Config, user: usize, key: TxnKey) -> Result<Place, RouteRefusal>
     ensures { result ≡ routes.own_place config.now user key }
 {

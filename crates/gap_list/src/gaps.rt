@@ -159,7 +159,8 @@ impl Gaps {
         Ok(missing)
     }
 
-    /// The same once the offsets from `start` to `end` - 1 are added.
+    /// The first so many of the maximal runs below the limit that aren't covered once the offsets from `start` to
+    /// `end` - 1 are.
     pub fn missing_first_with(
         &self,
         start: u32,

@@ -76,7 +76,7 @@ fn open_once<R: Threads + Wait + Copy + Send + Sync>(
     play_named::<Brand, R>(rt, alloc, transcript, config, queues)
 }
 
-// The same, over queues that are named.
+// Opens it over queues that have names of their own, has it play, and tells whether there was memory.
 fn play_named<N: Names + Send + Sync, R: Threads + Wait + Copy + Send + Sync>(
     rt: R,
     alloc: Global,

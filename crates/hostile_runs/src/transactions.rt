@@ -13,7 +13,7 @@ const UNACKNOWLEDGED: &[&str] = &[
     "take alice",
 ];
 
-// The same in class 2, where its Finished is not acknowledged.
+// A file of three octets comes in class 2, and its Finished is not acknowledged.
 const ACKNOWLEDGED: &[&str] = &[
     "pdu 20000a0001050207000000000301610162",
     "pdu 3000070001050200000000616263",

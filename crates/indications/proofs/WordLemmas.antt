@@ -64,7 +64,7 @@ pub MayFollowOf-rest : (side : Side) (before xs ys : List Indication)
 MayFollowOf-rest side before [] ys all = all
 MayFollowOf-rest side before (x ∷ xs) ys all = MayFollowOf-rest side (x ∷ before) xs ys all.2
 
--- the same of a receiver
+-- what a receiver may tell in two parts it may tell in one
 pub MayFollow-append : (before xs ys : List Indication) → MayFollow before xs → MayFollow (told_onto before xs) ys → MayFollow before (xs ++ ys)
 MayFollow-append before xs ys first second = MayFollowOf-append Receiver before xs ys first second
 

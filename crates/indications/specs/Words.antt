@@ -58,7 +58,7 @@ abbrev pub is_paused : List Indication → Bool
 is_paused [] = false
 is_paused (indication ∷ before) = suspended_behind (kind_of indication) (is_paused before)
 
--- the same of what is told behind that, oldest first
+-- whether it is suspended once these are told too, which stand oldest first
 abbrev pub paused_after : Bool → List Indication → Bool
 paused_after paused [] = paused
 paused_after paused (indication ∷ later) = paused_after (suspended_behind (kind_of indication) paused) later
@@ -137,7 +137,7 @@ IsBegunOf side indications = MayFollowOf side [] indications
 abbrev pub IsWordOf : Side → List Indication → Type 0
 IsWordOf side indications = IsBegunOf side indications × IsTrue (list_any is_end indications)
 
--- the same of a receiver
+-- a receiver may tell each of these after those before it
 abbrev pub MayFollow : List Indication → List Indication → Type 0
 MayFollow = MayFollowOf Receiver
 

@@ -63,7 +63,7 @@ pub enum Indication {
 }
 
 impl Indication {
-    /// The same indication once more.
+    /// A copy, with memory of its own.
     pub fn copy(&self) -> Result<Indication, AllocError>
         ensures { IfOk result (λ copy. copy ≡ self.now) }
     {
@@ -145,7 +145,7 @@ impl Indications {
         self.items.iter().any(|indication| indication.is_end())
     }
 
-    /// The same indications once more.
+    /// A copy, with memory of its own.
     pub fn copy(&self) -> Result<Indications, AllocError>
         ensures { IfOk result (λ copy. copy ≡ self.now) }
     {

@@ -43,7 +43,7 @@ impl Numbers {
         }
     }
 
-    /// The same, unless it is above the greatest.
+    /// The number of the transaction after the last one of a lane, unless it is above the greatest.
     pub fn up_to(&self, greatest: u64, user: usize, lane: usize, last: Option<u64>) -> Option<u64>
         requires { 0 < self.now.users }
         ensures some { IfSome result (λ number. (number ≡ number_after self.now user lane last) × (number ≤ greatest)) }

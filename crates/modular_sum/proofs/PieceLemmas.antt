@@ -103,7 +103,7 @@ total_below-row offset octets limit above =
     ∙ total_below-front offset octets (length octets) (omega arith)
     ∙ ap (λ l. total_from offset l) (take_all (length octets) octets (omega arith))
 
--- the same where none of them stands at or above the limit
+-- octets in a row of which none stands at or above the limit add what they count for there
 pub total_below-reached : (offset : ℕ) (octets : List ℕ) (limit : ℕ) → ((i : ℕ) → limit ≤ i → octet_from offset octets i ≡ None)
     → total_below (octet_from offset octets) limit ≡ total_from offset octets
 total_below-reached offset [] limit none =
@@ -168,7 +168,7 @@ IsSumOf-whole octets file word same is =
     is (length file) (λ i from. same i ∙ slice_get_past file i from)
     ∙ ap (λ n. n % 2 ^ 32) (total_below-same octets (slice_get file) (length file) (λ i below. same i) ∙ total_below-file file)
 
--- the same where each octet below the size is there and none at or above it
+-- the octets add up to the sum of a file where each below its size is there, and none at or above it
 pub IsSumOf-full : (octets : ℕ → Option ℕ) (file : List ℕ) (word : ℕ) → ((i : ℕ) → i < length file → octets i ≡ Some (get_or file i 0))
     → ((i : ℕ) → length file ≤ i → octets i ≡ None) → IsSumOf octets word → word ≡ sum file
 IsSumOf-full octets file word inside none is =

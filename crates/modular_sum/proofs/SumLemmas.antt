@@ -24,7 +24,7 @@ pub total_from_next : (octets : List ℕ) (offset index total : ℕ) → index <
 total_from_next octets offset index total inside =
     rw (mod-add-mod, drop_more octets index 0 inside) (ap (λ n. n % 2 ^ 32) (omega arith))
 
--- the same where the first octet stands at the offset 0
+-- adding the octet at an offset and then the rest, where the first octet stands at the offset 0
 pub total_from_more : (octets : List ℕ) (offset total : ℕ) → offset < length octets
     → ((total + get_or octets offset 0 * weight_of offset) % 2 ^ 32 + total_from (offset + 1) (drop (offset + 1) octets)) % 2 ^ 32
     ≡ (total + total_from offset (drop offset octets)) % 2 ^ 32

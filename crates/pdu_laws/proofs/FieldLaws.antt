@@ -26,7 +26,7 @@ guard_some : {A : Type 0} (b : Bool) (x y : A) → cond b None (Some x) ≡ Some
 guard_some true x y e = absurd cc
 guard_some false x y e = (refl, cc)
 
--- the same, where the test is for what passes
+-- a test that the value passed
 pub passed_some : {A : Type 0} (b : Bool) (x y : A) → cond b (Some x) None ≡ Some y → (b ≡ true) × (x ≡ y)
 passed_some true x y e = (refl, cc)
 passed_some false x y e = absurd cc
@@ -148,7 +148,7 @@ pub record IsTlvRead (t : Tlv) : Type 0 where
   pub is_tlv : IsTlv t
   pub value_octets : IsOctets t.value
 
--- the same where a fault location may stand
+-- a TLV that was read where a fault location may stand
 pub record IsLocationTlvRead (t : Tlv) : Type 0 where
   pub is_location_tlv : IsLocationTlv t
   pub value_octets : IsOctets t.value

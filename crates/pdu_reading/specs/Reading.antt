@@ -279,7 +279,7 @@ abbrev pub Gives : {X Y : Type 0} → (X → Y) → Option X → Option Y → Ty
 Gives view (Some x) read = read ≡ Some (view x)
 Gives view None read = read ≡ None
 
--- the same, with a fault
+-- the reader's answer or its fault, seen by view
 abbrev pub Answers : {X Y : Type 0} → (X → Y) → Result X DecodeFault → Result Y DecodeFault → Type 0
 Answers view (Ok x) read = read ≡ Ok (view x)
 Answers view (Err fault) read = read ≡ Err fault

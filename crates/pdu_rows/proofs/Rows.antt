@@ -277,7 +277,7 @@ ack_ack_read : reading (0x28 ∷ 0x00 ∷ 0x03 ∷ 0x00 ∷ 0x01 ∷ 0x05 ∷ 0x
 unfolding reading fixed_header_at fixed_header_fault body_of number_at number_of
 ack_ack_read = refl
 
--- the same without the second octet
+-- ACK of an ACK without its second octet
 short_ack_ack_read : reading (0x28 ∷ 0x00 ∷ 0x02 ∷ 0x00 ∷ 0x01 ∷ 0x05 ∷ 0x02 ∷ 0x06 ∷ 0x60 ∷ []) ≡ Err UnknownDirective
 unfolding reading fixed_header_at fixed_header_fault body_of number_at number_of
 short_ack_ack_read = refl
@@ -292,7 +292,7 @@ nameless_read : reading (0x24 ∷ 0x00 ∷ 0x09 ∷ 0x00 ∷ 0x01 ∷ 0x05 ∷ 0
 unfolding reading fixed_header_at fixed_header_fault header_of body_of number_at lv_at metadata_at items_to_end items_within messages_in number_of
 nameless_read = refl
 
--- the same with half a TLV
+-- Metadata whose source name is empty, with half a TLV at its end
 nameless_cut_read : reading (0x24 ∷ 0x00 ∷ 0x0A ∷ 0x00 ∷ 0x01 ∷ 0x05 ∷ 0x02 ∷ 0x07 ∷ 0x00 ∷ 0x00 ∷ 0x00 ∷ 0x00 ∷ 0x03 ∷ 0x00 ∷ 0x01 ∷ 0x62 ∷ 0x02 ∷ []) ≡ Err FieldCut
 unfolding reading fixed_header_at fixed_header_fault header_of body_of number_at lv_at tlv_at metadata_at items_to_end items_within messages_in number_of
 nameless_cut_read = refl

@@ -138,7 +138,7 @@ requests_either large [] fits = tt
 requests_either large (r ∷ requests) fits =
     (record { start = either large r.start fits.0.start; end = either large r.end fits.0.end }, requests_either large requests fits.1)
 
--- the same of a NAK that fits without the flag
+-- a NAK that fits without the large file flag fits with either
 pub short_nak_fits : (header : Header) (n : nak_type.Nak) → HeaderFits header → NakFits 4 n → length n.requests ≤ requests_limit → Fits (record { header = header; body = bodies.Nak n })
 short_nak_fits header n h fits short = nak_fits header n h (record {
   start = either header.large n.start fits.start;

@@ -294,7 +294,7 @@ pub record MetadataFits (width : ℕ) (m : metadata_type.Metadata) : Type 0 wher
   pub destination_name : IsName m.destination_name
   pub messages : AllByRecursion IsMessage m.messages
 
--- the same, but that a name may be empty
+-- every number of Metadata fits its field, and every name and message its length, where a name may be empty
 pub record MetadataFieldsFit (width : ℕ) (m : metadata_type.Metadata) : Type 0 where
   pub checksum_type : m.checksum_type < 16
   pub size : m.size < 256 ^ width
@@ -367,7 +367,7 @@ pub record IsTlv (t : Tlv) : Type 0 where
   pub kind : t.kind < 256
   pub value : length t.value < 256
 
--- the same where a fault location may stand
+-- a TLV that may stand where a fault location may
 pub record IsLocationTlv (t : Tlv) : Type 0 where
   pub is_tlv : IsTlv t
   pub may_locate : IsTrue (may_locate t)

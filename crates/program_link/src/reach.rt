@@ -11,7 +11,7 @@ pub fn reach_of(done: &Done) -> u64
     reach_in(done.pdus.as_slice())
 }
 
-// The same of a list of PDUs.
+// How far the data of a list of PDUs reaches.
 fn reach_in(pdus: &[Pdu]) -> u64
     ensures { result ≡ reach_of pdus.now }
 {

@@ -25,7 +25,7 @@ pub struct PutWords<'a> {
     pub class: Class,
     /// The file to be read, which is its name at the sender, too: 1 to 255 octets.
     pub source: &'a str,
-    /// Its name at the receiver: likewise.
+    /// Its name at the receiver: 1 to 255 octets.
     pub target: &'a str,
     /// How many octets of the file's PDUs may leave in a second, where that is limited.
     pub rate: Option<u64>,

@@ -22,12 +22,12 @@ module _ {Q A : Type 0} where
     pub port : view pass ≡ Port (port_in (view pass))
     pub room : (port_in (view pass)).room ≡ ruled_capacity queue
 
-  -- the same pass is a lane's outlet of the queue still
+  -- a pass that was a lane's outlet of the queue is that still
   pub record StaysOutlet (queue : Slotted (Option Bundle) (Doing Bundle View) Q A) (old new : Pass Bundle View) : Type 0 where
     pub outlet : IsOutletOf queue new
     pub same : IsSamePass old new
 
-  -- the same pass is the port of the queue still
+  -- a pass that was the port of the queue is that still
   pub record StaysPort (queue : Slotted (Option Bundle) (Doing Bundle View) Q A) (old new : Pass Bundle View) : Type 0 where
     pub port : IsPortOf queue new
     pub same : IsSamePass old new

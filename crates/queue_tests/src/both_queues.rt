@@ -1,4 +1,4 @@
-//! The same offers and takes at both kinds of queue, and at a plain list of what is held.
+//! Offers and takes, each at both kinds of queue and at a plain list of what is held.
 ghost use Rattle.std.specs.Prelude.{◌≡◌, ◌<◌, ◌+◌, ◌++◌, ◌∷◌, [], List, IsTrue, not, OnOk};
 ghost use Rattle.indications.specs.LaneLists.{IsLaneList};
 ghost use Rattle.indications.specs.declared.bundle.Bundle.{Bundle as BundleValue};

@@ -168,7 +168,7 @@ metadata_new reception front header m before was runs opened new = record {
   runs = was.ended ∙ runs;
 }
 
--- the same of an EOF without an error
+-- an EOF without an error that is not the first one is told of no more
 eof_known : (front : State) (header : Header) (e : Eof) (before : List Indication) → Fits front before → front.ended ≡ false
     → front.finished ≡ None
     → eqb e.condition condition.no_error ≡ true → is_some front.eof ≡ true

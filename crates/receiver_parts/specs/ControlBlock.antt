@@ -28,7 +28,7 @@ state_from control metadata received = record {
 abbrev pub nowhere : ℕ → Option ℕ
 nowhere i = None
 
--- the same without Metadata and octets
+-- the state that a control block stands for, without Metadata and octets
 abbrev pub bare : ControlBlock → State
 bare control = state_from control None nowhere
 

@@ -34,7 +34,7 @@ pub record IsResponse (response : response_type.Response) (wanted : table.Respon
   pub deposit : response.deposit ≡ wanted.deposit
   pub arms : arms_of response ≡ wanted.arms
 
--- the same as the table has it
+-- a response, as the table has it
 abbrev pub response_value : response_type.Response → table.Response
 response_value response = record {
   inds = response.inds;

@@ -278,7 +278,7 @@ fn put_runs(kept: &mut [u8], runs: &[Run], offset: u32, octets: &[u8])
     }
 }
 
-// The same in a vector.
+// Puts those octets of a segment that the runs have at their offsets, in a vector that has room for them.
 fn put(kept: &mut Vec<u8>, runs: &[Run], offset: u32, octets: &[u8])
     requires inside { All
         (λ run. (offset ≤ run.start) × (run.start ≤ run.end) × (run.end ≤ offset + length octets.now)) runs.now }

@@ -94,7 +94,7 @@ set_number name n =
     else if bytes_eq name (codes "check_limit") then Some (command.Set (setting.CheckLimit n))
     else None
 
--- the same, or set checksum CHECKSUM
+-- set NAME VALUE, by its two words: a checksum, or a number
 abbrev pub set_value : List ℕ → List ℕ → Option Command
 set_value name value =
     if bytes_eq name (codes "checksum") then option_map (λ c. command.Set (setting.Checksum c)) (checksum_of value)

@@ -186,7 +186,7 @@ second_is_bad = record {
 stops_at_it : Replays (Err (stop.BadLine 2)) script (Some []) (Some (codes "none\n"))
 stops_at_it = record { text = codes "none\n"; plays = second_is_bad; written = refl }
 
--- the same line as a whole script, and where the reader fails behind it, or the writer in its answer
+-- its first line as a whole script, and where the reader fails behind it, or the writer in its answer
 whole_script : Replays (Ok tt) (codes "take bob" ∷ []) (Some []) (Some (codes "none\n"))
 whole_script = record { text = codes "none\n"; plays = (omega arith, first_line); written = refl }
 

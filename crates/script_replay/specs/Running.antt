@@ -46,7 +46,7 @@ ObeysTo false session command kept old new = IsBadFor session (Some command)
 ObeysTo true session command kept old new =
     (after : Session) × (said : List ℕ) × Stands kept after × Answers session command after said × (new ≡ old ++ said)
 
--- the same of an entity that runs
+-- what a line says to an entity that runs was done, and its answer stands behind what the text held; or the line is a bad one
 abbrev pub ToldTo : Bool → Session → Command → WorldValue → List ℕ → List ℕ → Type 0
 ToldTo good session command world old new = ObeysTo good session command (Running world) old new
 

@@ -50,7 +50,7 @@ pub fn replay<R: Read, W: Write>(
     ended
 }
 
-// The same with a buffer that holds at the end what was not written yet.
+// Runs the script, with a buffer that holds at the end what was not written yet.
 fn play_script<R: Read, W: Write>(
     alloc: Global,
     reader: &mut R,
@@ -67,7 +67,7 @@ fn play_script<R: Read, W: Write>(
     play_lines(alloc, &mut session, &mut blocks, writer, buffer, pace)
 }
 
-// The same for a session that begins, and a reader that shows its blocks.
+// Plays the lines of a reader that shows its blocks, in a session that begins.
 fn play_lines<B: BufRead, W: Write>(
     alloc: Global,
     session: &mut Session,

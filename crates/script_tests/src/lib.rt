@@ -9,8 +9,6 @@ mod closures;
 #[cfg(test)]
 mod endings;
 #[cfg(test)]
-mod examples;
-#[cfg(test)]
 mod faults;
 #[cfg(test)]
 mod large;

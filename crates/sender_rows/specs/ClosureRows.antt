@@ -28,7 +28,7 @@ use Rattle.sender_rows.specs.SendingRows.{one, two, unequal_two, pump, report, p
 abbrev pub closed : Sending
 closed = record one { request = record (one.request) { closure = true } }
 
--- the same with another handler for the check limit
+-- the file in class 1, with closure asked for and this handler for the check limit
 abbrev pub closed_with : Handler → Sending
 closed_with handler =
     record closed { params = record reference { tables = record (reference.tables) { send = with_handler (all_cancel Send) 10 handler } } }

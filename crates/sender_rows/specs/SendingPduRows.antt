@@ -60,7 +60,7 @@ empty_eof = refl
 
 -- ---- class 2
 
--- likewise, but the EOF does not end it
+-- the Metadata, the octets and the EOF are sent in turn, and the EOF does not end it
 pub metadata_of_two : sends (last two (put ∷ []) pump) ≡ Some (digits 17 0x20000a0002040107000000000301610162 ∷ [])
 unfolding initial step state_of answer_at runs_of runs_from written spelling digits width_from
 metadata_of_two = refl

@@ -119,7 +119,7 @@ finished = pdu (body.Finished (record { condition = 0; delivery = Complete; stat
 abbrev pub sent_all : List Event
 sent_all = put ∷ pump ∷ pump ∷ pump ∷ []
 
--- the same, and the EOF acknowledged
+-- the Put, with all sent, and the EOF acknowledged
 abbrev pub acknowledged_all : List Event
 acknowledged_all = sent_all ++ eof_acknowledged 0 ∷ []
 

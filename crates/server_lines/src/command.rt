@@ -22,7 +22,7 @@ pub struct PutCommand {
     pub destination: EntityId,
     /// Where the file is read, which is its name at the sender, too: 1 to 255 octets of ASCII.
     pub source: Octets,
-    /// Its name at the receiver: likewise.
+    /// Its name at the receiver: 1 to 255 octets of ASCII.
     pub target: Octets,
 }
 

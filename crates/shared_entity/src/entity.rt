@@ -279,7 +279,7 @@ impl<N: Names, R: Wait + Copy> Entity<N, R> {
         self.tell(rt, gate, place, Event::On(key, what))
     }
 
-    // The same where a user asks for it.
+    // Something happens to a transaction because a user asks for it, who has to be its own.
     fn own<G: Gate<N, R>>(
         &self,
         rt: &R,

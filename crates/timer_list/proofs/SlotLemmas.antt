@@ -433,7 +433,7 @@ vacated key kind old added new place r left inside add at out =
         subst (λ ys. Q old ys) (sym outcome) (subst (λ xs. Q xs (left.before ++ (slot.Vacant place, None) ∷ left.behind)) (sym left.entries)
         (vacated_at key kind left.before left.behind place inside own left.none_before left.none_behind))
 
--- the same, from what the calls on the map tell
+-- a place is given up, by what the calls on the map tell
 pub vacated_from : (key : TxnKey) (kind : TimerKind) (old added new : Entries) (place : ℕ) (r : Option (Slot × Option Run)) → IsDistinct eq-value.it (keys_of old) → value_at key kind old ≡ Some None
     → Some place ≡ position (eq-value.it (slot.Timer key kind)) (keys_of old) → IsTrue (are_in_place 0 (keys_of old)) → added ≡ insert_entry eq-value.it old (slot.Vacant place) None
     → r ≡ slice_get added place → IfSome r (λ p. new ≡ swap_remove added place p) → Vacated key kind old new

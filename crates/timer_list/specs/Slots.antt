@@ -40,7 +40,7 @@ are_in_place place [] = true
 are_in_place place (slot.Timer key kind ∷ slots) = are_in_place (place + 1) slots
 are_in_place place (slot.Vacant number ∷ slots) = (number == place) && are_in_place (place + 1) slots
 
--- the same place
+-- two slots are one place
 abbrev pub same_slot : Slot → Slot → Bool
 same_slot (slot.Timer key kind) other = is_slot key kind other
 same_slot (slot.Vacant index) (slot.Vacant other) = index == other

@@ -63,7 +63,7 @@ body_opens (body.FileData d) = true
 body_opens (body.Eof e) = true
 body_opens _ = false
 
--- the same as a fact
+-- it is a fact that this body opens a reception
 abbrev pub BodyOpens : Body → Type 0
 BodyOpens b = IsTrue (body_opens b)
 
@@ -74,7 +74,7 @@ is_body_too_large (body.FileData d) = nat_lt FILE_OCTETS (d.offset + length d.oc
 is_body_too_large (body.Eof e) = e.condition == condition.no_error && nat_lt FILE_OCTETS e.size
 is_body_too_large _ = false
 
--- the same of the PDU that an event is
+-- an event is a PDU that is too large
 abbrev pub is_too_large : What → Bool
 is_too_large (what.Pdu pdu) = is_body_too_large pdu.body
 is_too_large _ = false

@@ -22,7 +22,7 @@ effect_of_change change.Arms = arms
 effect_of_change change.Keeps = keeps
 effect_of_change change.Stops = stops
 
--- the same of the timers of a kind
+-- what changes do with the timer of a kind
 abbrev pub effects : TimerChanges → TimerKind → Effect
 effects changes Ack = effect_of_change changes.ack
 effects changes Nak = effect_of_change changes.nak

@@ -28,7 +28,7 @@ pub enum What {
 }
 
 impl What {
-    /// The same once more.
+    /// A copy, with memory of its own.
     pub fn copy(&self) -> Result<What, AllocError>
         ensures { IfOk result (λ copy. copy ≡ self.now) }
     {
@@ -46,7 +46,7 @@ pub enum Event {
 }
 
 impl Event {
-    /// The same event once more.
+    /// A copy, with memory of its own.
     pub fn copy(&self) -> Result<Event, AllocError>
         ensures { IfOk result (λ copy. copy ≡ self.now) }
     {

@@ -90,7 +90,7 @@ pub fn is_body_too_large(body: &Body) -> bool
     }
 }
 
-/// The same of the PDU that an event is.
+/// Whether an event is a PDU with a size or an end of a part that is larger than the entity takes.
 pub fn is_too_large(event: &What) -> bool
     ensures { result ≡ asked.is_too_large event.now }
 {

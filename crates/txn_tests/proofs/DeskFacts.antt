@@ -41,7 +41,7 @@ fits_then lane next number old new fits user lanes same_user same_lane keeps = r
   kept = keeps fits.kept.0 fits.kept.1 fits.kept.2;
 }
 
--- the same, where the queue was lent to an outlet meanwhile
+-- after a step, where the queue was lent to an outlet meanwhile
 pub fits_through : (lane next : State) (number : ℕ) (queue lent left : Queue) (at now : ℕ) → Fits lane number queue
     → lent ≡ queue → at ≡ number → now ≡ at → left.user ≡ lent.user → left.lanes ≡ lent.lanes
     → next.user ≡ lane.user → next.lane ≡ lane.lane

@@ -1,4 +1,4 @@
-//! The same lines at a lane with a queue of one thread, and at one whose queue threads may share.
+//! Each script at a lane with a queue of one thread, and at one whose queue threads may share.
 ghost use Rattle.std.specs.Prelude.{◌≡◌, ◌<◌};
 ghost use Rattle.txn_tests.specs.Desks.{SharedFits};
 ghost use Rattle.lane_table.specs.Lane.{idle};
@@ -129,7 +129,7 @@ fn both_receive<R: AllocGlobal + Abort + Wait + Copy>(
     play_shared(rt, lane, 2, capacity, script)
 }
 
-// The same at a lane that sends.
+// Plays a script at a lane that sends, with each kind of queue.
 fn both_send<R: AllocGlobal + Abort + Wait + Copy>(
     rt: R,
     capacity: usize,

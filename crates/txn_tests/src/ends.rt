@@ -193,7 +193,7 @@ pub(crate) fn reception(
     Ok(End::Receives(core))
 }
 
-// The same, of a PDU in hex.
+// The reception that a PDU in hex opens, where there is one. What that is answered goes to the text.
 fn received_from(alloc: Global, text: &mut String, acts: (Acts, Acts), hex: &str) -> Option<End> {
     let params = params(acts.0, acts.1)?;
     let pdu = pdu_of(alloc, hex)?;
@@ -209,7 +209,7 @@ pub(crate) fn receives<R: AllocGlobal + Abort>(
     receives_with(rt, title, (&[], &[]), script)
 }
 
-/// The same, where a reception does so at some faults, in class 1 and in class 2.
+/// Plays a reception that does so at some faults, in class 1 and in class 2: the first line is the PDU that opens it.
 pub(crate) fn receives_with<R: AllocGlobal + Abort>(
     rt: &R,
     title: &str,
@@ -247,7 +247,7 @@ pub(crate) fn sending(
     Ok(End::Sends(core))
 }
 
-// The same, of the Put of a file.
+// The sender that the Put of a file opens, where there is one. What that is answered goes to the text.
 fn sent_from(alloc: Global, text: &mut String, class: Class, file: &[u8]) -> Option<End> {
     let params = params(&[], &[])?;
     let request = request(alloc, class, file).ok()?;

@@ -135,7 +135,7 @@ impl World {
         }
     }
 
-    // The same, but for what follows of the history.
+    // The answer to an event, before it is noted what follows of the history.
     fn answer(&mut self, event: &WorldEvent) -> Result<Done, EntityRefusal>
         requires { MayCome self.old.config event.now }
         ensures answered { (history : List Happening) → StandsAfter self.old history
@@ -183,7 +183,7 @@ impl World {
         self.tell(place, Event::On(key, what))
     }
 
-    // The same where a user asks for it.
+    // Something happens to a transaction because a user asks for it, who has to be its own.
     fn own(&mut self, user: usize, key: TxnKey, what: What) -> Result<Done, EntityRefusal>
         requires { IsKeyed (On key what) }
         ensures answered { (history : List Happening) → StandsAfter self.old history

@@ -108,7 +108,7 @@ pub told_of_second : told_of 7 (of_lane 2 (mine lanes history 0))
 unfolding initial step state_of runs_of runs_from
 told_of_second = refl
 
--- the same is what their logs tell
+-- what the users are told is what their logs tell
 pub logged_of_first : issued_in (log_for lanes history 0 2 5)
     ≡ told.MetadataRecv (record { 0 = 1 }) 3 (97 ∷ []) (98 ∷ []) [] ∷ told.FileSegmentRecv 0 3 ∷ told.EofRecv ∷ told.TransactionFinished 0 Complete Retained ∷ []
 unfolding initial step state_of runs_of runs_from

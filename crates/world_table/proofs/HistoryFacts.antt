@@ -91,7 +91,7 @@ abbrev pub IsRunIn : (ℕ → ℕ → State) → List Happening → ℕ → ℕ 
 IsRunIn lanes history user lane =
     IsRunOf (lanes user lane) (lane_after lanes history user lane) (events_at history user lane) (of_lane lane (mine lanes history user)) user lane
 
--- the same of what is the same
+-- a run whose last state, events and bundles are told in other words is that run
 same_run : (first : State) (user lane : ℕ) (state state' : State) (events events' : List Event) (sent sent' : List Bundle)
     → state' ≡ state → events' ≡ events → sent' ≡ sent → IsRunOf first state events sent user lane → IsRunOf first state' events' sent' user lane
 same_run first user lane state state' events events' sent sent' of_state of_events of_sent was =

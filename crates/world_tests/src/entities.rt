@@ -17,7 +17,7 @@ pub(crate) fn entity_one(alloc: Global) -> Option<World> {
     }
 }
 
-/// Entity 2, the reference, likewise.
+/// Entity 2, the reference, to which nothing has happened.
 pub(crate) fn entity_two(alloc: Global) -> Option<World> {
     match Config::reference(alloc) {
         Ok(config) => World::open(alloc, config).ok(),

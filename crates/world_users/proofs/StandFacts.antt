@@ -63,7 +63,7 @@ held_beside : (lanes : ℕ → ℕ → State) (earlier : List Happening) (user l
 held_beside lanes earlier user lane event other apart =
     ap (λ (b : Bool). if b then held_for lanes earlier other ++ told_by lanes earlier user lane event else held_for lanes earlier other) (ne_eqb user other apart)
 
--- the same queue but for what is held
+-- a user's queue that holds these bundles
 abbrev pub queue_with : (layout : Layout) (user : ℕ) → List Bundle → Queue
 queue_with layout user held = record { user = user; lanes = layout.lanes_of user; capacity = layout.capacity; held = held }
 

@@ -1,0 +1,10 @@
+#!/usr/bin/env bash
+# Each script of the folder `examples` ends well, and prints what stands beside it.
+# usage: tests/examples.sh PROGRAM
+set -euo pipefail
+program=$(realpath "$1")
+cd "$(dirname "$0")/../examples"
+for script in *.script; do
+    timeout 60 "$program" < "$script" | diff "${script%.script}.printed" - \
+        || { echo "examples/$script: this is not what stands beside it"; exit 1; }
+done
