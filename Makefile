@@ -47,7 +47,8 @@ memory:
 	@cd crates/hostile_runs && rt run -- mutate 20000 < /dev/null
 	@tests/memory.py $(hostile)
 
-# the gate: every proof from nothing, the must-fail edits, the tests and the programs, and how runs of the program end
+# the gate: every proof (but what a run on this machine kept), the must-fail edits, the tests and the programs, and how runs
+# of the programs end
 test:
 	@tests/same.sh
 	@tests/trusted.py --check

@@ -12,8 +12,8 @@ id = 2
 id_octets = 1
 # Octets of a transaction sequence number in the headers that are written: 1 to 8.
 seq_octets = 1
-# The number that each sending lane begins with: 0 to 9223372036854775807. Raise it when the entity is
-# started again, so that no number is used twice.
+# Where the numbers of its transactions begin, counted in rounds in which each sending lane has one:
+# 0 to 9223372036854775807. Raise it when the entity is started again, so that no number is used twice.
 first = 1
 # Transactions that a user can send at a time: 1 to 32.
 put_lanes = 2
