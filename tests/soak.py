@@ -20,6 +20,9 @@ SERVER = os.path.abspath(sys.argv[1])
 SECONDS = float(sys.argv[2]) if len(sys.argv) > 2 else 600.0
 RELAY = pathlib.Path(__file__).resolve().parent.parent / "examples/transfer/relay.py"
 LANES = 4
+# The C library gives back what is freed at once: what a server holds is then its own, and no store of free memory for each
+# of its threads.
+AROUND = dict(os.environ, MALLOC_TRIM_THRESHOLD_="0", MALLOC_TOP_PAD_="0")
 CONFIG = """[entity]
 id = {own}
 id_octets = 1
@@ -64,7 +67,7 @@ class Server:
         self.run = subprocess.Popen(
             [SERVER, "--config", f"config{own}", "--bind", f"127.0.0.1:{port}", "--folder", f"received{own}",
              "--workers", "4", "--rate", "8000000", "--follow"],
-            stdin=subprocess.PIPE, stdout=subprocess.PIPE, text=True, bufsize=1,
+            stdin=subprocess.PIPE, stdout=subprocess.PIPE, text=True, bufsize=1, env=AROUND,
         )
         self.lines = queue.Queue()
         threading.Thread(target=self.read, daemon=True).start()

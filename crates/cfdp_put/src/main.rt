@@ -1,22 +1,8 @@
 //! Sends one file by CFDP over UDP, and prints what its user is told.
 #![tactic(auto)]
 
-#[cfg(test)]
-mod alone;
-#[cfg(test)]
-mod both;
-mod ended;
-#[cfg(test)]
-mod lines;
-mod named;
-mod outputs;
-mod putting;
-mod refusing;
-mod threads;
-
-use outputs::Outputs;
+use cfdp_send::{Outputs, put_one, tell_words_fault};
 use program_words::line_of;
-use putting::{put_one, tell_words_fault};
 use std::io;
 use std::io::IsTerminal;
 use std::process::ExitCode;

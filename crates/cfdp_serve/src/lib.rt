@@ -4,12 +4,8 @@
 
 mod answers;
 mod commands;
-#[cfg(test)]
-mod ending;
 mod named;
 mod serving;
-#[cfg(test)]
-mod tests;
 mod threads;
 mod working;
 

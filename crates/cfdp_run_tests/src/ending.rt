@@ -1,6 +1,7 @@
 //! A server that is to end while a received file waits to be stored.
-use crate::serving::serve;
-use crate::tests::{config_of, words};
+use crate::commands::config_of;
+use crate::lines::words;
+use cfdp_serve::serve;
 use std::alloc::Global;
 use std::net::{Net, UdpSocket};
 use std::rt::Files;

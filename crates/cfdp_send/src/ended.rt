@@ -1,6 +1,6 @@
 //! What the program ends with, by what its user is told.
 ghost use Rattle.std.specs.Prelude.{◌≡◌};
-ghost use Rattle.cfdp_put.specs.Ended.{end_status, status_in, status_of};
+ghost use Rattle.cfdp_send.specs.Ended.{end_status, status_in, status_of};
 
 use cfdp_types::{Condition, Delivery, TxnKey};
 use indications::{Bundle, Indication};

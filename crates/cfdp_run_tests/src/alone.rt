@@ -1,7 +1,6 @@
 //! Puts that nobody answers, and those that don't begin.
 use crate::lines::words;
-use crate::outputs::Outputs;
-use crate::putting::put_one;
+use cfdp_send::{Outputs, put_one};
 use std::fs;
 use std::test::*;
 use test_configs::{ENTITY_ONE, EntityText, REMOTE_TWO, RemoteText, text_of};

@@ -1,7 +1,7 @@
 //! What the program prints while it works: what its user is told, and how far the file is.
 ghost use Rattle.std.specs.Prelude.{◌≡◌, ◌++◌, OnOk};
 ghost use Rattle.std.specs.String.{string_bytes};
-ghost use Rattle.cfdp_put.specs.Progress.{awaited_text, percent_of, progress_text};
+ghost use Rattle.cfdp_send.specs.Progress.{awaited_text, percent_of, progress_text};
 
 use program_start::{ProgramFault, print};
 use std::alloc::{AllocError, Global};
@@ -10,7 +10,7 @@ use std::io::Write;
 /// Where a run prints what its user is told, and, where that is wanted, a line of how far the file is. That line is written over
 /// until something else is to be printed.
 #[derive(Drop)]
-pub(crate) struct Outputs<W: Drop, P: Drop> {
+pub struct Outputs<W: Drop, P: Drop> {
     writer: W,
     progress: Option<P>,
     /// The whole percent that the line of progress shows, while it stands.
@@ -19,7 +19,7 @@ pub(crate) struct Outputs<W: Drop, P: Drop> {
 
 impl<W: Write + Drop, P: Write + Drop> Outputs<W, P> {
     /// Nothing was printed yet.
-    pub(crate) fn new(writer: W, progress: Option<P>) -> Outputs<W, P> {
+    pub fn new(writer: W, progress: Option<P>) -> Outputs<W, P> {
         Outputs {
             writer,
             progress,

@@ -1,5 +1,6 @@
 //! The server alone: commands, and what it doesn't start with.
-use crate::serving::serve;
+use crate::lines::words;
+use cfdp_serve::serve;
 use std::alloc::{AllocError, Global};
 use std::fs;
 use std::net::Net;
@@ -24,15 +25,6 @@ pub(crate) fn config_of(alloc: Global, capacity: u16) -> Result<String, AllocErr
         ..REFERENCE
     };
     text_of(alloc, &entity)
-}
-
-/// The words of a command line, with one space between them.
-pub(crate) fn words(alloc: Global, line: &str) -> Result<Vec<String>, AllocError> {
-    let mut words = Vec::new(alloc);
-    for word in line.split(' ') {
-        words.push(String::from_str(alloc, word)?)?;
-    }
-    Ok(words)
 }
 
 // How a server ended, and what it printed.

@@ -1,7 +1,7 @@
 -- Worked rows: how far a file is.
 use Rattle.std.proofs.Common.{◌≡◌, [], ◌∷◌, ◌++◌, codes, map, refl}
 use Rattle.std.specs.Fmt.{digits}
-use Rattle.cfdp_put.specs.Progress.{awaited_text, percent_of, progress_text}
+use Rattle.cfdp_send.specs.Progress.{awaited_text, percent_of, progress_text}
 
 percents : map (λ reach. percent_of reach 3) (0 ∷ 1 ∷ 2 ∷ 3 ∷ []) ≡ 0 ∷ 33 ∷ 66 ∷ 100 ∷ []
 percents = refl

@@ -2,7 +2,7 @@ use Rattle.std.proofs.Common.{vec_len}
 use Rattle.std.specs.List.{sum_by}
 use Rattle.shared_entity.specs.Opening.{queue_at}
 use Rattle.user_queues.specs.declared.queues.UserQueue.{UserQueue}
-use Rattle.cfdp_put.proofs.named.put_named.Given as goal
+use Rattle.cfdp_send.proofs.named.put_named.Given as goal
 
 -- the queues that were just opened
 abbrev pub ghosts-put_opened : goal.ghosts-put_opened

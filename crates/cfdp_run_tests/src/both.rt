@@ -1,7 +1,6 @@
 //! Both ends in one process.
 use crate::lines::words;
-use crate::outputs::Outputs;
-use crate::putting::put_one;
+use cfdp_send::{Outputs, put_one};
 use cfdp_serve::serve;
 use std::alloc::{AllocError, Global};
 use std::net::Net;

@@ -1,0 +1,12 @@
+//! One put: an entity over datagrams that sends one file, and prints what its user is told.
+#![tactic(auto)]
+
+mod ended;
+mod named;
+mod outputs;
+mod putting;
+mod refusing;
+mod threads;
+
+pub use outputs::Outputs;
+pub use putting::{put_one, tell_words_fault};
