@@ -8,7 +8,7 @@ use std::marker::Model;
 
 /// Octets without a meaning of their own, such as a name or a part of a file. Contracts see their
 /// list.
-#[derive(Clone, Debug, Drop)]
+#[derive(Debug, Drop)]
 pub struct Octets {
     items: Vec<u8>,
 }
@@ -61,6 +61,15 @@ impl Octets {
         ensures { result.now ≡ self.now }
     {
         self.items.as_slice()
+    }
+}
+
+impl Clone for Octets {
+    ghost is_clone = { λ octets copy. copy ≡ octets };
+
+    // In one piece: a derived one goes octet by octet.
+    fn clone(&self) -> Result<Octets, AllocError> {
+        self.copy()
     }
 }
 

@@ -15,9 +15,10 @@ use std::{fs, io};
 const PART_NAMES: u64 = 100_000;
 
 /// A store that keeps each file in one folder, under its name; a file that is there is replaced whole. A file is written
-/// beside its place and renamed once it is whole, so that no half file is ever seen under its name. Until then it has a
-/// name that nothing in the folder had, and that is not its own: `.part-` and a number. No name is kept for that: a file
-/// that comes may be called so, too.
+/// beside its place, flushed, and renamed once it is whole, so that no half file is ever seen under its name; then the
+/// folder is flushed, and only then the deposit has succeeded. Where the folder can't be flushed the deposit fails, though
+/// the file has its name by then. Until it is renamed a file has a name that nothing in the folder had, and that is not its
+/// own: `.part-` and a number. No name is kept for that: a file that comes may be called so, too.
 #[derive(Drop)]
 pub struct FolderStore<R: Files + AllocGlobal + Drop> {
     rt: R,
@@ -139,8 +140,14 @@ fn write_beside<R: Files + AllocGlobal>(
     }
     if written.is_err() {
         let _ = fs::remove_file(rt, part.as_str());
+        return written;
     }
-    written
+    flush_folder(rt, folder)
+}
+
+// Has the system write out the names in a folder, so that a file which was renamed there is found after a power cut.
+fn flush_folder<R: Files + AllocGlobal>(rt: &R, folder: &str) -> io::Result<()> {
+    fs::File::open(rt, folder)?.sync_all()
 }
 
 // Makes a new file of the folder for a part of the file with a name, and gives it with its path.

@@ -4,5 +4,3 @@ pub mod Laws
 pub use Rattle.pdu_values.specs.Pdu
 pub use Rattle.pdu_values.specs.Spelling
 pub use Rattle.pdu_reading.specs.Reading
-pub use Rattle.txn_events.specs.Refusal
-pub use Rattle.txn_events.specs.Events

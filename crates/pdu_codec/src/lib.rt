@@ -17,4 +17,3 @@ pub use pdu_values::{
     Ack, Acknowledged, Body, Direction, Eof, FileData, Finished, Header, KeepAlive, Metadata, Nak,
     Pdu, Prompt, SegmentRequest, SegmentRequests, TransactionStatus,
 };
-pub use txn_events::{Event, Refusal, What};

@@ -5,7 +5,6 @@
 mod answering;
 mod first_event;
 mod image;
-pub mod laws;
 mod pdus;
 mod plan;
 mod planning;

@@ -4,7 +4,6 @@
 
 mod control;
 mod first_event;
-pub mod laws;
 mod pdus;
 mod plan;
 mod planning;

@@ -7,7 +7,6 @@ mod copying;
 mod handing;
 mod lane;
 mod lane_refusals;
-pub mod laws;
 mod opening;
 mod put;
 mod running;
