@@ -2,7 +2,7 @@
 //! answers.
 #![tactic(auto)]
 
-use script_replay::{Pace, play_to_end};
+use script_replay::{AnswerPace, play_to_end};
 use std::io;
 use std::io::IsTerminal;
 use std::process::ExitCode;
@@ -10,9 +10,9 @@ use std::process::ExitCode;
 // Plays the standard input to the standard output: line by line where somebody may look at it.
 fn main(rt: HostRuntime) -> ExitCode {
     let pace = if rt.stdout().is_terminal() {
-        Pace::ByLines
+        AnswerPace::ByLines
     } else {
-        Pace::ByBlocks
+        AnswerPace::ByBlocks
     };
     ExitCode::from(play_to_end(
         rt.alloc(),

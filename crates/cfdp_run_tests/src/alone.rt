@@ -16,7 +16,7 @@ const SOON: EntityText<'static> = EntityText {
 };
 
 // What is shown of a file that nobody answers: a line that is written over, and one more below what its user is told meanwhile.
-const SHOWN: &str = "\r0 of 3 octets sent\r3 of 3 octets sent, the end is awaited
+const SHOWN: &str = "\r3 of 3 octets sent, the end is awaited
 \r3 of 3 octets sent, the end is awaited
 ";
 

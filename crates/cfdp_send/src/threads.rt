@@ -5,7 +5,7 @@ use crate::refusing::RefusingStore;
 use answer_texts::push_bundle;
 use cfdp_types::{PutRequest, TxnKey};
 use entity_routing::Request;
-use program_desk::{Desk, Step};
+use program_desk::{Desk, Step, Urgency};
 use program_link::PduSender;
 use program_start::ProgramFault;
 use program_station::{REST_MS, Station, flat, moment};
@@ -72,8 +72,8 @@ pub(crate) fn put_over<
     put_at(rt, alloc, entity, ports, socket, &desk, wanted, outputs)
 }
 
-// Puts at a desk, all of whose room is made; so is that of the threads before the first one starts. The worker wakes the
-// main thread at each step, since that alone takes what the user is told.
+// Puts at a desk, all of whose room is made; so is that of the threads before the first one starts. The worker has the main
+// thread look at each step within a millisecond, since that alone takes what the user receives.
 fn put_at<
     'x,
     N: Names + Send + Sync,
@@ -91,7 +91,7 @@ fn put_at<
     outputs: Outputs<W, P>,
 ) -> Result<u8, ProgramFault> {
     let putter = putter_over(rt, alloc, entity, ports, socket, desk, wanted, outputs)?;
-    let way_in = WayIn::new(rt, alloc, 1, entity.config(), socket, desk, true)?;
+    let way_in = WayIn::new(rt, alloc, 1, entity.config(), socket, desk, Urgency::Soon)?;
     run_beside(rt, alloc, entity, socket, desk, way_in, putter)
 }
 

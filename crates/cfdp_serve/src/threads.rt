@@ -1,7 +1,7 @@
 //! The threads of the server: one reads commands, beside those of each program.
 use crate::commands::Server;
 use entity_workers::FolderStore;
-use program_desk::Desk;
+use program_desk::{Desk, Urgency};
 use program_link::PduSender;
 use program_start::ProgramFault;
 use program_station::Station;
@@ -67,7 +67,12 @@ fn serve_at<
     let main_thread = server_over(rt, alloc, entity, ports, socket, desk, words, writer)?;
     let workers = words.workers as usize;
     let config = entity.config();
-    let way_in = WayIn::new(rt, alloc, workers, config, socket, desk, words.follow)?;
+    let others = if words.follow {
+        Urgency::Soon
+    } else {
+        Urgency::WithItsTimers
+    };
+    let way_in = WayIn::new(rt, alloc, workers, config, socket, desk, others)?;
     let Ok(reader) = in_blocks(alloc, reader) else {
         return Err(ProgramFault::NoMemory);
     };

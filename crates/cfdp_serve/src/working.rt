@@ -15,10 +15,15 @@ use std::time::{Clock, Duration};
 // How long the main thread sleeps at most, in milliseconds.
 const LONGEST_SLEEP_MS: u64 = 60_000;
 
+// How many rounds of bundles, one of each user, are printed at once, and behind how many octets no round begins.
+const ROUNDS: usize = 256;
+
+const PRINTED_OCTETS: usize = 65_536;
+
 impl<'a, N: Names, R: Wait + Clock + Files + Copy, S: Filestore + Drop, W: Write + Drop> MainThread
     for Server<'a, N, R, S, W> {
-    /// Works in turns until `quit` or the end of the commands: each has at most one command, one timer that has expired, one
-    /// PDU of a file under way and one deposit.
+    /// Works in turns until `quit` or the end of the commands: each has at most one command, one timer that has expired, a
+    /// few PDUs of files under way and one deposit.
     fn work(self) -> Result<u8, ProgramFault> {
         let mut server = self;
         work(&mut server)
@@ -70,7 +75,20 @@ fn answer_next<N: Names, R: Wait + Clock + Files + Copy, S: Filestore + Drop, W:
         NextLine::Deserted => return Err(ProgramFault::Start),
     };
     if server.follows {
-        server.take_each(text)?;
+        take_rounds(server, text)?;
     }
     Ok(next)
+}
+
+// Adds what users received so far, in rounds, as long as one bundle came in the last.
+fn take_rounds<N: Names, R: Wait + Clock + Files + Copy, S: Filestore + Drop, W: Drop>(
+    server: &mut Server<'_, N, R, S, W>,
+    text: &mut String,
+) -> Result<(), ProgramFault> {
+    for _ in 0..ROUNDS {
+        if text.len() >= PRINTED_OCTETS || !server.take_each(text)? {
+            break;
+        }
+    }
+    Ok(())
 }

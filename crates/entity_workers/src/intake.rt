@@ -52,8 +52,8 @@ impl IntakeSend {
     }
 }
 
-// A datagram with the PDU that it is read as.
-fn message_of(alloc: Global, octets: &[u8]) -> Result<Message, IntakeFault>
+/// A datagram that came, as workers get it. What octets are not read as a PDU is told first, then want of memory.
+pub fn message_of(alloc: Global, octets: &[u8]) -> Result<Message, IntakeFault>
     ensures why { IfErr result (IsNotTaken (reading octets.now)) }
     ensures unread { IsErr (reading octets.now) → IsErr result }
 {

@@ -5,6 +5,7 @@ ghost use Rattle.entity_workers.specs.Carrying.{AcceptsAnswers};
 use crate::carrier::Carrier;
 use crate::fault::WorkersFault;
 use crate::intake::IntakeEnd;
+use crate::source::Source;
 use shared_entity::Entity;
 use shared_lanes::{Gate, Names, Point};
 use std::alloc::Global;
@@ -12,9 +13,7 @@ use std::sync::Wait;
 use std::thread;
 use std::thread::Threads;
 
-/// Has a worker for each carrier bring datagrams to their lanes until no more can come, and gives the carriers back in their
-/// order. All room is made before the first thread starts. Where one can't be started, those before it run to their end all
-/// the same.
+/// Has a worker for each carrier bring datagrams from an intake to their lanes ([`run_workers_from`]).
 pub fn run_workers<
     N: Names + Send + Sync,
     R: Threads + Wait + Copy + Send + Sync,
@@ -25,6 +24,29 @@ pub fn run_workers<
     alloc: Global,
     entity: &Entity<N, R>,
     intake: &IntakeEnd,
+    carriers: Vec<C>,
+    gate: &G,
+) -> Result<Vec<C>, WorkersFault>
+    requires { All (λ carrier. AcceptsAnswers N.queue (G.gives gate.now) entity.now (C.accepts carrier)) carriers.items }
+    ensures { IfOk result (λ back. vec_len back ≡ vec_len carriers) }
+{
+    run_workers_from(rt, alloc, entity, intake, carriers, gate)
+}
+
+/// Has a worker for each carrier bring datagrams from a source to their lanes until no more can come, and gives the carriers back in
+/// their order. All room is made before the first thread starts. Where one can't be started, those before it run to their end all
+/// the same.
+pub fn run_workers_from<
+    N: Names + Send + Sync,
+    R: Threads + Wait + Copy + Send + Sync,
+    G: Gate<N, R> + Sync,
+    C: Carrier<G::Answer> + Send + Drop,
+    S: Source<R, G::Answer, C> + Sync,
+>(
+    rt: &R,
+    alloc: Global,
+    entity: &Entity<N, R>,
+    source: &S,
     carriers: Vec<C>,
     gate: &G,
 ) -> Result<Vec<C>, WorkersFault>
@@ -50,7 +72,7 @@ pub fn run_workers<
                 let started = scope.spawn(
                     move || -> C
                         requires { AcceptsAnswers N.queue (G.gives gate.now) entity.now (C.accepts carrier) }
-                    { work(rt, entity, intake, gate, carrier) },
+                    { work(rt, entity, source, gate, carrier) },
                 );
                 let Ok(thread) = started else {
                     break;
@@ -69,17 +91,17 @@ pub fn run_workers<
 }
 
 // Brings datagrams to their lanes until no more can come.
-fn work<N: Names, R: Wait + Copy, G: Gate<N, R>, C: Carrier<G::Answer>>(
+fn work<N: Names, R: Wait + Copy, G: Gate<N, R>, C: Carrier<G::Answer>, S: Source<R, G::Answer, C>>(
     rt: &R,
     entity: &Entity<N, R>,
-    intake: &IntakeEnd,
+    source: &S,
     gate: &G,
     mut carrier: C,
 ) -> C
     requires { AcceptsAnswers N.queue (G.gives gate.now) entity.now (C.accepts carrier) }
 {
     for _ in rt.forever() {
-        let Some(message) = intake.receive(rt) else {
+        let Some(message) = source.next(rt, &mut carrier) else {
             break;
         };
         gate.at(Point::Taken);

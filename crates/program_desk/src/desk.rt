@@ -1,10 +1,14 @@
 //! Where other threads leave what the main thread has to do.
-use crate::step::Step;
-use crate::trays::{Line, LinesEnd, Trays};
+use crate::step::{Step, Urgency};
+use crate::trays::{Line, LinesEnd, Rest, Trays};
 use std::alloc::{AllocError, Global};
 use std::mem;
+use std::sync::atomic::{AtomicBool, Ordering};
 use std::sync::{Condvar, CondvarTimeouts, Mutex, Wait};
 use std::time::{Clock, Duration};
+
+// How long the main thread naps before it sleeps, in milliseconds.
+const NAP_MS: u64 = 1;
 
 /// What the main thread finds of the commands.
 #[derive(Debug, Drop)]
@@ -30,6 +34,8 @@ pub struct Desk {
     trays: Mutex<Trays>,
     came: Condvar,
     room: Condvar,
+    /// As in the trays, for those who look often and must not wait for the lock.
+    is_closed: AtomicBool,
     step_room: usize,
     line_room: usize,
 }
@@ -41,6 +47,7 @@ impl Desk {
             trays: Mutex::new(Trays::new(alloc, step_room, line_room)?),
             came: Condvar::new(),
             room: Condvar::new(),
+            is_closed: AtomicBool::new(false),
             step_room,
             line_room,
         })
@@ -104,9 +111,9 @@ impl Desk {
         self.came.notify_one();
     }
 
-    /// Leaves a step, or lets it go where the desk is closed. The main thread is woken where the step is urgent, where one of
-    /// its timers expires before the main thread would wake, or where the desk is half full.
-    pub fn leave_step<R: Wait>(&self, rt: &R, step: Step, is_urgent: bool) {
+    /// Leaves a step, or lets it go where the desk is closed. The main thread is woken where the step can't wait until it
+    /// would wake, or where the desk is half full.
+    pub fn leave_step<R: Wait>(&self, rt: &R, step: Step, urgency: Urgency) {
         let soonest = step.soonest();
         let mut trays = self.trays.lock(rt);
         for _ in rt.forever() {
@@ -119,12 +126,11 @@ impl Desk {
             trays = self.room.wait(rt, trays);
         }
         let _there_was_room = trays.steps.push(step);
-        let wakes = match trays.sleeps_until {
-            None => false,
-            Some(until) => {
-                is_urgent || soonest < until || trays.steps.len() >= self.step_room / 2
-            }
-        };
+        if urgency == Urgency::Now {
+            trays.has_urgent_step = true;
+        }
+        let is_half_full = trays.steps.len() >= self.step_room / 2;
+        let wakes = trays.takes_waking(urgency, soonest, is_half_full);
         drop(trays);
         if wakes {
             self.came.notify_one();
@@ -137,6 +143,7 @@ impl Desk {
         let mut trays = self.trays.lock(rt);
         let was_full = trays.steps.len() >= self.step_room;
         mem::swap(&mut trays.steps, steps);
+        trays.has_urgent_step = false;
         drop(trays);
         if was_full {
             self.room.notify_all();
@@ -162,26 +169,45 @@ impl Desk {
         next
     }
 
-    /// Sleeps until something is left that wakes, or the moment `until` is there; not at all where something is there.
+    /// Rests until something is left that wakes, or the moment `until` is there; not at all where something is there that
+    /// can't wait. It naps first, for a millisecond, in which steps gather that can wait so long.
     pub fn wait<R: Wait + Clock>(&self, rt: &R, now: u64, until: u64) {
-        let mut trays = self.trays.lock(rt);
-        if trays.has_something() || until <= now {
+        if until <= now || !self.nap(rt) {
             return;
         }
-        trays.sleeps_until = Some(until);
-        let length = Duration::from_millis(until - now);
+        let mut trays = self.trays.lock(rt);
+        let napped_until = now.saturating_add(NAP_MS);
+        if trays.has_something() || until <= napped_until {
+            return;
+        }
+        trays.rest = Rest::SleepsUntil(until);
+        let length = Duration::from_millis(until - napped_until);
         let (mut trays, _) = self.came.wait_timeout(rt, trays, length);
-        trays.sleeps_until = None;
+        trays.rest = Rest::Awake;
+    }
+
+    // Naps, unless something is there that can't wait; whether nothing is there after it.
+    fn nap<R: Wait + Clock>(&self, rt: &R) -> bool {
+        let mut trays = self.trays.lock(rt);
+        if trays.has_something_urgent() {
+            return false;
+        }
+        trays.rest = Rest::Naps;
+        let length = Duration::from_millis(NAP_MS);
+        let (mut trays, _) = self.came.wait_timeout(rt, trays, length);
+        trays.rest = Rest::Awake;
+        !trays.has_something()
     }
 
     /// Nothing is wanted any more: whoever waits for room goes on.
     pub fn close<R: Wait>(&self, rt: &R) {
+        self.is_closed.store(true, Ordering::SeqCst);
         self.trays.lock(rt).is_closed = true;
         self.room.notify_all();
     }
 
-    /// Whether nothing is wanted any more.
-    pub fn is_closed<R: Wait>(&self, rt: &R) -> bool {
-        self.trays.lock(rt).is_closed
+    /// Whether nothing is wanted any more. It waits for no lock.
+    pub fn is_closed(&self) -> bool {
+        self.is_closed.load(Ordering::SeqCst)
     }
 }

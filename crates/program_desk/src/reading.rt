@@ -1,49 +1,10 @@
-//! What comes from outside: datagrams, and lines of commands.
+//! What comes from outside: lines of commands.
 use crate::desk::Desk;
-use entity_workers::IntakeSend;
 use memchr::memchr;
 use script_io::{INTERRUPTIONS, NextLine, ReplayFault, next_line};
 use std::alloc::Global;
 use std::io::{BufRead, ErrorKind};
-use std::net::UdpSocket;
 use std::sync::Wait;
-
-/// Room for the longest datagram, with one octet more.
-pub const DATAGRAM_OCTETS: usize = 65_536;
-
-/// After how many failed reads in a row no more datagrams are read.
-pub const READ_FAILURES: u32 = 1_000_000;
-
-/// Hands datagrams to the workers until the desk is closed, which is looked at after each of them, or until reading has
-/// failed `READ_FAILURES` times in a row. A datagram that isn't taken is lost.
-pub fn read_datagrams<R: Wait>(
-    rt: &R,
-    socket: &UdpSocket,
-    intake: &IntakeSend,
-    buffer: &mut Vec<u8>,
-    desk: &Desk,
-) {
-    let mut failures = 0u32;
-    for _ in rt.forever() {
-        match socket.recv_from(buffer.as_mut_slice()) {
-            Ok((count, _)) => {
-                failures = 0;
-                if desk.is_closed(rt) {
-                    return;
-                }
-                if let Some(octets) = buffer.as_slice().get(..count) {
-                    let _lost = intake.send(rt, octets);
-                }
-            }
-            Err(_) => {
-                failures = failures.saturating_add(1);
-                if failures >= READ_FAILURES {
-                    return;
-                }
-            }
-        }
-    }
-}
 
 /// Leaves the lines of commands at the desk, until `quit`, the end of the input, a fault of the reader, or until the desk is
 /// closed.

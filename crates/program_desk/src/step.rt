@@ -5,6 +5,17 @@ use cfdp_types::{Deposit, TimerOp, TxnKey};
 use lane_table::Done;
 use txn_events::TimerOps;
 
+/// How soon the main thread has to look at a step.
+#[derive(Clone, Copy, Debug, PartialEq, Eq)]
+pub enum Urgency {
+    /// At once.
+    Now,
+    /// Within a millisecond.
+    Soon,
+    /// When the first of its timers expires.
+    WithItsTimers,
+}
+
 /// What is left to be done after a step of a lane, once its PDUs are sent.
 #[derive(Debug, Drop)]
 pub struct Step {

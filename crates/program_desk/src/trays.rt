@@ -1,5 +1,5 @@
 //! What lies between the threads, under one lock.
-use crate::step::Step;
+use crate::step::{Step, Urgency};
 use std::alloc::{AllocError, Global};
 use std::collections::VecDeque;
 
@@ -25,15 +25,27 @@ pub(crate) enum LinesEnd {
     Deserted,
 }
 
+/// How the main thread waits, and so what wakes it.
+#[derive(Clone, Copy, Debug, PartialEq, Eq)]
+pub(crate) enum Rest {
+    /// It works, or somebody has woken it.
+    Awake,
+    /// For a millisecond at most: only what can't wait so long wakes it.
+    Naps,
+    /// Until a moment: what has to be done before then wakes it.
+    SleepsUntil(u64),
+}
+
 /// What lies between the threads.
 #[derive(Drop)]
 pub(crate) struct Trays {
     pub(crate) lines: VecDeque<Line>,
     pub(crate) lines_end: LinesEnd,
     pub(crate) steps: Vec<Step>,
+    /// Whether one of the steps can't wait for a millisecond.
+    pub(crate) has_urgent_step: bool,
     pub(crate) is_closed: bool,
-    /// Whether the main thread sleeps, and until when: steps that ask for nothing before need not wake it.
-    pub(crate) sleeps_until: Option<u64>,
+    pub(crate) rest: Rest,
 }
 
 impl Trays {
@@ -43,13 +55,35 @@ impl Trays {
             lines: VecDeque::with_capacity(alloc, lines)?,
             lines_end: LinesEnd::Open,
             steps: Vec::with_capacity(alloc, steps)?,
+            has_urgent_step: false,
             is_closed: false,
-            sleeps_until: None,
+            rest: Rest::Awake,
         })
     }
 
     /// Whether the main thread has something to look at.
     pub(crate) fn has_something(&self) -> bool {
-        !self.lines.is_empty() || !self.steps.is_empty() || self.lines_end != LinesEnd::Open
+        !self.steps.is_empty() || self.has_something_urgent()
+    }
+
+    /// Whether the main thread has something to look at that can't wait for a millisecond.
+    pub(crate) fn has_something_urgent(&self) -> bool {
+        self.has_urgent_step || !self.lines.is_empty() || self.lines_end != LinesEnd::Open
+    }
+
+    /// Whether the main thread has to be woken for a step that was left. The first who wakes it leaves it awake, so that
+    /// nobody else does.
+    pub(crate) fn takes_waking(&mut self, step: Urgency, soonest: u64, is_half_full: bool) -> bool {
+        let wakes = match self.rest {
+            Rest::Awake => false,
+            Rest::Naps => step == Urgency::Now || is_half_full,
+            Rest::SleepsUntil(until) => {
+                step != Urgency::WithItsTimers || soonest < until || is_half_full
+            }
+        };
+        if wakes {
+            self.rest = Rest::Awake;
+        }
+        wakes
     }
 }

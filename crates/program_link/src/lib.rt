@@ -2,10 +2,12 @@
 //! its file the data in them reaches.
 #![tactic(auto)]
 
+mod addresses;
 mod peers;
 mod reach;
 mod sender;
 
+pub use addresses::{PeerAddress, address_among, addresses_of};
 pub use peers::{address_of, peer_of};
 pub use reach::reach_of;
 pub use sender::{PduSender, wake_reader};

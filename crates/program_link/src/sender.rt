@@ -1,4 +1,5 @@
-use crate::peers::{address_of, peer_of};
+use crate::addresses::{PeerAddress, address_among, addresses_of};
+use crate::peers::peer_of;
 use entity_config::Config;
 use lane_table::Done;
 use pdu_codec::encode;
@@ -15,27 +16,27 @@ const PDU_OCTETS: usize = 2_048;
 #[derive(Drop)]
 pub struct PduSender<'a> {
     socket: &'a UdpSocket,
-    config: &'a Config,
+    peers: Vec<PeerAddress>,
     octets: Vec<u8>,
 }
 
 impl<'a> PduSender<'a> {
-    /// A sender over a socket, to where a configuration says that its remote entities listen.
+    /// A sender over a socket, to where a configuration says that its remote entities listen: they are looked up once.
     pub fn new(
         alloc: Global,
         socket: &'a UdpSocket,
-        config: &'a Config,
+        config: &Config,
     ) -> Result<PduSender<'a>, AllocError> {
         Ok(PduSender {
             socket,
-            config,
+            peers: addresses_of(alloc, config)?,
             octets: Vec::with_capacity(alloc, PDU_OCTETS)?,
         })
     }
 
     /// Sends a PDU to the entity at its other end, and tells how many octets went out.
     pub fn send(&mut self, pdu: &Pdu) -> usize {
-        let Some(address) = address_of(self.config, peer_of(pdu)) else {
+        let Some(address) = address_among(self.peers.as_slice(), peer_of(pdu)) else {
             return 0;
         };
         self.octets.clear();

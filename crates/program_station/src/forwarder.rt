@@ -1,11 +1,12 @@
 //! What a worker does with an answer.
 use crate::answers::flat;
+use crate::arrivals::Arrivals;
 use crate::clock::moment;
 use cfdp_types::EntityId;
 use entity_config::Config;
-use entity_workers::{Carrier, IntakeEnd, WorkersFault, run_workers};
+use entity_workers::{Carrier, WorkersFault, run_workers_from};
 use lane_table::{Done, Refused};
-use program_desk::{Desk, Step};
+use program_desk::{Desk, Step, Urgency};
 use program_link::PduSender;
 use shared_entity::{Entity, EntityRefusal};
 use shared_lanes::{Names, NoGate};
@@ -15,6 +16,9 @@ use std::sync::Wait;
 use std::thread::Threads;
 use std::time::Clock;
 
+// Room for the longest datagram, with one octet more.
+const DATAGRAM_OCTETS: usize = 65_536;
+
 /// Sends the PDUs of a worker's steps, and leaves the rest of each at the desk.
 #[derive(Drop)]
 pub struct Forwarder<'a, R> {
@@ -22,7 +26,10 @@ pub struct Forwarder<'a, R> {
     sender: PduSender<'a>,
     desk: &'a Desk,
     local: EntityId,
-    wakes_always: bool,
+    /// How soon the main thread has to look at a step that nobody waits for.
+    others: Urgency,
+    /// Room for the datagram that the worker reads.
+    pub(crate) datagram: Vec<u8>,
 }
 
 impl<'a, R: Wait + Clock> Carrier<Result<Done, Refused>> for Forwarder<'a, R> {
@@ -34,19 +41,22 @@ impl<'a, R: Wait + Clock> Carrier<Result<Done, Refused>> for Forwarder<'a, R> {
         match flat(answer) {
             Ok(done) => {
                 self.sender.send_done(&done);
-                let is_urgent = self.wakes_always
-                    || done.deposit.is_some()
-                    || done.key.source == self.local;
+                let is_awaited = done.deposit.is_some() || done.key.source == self.local;
+                let urgency = if is_awaited {
+                    Urgency::Now
+                } else {
+                    self.others
+                };
                 let step = Step::of(done, moment(self.rt));
-                self.desk.leave_step(self.rt, step, is_urgent);
+                self.desk.leave_step(self.rt, step, urgency);
             }
             Err(refusal) => self.sender.send_echo(&refusal),
         }
     }
 }
 
-/// One for each worker. They wake the main thread for a deposit and for a step of the entity's own sending transactions, as
-/// for what expires before it would wake; or, where that is asked for, at each step.
+/// One for each worker. They wake the main thread at once for a deposit and for a step of the entity's own sending
+/// transactions, and for other steps as soon as is asked for.
 pub fn forwarders_of<'a, R>(
     rt: &'a R,
     alloc: Global,
@@ -54,7 +64,7 @@ pub fn forwarders_of<'a, R>(
     config: &'a Config,
     socket: &'a UdpSocket,
     desk: &'a Desk,
-    wakes_always: bool,
+    others: Urgency,
 ) -> Result<Vec<Forwarder<'a, R>>, AllocError> {
     let mut forwarders = Vec::with_capacity(alloc, workers)?;
     for _ in 0..workers {
@@ -63,24 +73,24 @@ pub fn forwarders_of<'a, R>(
             sender: PduSender::new(alloc, socket, config)?,
             desk,
             local: config.entity().local,
-            wakes_always,
+            others,
+            datagram: Vec::from_elem(alloc, 0u8, DATAGRAM_OCTETS)?,
         })?;
     }
     Ok(forwarders)
 }
 
 /// Runs a worker for each forwarder until no datagram comes any more, or tells why not all could be started. Those that were go on
-/// as long, and the desk is told in the end. The way in is closed behind them, so that nobody waits for room
-/// there.
+/// as long, and the desk is told in the end.
 pub fn run_forwarders<N: Names + Send + Sync, R: Threads + Wait + Clock + Copy + Send + Sync>(
     rt: &R,
     alloc: Global,
     entity: &Entity<N, R>,
-    end: IntakeEnd,
+    arrivals: Arrivals<'_>,
     forwarders: Vec<Forwarder<'_, R>>,
     desk: &Desk,
 ) -> Result<(), WorkersFault> {
-    match run_workers(rt, alloc, entity, &end, forwarders, &NoGate) {
+    match run_workers_from(rt, alloc, entity, &arrivals, forwarders, &NoGate) {
         Ok(_) => Ok(()),
         Err(fault) => {
             desk.desert(rt);

@@ -3,11 +3,13 @@
 #![tactic(auto)]
 
 mod answers;
+mod arrivals;
 mod clock;
 mod forwarder;
 mod station;
 
 pub use answers::flat;
+pub use arrivals::{Arrivals, READ_FAILURES};
 pub use clock::moment;
 pub use forwarder::{Forwarder, forwarders_of, run_forwarders};
 pub use station::{REST_MS, Station};

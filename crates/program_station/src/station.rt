@@ -14,6 +14,9 @@ use std::sync::Wait;
 use std::time::Clock;
 use timer_list::Armed;
 
+// How many PDUs of files leave in a turn at most.
+const PUMPS: usize = 16;
+
 /// How long what was refused for want of memory or of room in a queue rests, in milliseconds.
 pub const REST_MS: u64 = 10;
 
@@ -194,13 +197,13 @@ impl<'a, N: Names, R: Wait + Copy + Clock, S: Filestore + Drop> Station<'a, N, R
         count > 0
     }
 
-    /// A turn: at most one timer, one PDU of a file, and one deposit. Whether anything came of it.
+    /// A turn: at most one timer, sixteen PDUs of files in rotation, and one deposit. Whether anything came of it.
     pub fn turn(&mut self, now: u64) -> bool {
         if !self.is_settled() {
             return false;
         }
         let has_expired = self.expire(now);
-        let has_pumped = self.is_settled() && self.pump(now);
+        let has_pumped = self.pump_some(now);
         let has_stored = self.is_settled() && self.store_one(now);
         has_expired || has_pumped || has_stored
     }
@@ -230,6 +233,18 @@ impl<'a, N: Names, R: Wait + Copy + Clock, S: Filestore + Drop> Station<'a, N, R
             }
             Err(_) => true,
         }
+    }
+
+    // The next PDUs of files whose turn it is, as many as the pace and memory allow; whether there was one.
+    fn pump_some(&mut self, now: u64) -> bool {
+        let mut has_pumped = false;
+        for _ in 0..PUMPS {
+            if !self.is_settled() || !self.pump(now) {
+                break;
+            }
+            has_pumped = true;
+        }
+        has_pumped
     }
 
     // The next PDU of the file whose turn it is, if one is under way and the pace allows.

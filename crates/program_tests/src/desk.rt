@@ -68,7 +68,7 @@ fn closed(rt: HostRuntime) -> Result<(), Fail> {
     let desk = Desk::new(alloc, 1, 1)?;
     assert!(rt; desk.leave_line(&rt, Vec::new(alloc)));
     desk.close(&rt);
-    assert!(rt; desk.is_closed(&rt));
+    assert!(rt; desk.is_closed());
     assert!(rt; !desk.leave_line(&rt, Vec::new(alloc)));
     assert!(rt; !desk.leave_long_line(&rt));
     Ok(())

@@ -1,6 +1,6 @@
 use crate::way_in::WayIn;
 use entity_workers::WorkersFault;
-use program_desk::{Desk, read_datagrams, read_lines};
+use program_desk::{Desk, read_lines};
 use program_link::wake_reader;
 use program_start::ProgramFault;
 use program_station::run_forwarders;
@@ -29,7 +29,7 @@ fn fault_beside(ended: Result<u8, ProgramFault>, fault: WorkersFault) -> Result<
     }
 }
 
-/// Runs the main thread's work beside a thread that reads datagrams and the workers, which all end with it. Where not all
+/// Runs the main thread's work beside the workers, which end with it. Where not all
 /// workers could be started, that is told at the end, unless the work ended for another reason.
 pub fn run_beside<
     'x,
@@ -46,31 +46,16 @@ pub fn run_beside<
     main_thread: M,
 ) -> Result<u8, ProgramFault> {
     let WayIn {
-        buffer,
-        intake,
-        end,
+        arrivals,
         forwarders,
     } = way_in;
-    let mut buffer = buffer;
     thread::scope(
         thread::scope_env(),
         rt,
         move |scope| -> Result<u8, ProgramFault> {
-            let Ok(_datagrams) = scope.spawn(move || read_datagrams(
-                rt,
-                socket,
-                &intake,
-                &mut buffer,
-                desk,
-            )) else {
-                desk.close(rt);
-                return Err(ProgramFault::Start);
-            };
             let Ok(workers) = scope.spawn(move || run_forwarders(
-                rt, alloc, entity, end, forwarders, desk,
+                rt, alloc, entity, arrivals, forwarders, desk,
             )) else {
-                desk.close(rt);
-                wake_reader(socket);
                 return Err(ProgramFault::Start);
             };
             let ended = main_thread.work();
@@ -128,31 +113,16 @@ pub fn run_commanded<
     main_thread: M,
 ) -> Result<u8, ProgramFault> {
     let WayIn {
-        buffer,
-        intake,
-        end,
+        arrivals,
         forwarders,
     } = way_in;
-    let mut buffer = buffer;
     thread::scope(
         thread::scope_env(),
         rt,
         move |scope| -> Result<u8, ProgramFault> {
-            let Ok(_datagrams) = scope.spawn(move || read_datagrams(
-                rt,
-                socket,
-                &intake,
-                &mut buffer,
-                desk,
-            )) else {
-                desk.close(rt);
-                return Err(ProgramFault::Start);
-            };
             let Ok(workers) = scope.spawn(move || run_forwarders(
-                rt, alloc, entity, end, forwarders, desk,
+                rt, alloc, entity, arrivals, forwarders, desk,
             )) else {
-                desk.close(rt);
-                wake_reader(socket);
                 return Err(ProgramFault::Start);
             };
             let ended = work_beside(rt, alloc, desk, reader, main_thread);

@@ -1,5 +1,5 @@
-//! The threads of a program round the entity that they share: one reads datagrams, workers deliver, and the main thread does
-//! its own work beside them.
+//! The threads of a program round the entity that they share: workers read datagrams and deliver them, and the main thread
+//! does its own work beside them.
 #![tactic(auto)]
 
 mod beside;

@@ -1,25 +1,19 @@
 use entity_config::Config;
-use entity_workers::{Intake, IntakeEnd, IntakeSend};
-use program_desk::{DATAGRAM_OCTETS, Desk};
-use program_station::{Forwarder, forwarders_of};
+use program_desk::{Desk, Urgency};
+use program_station::{Arrivals, Forwarder, forwarders_of};
 use std::alloc::{AllocError, Global};
 use std::net::UdpSocket;
 
-// How many datagrams may wait for the workers.
-const DATAGRAMS: usize = 1_024;
-
-/// What the datagrams of a program pass on their way to the lanes: room for one that is read, the intake, and a forwarder for
-/// each worker. All of its room is made when it is opened.
+/// The way of a program's datagrams to the lanes: those that arrive at its socket, and a forwarder for each worker. All of its
+/// room is made when it is opened.
 #[derive(Drop)]
 pub struct WayIn<'a, R> {
-    pub(crate) buffer: Vec<u8>,
-    pub(crate) intake: IntakeSend,
-    pub(crate) end: IntakeEnd,
+    pub(crate) arrivals: Arrivals<'a>,
     pub(crate) forwarders: Vec<Forwarder<'a, R>>,
 }
 
 impl<'a, R> WayIn<'a, R> {
-    /// A way in for so many workers, which wake the main thread at each step where that is asked for.
+    /// A way in for so many workers. The main thread has to look as soon as `others` says at a step that nobody waits for.
     pub fn new(
         rt: &'a R,
         alloc: Global,
@@ -27,16 +21,11 @@ impl<'a, R> WayIn<'a, R> {
         config: &'a Config,
         socket: &'a UdpSocket,
         desk: &'a Desk,
-        wakes_always: bool,
+        others: Urgency,
     ) -> Result<WayIn<'a, R>, AllocError> {
-        let buffer = Vec::from_elem(alloc, 0u8, DATAGRAM_OCTETS)?;
-        let (intake, end) = Intake::new(alloc, DATAGRAMS)?;
-        let forwarders = forwarders_of(rt, alloc, workers, config, socket, desk, wakes_always)?;
         Ok(WayIn {
-            buffer,
-            intake,
-            end,
-            forwarders,
+            arrivals: Arrivals::new(alloc, socket, desk),
+            forwarders: forwarders_of(rt, alloc, workers, config, socket, desk, others)?,
         })
     }
 }

@@ -8,5 +8,5 @@ mod session;
 
 pub use answer::{push_answer, push_taken};
 pub use program::play_to_end;
-pub use run::{LINES, Pace, replay};
+pub use run::{AnswerPace, LINES, replay, replay_at};
 pub use script_io::ReplayFault;

@@ -3,7 +3,7 @@ ghost use Rattle.std.specs.Prelude.{◌≤◌, IfSome};
 ghost use Rattle.script_io.specs.Lines.{lines_of};
 ghost use Rattle.script_replay.specs.Run.{EndsRun};
 
-use crate::run::{Pace, replay};
+use crate::run::{AnswerPace, replay_at};
 use script_io::conclude;
 use std::alloc::Global;
 use std::io::{Read, Write};
@@ -15,12 +15,12 @@ pub fn play_to_end<R: Read, W: Write, E: Write>(
     reader: &mut R,
     writer: &mut W,
     errors: &mut E,
-    pace: Pace,
+    pace: AnswerPace,
 ) -> u8
     ensures ended { IfSome (R.remaining reader.old) (λ script. EndsRun result (lines_of script)
         (W.contents writer.old) (W.contents writer.new) (E.contents errors.old) (E.contents errors.new)) }
     ensures status { result ≤ 1 }
 {
-    let ended = replay(alloc, reader, writer, pace);
+    let ended = replay_at(alloc, reader, writer, pace);
     conclude(ended, writer, errors)
 }

@@ -18,7 +18,7 @@ pub const LINES: u32 = 1_000_000;
 
 /// When answers are written.
 #[derive(Clone, Copy, Debug, PartialEq, Eq)]
-pub enum Pace {
+pub enum AnswerPace {
     /// By blocks: an answer may come later than its line.
     ByBlocks,
     /// Each before the next line is read, for a person who waits for it.
@@ -33,13 +33,25 @@ struct Scratch {
 }
 
 /// Runs the script that the reader holds through an entity, and writes what it answers, line by
-/// line, at this pace. It reads ahead, by blocks: where it ends before the text does, the reader stands
+/// line, in blocks. It reads ahead, by blocks: where it ends before the text does, the reader stands
 /// further than the last line that was played.
 pub fn replay<R: Read, W: Write>(
     alloc: Global,
     reader: &mut R,
     writer: &mut W,
-    pace: Pace,
+) -> Result<(), ReplayFault>
+    ensures { IfSome (R.remaining reader.old)
+        (λ script. Replays result (lines_of script) (W.contents writer.old) (W.contents writer.new)) }
+{
+    replay_at(alloc, reader, writer, AnswerPace::ByBlocks)
+}
+
+/// As [`replay`], with the answers written at this pace.
+pub fn replay_at<R: Read, W: Write>(
+    alloc: Global,
+    reader: &mut R,
+    writer: &mut W,
+    pace: AnswerPace,
 ) -> Result<(), ReplayFault>
     ensures { IfSome (R.remaining reader.old)
         (λ script. Replays result (lines_of script) (W.contents writer.old) (W.contents writer.new)) }
@@ -56,7 +68,7 @@ fn play_script<R: Read, W: Write>(
     reader: &mut R,
     writer: &mut W,
     buffer: &mut Vec<u8>,
-    pace: Pace,
+    pace: AnswerPace,
 ) -> Result<(), ReplayFault>
     requires { buffer.old.items ≡ [] }
     ensures { IfSome (R.remaining reader.old)
@@ -74,7 +86,7 @@ fn play_lines<B: BufRead, W: Write>(
     reader: &mut B,
     writer: &mut W,
     buffer: &mut Vec<u8>,
-    pace: Pace,
+    pace: AnswerPace,
 ) -> Result<(), ReplayFault>
     ensures { (lines : List (List ℕ)) (old : Option (List ℕ))
         → Ran lines (B.remaining reader.old) 0 session.old old (W.contents writer.old) buffer.old.items
@@ -94,16 +106,16 @@ fn play_lines<B: BufRead, W: Write>(
 }
 
 // Writes what the buffer holds, where answers are written line by line.
-fn hand_on<W: Write>(writer: &mut W, buffer: &mut Vec<u8>, pace: Pace) -> Result<(), ReplayFault>
+fn hand_on<W: Write>(writer: &mut W, buffer: &mut Vec<u8>, pace: AnswerPace) -> Result<(), ReplayFault>
     ensures { Buffers result (W.contents writer.old) (W.contents writer.new) buffer.old.items [] buffer.new.items }
 {
     match pace {
-        Pace::ByBlocks => Ok(()),
-        Pace::ByLines => flush_buffer(writer, buffer),
+        AnswerPace::ByBlocks => Ok(()),
+        AnswerPace::ByLines => flush_buffer(writer, buffer),
     }
 }
 
-// Behind the last line that a script may have no line comes.
+// A script has at most `LINES` lines.
 fn ends<B: BufRead>(reader: &mut B, line: &mut Vec<u8>) -> Result<(), ReplayFault>
     ensures { (lines : List (List ℕ)) (session : Session) (old new : Option (List ℕ)) (buffer : List ℕ)
         → Ran lines (B.remaining reader.old) LINES session old new buffer

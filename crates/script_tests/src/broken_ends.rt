@@ -1,6 +1,6 @@
 //! A reader that fails at one of its calls, and a writer that does, each call in turn.
 
-use script_replay::{Pace, ReplayFault, replay};
+use script_replay::{ReplayFault, replay};
 use std::alloc::{AllocError, Global};
 use std::io;
 use std::io::{Error, ErrorKind, Read, Write};
@@ -92,7 +92,7 @@ fn read_failing(alloc: Global, fails_at: usize) -> Result<Ended, AllocError> {
         fails_at,
     };
     let mut writer = Vec::new(alloc);
-    let ended = replay(alloc, &mut reader, &mut writer, Pace::ByBlocks);
+    let ended = replay(alloc, &mut reader, &mut writer);
     let wanted = answers(
         alloc,
         READ_OCTETS.saturating_mul(fails_at.saturating_sub(1)),
@@ -122,7 +122,7 @@ fn write_failing(alloc: Global, fails_at: usize) -> Result<Ended, AllocError> {
         calls: 0,
         fails_at,
     };
-    let ended = replay(alloc, &mut reader, &mut writer, Pace::ByBlocks);
+    let ended = replay(alloc, &mut reader, &mut writer);
     let wanted = answers(alloc, SCRIPT.len())?;
     let written = wanted
         .len()

@@ -1,7 +1,7 @@
 //! Where scripts end: at their last line, or at the first that they may not have there.
 
 use crate::play::{breaks_off, ends, plays};
-use script_replay::{Pace, ReplayFault, play_to_end, replay};
+use script_replay::{AnswerPace, ReplayFault, play_to_end, replay, replay_at};
 use std::io;
 use std::io::{Error, ErrorKind, Read, Write};
 use std::process::Abort;
@@ -141,7 +141,7 @@ fn a_reader_that_fails(rt: HostRuntime) -> Result<(), Fail> {
         &mut reader,
         &mut writer,
         &mut errors,
-        Pace::ByBlocks,
+        AnswerPace::ByBlocks,
     );
     assert_eq!(rt; status, 1);
     assert!(rt; writer.as_slice() == b"none\nrefused 1 NoTransaction\n".as_slice());
@@ -182,7 +182,7 @@ fn a_full_writer(rt: HostRuntime) -> Result<(), Fail> {
         &mut reader,
         &mut writer,
         &mut errors,
-        Pace::ByBlocks,
+        AnswerPace::ByBlocks,
     );
     assert_eq!(rt; status, 1);
     assert!(rt; writer.taken.as_slice() == b"none\nno".as_slice());
@@ -212,13 +212,13 @@ impl Write for CountingWriter {
 // A run by lines writes the answer of each of its lines, one by blocks all of them together, and both the same in the end.
 #[test]
 fn paces(rt: HostRuntime) -> Result<(), Fail> {
-    for (pace, asked) in [(Pace::ByLines, 3), (Pace::ByBlocks, 1)] {
+    for (pace, asked) in [(AnswerPace::ByLines, 3), (AnswerPace::ByBlocks, 1)] {
         let mut reader = b"take alice\n# no answer\npump 2 4\ntake bob\n".as_slice();
         let mut writer = CountingWriter {
             asked: 0,
             taken: Vec::new(rt.alloc()),
         };
-        let ended = replay(rt.alloc(), &mut reader, &mut writer, pace);
+        let ended = replay_at(rt.alloc(), &mut reader, &mut writer, pace);
         assert!(rt; ended.is_ok());
         assert_eq!(rt; writer.asked, asked);
         assert!(rt; writer.taken.as_slice() == b"none\nrefused 1 NoTransaction\nnone\n".as_slice());
@@ -231,7 +231,7 @@ fn bad_lines<R: AllocGlobal + Abort>(rt: &R, lines: &[&str]) {
     for line in lines {
         let mut reader = line.as_bytes();
         let mut writer = Vec::new(rt.alloc());
-        let ended = replay(rt.alloc(), &mut reader, &mut writer, Pace::ByBlocks);
+        let ended = replay(rt.alloc(), &mut reader, &mut writer);
         assert!(rt; ended == Err(ReplayFault::BadLine(1)), "{line}");
         assert!(rt; writer.is_empty());
     }

@@ -1,6 +1,6 @@
 //! Scripts that are played, and what they print.
 
-use script_replay::{Pace, play_to_end};
+use script_replay::{AnswerPace, play_to_end};
 use std::alloc::{AllocError, Global};
 use std::process::Abort;
 use std::test::*;
@@ -47,7 +47,7 @@ fn ends_as<R: AllocGlobal + Abort>(
         &mut reader,
         &mut writer,
         &mut errors,
-        Pace::ByBlocks,
+        AnswerPace::ByBlocks,
     );
     let text = str::from_utf8(writer.as_slice()).map_err(|_| "no text")?;
     same_lines(rt, title, text, joined(rt.alloc(), printed)?.as_str());

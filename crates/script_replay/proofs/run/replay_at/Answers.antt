@@ -4,7 +4,7 @@ use Rattle.script_io.specs.Lines.{lines_of}
 use Rattle.script_replay.specs.Run.{Replays}
 use Rattle.script_replay.specs.Running.{Ends}
 use Rattle.script_replay.proofs.BufferFacts.{flushed, not_flushed, if_some_then}
-use Rattle.script_replay.proofs.run.replay.Goals as goal
+use Rattle.script_replay.proofs.run.replay_at.Goals as goal
 
 pub returns-in_err-flush_buffer : goal.returns-in_err-flush_buffer
 returns-in_err-flush_buffer g c =

@@ -1,6 +1,6 @@
 use Rattle.std.proofs.Common.{◌≡◌, ◌+◌, ◌≤◌, All, vec_len, vec_capacity}
 use Rattle.entity_workers.specs.Carrying.{AcceptsAnswers}
-use Rattle.entity_workers.proofs.workers.fn.run_workers.scope.Given as goal
+use Rattle.entity_workers.proofs.workers.fn.run_workers_from.scope.Given as goal
 
 abbrev pub invariant-loop-carrier : goal.invariant-loop-carrier
 invariant-loop-carrier g l = record {

@@ -1,0 +1,56 @@
+//! Where entities listen, looked up once.
+ghost use Rattle.std.specs.Prelude.{All, IfOk, IfSome};
+ghost use Rattle.config_reading.specs.Values.{ConfigValue};
+ghost use Rattle.program_link.specs.Peers.{ListensAt};
+
+use crate::peers::address_of;
+use cfdp_types::EntityId;
+use entity_config::Config;
+use std::alloc::{AllocError, Global};
+use std::net::SocketAddr;
+
+/// An entity, and where it listens.
+#[derive(Clone, Copy, Debug, Drop)]
+pub struct PeerAddress {
+    pub id: EntityId,
+    pub address: SocketAddr,
+}
+
+/// Where the remote entities listen that a configuration names, those whose address can be read.
+pub fn addresses_of(alloc: Global, config: &Config) -> Result<Vec<PeerAddress>, AllocError>
+    ensures { IfOk result (λ peers. All (λ peer. ListensAt config.now peer.id peer.address) peers.items) }
+{
+    let mut peers = Vec::with_capacity(alloc, config.remotes())?;
+    for place in 0..config.remotes() {
+        if let Some(peer) = peer_at(config, place) {
+            peers.push(peer)?;
+        }
+    }
+    Ok(peers)
+}
+
+// The remote entity at a place of a configuration, if its address can be read.
+fn peer_at(config: &Config, place: usize) -> Option<PeerAddress>
+    ensures { IfSome result (λ peer. ListensAt config.now peer.id peer.address) }
+{
+    let id = config.remote_at(place)?.id;
+    let address = address_of(config, id)?;
+    Some(PeerAddress { id, address })
+}
+
+/// Where an entity listens, among those that were looked up.
+pub fn address_among(peers: &[PeerAddress], id: EntityId) -> Option<SocketAddr>
+    ensures { (config : ConfigValue) → All (λ peer. ListensAt config peer.id peer.address) peers.now
+        → IfSome result (λ address. ListensAt config id address) }
+{
+    match peers {
+        [] => None,
+        [first, rest @ ..] => {
+            if first.id == id {
+                Some(first.address)
+            } else {
+                address_among(rest, id)
+            }
+        }
+    }
+}
