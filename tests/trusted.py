@@ -25,9 +25,8 @@ This page is printed by `tests/trusted.py`, and the gate fails where it is stale
 
 A proof says that a call keeps its contract. What a contract says is written in definitions, in the folders `specs/` of the
 crates: if one of them says something else than it should, the proofs are about something else. So they have to be read. They
-are below, in the order in which to read them: room by room as data passes them (`docs/architecture.md`), and in a room each behind
-those of that room that it cites; a room may cite one further down, as lanes cite what an end answers. The first line of each file
-says what it is:
+are below, in the order in which to read them: layer by layer (`docs/architecture.md`), and in a crate each behind those that it cites. The first line of each file says what it
+is:
 
 - **Meaning**: what the contracts of public calls and the laws are said in. All of these are listed.
 - **Of the code**: how the code keeps what is meant: what a value of the code stands for, what stays between two steps. {cited}
@@ -37,6 +36,8 @@ says what it is:
   them but where one is listed.
 
 Types, their fields and constants are those of the code: `specs/declared/` is made from it. Each `Lib.antt` only names the other
+files. What a contract sees of a type with private fields, and what is kept by it whenever nobody is inside a call, stands at the type
+itself, and what a trait asks of those who implement it at the trait: these have to be believed as well, and are listed behind the
 files.
 
 Beside the definitions these are trusted, and the README has the list: the toolchain, with its checker, its compiler and its
@@ -77,17 +78,14 @@ def file_of(crate, module):
 
 
 def heading(title):
-    """The heading of a room: its prefixes as they are, else with a capital."""
-    prefixes, colon, rest = title.partition(": ")
-    if "_" not in prefixes:
-        return title[0].upper() + title[1:]
-    return ", ".join(f"`{prefix}`" for prefix in prefixes.split(", ")) + colon + rest
+    """The heading of a layer."""
+    return title[0].upper() + title[1:]
 
 
 def read_crates():
     """The groups of crates.txt: the text above each, and its crates."""
     groups = []
-    for line in (TOP / "crates.txt").read_text().splitlines()[1:]:
+    for line in (TOP / "crates.txt").read_text().partition("\n\n")[2].splitlines():
         if line.startswith("#"):
             groups.append((line[1:].strip(), []))
         elif ":" in line:
@@ -124,7 +122,9 @@ def in_order(files, found):
 # ---- what public calls cite
 
 def exported(crate):
-    """The names that a crate gives out, and the modules."""
+    """The names that a crate gives out, and the modules; a program gives out none."""
+    if not (TOP / "crates" / crate / "src" / "lib.rt").exists():
+        return set()
     text = (TOP / "crates" / crate / "src" / "lib.rt").read_text()
     names = set(re.findall(r"\w+", " ".join(re.findall(r"^pub use ([^;]*);", text, re.M))))
     return names | set(re.findall(r"^pub mod (\w+);", text, re.M))
@@ -174,6 +174,24 @@ def believed(found):
     return seen
 
 
+# ---- what stands in the code itself
+
+def models_and_members(crate):
+    """The public types of a crate that contracts see by a model, and the public traits with ghost members; each with its file."""
+    names = exported(crate)
+    for path in sorted((TOP / "crates" / crate / "src").rglob("*.rt")):
+        text = path.read_text()
+        at = path.relative_to(TOP / "crates" / crate)
+        for found in re.finditer(r"^impl(?:<[^\n]*?>)? Model for (\w+).*?^}", text, re.M | re.S):
+            if found[1] in names:
+                kept = " and what it keeps" if "ghost invariant" in found[0] else ""
+                yield f"- `{found[1]}` (`{at}`): what contracts see of it{kept}."
+        for found in re.finditer(r"^pub trait (\w+).*?^}", text, re.M | re.S):
+            members = re.findall(r"^    ghost (\w+):", found[0], re.M)
+            if found[1] in names and members:
+                yield f"- `{found[1]}` (`{at}`), a trait: " + ", ".join(f"`{one}`" for one in members) + "."
+
+
 # ---- the page
 
 def item(one):
@@ -207,8 +225,20 @@ def page():
                 out.append("\n".join(item(found[path]) for path in in_order(mine, found)))
         out.append(f"In this group: {counted(files, found)}.")
     out.append(f"## In all\n\n{counted(listed, found)}.")
+    out.append("## Models, and what traits ask\n\n" + at_types(groups))
     out.append("## What need not be believed\n\n" + rest_table(found, listed))
     return "\n\n".join(out) + "\n"
+
+
+def at_types(groups):
+    """The list of models and ghost members, crate by crate."""
+    parts = []
+    for _, crates in groups:
+        for crate in crates:
+            lines = list(models_and_members(crate))
+            if lines:
+                parts.append(f"**`{crate}`**\n\n" + "\n".join(lines))
+    return "\n\n".join(parts)
 
 
 def wrap_intro(text):
