@@ -1,7 +1,7 @@
 ghost use Rattle.std.specs.Prelude.{◌≡◌};
 ghost use Rattle.modular_sum.specs.Pieces.{sum_with};
 
-use crate::term_of;
+use crate::words::with_row;
 use std::marker::Model;
 
 /// The checksum of a file whose octets come at their offsets, in any order: each adds what it counts
@@ -32,14 +32,11 @@ impl Running {
     }
 
     /// Adds octets, the first of which stands at the offset. An octet that is added twice counts twice.
+    #[tactic(auto, using(crate::proofs::SumLemmas::total_from_place))]
     pub fn add(&mut self, offset: u32, octets: &[u8])
         ensures { self.new ≡ sum_with self.old offset octets.now }
     {
-        let mut place = offset as usize % 4;
-        for octet in octets {
-            self.word = self.word.wrapping_add(term_of(place, *octet));
-            place = (place + 1) % 4;
-        }
+        self.word = with_row(self.word, offset as usize % 4, octets);
     }
 
     /// The sum so far.
