@@ -1,16 +1,16 @@
 -- A legal log of a reception has no more entries than a journal may have.
-use Rattle.std.proofs.Common.{◌≡◌, ℕ, ◌+◌, ◌<◌, ◌≤◌, Bool, true, false, not, ◌||◌, ◌&&◌, nat_le, if◌then◌else◌, List, [], ◌∷◌, length, Option, Some, None, refl, sym, ap, subst, ◌∙◌, arith}
+use Rattle.std.proofs.Common.{◌≡◌, ℕ, ◌+◌, ◌≤◌, Bool, true, false, not, ◌||◌, ◌&&◌, nat_le, if◌then◌else◌, List, [], ◌∷◌, length, Option, Some, None, refl, sym, subst, arith}
 use Rattle.std.specs.Prelude.{is_some}
 use Rattle.std.proofs.lemmas.Bool.Decides.{nat_tests}
 use Rattle.cfdp_types.specs.Steps.{is_stamp}
-use Rattle.cfdp_types.specs.declared.limits.TheConstants.{JOURNAL_ENTRIES, JOURNAL_ENTRIES_KEPT}
+use Rattle.cfdp_types.specs.declared.limits.TheConstants.{JOURNAL_ENTRIES}
 use Rattle.txn_events.specs.declared.answer.Answer.{Answer}
 use Rattle.txn_events.specs.declared.event.What.{What}
 use Rattle.txn_events.specs.declared.event.What.TheVariants as what
 use Rattle.txn_events.specs.Events.{is_of_other_class, is_stale_timer, needs_room}
 use Rattle.receiver_table.specs.Reception.{Reception, Entry, State, initial, step, state_of, is_storing}
 use Rattle.receiver_table.specs.Refusals.{refusal_at, is_stale_store, waits_for_store, is_misplaced, is_too_large, is_full}
-use Rattle.receiver_table.specs.Answers.{accepted_at, answer_at}
+use Rattle.receiver_table.specs.Answers.{accepted_at}
 use Rattle.receiver_laws.specs.LegalReceptions.{IsLegal}
 use Rattle.receiver_laws.specs.ReceptionLaws.{FitsJournal}
 use Rattle.receiver_laws.proofs.ReceptionLegal.{was_taken}

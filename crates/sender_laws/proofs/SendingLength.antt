@@ -1,5 +1,5 @@
 -- A legal log of a sender has fewer entries than a journal may have.
-use Rattle.std.proofs.Common.{◌≡◌, ℕ, ◌+◌, ◌<◌, ◌≤◌, Bool, true, false, ◌||◌, ◌&&◌, nat_le, if◌then◌else◌, List, [], ◌∷◌, length, Option, Some, None, refl, sym, subst, arith}
+use Rattle.std.proofs.Common.{◌≡◌, ℕ, ◌+◌, ◌≤◌, Bool, true, false, ◌||◌, ◌&&◌, nat_le, if◌then◌else◌, List, [], ◌∷◌, length, Option, Some, None, refl, sym, subst, arith}
 use Rattle.std.proofs.lemmas.Bool.Decides.{nat_tests}
 use Rattle.cfdp_types.specs.declared.limits.TheConstants.{JOURNAL_ENTRIES}
 use Rattle.txn_events.specs.declared.answer.Answer.{Answer}
@@ -8,7 +8,7 @@ use Rattle.txn_events.specs.declared.event.What.TheVariants as what
 use Rattle.txn_events.specs.Events.{is_of_other_class, is_stale_timer, needs_room}
 use Rattle.sender_table.specs.Sending.{Sending, Event, put, happens, Entry, State, initial, step, state_of}
 use Rattle.sender_table.specs.Refusals.{refusal_of, refusal_at, is_stale_store, is_misplaced, is_full}
-use Rattle.sender_table.specs.Answers.{accepted_at, answer_at}
+use Rattle.sender_table.specs.Answers.{accepted_at}
 use Rattle.sender_laws.specs.LegalSendings.{HasItsPlace, IsLegal}
 use Rattle.sender_laws.specs.SendingLaws.{FitsJournal}
 use Rattle.sender_laws.proofs.SendingLegal.{was_accepted}
