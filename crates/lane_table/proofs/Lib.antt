@@ -5,3 +5,4 @@ pub mod RunFacts
 pub mod IssuedFacts
 pub mod NumberFacts
 pub mod ImageFacts
+pub mod LengthFacts

@@ -1,5 +1,5 @@
 -- What holds of logs of both ends: one event more, and the words that they tell.
-use Rattle.std.proofs.Common.{◌≡◌, ℕ, Bool, true, false, List, [], ◌∷◌, ◌++◌, map, Option, Some, None, Ok, Err, if◌then◌else◌, refl, sym, ap, ◌∙◌, subst}
+use Rattle.std.proofs.Common.{◌≡◌, ℕ, ◌+◌, Bool, true, false, List, [], ◌∷◌, ◌++◌, map, Option, Some, None, Ok, Err, if◌then◌else◌, refl, sym, ap, ◌∙◌, subst, arith}
 use Rattle.std.proofs.lemmas.Bool.{false≢true}
 use Rattle.std.proofs.lemmas.List.{map-append}
 use Rattle.cfdp_types.specs.declared.key.TxnKey.{TxnKey}
@@ -33,7 +33,7 @@ use Rattle.std.specs.Option.{option_map}
 use Rattle.cfdp_types.specs.declared.key.EntityId.{EntityId}
 use Rattle.lane_table.specs.Keeping.{IsOfSide}
 use Rattle.lane_table.specs.Lane.{key_at, log_from}
-use Rattle.lane_table.specs.Logs.{Transaction, sends, receives, Log, sent, received, body_opens, IsOfKey, answered_behind, extended, opened_by, end_of, side_of, to_sender, to_receiver, log_by, issued, has_ended, IsLegal, refused_behind, last_answer}
+use Rattle.lane_table.specs.Logs.{Transaction, sends, receives, Log, sent, received, body_opens, IsOfKey, answered_behind, extended, opened_by, end_of, side_of, to_sender, to_receiver, log_by, issued, has_ended, entries_of, IsLegal, refused_behind, last_answer}
 use Rattle.txn_events.proofs.AnswerLemmas.{log_after-append, log_after-rest}
 use Rattle.lane_table.specs.LaneLaws.{TellsWords}
 
@@ -81,6 +81,11 @@ pub issued_with : (log : Log) (event : Event) → HasPlace log event
 issued_with (sent sending log) event place = refl
 issued_with (received reception log) (On key event) place = refl
 issued_with (received reception log) (Put request params) place = absurd place
+
+pub entries_with : (log : Log) (event : Event) → HasPlace log event → entries_of (log_with log event) ≡ entries_of log + 1
+entries_with (sent sending log) event place = omega arith
+entries_with (received reception log) (On key event) place = omega arith
+entries_with (received reception log) (Put request params) place = absurd place
 
 pub legal_with : (log : Log) (event : Event) → IsLegal log → has_ended log ≡ false → HasPlace log event → refused_behind log event ≡ None
     → IsLegal (log_with log event)
@@ -149,6 +154,10 @@ nothing_ended (receives reception) = refl
 pub nothing_issued : (transaction : Transaction) → issued (log_by transaction []) ≡ []
 nothing_issued (sends sending) = refl
 nothing_issued (receives reception) = refl
+
+pub nothing_counted : (transaction : Transaction) → entries_of (log_by transaction []) ≡ 0
+nothing_counted (sends sending) = refl
+nothing_counted (receives reception) = refl
 
 -- of a transaction, if there is one
 abbrev pub IfOpened : Option Transaction → (Transaction → Type 0) → Type 0

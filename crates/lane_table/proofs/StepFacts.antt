@@ -1,5 +1,5 @@
 -- A step of a lane: what an event that is taken makes of its log, and of what the lane keeps.
-use Rattle.std.proofs.Common.{◌≡◌, ℕ, ◌*◌, ◌<◌, Bool, true, false, not, ◌||◌, ◌&&◌, ◌==◌, if◌then◌else◌, is_some, List, [], ◌∷◌, ◌++◌, Option, Some, None, refl, sym, ap, ◌∙◌, subst, arith}
+use Rattle.std.proofs.Common.{◌≡◌, ℕ, ◌+◌, ◌*◌, ◌<◌, Bool, true, false, not, ◌||◌, ◌&&◌, ◌==◌, if◌then◌else◌, is_some, List, [], ◌∷◌, ◌++◌, Option, Some, None, refl, sym, ap, ◌∙◌, subst, arith, length-append}
 use Rattle.std.specs.Option.{option_map, option_or}
 use Rattle.std.proofs.lemmas.Bool.{false≢true, true≢false, ltb-true, eqb-true}
 use Rattle.std.proofs.lemmas.List.{append-nil}
@@ -17,11 +17,11 @@ use Rattle.txn_events.specs.declared.event.Event.TheVariants.{Put, On}
 use Rattle.lane_table.specs.declared.lane_side.LaneSide.{LaneSide}
 use Rattle.lane_table.specs.declared.lane_side.LaneSide.TheVariants.{Sending, Receiving}
 use Rattle.indications.specs.declared.side.Side.{Side}
-use Rattle.lane_table.specs.Logs.{Transaction, Log, IsOfKey, opened_by, end_of, log_by, issued, has_ended, IsLegal, last_answer, side_of}
-use Rattle.lane_table.specs.Lane.{State, idle, key_at, is_above, log_from, log_of, goes_on, is_running, issued_in, issued_by, IsNumbered, IsRun, IsRisen, IsSound}
+use Rattle.lane_table.specs.Logs.{Transaction, Log, IsOfKey, opened_by, end_of, log_by, issued, has_ended, entries_of, IsLegal, last_answer, side_of}
+use Rattle.lane_table.specs.Lane.{State, idle, key_at, is_above, log_from, log_of, entries_in, goes_on, is_running, issued_in, issued_by, IsNumbered, IsRun, IsRisen, IsSound}
 use Rattle.lane_table.specs.Steps.{IsKeyed, next_in, next_number, number_in, is_foreign, is_new, new_transaction, log_before, is_unknown, is_old, wants_to_open, is_busy, refused_number, refused_by_number, plainly, refused_by_end, refused_by_lane, refusal_at, stepped_by, stepped, answer_in, answer_of, IsBundle}
 use Rattle.lane_table.specs.Keeping.{IsOfSide, AreSent, Keeps}
-use Rattle.lane_table.proofs.LogFacts.{log_with, log_by-more, HasPlace, issued_with, legal_with, nothing_legal, nothing_ended, nothing_issued, IfOpened, first_place, later_place, lane_words, begun_group, word_group, begun_side, log_side}
+use Rattle.lane_table.proofs.LogFacts.{log_with, log_by-more, HasPlace, issued_with, entries_with, legal_with, nothing_legal, nothing_ended, nothing_issued, nothing_counted, IfOpened, first_place, later_place, lane_words, begun_group, word_group, begun_side, log_side}
 use Rattle.lane_table.proofs.SentFacts.{some_is, nothing_sent, IsOver, number_opens, bundle_more}
 
 -- ---- an event that is taken meets none of the reasons
@@ -253,15 +253,19 @@ run_after (Some number) found log next run is legal = legal
 
 sound_by : (state : State) (event : Event) (opened : Option Transaction) (log next : Log) → IsSound state
     → (new_transaction state event ≡ opened) → log_before state opened ≡ Some log → log_of (stepped_by state event opened) ≡ Some next → IsLegal next
+    → entries_of next ≡ entries_of log + 1
     → IsSound (stepped_by state event opened)
-sound_by state event None log next sound is before after legal = record {
+sound_by state event None log next sound is before after legal more = record {
   numbered = sound.numbered;
   run = subst (IsRun state.last) (sym after) (run_after state.last (log_of state) log next sound.run before legal);
+  counted =
+      length-append state.journal (event ∷ []) ∙ ap (λ n. n + 1) (sound.counted ∙ ap entries_in before) ∙ sym more ∙ sym (ap entries_in after);
   risen = sound.risen;
 }
-sound_by state event (Some transaction) log next sound is before after legal = record {
+sound_by state event (Some transaction) log next sound is before after legal more = record {
   numbered = sound.numbered;
   run = subst (IsRun (Some (number_in state event))) (sym after) legal;
+  counted = ap (λ n. n + 1) (sym (nothing_counted transaction) ∙ ap entries_in before) ∙ sym more ∙ sym (ap entries_in after);
   risen = rises state event transaction sound.numbered is;
 }
 
@@ -269,9 +273,10 @@ pub stays_sound : (state : State) (event : Event) → IsSound state → IsKeyed 
 stays_sound state event sound keyed free =
     let came = comes_to state event sound keyed free in
     sound_by state event (new_transaction state event) came.log (log_with came.log event) sound refl came.before came.after (comes_legal state event free came)
+    (entries_with came.log event came.place)
 
 pub idle_sound : (side : LaneSide) (user lane : ℕ) (source : EntityId) → IsNumbered side → IsSound (idle side user lane source)
-idle_sound side user lane source numbered = record { numbered = numbered; run = tt; risen = tt }
+idle_sound side user lane source numbered = record { numbered = numbered; run = tt; counted = refl; risen = tt }
 
 -- ---- what the lane keeps
 

@@ -1,5 +1,5 @@
 -- Meaning. Of which reception an image is that a lane gives.
-use Rattle.std.specs.Prelude.{◌≡◌, ℕ, List, Some, None, Ok}
+use Rattle.std.specs.Prelude.{◌≡◌, ℕ, List, Some, Ok}
 use Rattle.cfdp_types.specs.declared.image.Image.{Image}
 use Rattle.cfdp_types.specs.declared.key.TxnKey.{TxnKey}
 use Rattle.receiver_table.specs.Reception.{Reception, Entry, state_of}

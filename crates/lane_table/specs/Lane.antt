@@ -1,5 +1,5 @@
 -- Meaning. What a lane stands at: the transaction that it runs or ran last, and the one before.
-use Rattle.std.specs.Prelude.{◌≡◌, ℕ, ◌+◌, ◌*◌, ◌/◌, ◌%◌, ◌<◌, Bool, true, false, not, nat_lt, List, [], ◌∷◌, Option, Some, None}
+use Rattle.std.specs.Prelude.{◌≡◌, ℕ, ◌+◌, ◌*◌, ◌/◌, ◌%◌, ◌<◌, Bool, true, false, not, nat_lt, List, [], ◌∷◌, length, Option, Some, None}
 use Rattle.std.specs.Option.{option_map}
 use Rattle.cfdp_types.specs.declared.key.EntityId.{EntityId}
 use Rattle.cfdp_types.specs.declared.key.TxnKey.{TxnKey}
@@ -8,7 +8,7 @@ use Rattle.txn_events.specs.declared.event.Event.{Event}
 use Rattle.lane_table.specs.declared.lane_side.LaneSide.{LaneSide}
 use Rattle.lane_table.specs.declared.lane_side.LaneSide.TheVariants.{Sending, Receiving}
 use Rattle.lane_table.specs.declared.lane_side.Numbers.{Numbers}
-use Rattle.lane_table.specs.Logs.{Log, log_by, opened_by, issued, has_ended, IsLegal}
+use Rattle.lane_table.specs.Logs.{Log, log_by, opened_by, issued, has_ended, entries_of, IsLegal}
 
 pub record State : Type 0 where
   -- what it runs: sending transactions, or those that come from one source
@@ -88,6 +88,11 @@ issued_in (Some log) = issued log
 abbrev pub issued_by : State → List Indication
 issued_by state = issued_in (log_of state)
 
+-- the number of its entries, none where there is no transaction
+abbrev pub entries_in : Option Log → ℕ
+entries_in None = 0
+entries_in (Some log) = entries_of log
+
 -- ---- what holds of every lane
 
 -- there is a transaction exactly where a number was opened, and its log is legal
@@ -105,4 +110,6 @@ IsRisen (Some before) (Some last) = before < last
 pub record IsSound (state : State) : Type 0 where
   pub numbered : IsNumbered state.side
   pub run : IsRun state.last (log_of state)
+  -- each event of the journal has its entry in the log
+  pub counted : length state.journal ≡ entries_in (log_of state)
   pub risen : IsRisen state.before state.last

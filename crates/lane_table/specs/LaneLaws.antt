@@ -1,6 +1,7 @@
 -- Meaning. What holds of the log of every transaction, at both ends.
-use Rattle.std.specs.Prelude.{◌≡◌, ℕ, ◌<◌, All, true, List, ◌++◌, Some, None, Contains}
+use Rattle.std.specs.Prelude.{◌≡◌, ℕ, ◌<◌, ◌≤◌, All, true, List, length, ◌++◌, Some, None, Contains}
 use Rattle.cfdp_types.specs.declared.key.EntityId.{EntityId}
+use Rattle.cfdp_types.specs.declared.limits.TheConstants.{JOURNAL_ENTRIES}
 use Rattle.cfdp_types.specs.declared.names.Delivery.TheVariants.{Complete}
 use Rattle.cfdp_types.specs.declared.names.FileStatus.{FileStatus}
 use Rattle.indications.specs.declared.indication.Indication.TheVariants as told
@@ -16,7 +17,7 @@ use Rattle.lane_table.specs.declared.lane_side.Numbers.{Numbers}
 use Rattle.lane_table.specs.Lane.{State, idle, IsNumberOf, log_from, issued_in, IsNumbered, IsSound}
 use Rattle.lane_table.specs.Steps.{IsKeyed, refusal_at, stepped}
 use Rattle.lane_table.specs.Keeping.{Keeps, bundle_of, sent_after, events_of, AreTaken}
-use Rattle.lane_table.specs.Logs.{Log, received, side_of, issued, has_ended, IsLegal}
+use Rattle.lane_table.specs.Logs.{Log, received, side_of, issued, has_ended, entries_of, IsLegal}
 
 -- what a transaction tells its user is a beginning of a word of its side, and a word once it has ended
 abbrev pub TellsWords : Type 0
@@ -50,3 +51,11 @@ NumbersTellLanes = (numbers : Numbers) (greatest user lane : ℕ) (source : Enti
 abbrev pub StepsKeep : Type 0
 StepsKeep = (state : State) (event : Event) (bundles : List Bundle) → IsSound state → Keeps state bundles → IsKeyed event → refusal_at state event ≡ None
     → IsSound (stepped state event) × Keeps (stepped state event) (bundles ++ bundle_of (stepped state event))
+
+-- a log has no more entries than a journal may have
+abbrev pub FitsJournal : Type 0
+FitsJournal = (log : Log) → IsLegal log → entries_of log ≤ JOURNAL_ENTRIES
+
+-- the journal of a sound lane has no more events than a journal may have
+abbrev pub KeepsToLimit : Type 0
+KeepsToLimit = (state : State) → IsSound state → length state.journal ≤ JOURNAL_ENTRIES

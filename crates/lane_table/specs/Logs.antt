@@ -1,5 +1,5 @@
 -- Meaning. A transaction at either of its ends, with its log, and what a lane asks of both in the same words.
-use Rattle.std.specs.Prelude.{◌≡◌, ℕ, Bool, if◌then◌else◌, List, [], ◌∷◌, map, Option, Some, None, Result, Err}
+use Rattle.std.specs.Prelude.{◌≡◌, ℕ, Bool, if◌then◌else◌, List, [], ◌∷◌, length, map, Option, Some, None, Result, Err}
 pub use Rattle.txn_events.specs.declared.answer.Answer.{Answer}
 pub use Rattle.txn_events.specs.Events.{body_opens}
 use Rattle.txn_events.specs.Logs.{empty_answer}
@@ -89,6 +89,11 @@ issued (received reception log) = receiver.issued log
 abbrev pub has_ended : Log → Bool
 has_ended (sent sending log) = (sender.state_of sending log).ended
 has_ended (received reception log) = (receiver.state_of log).ended
+
+-- the number of its entries
+abbrev pub entries_of : Log → ℕ
+entries_of (sent sending log) = length log
+entries_of (received reception log) = length log
 
 -- its end can have it
 abbrev pub IsLegal : Log → Type 0

@@ -1,7 +1,7 @@
 //! What holds of every transaction and of every lane, over their definitions alone.
 
 ghost use Rattle.lane_table.specs.Images.{GivesOwnFiles};
-ghost use Rattle.lane_table.specs.LaneLaws.{TellsWords, CompletesGood, SendsLaneLists, SendsWhatLogsTell, NumbersTellLanes, StepsKeep};
+ghost use Rattle.lane_table.specs.LaneLaws.{TellsWords, CompletesGood, SendsLaneLists, SendsWhatLogsTell, NumbersTellLanes, StepsKeep, FitsJournal, KeepsToLimit};
 
 /// What a transaction tells its user, at either end, is a beginning of a word of its side, and a
 /// word once it has ended.
@@ -43,4 +43,15 @@ pub fn keeps()
 /// the names of the Metadata that came and, at each offset below the EOF's size, the octet that was received there.
 pub fn images()
     ensures { GivesOwnFiles }
+{}
+
+/// The log of a transaction, at either end, has at most as many entries as a journal may have.
+pub fn lengths()
+    ensures { FitsJournal }
+{}
+
+/// The journal of a lane has at most as many events as a journal may have, however many came: what comes after them is
+/// refused.
+pub fn journals()
+    ensures { KeepsToLimit }
 {}

@@ -6,3 +6,4 @@ pub mod ReceptionEvents
 pub mod ReceptionLegal
 pub mod ReceptionDeposits
 pub mod ReceptionClosure
+pub mod ReceptionLength

@@ -1,12 +1,12 @@
 -- What is known of closure, beside the first Metadata.
-use Rattle.std.proofs.Common.{◌≡◌, Bool, List, [], ◌∷◌, Option, Some, None, refl, ap, ◌∙◌}
+use Rattle.std.proofs.Common.{◌≡◌, Bool, [], ◌∷◌, Option, Some, None, refl, ap, ◌∙◌}
 use Rattle.std.specs.Prelude.{option_map}
 use Rattle.cfdp_types.specs.Steps.{older_or}
 use Rattle.pdu_values.specs.declared.pdu.Body.{Body}
 use Rattle.pdu_values.specs.declared.pdu.Body.TheVariants as body
 use Rattle.pdu_values.specs.declared.bodies.Metadata.{Metadata}
 use Rattle.txn_events.specs.Events.{body_of_event}
-use Rattle.receiver_table.specs.Reception.{Entry, initial, step, state_of, metadata_of, closure_of}
+use Rattle.receiver_table.specs.Reception.{initial, step, state_of, metadata_of, closure_of}
 use Rattle.receiver_laws.specs.ReceptionLaws.{AsksAsMetadata}
 
 -- what a Metadata says of closure

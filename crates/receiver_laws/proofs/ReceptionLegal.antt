@@ -27,7 +27,7 @@ accepted_parts None answer given e = (refl, cc)
 accepted_parts (Some r) answer given e = absurd cc
 
 -- what is answered was not refused, and is the table's answer
-was_taken : (reception : Reception) (front : State) (event : What) (answer : Answer) → answer_at reception front event ≡ Ok answer
+pub was_taken : (reception : Reception) (front : State) (event : What) (answer : Answer) → answer_at reception front event ≡ Ok answer
     → (refusal_at reception front event ≡ None) × (answer ≡ accepted_at reception front event)
 unfolding answer_at
 was_taken reception front event answer e = accepted_parts (refusal_at reception front event) (accepted_at reception front event) answer e

@@ -1,6 +1,7 @@
 -- Meaning. What holds of every reception of either class, whatever its parameters are.
-use Rattle.std.specs.Prelude.{◌≡◌, ℕ, ◌<◌, true, List, length, slice_get, option_map, Some, Ok, Contains}
+use Rattle.std.specs.Prelude.{◌≡◌, ℕ, ◌<◌, ◌≤◌, true, List, length, slice_get, option_map, Some, Ok, Contains}
 use Rattle.cfdp_types.specs.declared.image.Image.{Image}
+use Rattle.cfdp_types.specs.declared.limits.TheConstants.{JOURNAL_ENTRIES}
 use Rattle.cfdp_types.specs.declared.names.Delivery.TheVariants.{Complete}
 use Rattle.cfdp_types.specs.declared.names.FileStatus.{FileStatus}
 use Rattle.indications.specs.declared.indication.Indication.TheVariants as told
@@ -37,3 +38,7 @@ DepositsGood = (reception : Reception) (log : List Entry) (stamp : ℕ) → IsLe
 -- closure is asked for where the first Metadata asks for it
 abbrev pub AsksAsMetadata : Type 0
 AsksAsMetadata = (log : List Entry) → (state_of log).closure ≡ option_map (λ first. first.closure) (state_of log).metadata
+
+-- a log has no more entries than a journal may have
+abbrev pub FitsJournal : Type 0
+FitsJournal = (reception : Reception) (log : List Entry) → IsLegal reception log → length log ≤ JOURNAL_ENTRIES

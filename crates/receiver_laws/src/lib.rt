@@ -1,7 +1,7 @@
 //! What holds of every reception, over its definitions alone.
 #![tactic(auto)]
 
-ghost use Rattle.receiver_laws.specs.ReceptionLaws.{AsksAsMetadata, CompletesGood, DepositsGood, TellsWords};
+ghost use Rattle.receiver_laws.specs.ReceptionLaws.{AsksAsMetadata, CompletesGood, DepositsGood, FitsJournal, TellsWords};
 
 /// What a reception tells its user is a beginning of a receiver's word, and a word once the reception has
 /// ended: with any parameters, also where it is suspended and resumed, where timers expire, where the
@@ -26,4 +26,10 @@ pub fn deposits()
 /// that comes later changes it.
 pub fn closure()
     ensures { AsksAsMetadata }
+{}
+
+/// A reception has at most as many entries as a journal may have, whatever its parameters are. The last but one is
+/// kept for the answer of the file store, and the last for Abandon, which ends it.
+pub fn lengths()
+    ensures { FitsJournal }
 {}

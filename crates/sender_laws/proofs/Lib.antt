@@ -1,2 +1,3 @@
 pub mod ResponseFacts
 pub mod SendingLegal
+pub mod SendingLength

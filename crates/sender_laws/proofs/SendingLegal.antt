@@ -32,7 +32,7 @@ accepted_parts : (why : Option Refusal) (answer given : Answer) → unless_refus
 accepted_parts None answer given e = (refl, cc)
 accepted_parts (Some r) answer given e = absurd cc
 
-was_accepted : (sending : Sending) (state : State) (event : Event) (answer : Answer) → answer_at sending state event ≡ Ok answer
+pub was_accepted : (sending : Sending) (state : State) (event : Event) (answer : Answer) → answer_at sending state event ≡ Ok answer
     → (refusal_at sending state event ≡ None) × (answer ≡ accepted_at sending state event)
 unfolding answer_at
 was_accepted sending state event answer e = accepted_parts (refusal_at sending state event) (accepted_at sending state event) answer e
