@@ -29,7 +29,7 @@ pub fn with_words(word: u32, octets: &[u8]) -> u32
     with_octets(total, 0, &octets[4 * (octets.len() / 4)..])
 }
 
-// The same, one by one.
+// A sum with octets in a row, the first of which has a place in its word, one by one.
 fn with_octets(word: u32, place: usize, octets: &[u8]) -> u32
     requires { place < 4 }
     ensures { result ≡ sum_with word place octets.now }

@@ -106,7 +106,11 @@ fn play_lines<B: BufRead, W: Write>(
 }
 
 // Writes what the buffer holds, where answers are written line by line.
-fn hand_on<W: Write>(writer: &mut W, buffer: &mut Vec<u8>, pace: AnswerPace) -> Result<(), ReplayFault>
+fn hand_on<W: Write>(
+    writer: &mut W,
+    buffer: &mut Vec<u8>,
+    pace: AnswerPace,
+) -> Result<(), ReplayFault>
     ensures { Buffers result (W.contents writer.old) (W.contents writer.new) buffer.old.items [] buffer.new.items }
 {
     match pace {
