@@ -50,6 +50,7 @@ memory:
 # the gate: every proof (but what a run on this machine kept), the must-fail edits, the tests and the programs, and how runs
 # of the programs end
 test:
+	@tests/layers.sh
 	@tests/same.sh
 	@tests/trusted.py --check
 	rt ci
@@ -72,6 +73,7 @@ bench: build programs
 	python3 bench/queues.py crates/benches/out/benches
 	python3 bench/entity.py crates/benches/out/benches
 	python3 bench/programs.py $(server) $(put) crates/benches/out/benches
+	python3 bench/datagrams.py $(server) $(put)
 
 # ten minutes of files over a bad link, with an eye on memory; no part of the gate
 soak: programs

@@ -23,9 +23,9 @@ GROWTH = 4.5
 # The memory that a file may take beside the process, in times its octets.
 MEMORY = 4
 
-# Small receptions, one after another, and the instructions that they took when files had 4 MiB at most.
+# Small receptions, one after another, and the instructions that they may take.
 RECEPTIONS = 5_000
-BEFORE = 200_177_194
+BEFORE = 160_000_000
 
 
 def count(command, script=None):

@@ -1,5 +1,5 @@
-"""Measures the server and the put: a transfer beside a plain blast of datagrams, how many datagrams a second a server takes
-by its workers, and what a server costs that has nothing to do.
+"""Measures the server and the put: a transfer beside a plain blast of datagrams, what a datagram costs a server in system calls
+and processor time by its workers, how many datagrams a second it takes, and what a server costs that has nothing to do.
 
 usage: programs.py SERVER PUT BENCHES
 
@@ -14,6 +14,7 @@ import os
 import pathlib
 import platform
 import random
+import shutil
 import socket
 import subprocess
 import sys
@@ -43,9 +44,18 @@ IDLE_SECONDS = 10.0
 
 # The bars: how many times as long as the blast the transfer may take, how much of one worker's speed several have at least, and
 # how much processor time an idle server may take.
-TRANSFER = 4
+TRANSFER = 3.3
 SLOWER = 0.9
 IDLE = 0.1
+
+# A file for counting, at a rate that keeps the receive buffer from running over while `strace` slows the server, and how many
+# calls a datagram may cost with one worker and with four. Processor time is taken of a file without a rate.
+COUNTED_OCTETS = 16 * 1024 * 1024
+COUNTED_RATE = 8_000_000
+CALLS = {1: {"futex": 0.3, "write": 0.1, "mprotect": 0.02}, 4: {"futex": 0.5, "write": 0.1, "mprotect": 0.02}}
+
+# How much processor time a datagram may take with four workers, in times that with one.
+FOUR_WORKERS = 1.2
 
 CONFIGS = pathlib.Path(__file__).resolve().parent.parent / "examples" / "transfer"
 
@@ -133,16 +143,17 @@ def timed(words, output=subprocess.DEVNULL):
     return time.perf_counter() - start, usage.ru_utime + usage.ru_stime
 
 
-def transfer(server_program, put_program):
+def transfer(server_program, put_program, workers=4, more=()):
     """Moves a file, and answers the seconds that the put takes, its processor time and the server's."""
     at_server, at_put = free_ports(2)
     configs = configure("ground.toml", at_put), configure("spacecraft.toml", at_server)
+    follows = ["--follow", "--workers", str(workers)]
     with open("told", "w", encoding="ascii") as told:
-        with serving(server_program, configs[0], at_server, words=["--follow"], told=told) as server:
+        with serving(server_program, configs[0], at_server, words=follows, told=told) as server:
             server.tell("trace 2 1")
             wait_for(lambda: os.path.getsize("told") > 0)
             before = server.spent()
-            words = ["--bind", f"127.0.0.1:{at_put}", "--user", "alice", "--remote", "2", "--class", "2"]
+            words = ["--bind", f"127.0.0.1:{at_put}", "--user", "alice", "--remote", "2", "--class", "2", *more]
             took, spent = timed([put_program, "--config", configs[1], *words, "image", "image.received"])
             spent_there = server.spent() - before
     received = pathlib.Path("received", "image.received")
@@ -150,6 +161,20 @@ def transfer(server_program, put_program):
         sys.exit("the file that came is another")
     received.unlink()
     return took, spent, spent_there
+
+
+def calls(server_program, put_program, workers):
+    """Moves a file to a server under `strace`, and answers how often it made each call, by datagram that it read."""
+    wrapper = pathlib.Path("traced")
+    wrapper.write_text(f'#!/bin/sh\nexec strace -f -c -o calls {server_program} "$@"\n')
+    wrapper.chmod(0o755)
+    transfer(os.path.realpath(wrapper), put_program, workers, ["--rate", str(COUNTED_RATE)])
+    counted = {}
+    for line in pathlib.Path("calls").read_text().splitlines():
+        words = line.split()
+        if len(words) >= 5 and words[3].isdigit():
+            counted[words[-1]] = int(words[3])
+    return {name: count / counted["recvfrom"] for name, count in counted.items()}
 
 
 def blast(benches, datagrams):
@@ -261,6 +286,31 @@ def compare_transfer(server, put, benches):
     tell_bar(f"the file takes {times:.1f} times as long as the blast, at most {TRANSFER}", times <= TRANSFER)
 
 
+def count_calls(server, put):
+    """The system calls of a server by its workers, where `strace` is there."""
+    if shutil.which("strace") is None:
+        print("no strace here: system calls are not counted")
+        return
+    for workers, bars in CALLS.items():
+        each = calls(server, put, workers)
+        told = ", ".join(f"{name} {each.get(name, 0):.3f}" for name in ("recvfrom", "sendto", *bars))
+        print(f"{workers} workers, calls by datagram at {COUNTED_RATE:,} octets a second: {told}")
+        for name, bar in bars.items():
+            tell_bar(f"{name} {each.get(name, 0):.3f}, at most {bar}", each.get(name, 0) <= bar)
+
+
+def compare_processor_time(server, put):
+    """The processor time that a datagram takes, by workers: the least of some runs."""
+    datagrams = -(-COUNTED_OCTETS // PART)
+    each = {}
+    for workers in CALLS:
+        runs = [transfer(server, put, workers) for _ in range(RUNS)]
+        each[workers] = min(spent for _, _, spent in runs) / datagrams * 1e6
+        of_put = min(spent for _, spent, _ in runs) / datagrams * 1e6
+        print(f"{workers} workers: {each[workers]:.1f} microseconds of processor time a datagram; the put {of_put:.1f}")
+    tell_bar(f"four workers take {each[4] / each[1]:.2f} times what one takes, at most {FOUR_WORKERS}", each[4] <= FOUR_WORKERS * each[1])
+
+
 def compare_workers(server):
     runs = {workers: [] for workers in WORKERS}
     for _ in range(LOADS):
@@ -283,6 +333,9 @@ def main():
     with tempfile.TemporaryDirectory() as folder:
         os.chdir(folder)
         compare_transfer(server, put, benches)
+        pathlib.Path("image").write_bytes(random.Random(8).randbytes(COUNTED_OCTETS))
+        count_calls(server, put)
+        compare_processor_time(server, put)
         compare_workers(server)
         spent = idle(server)
         print(f"a server that has nothing to do: {spent:.2f} s of processor time in {IDLE_SECONDS:.0f} seconds")

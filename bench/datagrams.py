@@ -1,0 +1,112 @@
+"""Counts the instructions that a File Data PDU costs a running server and a put, which vary little from run to run.
+
+usage: datagrams.py SERVER PUT
+
+The server runs under valgrind with one worker and `--follow`. It is sent the Metadata and the File Data PDUs of one transaction in
+class 2, in order and at a pace, so that none is lost, and then it quits; the put runs under valgrind and sends a file to a
+server beside it, in class 2 and at a rate. Each does so for two sizes: the difference, by PDU, is what one PDU costs.
+"""
+
+import os
+import pathlib
+import random
+import socket
+import subprocess
+import sys
+import tempfile
+import time
+
+import bench
+import programs
+
+# The PDUs of the two sizes, the octets of file in each, and the seconds between two datagrams.
+FEW, MANY = 400, 1_400
+PART = 1_400
+PAUSE = 0.002
+
+# How fast the put's file leaves, in octets a second, so that none is lost.
+RATE = 1_000_000
+
+# The bars, in instructions a PDU.
+SERVER_BAR = 9_000
+PUT_BAR = 4_000
+
+
+def counting(out):
+    """The words before a program that have its instructions counted into a file."""
+    return ["valgrind", "--tool=callgrind", f"--callgrind-out-file={out}"]
+
+
+def counted(out):
+    with open(out, encoding="utf-8", errors="replace") as told:
+        return next(int(line.split()[1]) for line in told if line.startswith(("summary:", "totals:")))
+
+
+def pdu(first, field):
+    """A PDU in class 2 from entity 1 to entity 2, the transaction with the number 1."""
+    return bytes([first]) + len(field).to_bytes(2, "big") + bytes([0, 1, 1, 2]) + field
+
+
+def datagrams(parts):
+    """The Metadata of a file with one part more than come, so that it doesn't end, and its File Data PDUs."""
+    size = (parts + 1) * PART
+    yield pdu(0x20, bytes([7, 0]) + size.to_bytes(4, "big") + b"\x01a\x01b")
+    for place in range(parts):
+        yield pdu(0x30, (place * PART).to_bytes(4, "big") + bytes(PART))
+
+
+def server_cost(program, parts):
+    """The instructions of a server that receives so many parts, all of which it has to have taken."""
+    port, nobody = programs.free_ports(2)
+    config = programs.configure("ground.toml", nobody)
+    pathlib.Path("received").mkdir(exist_ok=True)
+    words = [program, "--config", config, "--bind", f"127.0.0.1:{port}", "--folder", "received", "--workers", "1", "--follow"]
+    with open("told", "w", encoding="ascii") as told:
+        process = subprocess.Popen(counting("out") + words, stdin=subprocess.PIPE, stdout=told, stderr=subprocess.DEVNULL)
+        process.stdin.write(b"trace 2 1\n")
+        process.stdin.flush()
+        programs.wait_for(lambda: os.path.getsize("told") > 0, 60)
+        with socket.socket(socket.AF_INET, socket.SOCK_DGRAM) as way:
+            for datagram in datagrams(parts):
+                way.sendto(datagram, ("127.0.0.1", port))
+                time.sleep(PAUSE)
+        programs.wait_for(lambda: pathlib.Path("told").read_text().count("File-Segment-Recv") >= parts, 120)
+        process.stdin.write(b"quit\n")
+        process.stdin.close()
+        if process.wait(timeout=120):
+            sys.exit("the server failed")
+    return counted("out")
+
+
+def put_cost(server, put, parts):
+    """The instructions of a put of so many parts."""
+    at_server, at_put = programs.free_ports(2)
+    configs = programs.configure("ground.toml", at_put), programs.configure("spacecraft.toml", at_server)
+    pathlib.Path("image").write_bytes(random.Random(7).randbytes(parts * PART))
+    with programs.serving(server, configs[0], at_server, words=["--follow"], told=subprocess.DEVNULL) as running:
+        running.tell("trace 2 1")
+        time.sleep(0.3)
+        words = ["--bind", f"127.0.0.1:{at_put}", "--user", "alice", "--remote", "2", "--class", "2", "--rate", str(RATE)]
+        command = counting("out") + [put, "--config", configs[1], *words, "image", "image.received"]
+        if subprocess.run(command, stdout=subprocess.DEVNULL, stderr=subprocess.DEVNULL, timeout=300, check=False).returncode:
+            sys.exit("the put failed")
+    return counted("out")
+
+
+def tell(name, few, many, bar):
+    each = (many - few) / (MANY - FEW)
+    print(f"{name}: {FEW:,} PDUs {few:,} instructions, {MANY:,} {many:,}: {each:,.0f} a PDU", flush=True)
+    bench.show_bar(f"{each:,.0f} a PDU, at most {bar:,}", each <= bar)
+
+
+def main():
+    server, put = map(os.path.realpath, sys.argv[1:3])
+    with tempfile.TemporaryDirectory() as folder:
+        os.chdir(folder)
+        tell("a server that receives, with one worker", *[server_cost(server, parts) for parts in (FEW, MANY)], SERVER_BAR)
+        tell("a put", *[put_cost(server, put, parts) for parts in (FEW, MANY)], PUT_BAR)
+        os.chdir("/")
+
+
+if __name__ == "__main__":
+    main()
