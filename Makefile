@@ -56,6 +56,7 @@ test:
 	rt ci
 	@tests/endings.sh $(program)
 	@tests/examples.sh $(program)
+	@tests/scripts.py $(program)
 	@tests/memory.py $(hostile)
 	@tests/terminal.py $(program)
 	@examples/transfer.sh $(server) $(put) 2 4194304 7 11

@@ -1,30 +1,10 @@
-//! Worked scripts, as their users see them: every line that each prints. What is printed is worked out by hand from the
-//! tables.
+//! Scripts that are played over readers and writers of a test's own, which fail, are interrupted or go on, and how such runs
+//! end. Whole scripts and what they print stand in `tests/scripts`; the built program plays them.
 #![tactic(auto)]
 
 #[cfg(test)]
 mod broken_ends;
 #[cfg(test)]
-mod closures;
-#[cfg(test)]
 mod endings;
 #[cfg(test)]
-mod faults;
-#[cfg(test)]
-mod large;
-#[cfg(test)]
-mod lengths;
-#[cfg(test)]
-mod limits;
-#[cfg(test)]
-mod losses;
-#[cfg(test)]
 mod play;
-#[cfg(test)]
-mod receptions;
-#[cfg(test)]
-mod refusals;
-#[cfg(test)]
-mod requests;
-#[cfg(test)]
-mod senders;

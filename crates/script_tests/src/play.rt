@@ -19,22 +19,17 @@ fn joined(alloc: Global, text: &str) -> Result<String, AllocError> {
 }
 
 // Compares a text with the one that is wanted, line by line.
-fn same_lines<R: Abort>(rt: &R, title: &str, text: &str, wanted: &str) {
+fn same_lines<R: Abort>(rt: &R, text: &str, wanted: &str) {
     let mut given = text.lines();
     for line in wanted.lines() {
-        assert_eq!(rt; given.next().unwrap_or("nothing more"), line, "{title}");
+        assert_eq!(rt; given.next().unwrap_or("nothing more"), line);
     }
-    assert_eq!(rt;
-        given.next().unwrap_or("nothing more"),
-        "nothing more",
-        "{title}"
-    );
+    assert_eq!(rt; given.next().unwrap_or("nothing more"), "nothing more");
 }
 
-// Plays a script, octet by octet as it is, which ends with this status and has printed these lines.
-fn ends_as<R: AllocGlobal + Abort>(
+/// Plays a script, octet by octet as it is, which ends with this status and has printed these lines.
+pub(crate) fn ends<R: AllocGlobal + Abort>(
     rt: &R,
-    title: &str,
     script: &[u8],
     printed: &str,
     status: u8,
@@ -50,20 +45,10 @@ fn ends_as<R: AllocGlobal + Abort>(
         AnswerPace::ByBlocks,
     );
     let text = str::from_utf8(writer.as_slice()).map_err(|_| "no text")?;
-    same_lines(rt, title, text, joined(rt.alloc(), printed)?.as_str());
+    same_lines(rt, text, joined(rt.alloc(), printed)?.as_str());
     assert!(rt; errors.is_empty());
     assert_eq!(rt; answer, status);
     Ok(())
-}
-
-/// Plays a script, octet by octet as it is, which ends with this status and has printed these lines.
-pub(crate) fn ends<R: AllocGlobal + Abort>(
-    rt: &R,
-    script: &[u8],
-    printed: &str,
-    status: u8,
-) -> Result<(), Fail> {
-    ends_as(rt, "", script, printed, status)
 }
 
 /// Plays the lines of a script to its end, and compares what they print.
@@ -84,35 +69,4 @@ pub(crate) fn breaks_off<R: AllocGlobal + Abort>(
 ) -> Result<(), Fail> {
     let script = joined(rt.alloc(), script)?;
     ends(rt, script.as_bytes(), printed, 1)
-}
-
-// The script and what it prints, of rows: a line of the script, and behind a colon the lines that it prints, with
-// semicolons between.
-fn sides(alloc: Global, rows: &str) -> Result<(String, String), AllocError> {
-    let mut script = String::new(alloc);
-    let mut printed = String::new(alloc);
-    for row in rows.lines() {
-        let (line, answer) = row.split_once(": ").unwrap_or((row, ""));
-        script.push_str(line)?;
-        script.push('\n')?;
-        for told in answer.split("; ") {
-            printed.push_str(told)?;
-            printed.push('\n')?;
-        }
-    }
-    Ok((script, printed))
-}
-
-/// Plays scripts to their ends, each with its title, and compares what each line prints: a row has a line and, behind a
-/// colon, the lines that it prints, with semicolons between.
-pub(crate) fn all_play<R: AllocGlobal + Abort>(
-    rt: &R,
-    scripts: &[(&str, &str)],
-) -> Result<(), Fail> {
-    for &(title, rows) in scripts {
-        let (script, printed) = sides(rt.alloc(), rows)?;
-        let script = joined(rt.alloc(), script.as_str())?;
-        ends_as(rt, title, script.as_bytes(), printed.as_str(), 0)?;
-    }
-    Ok(())
 }
