@@ -1,10 +1,13 @@
 -- Octets written one behind the other.
-use Rattle.std.proofs.Common.{◌≡◌, Bool, true, false, ℕ, zero, suc, ◌+◌, ◌-◌, ◌*◌, ◌^◌, ◌/◌, ◌%◌, ◌<◌, ◌≤◌, List, [], ◌∷◌, ◌++◌, length, map, Option, Some, refl, ap, sym, subst, ◌∙◌, append_assoc, append-nil, mod-lt, arith}
-use Rattle.std.proofs.lemmas.List.{length-append}
+use Rattle.std.proofs.Common.{◌≡◌, ℕ, zero, suc, ◌+◌, ◌-◌, ◌*◌, ◌^◌, ◌/◌, ◌%◌, ◌<◌, ◌≤◌, List, [], ◌∷◌, ◌++◌, length, take, drop, map, zero-add, Option, Some, refl, ap, sym, subst, ◌∙◌, append_assoc, append-nil, mod-lt, arith}
+use Rattle.std.proofs.Math.Arith.{mod-mul}
+use Rattle.std.proofs.Math.Nat.{pow-suc, mod-eq_of_lt}
+use Rattle.std.proofs.lemmas.List.{length-append, take_all}
+use Rattle.std.specs.Int.{w64, byte_at, bytes_high_first, to_be_bytes}
 use Rattle.std.specs.Prelude.{Vec, vec_len, vec_capacity}
 use Rattle.std.specs.List.{flat_map}
 use Rattle.cfdp_types.specs.declared.key.EntityId.{EntityId}
-use Rattle.pdu_values.specs.Numbers.{digits}
+use Rattle.pdu_values.specs.Numbers.{number_of, digits}
 use Rattle.pdu_values.specs.Tlvs.{octets_for, location_tlvs}
 use Rattle.pdu_values.specs.Spelling.{size_octets, lv, tlv, request, ids, type_bit, data_field, plain_choice, lengths_octet, spelling, written, Fits}
 use Rattle.pdu_values.specs.Pdu.{PduValue}
@@ -18,7 +21,7 @@ use Rattle.pdu_values.specs.declared.bodies.Nak as nak_type
 use Rattle.pdu_values.specs.declared.pdu.Header.{Header}
 use Rattle.pdu_values.specs.declared.pdu.Body.{Body}
 use Rattle.pdu_values.specs.declared.pdu.Body.TheVariants as bodies
-use Rattle.pdu_values.proofs.Numbers.{length-digits, pow_256_pos}
+use Rattle.pdu_values.proofs.Numbers.{IsOctets, length-digits, digits-number_of, pow_256_pos}
 use Rattle.pdu_codec.specs.Writing.{HasRoom, Writes, field_of, header_of, text_of, FieldFits}
 
 pub room_first : {Z : Type 0} (v : Vec ℕ Z) (a b : List ℕ) → HasRoom v (a ++ b) → HasRoom v a
@@ -36,39 +39,49 @@ writes_then u v w a b first second = record {
 
 -- ---- numbers
 
--- the first octet of a number, and the others
-digits_first : (left n : ℕ) → 1 ≤ left → digits left n ≡ (n / 256 ^ (left - 1)) ∷ digits (left - 1) (n % 256 ^ (left - 1))
-unfolding digits
-digits_first zero n some = absurd (omega (arith, some))
-digits_first (suc left) n some = let same : suc left - 1 ≡ left = omega arith in rw same refl
+length-bytes : (count n : ℕ) → length (bytes_high_first count n) ≡ count
+length-bytes zero n = refl
+length-bytes (suc count) n = ap suc (length-bytes count n)
 
-one_digit : (n : ℕ) → digits 1 n ≡ n ∷ []
-unfolding digits
-one_digit n = let same : n / 1 ≡ n = omega arith in rw same refl
+byte_at-is : (place n : ℕ) → byte_at place n ≡ n / 256 ^ place % 256
+byte_at-is zero n = let same : n / 1 ≡ n = omega arith in ap (λ k. k % 256) (sym same)
+byte_at-is (suc place) n = refl
 
-pub digits_go_on : (left n power : ℕ) (front now : List ℕ) → power ≡ 256 ^ (left - 1) → 1 ≤ left → now ≡ front ++ digits 1 (n / power)
-    → now ++ digits (left - 1) (n % power) ≡ front ++ digits left n
-digits_go_on left n power front now is some done =
-    rw (done, is, one_digit, digits_first left n some) (append_assoc front ((n / 256 ^ (left - 1)) ∷ []) (digits (left - 1) (n % 256 ^ (left - 1))))
+byte_at-below : (place n : ℕ) → byte_at place n < 256
+byte_at-below place n = rw byte_at-is (mod-lt (n / 256 ^ place) (omega arith))
 
-pub below_power : (n left power : ℕ) → power ≡ 256 ^ (left - 1) → n % power < 256 ^ (left - 1)
-below_power n left power is = rw is (mod-lt n (pow_256_pos (left - 1)))
+bytes-are_octets : (count n : ℕ) → IsOctets (bytes_high_first count n)
+bytes-are_octets zero n = tt
+bytes-are_octets (suc count) n = (byte_at-below count n, bytes-are_octets count n)
 
-pub all_digits : {Z : Type 0} (u v : Vec ℕ Z) (left width rest n : ℕ) → left ≡ 0 → v.items ++ digits left rest ≡ u.items ++ digits width n → vec_len v + left ≡ vec_len u + width
-    → vec_capacity u ≤ vec_capacity v → Writes u v (digits width n)
-unfolding digits
-all_digits u v left width rest n none items len capacity = record {
-  items = sym (append-nil v.items) ∙ ap (λ (k : ℕ). v.items ++ digits k rest) (sym none) ∙ items;
-  len = omega (arith, length-digits width n, len, none);
-  capacity = capacity;
-}
+-- the last octets of a number stand for what they hold of it
+number_of-bytes : (count n : ℕ) → number_of (bytes_high_first count n) ≡ n % 256 ^ count
+unfolding number_of
+number_of-bytes zero n = omega arith
+number_of-bytes (suc count) n =
+    rw (length-bytes count n, number_of-bytes count n, byte_at-is count n)
+    (sym (mod-mul n {m = 256} {c = 256 ^ count} (omega arith) (pow_256_pos count)) ∙ ap (λ power. n % power) (omega (arith, pow-suc 256 count)))
 
-pub octet_room : {Z : Type 0} (u v : Vec ℕ Z) (left width n x : ℕ) → HasRoom u (digits width n) → 1 ≤ left → vec_len v + left ≡ vec_len u + width
-    → vec_capacity u ≤ vec_capacity v → HasRoom v (digits 1 x)
-octet_room u v left width n x room some len capacity = omega (arith, length-digits width n, length-digits 1 x, room, some, len, capacity)
+-- a number's last octets, where they hold all of it, spell it
+bytes-spell : (count n : ℕ) → n < 256 ^ count → bytes_high_first count n ≡ digits count n
+bytes-spell count n fits =
+    let read : number_of (bytes_high_first count n) ≡ n = number_of-bytes count n ∙ mod-eq_of_lt fits in
+    sym (digits-number_of (bytes_high_first count n) (bytes-are_octets count n))
+    ∙ ap (λ k. digits k (number_of (bytes_high_first count n))) (length-bytes count n)
+    ∙ ap (λ k. digits count k) read
 
-pub octet_len : {Z : Type 0} (v w : Vec ℕ Z) (x left all : ℕ) → Writes v w (digits 1 x) → 1 ≤ left → vec_len v + left ≡ all → vec_len w + (left - 1) ≡ all
-octet_len v w x left all done some len = omega (arith, length-digits 1 x, done.len, some, len)
+bytes-behind : (all front count n : ℕ) → all ≡ front + count → drop front (bytes_high_first all n) ≡ bytes_high_first count n
+bytes-behind all zero count n is = ap (λ k. bytes_high_first k n) (is ∙ zero-add count)
+bytes-behind zero (suc front) count n is = absurd (omega arith)
+bytes-behind (suc all) (suc front) count n is = bytes-behind all front count n (omega arith)
+
+-- the last of eight octets spell a number that fits them
+pub last_octets : (width n from : ℕ) (octets : List ℕ) → from ≡ width → octets ≡ to_be_bytes w64 n → width ≤ 8 → n < 256 ^ width
+    → take (8 - (8 - from)) (drop (8 - from) octets) ≡ digits width n
+last_octets width n from octets same are short fits =
+    let rest : drop (8 - from) octets ≡ digits width n =
+    ap (λ l. drop (8 - from) l) are ∙ bytes-behind 8 (8 - from) width n (omega arith) ∙ bytes-spell width n fits in
+    take_all (8 - (8 - from)) (drop (8 - from) octets) (omega (arith, ap length rest, length-digits width n)) ∙ rest
 
 -- ---- fault locations
 

@@ -37,14 +37,8 @@ pub fn put_number(out: &mut Vec<u8>, width: u8, number: u64)
     requires room { HasRoom out.old (digits width number) }
     ensures { Writes out.old out.new (digits width number) }
 {
-    let mut left = width;
-    let mut rest = number;
-    while left > 0 {
-        left -= 1;
-        let power = 256_u64.pow(u32::from(left));
-        put_octet(out, (rest / power) as u8);
-        rest %= power;
-    }
+    let octets = number.to_be_bytes();
+    put_octets(out, &octets[8 - usize::from(width)..]);
 }
 
 /// A length in one octet, and the value.

@@ -1,4 +1,3 @@
-use Rattle.std.proofs.Common.{ap, sym, ◌∙◌, length, arith}
 use Rattle.pdu_codec.proofs.WriteLaws.{nak_length, eof_length, metadata_length, keep_alive_length, file_data_length}
 use Rattle.pdu_codec.proofs.encoding.field_size.Goals as goal
 
