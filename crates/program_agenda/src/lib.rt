@@ -3,6 +3,7 @@
 
 mod agenda;
 mod fate;
+pub mod laws;
 mod pace;
 mod rotation;
 mod sending;
