@@ -54,7 +54,7 @@ fn nobody(rt: HostRuntime) -> Result<(), Fail> {
 }
 
 // Command lines and files that a put does not begin with, and what is said of each.
-const FAULTS: [(&str, &str); 15] = [
+const FAULTS: [(&str, &str); 17] = [
     ("cfdp_put", "cfdp_put: usage\n"),
     (
         "cfdp_put --config nowhere --bind 127.0.0.1:0 --user alice --remote 2 --class 3 f b",
@@ -91,6 +91,14 @@ const FAULTS: [(&str, &str); 15] = [
     (
         "cfdp_put --config faults --bind 127.0.0.1:0 --user bob --remote 9 --class 2 f b",
         "cfdp_put: refused 25 UnknownRemote\n",
+    ),
+    (
+        "cfdp_put --config faults --bind 127.0.0.1:0 --user bob --remote 18446744073709551615 --class 2 f b",
+        "cfdp_put: refused 25 UnknownRemote\n",
+    ),
+    (
+        "cfdp_put --config faults --bind 127.0.0.1:0 --user bob --remote 18446744073709551616 --class 2 f b",
+        "cfdp_put: usage\n",
     ),
     (
         "cfdp_put --config=faults --bind=127.0.0.1:0 --user=bob --remote=2 --class=1 --rate=0 f b",

@@ -8,6 +8,8 @@ use Rattle.entity_routing.specs.declared.refusal.RouteRefusal.TheVariants as rou
 use Rattle.lane_table.specs.declared.done.Done.{Done}
 use Rattle.lane_traces.specs.declared.traced.Traced.{Traced}
 use Rattle.pdu_reading.specs.Fault.{fault_number}
+use Rattle.txn_events.specs.Refusal.{refusal_name, refusal_number}
+use Rattle.txn_events.specs.declared.refusal.Refusal.TheVariants.{NoMemory}
 
 -- the lines for what was taken: those of a script, but for the PDUs
 abbrev pub taken_text : Bool → Done → List ℕ
@@ -18,6 +20,10 @@ abbrev pub refusal_line : EntityRefusal → List ℕ
 refusal_line (answer.Lane refused) = refused_text refused
 refusal_line (answer.Route (routes.DecodeFault fault)) = fault_line (fault_number fault)
 refusal_line why = refusal_text (number_of why) (name_of why)
+
+-- the line for what there was no memory for
+abbrev pub no_memory_line : List ℕ
+no_memory_line = refusal_text (refusal_number NoMemory) (refusal_name NoMemory)
 
 -- the line for how far a transaction is
 abbrev pub traced_text : Traced → List ℕ

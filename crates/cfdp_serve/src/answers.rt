@@ -1,13 +1,14 @@
 //! What the server prints of an entity's answers: what a script prints, but for the PDUs, which are sent.
 ghost use Rattle.std.specs.Prelude.{◌≡◌, ◌++◌, OnOk};
 ghost use Rattle.std.specs.String.{string_bytes};
-ghost use Rattle.cfdp_serve.specs.Answers.{taken_text, refusal_line, traced_text};
+ghost use Rattle.cfdp_serve.specs.Answers.{no_memory_line, taken_text, refusal_line, traced_text};
 
 use answer_texts::{push_decode_fault, push_refusal, push_refused};
 use entity_routing::RouteRefusal;
 use lane_table::Done;
 use shared_entity::{EntityRefusal, Traced};
 use std::alloc::{AllocError, Global};
+use txn_events::Refusal;
 
 /// Adds the lines for what was taken, a Put or another.
 pub(crate) fn push_taken(text: &mut String, is_put: bool, done: &Done) -> Result<(), AllocError>
@@ -42,6 +43,13 @@ pub(crate) fn push_entity_refusal(
         ),
         _ => push_refusal(text, refusal.number(), refusal.name()),
     }
+}
+
+/// Adds the line for what there was no memory for, and which changed nothing.
+pub(crate) fn push_no_memory(text: &mut String) -> Result<(), AllocError>
+    ensures { OnOk result (string_bytes text.new ≡ string_bytes text.old ++ no_memory_line) }
+{
+    push_refusal(text, Refusal::NoMemory.number(), Refusal::NoMemory.name())
 }
 
 /// Adds the line for how far a transaction is.

@@ -1,6 +1,6 @@
 //! What the server does at a command.
-use crate::answers::{push_entity_refusal, push_taken, push_traced};
-use answer_texts::{push_bundle, push_refusal};
+use crate::answers::{push_entity_refusal, push_no_memory, push_taken, push_traced};
+use answer_texts::push_bundle;
 use cfdp_types::{PutFault, PutRequest};
 use entity_routing::Request;
 use entity_workers::Filestore;
@@ -40,11 +40,6 @@ pub(crate) enum Next {
 /// Adds the answer to a line that is no command.
 pub(crate) fn push_bad_command(text: &mut String) -> Result<(), AllocError> {
     text.push_str("bad command\n")
-}
-
-// Adds the answer to what there was no memory for, and which changed nothing.
-fn push_no_memory(text: &mut String) -> Result<(), AllocError> {
-    push_refusal(text, 12, "NoMemory")
 }
 
 impl<'a, N: Names, R: Wait + Clock + Files + Copy, S: Filestore + Drop, W: Drop> Server<

@@ -1,1 +1,2 @@
 pub mod FirstFacts
+pub mod RefusalRows

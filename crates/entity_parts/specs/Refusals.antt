@@ -1,9 +1,10 @@
 -- Meaning. Why an entity has no answer of a lane to give, and why it does not read a datagram.
-use Rattle.std.specs.Prelude.{◌≡◌, ℕ, List, Result, Ok, Err, IsOk, codes}
+use Rattle.std.specs.Prelude.{◌≡◌, ℕ, Bool, true, false, List, Result, Ok, Err, IsOk, codes}
 use Rattle.pdu_reading.specs.Reading.{reading}
 use Rattle.pdu_reading.specs.declared.fault.DecodeFault.{DecodeFault}
 use Rattle.pdu_values.specs.Pdu.{PduValue}
 use Rattle.txn_events.specs.Refusal as lanes
+use Rattle.txn_events.specs.declared.refusal.Refusal.{Refusal}
 use Rattle.txn_events.specs.declared.refusal.Refusal.TheVariants as refusal
 use Rattle.lane_table.specs.Steps.{plainly}
 use Rattle.entity_routing.specs.Refusal as entities
@@ -22,6 +23,26 @@ abbrev pub name_of : EntityRefusal → List ℕ
 name_of (answer.Route why) = entities.refusal_name why
 name_of (answer.Lane refused) = lanes.refusal_name refused.why
 name_of answer.WrongLane = codes "WrongLane"
+
+-- it passes by: there was no memory, or a user's queue was full
+abbrev pub is_passing : EntityRefusal → Bool
+is_passing (answer.Lane refused) = passes refused.why
+  where
+    passes : Refusal → Bool
+    passes refusal.NoMemory = true
+    passes refusal.QueueFull = true
+    passes _ = false
+is_passing _ = false
+
+-- nothing more can come of its transaction: there is none, it has ended, or no lane has it
+abbrev pub is_final : EntityRefusal → Bool
+is_final (answer.Lane refused) = is_gone refused.why
+  where
+    is_gone : Refusal → Bool
+    is_gone refusal.NoTransaction = true
+    is_gone refusal.OldTransaction = true
+    is_gone _ = false
+is_final _ = true
 
 -- why octets are not read: they are no PDU, or there was no memory for it
 abbrev pub IsNotRead : Result PduValue DecodeFault → EntityRefusal → Type 0

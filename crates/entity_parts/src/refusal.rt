@@ -1,8 +1,9 @@
 ghost use Rattle.std.specs.Prelude.{◌≡◌};
-ghost use Rattle.entity_parts.specs.Refusals.{name_of, number_of};
+ghost use Rattle.entity_parts.specs.Refusals.{is_final, is_passing, name_of, number_of};
 
 use entity_routing::RouteRefusal;
 use lane_table::Refused;
+use txn_events::Refusal;
 
 /// Why an entity does not take an event, which then changes nothing.
 #[derive(Debug, Drop)]
@@ -36,6 +37,32 @@ impl EntityRefusal {
             EntityRefusal::Route(why) => why.name(),
             EntityRefusal::Lane(refused) => refused.why.name(),
             EntityRefusal::WrongLane => "WrongLane",
+        }
+    }
+
+    /// Whether it passes by: there was no memory, or a user's queue was full. The same may be asked again soon.
+    pub fn is_passing(&self) -> bool
+        ensures { result ≡ is_passing self.now }
+    {
+        match self {
+            EntityRefusal::Lane(refused) => match refused.why {
+                Refusal::NoMemory | Refusal::QueueFull => true,
+                _ => false,
+            },
+            _ => false,
+        }
+    }
+
+    /// Whether nothing more can come of its transaction: there is none, it has ended, or no lane has it.
+    pub fn is_final(&self) -> bool
+        ensures { result ≡ is_final self.now }
+    {
+        match self {
+            EntityRefusal::Lane(refused) => match refused.why {
+                Refusal::NoTransaction | Refusal::OldTransaction => true,
+                _ => false,
+            },
+            _ => true,
         }
     }
 }

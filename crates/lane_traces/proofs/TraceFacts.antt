@@ -13,7 +13,7 @@ use Rattle.txn_events.specs.declared.event.Event.{Event}
 use Rattle.txn_events.specs.declared.refusal.Refusal.{Refusal}
 use Rattle.txn_events.specs.declared.refusal.Refusal.TheVariants.{NoTransaction, OldTransaction}
 use Rattle.lane_table.specs.Logs.{Log, side_of, issued, IsLegal}
-use Rattle.lane_table.specs.Lane.{State, IsSound, IsRun, key_at, key_of, log_of, issued_in, issued_by}
+use Rattle.lane_table.specs.Lane.{State, IsSound, IsRun, key_at, key_of, log_of, entries_in, issued_in, issued_by}
 use Rattle.lane_table.proofs.LogFacts.{lane_words}
 use Rattle.lane_table.proofs.StepFacts.{both_true}
 use Rattle.lane_traces.specs.declared.traced.Traced.{Traced}
@@ -83,7 +83,7 @@ tells_how_far state key traced sound is =
       log_is = found.1;
       key_is = by.0;
       legal = found.2;
-      entries = ap (λ (t : Traced). t.entries) (sym by.1);
+      entries = ap (λ (t : Traced). t.entries) (sym by.1) ∙ sound.counted ∙ ap entries_in found.1;
       begun = begun;
       ended = subst (λ over. (over ≡ true) ↔ IsWordOf (side_of log) (issued log))
           (ap is_over (sym told) ∙ ap (λ (t : Traced). t.ended) by.1)

@@ -1,22 +1,14 @@
 -- Meaning. How far a lane's transaction is.
-use Rattle.std.specs.Prelude.{◌≡◌, ◌↔◌, ℕ, ◌-◌, ◌==◌, ◌&&◌, min, Bool, true, false, nat_lt, if◌then◌else◌, List, length, slice_get, Option, Some, None, Result, Ok, Err}
+use Rattle.std.specs.Prelude.{◌≡◌, ◌↔◌, ℕ, ◌-◌, ◌==◌, ◌&&◌, Bool, true, false, nat_lt, if◌then◌else◌, List, length, slice_get, Option, Some, None, Result, Ok, Err}
 use Rattle.cfdp_types.specs.declared.key.TxnKey.{TxnKey}
 use Rattle.indications.specs.declared.indication.Indication.{Indication}
 use Rattle.indications.specs.Words.{is_end, IsBegunOf, IsWordOf}
 use Rattle.txn_events.specs.declared.event.Event.{Event}
 use Rattle.txn_events.specs.declared.refusal.Refusal.{Refusal}
 use Rattle.txn_events.specs.declared.refusal.Refusal.TheVariants.{NoTransaction, OldTransaction}
-use Rattle.lane_table.specs.Logs.{Log, side_of, issued, IsLegal}
+use Rattle.lane_table.specs.Logs.{Log, side_of, issued, entries_of, IsLegal}
 use Rattle.lane_table.specs.Lane.{State, IsSound, key_of, log_of, issued_by}
 use Rattle.lane_traces.specs.declared.traced.Traced.{Traced}
-
--- the greatest number of entries that can be told
-abbrev pub most_entries : ℕ
-most_entries = 4294967295
-
--- the number of events, up to the greatest that can be told
-abbrev pub entries_of : List Event → ℕ
-entries_of journal = min (length journal) most_entries
 
 -- there is an indication, and it is an end
 abbrev pub is_end_told : Option Indication → Bool
@@ -29,7 +21,7 @@ is_over told = is_end_told (slice_get told (length told - 1))
 
 -- how far a transaction is, by its events and by what its user was told
 abbrev pub traced_by : List Event → List Indication → Traced
-traced_by journal told = record { entries = entries_of journal; ended = is_over told }
+traced_by journal told = record { entries = length journal; ended = is_over told }
 
 -- a key is another
 abbrev pub is_same_key : TxnKey → TxnKey → Bool
@@ -57,7 +49,7 @@ pub record IsHowFar (state : State) (key : TxnKey) (traced : Traced) : Type 0 wh
   pub log_is : log_of state ≡ Some log
   pub key_is : key_of state ≡ Some key
   pub legal : IsLegal log
-  pub entries : traced.entries ≡ entries_of state.journal
+  pub entries : traced.entries ≡ entries_of log
   pub begun : IsBegunOf (side_of log) (issued log)
   pub ended : (traced.ended ≡ true) ↔ IsWordOf (side_of log) (issued log)
 

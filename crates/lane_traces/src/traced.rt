@@ -1,6 +1,7 @@
-ghost use Rattle.std.specs.Prelude.{◌≡◌};
+ghost use Rattle.std.specs.Prelude.{◌≡◌, ◌≤◌, length};
 ghost use Rattle.std.specs.Option.{option_copied};
-ghost use Rattle.lane_traces.specs.Traces.{how_far_by, entries_of, is_over, traced_by};
+ghost use Rattle.cfdp_types.specs.declared.limits.TheConstants.{JOURNAL_ENTRIES};
+ghost use Rattle.lane_traces.specs.Traces.{how_far_by, is_over, traced_by};
 
 use cfdp_types::TxnKey;
 use indications::Indication;
@@ -15,15 +16,16 @@ pub struct Traced {
     pub ended: bool,
 }
 
-/// How far the transaction of a key is at a lane, by the key of the lane's last transaction, that transaction's events, and
-/// all that its user was told of it. It looks at the last indication alone. A number above the last is refused with
-/// `NoTransaction`, one below with `OldTransaction`.
+/// How far the transaction of a key is at a lane, by the key of the lane's last transaction, that transaction's events, of
+/// which a lane has no more than a journal may have, and all that its user was told of it. It looks at the last indication
+/// alone. A number above the last is refused with `NoTransaction`, one below with `OldTransaction`.
 pub fn how_far(
     last: Option<TxnKey>,
     journal: &[Event],
     told: &[Indication],
     key: TxnKey,
 ) -> Result<Traced, Refusal>
+    requires { length journal.now ≤ JOURNAL_ENTRIES }
     ensures { result ≡ how_far_by last journal.now told.now key }
 {
     match last {
@@ -38,19 +40,13 @@ pub fn how_far(
 
 // How far a transaction is, by its events and by what its user was told.
 fn told_by(journal: &[Event], told: &[Indication]) -> Traced
+    requires { length journal.now ≤ JOURNAL_ENTRIES }
     ensures { result ≡ traced_by journal.now told.now }
 {
     Traced {
-        entries: entries_of(journal),
+        entries: journal.len() as u32,
         ended: is_over(told),
     }
-}
-
-// How many events there are, up to what can be told.
-fn entries_of(journal: &[Event]) -> u32
-    ensures { result ≡ entries_of journal.now }
-{
-    journal.len().min(u32::MAX as usize) as u32
 }
 
 // Whether the last that a user was told is an end.

@@ -1,0 +1,2 @@
+pub mod PaceFacts
+pub mod PaceRows

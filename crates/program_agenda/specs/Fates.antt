@@ -1,23 +1,17 @@
--- Meaning. What becomes of what an entity refused, by the number of the refusal.
-use Rattle.std.specs.Prelude.{ℕ, Bool, ◌==◌, ◌||◌, nat_le, if◌then◌else◌}
+-- Meaning. What becomes of what an entity refused.
 use Rattle.program_agenda.specs.declared.fate.Fate.{Fate}
 use Rattle.program_agenda.specs.declared.fate.Fate.TheVariants as fate
+use Rattle.program_agenda.specs.declared.fate.Obstacle.{Obstacle}
+use Rattle.program_agenda.specs.declared.fate.Obstacle.TheVariants as obstacle
 
--- want of memory, or a full queue: it passes by
-abbrev pub is_passing : ℕ → Bool
-is_passing refusal = (refusal == 12) || (refusal == 13)
+-- a timer that expired, or a deposit, is tried again where the obstacle passes by
+abbrev pub fate_of_retry : Obstacle → Fate
+fate_of_retry obstacle.Passing = fate.Again
+fate_of_retry obstacle.Lasting = fate.Over
+fate_of_retry obstacle.Final = fate.Over
 
--- there is no such transaction, it has ended, or no lane has it
-abbrev pub is_over : ℕ → Bool
-is_over refusal = (refusal == 1) || (refusal == 2) || nat_le 20 refusal
-
--- a timer that expired, or a deposit, is tried again where the refusal passes by
-abbrev pub fate_of_retry : ℕ → Fate
-fate_of_retry refusal = if is_passing refusal then fate.Again else fate.Over
-
--- a file is, too; otherwise it waits for something of its transaction, unless that is over
-abbrev pub fate_of_pump : ℕ → Fate
-fate_of_pump refusal =
-    if is_passing refusal then fate.Again
-    else if is_over refusal then fate.Over
-    else fate.Awaits
+-- a file is, too; otherwise it waits for something of its transaction, unless nothing can come of that
+abbrev pub fate_of_pump : Obstacle → Fate
+fate_of_pump obstacle.Passing = fate.Again
+fate_of_pump obstacle.Lasting = fate.Awaits
+fate_of_pump obstacle.Final = fate.Over

@@ -1,3 +1,4 @@
 pub mod Fates
 pub mod Paces
+pub mod PaceLaws
 pub mod Turns

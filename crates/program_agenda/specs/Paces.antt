@@ -1,5 +1,6 @@
 -- Meaning. How fast octets may leave.
 use Rattle.std.specs.Prelude.{ℕ, ◌+◌, ◌-◌, ◌*◌, ◌/◌, min, max, Bool, nat_le, Option, Some, None}
+use Rattle.std.specs.Int.{div_ceil}
 use Rattle.program_agenda.specs.declared.pace.Pace.{Pace}
 
 -- a number, or the last that can be told
@@ -14,9 +15,9 @@ is_free now pace = nat_le pace.over_at (told (now * 1000000))
 abbrev pub free_moment : Pace → ℕ
 free_moment pace = told (pace.over_at + 999999) / 1000000
 
--- how long octets take at a limit of so many a second, in nanoseconds
+-- how long octets take at a limit of so many a second, in nanoseconds, rounded up
 abbrev pub time_of : ℕ → ℕ → ℕ
-time_of octets limit = told (octets * 1000000000) / max limit 1
+time_of octets limit = div_ceil (told (octets * 1000000000)) (max limit 1)
 
 -- octets that leave take their time behind all that left before, or behind the moment ten milliseconds ago
 abbrev pub spent_by : Option ℕ → ℕ → ℕ → Pace → Pace

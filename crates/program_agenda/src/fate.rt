@@ -1,6 +1,17 @@
 //! What becomes of what an entity refused.
 ghost use Rattle.std.specs.Prelude.{◌≡◌};
-ghost use Rattle.program_agenda.specs.Fates.{is_passing, is_over, fate_of_retry, fate_of_pump};
+ghost use Rattle.program_agenda.specs.Fates.{fate_of_retry, fate_of_pump};
+
+/// What a refusal says of what was to be done.
+#[derive(Clone, Copy, Debug, PartialEq, Eq)]
+pub enum Obstacle {
+    /// It passes by, as want of memory does, and a full queue.
+    Passing,
+    /// It lasts until something comes for the transaction.
+    Lasting,
+    /// Nothing more can come of the transaction.
+    Final,
+}
 
 /// What becomes of what an entity refused.
 #[derive(Clone, Copy, Debug, PartialEq, Eq)]
@@ -13,40 +24,23 @@ pub enum Fate {
     Over,
 }
 
-// Whether a refusal passes by: want of memory, and a full queue.
-fn is_passing(refusal: u8) -> bool
-    ensures { result ≡ is_passing refusal }
+/// What becomes of a timer that expired, or of a deposit.
+pub fn fate_of_retry(obstacle: Obstacle) -> Fate
+    ensures { result ≡ fate_of_retry obstacle }
 {
-    refusal == 12 || refusal == 13
-}
-
-// Whether a refusal says that its transaction will never be sent on: there is none, it has ended, or no lane has it.
-fn is_over(refusal: u8) -> bool
-    ensures { result ≡ is_over refusal }
-{
-    refusal == 1 || refusal == 2 || refusal >= 20
-}
-
-/// What becomes of a timer that expired, or of a deposit, by the number of the refusal.
-pub fn fate_of_retry(refusal: u8) -> Fate
-    ensures { result ≡ fate_of_retry refusal }
-{
-    if is_passing(refusal) {
-        Fate::Again
-    } else {
-        Fate::Over
+    match obstacle {
+        Obstacle::Passing => Fate::Again,
+        Obstacle::Lasting | Obstacle::Final => Fate::Over,
     }
 }
 
-/// What becomes of a file that is under way where nothing of it could be sent, by the number of the refusal.
-pub fn fate_of_pump(refusal: u8) -> Fate
-    ensures { result ≡ fate_of_pump refusal }
+/// What becomes of a file that is under way where nothing of it could be sent.
+pub fn fate_of_pump(obstacle: Obstacle) -> Fate
+    ensures { result ≡ fate_of_pump obstacle }
 {
-    if is_passing(refusal) {
-        Fate::Again
-    } else if is_over(refusal) {
-        Fate::Over
-    } else {
-        Fate::Awaits
+    match obstacle {
+        Obstacle::Passing => Fate::Again,
+        Obstacle::Lasting => Fate::Awaits,
+        Obstacle::Final => Fate::Over,
     }
 }

@@ -3,12 +3,13 @@
 
 mod agenda;
 mod fate;
+pub mod laws;
 mod pace;
 mod rotation;
 mod sending;
 
 pub use agenda::Agenda;
-pub use fate::{Fate, fate_of_pump, fate_of_retry};
+pub use fate::{Fate, Obstacle, fate_of_pump, fate_of_retry};
 pub use pace::Pace;
 pub use rotation::Rotation;
 pub use sending::Sending;

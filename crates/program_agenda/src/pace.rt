@@ -48,7 +48,9 @@ impl Pace {
         match self.limit {
             None => self,
             Some(limit) => {
-                let time = octets.saturating_mul(NANOSECONDS_A_SECOND) / limit.max(1);
+                let time = octets
+                    .saturating_mul(NANOSECONDS_A_SECOND)
+                    .div_ceil(limit.max(1));
                 let earliest = now
                     .saturating_sub(SLACK_MS)
                     .saturating_mul(NANOSECONDS_A_MILLISECOND);

@@ -1,7 +1,9 @@
 ghost use Rattle.std.specs.Prelude.{◌≡◌};
 ghost use Rattle.program_station.specs.Answers.{flat};
+ghost use Rattle.program_station.specs.Obstacles.{obstacle_of};
 
 use lane_table::{Done, Refused};
+use program_agenda::Obstacle;
 use shared_entity::EntityRefusal;
 
 /// The one answer of a gate that has the lane step: what the step gives, or why there is none.
@@ -12,5 +14,18 @@ pub fn flat(answer: Result<Result<Done, Refused>, EntityRefusal>) -> Result<Done
         Ok(Ok(done)) => Ok(done),
         Ok(Err(refused)) => Err(EntityRefusal::Lane(refused)),
         Err(refusal) => Err(refusal),
+    }
+}
+
+/// What a refusal says of what was to be done.
+pub(crate) fn obstacle_of(refusal: &EntityRefusal) -> Obstacle
+    ensures { result ≡ obstacle_of refusal.now }
+{
+    if refusal.is_passing() {
+        Obstacle::Passing
+    } else if refusal.is_final() {
+        Obstacle::Final
+    } else {
+        Obstacle::Lasting
     }
 }

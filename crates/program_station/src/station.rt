@@ -1,5 +1,5 @@
 //! What the main thread keeps, and its turns.
-use crate::answers::flat;
+use crate::answers::{flat, obstacle_of};
 use crate::clock::moment;
 use cfdp_types::{Deposit, TxnKey};
 use entity_workers::{DepositRest, Filestore, deposit_one, finish};
@@ -224,7 +224,7 @@ impl<'a, N: Names, R: Wait + Copy + Clock, S: Filestore + Drop> Station<'a, N, R
                 self.settle_own(done);
                 true
             }
-            Err(refusal) if fate_of_retry(refusal.number()) == Fate::Again => {
+            Err(refusal) if fate_of_retry(obstacle_of(&refusal)) == Fate::Again => {
                 self.put_back(Armed {
                     deadline: now.saturating_add(REST_MS),
                     ..timer
@@ -264,7 +264,7 @@ impl<'a, N: Names, R: Wait + Copy + Clock, S: Filestore + Drop> Station<'a, N, R
                 true
             }
             Err(refusal) => {
-                match fate_of_pump(refusal.number()) {
+                match fate_of_pump(obstacle_of(&refusal)) {
                     Fate::Again => self.agenda.rest(key, now.saturating_add(REST_MS)),
                     Fate::Awaits => self.agenda.rest(key, u64::MAX),
                     Fate::Over => self.agenda.forget(key),
@@ -291,7 +291,7 @@ impl<'a, N: Names, R: Wait + Copy + Clock, S: Filestore + Drop> Station<'a, N, R
                 self.settle_own(done);
                 true
             }
-            Err(rest) if fate_of_retry(rest.refusal.number()) == Fate::Again => {
+            Err(rest) if fate_of_retry(obstacle_of(&rest.refusal)) == Fate::Again => {
                 self.keep(Waiting::Rest(rest));
                 false
             }

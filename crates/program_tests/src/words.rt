@@ -1,5 +1,5 @@
 use cfdp_types::{Class, EntityId};
-use program_words::{PutWords, ServerWords, put_words, server_words};
+use program_words::{PutWords, ServerWords, WordsFault, put_words, server_words};
 use std::alloc::{AllocError, Global};
 use std::test::*;
 
@@ -41,8 +41,8 @@ const PUTS: [PutRow; 3] = [
         closure: true,
     },
     PutRow {
-        line: "p --first 9223372036854775807 --rate 01 s --class 02 --remote 9223372036854775807 t --user u --bind 1.2.3.4:5 --config c",
-        remote: 9_223_372_036_854_775_807,
+        line: "p --first 9223372036854775807 --rate 01 s --class 02 --remote 18446744073709551615 t --user u --bind 1.2.3.4:5 --config c",
+        remote: 18_446_744_073_709_551_615,
         class: Class::Two,
         rate: Some(1),
         first: Some(9_223_372_036_854_775_807),
@@ -110,5 +110,17 @@ fn servers(rt: HostRuntime) -> Result<(), Fail> {
             ))
         );
     }
+    Ok(())
+}
+
+// An entity's number that no unsigned number of 64 bits is.
+#[test]
+fn too_great_a_remote(rt: HostRuntime) -> Result<(), Fail> {
+    let alloc = rt.alloc();
+    let line = split(
+        alloc,
+        "p --config c --bind 1.2.3.4:5 --user u --remote 18446744073709551616 --class 1 s t",
+    )?;
+    assert_eq!(rt; put_words(alloc, line.as_slice()).err(), Some(WordsFault::Usage));
     Ok(())
 }

@@ -124,7 +124,7 @@ fn words_in<'a>(matches: &ArgMatches<'a>) -> Option<PutWords<'a>>
     let config = matches.get_str("config")?;
     let bind = matches.get_str("bind")?;
     let user = matches.get_str("user")?;
-    let remote = number_within(matches.get_str("remote")?, 0, CONFIGURED_NUMBER)?;
+    let remote = number_within(matches.get_str("remote")?, 0, u64::MAX)?;
     let class = class_of(matches.get_str("class")?)?;
     let source = matches.get_str("source")?;
     let target = matches.get_str("target")?;

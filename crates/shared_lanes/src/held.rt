@@ -27,7 +27,8 @@ impl<N: Names, R: Copy> Model for Held<N, R> {
 }
 
 impl<N: Names, R: Copy> Held<N, R> {
-    ghost use Rattle.std.specs.Prelude.{◌≡◌, Ok, IfOk, IfErr};
+    ghost use Rattle.std.specs.Prelude.{◌≡◌, ◌≤◌, length, Ok, IfOk, IfErr};
+    ghost use Rattle.cfdp_types.specs.declared.limits.TheConstants.{JOURNAL_ENTRIES};
     ghost use Rattle.shared_lanes.specs.Held.{IsBehindLock};
     ghost use Rattle.lane_table.specs.Lane.{issued_by, key_of};
     ghost use Rattle.lane_table.specs.Steps.{image_of};
@@ -69,7 +70,8 @@ impl<N: Names, R: Copy> Held<N, R> {
 
     /// The events of that transaction that were taken, in order.
     pub fn journal(&self) -> &[Event]
-        ensures { result.now ≡ self.now.lane.journal }
+        ensures events { result.now ≡ self.now.lane.journal }
+        ensures limit { length result.now ≤ JOURNAL_ENTRIES }
     {
         self.lane.journal()
     }

@@ -36,7 +36,8 @@ impl Model for Lane {
 }
 
 impl Lane {
-    ghost use Rattle.std.specs.Prelude.{◌≡◌, ◌<◌, is_some, Some, None, Ok, IfOk, IfErr, OnOk};
+    ghost use Rattle.std.specs.Prelude.{◌≡◌, ◌<◌, ◌≤◌, length, is_some, Some, None, Ok, IfOk, IfErr, OnOk};
+    ghost use Rattle.cfdp_types.specs.declared.limits.TheConstants.{JOURNAL_ENTRIES};
     ghost use Rattle.lane_table.specs.Keeping.{bundle_of};
     ghost use Rattle.txn_lane.specs.Stepping.{IsOutletOf, IsOffered, IsHanded, IsTaken, IsLeft, IsNotTaken, IsFirst, IsLater, Passes};
     ghost use Rattle.lane_table.specs.Steps.{IsKeyed, plainly, refused_by_lane, refused_number, next_number, new_transaction, image_of};
@@ -104,7 +105,8 @@ impl Lane {
 
     /// The events of that transaction that were taken, in order.
     pub fn journal(&self) -> &[Event]
-        ensures { result.now ≡ self.now.journal }
+        ensures events { result.now ≡ self.now.journal }
+        ensures limit { length result.now ≤ JOURNAL_ENTRIES }
     {
         match &self.running {
             None => &[],

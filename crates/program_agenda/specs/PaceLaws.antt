@@ -1,0 +1,37 @@
+-- Meaning. What a pace keeps of whatever leaves by it.
+use Rattle.std.specs.Prelude.{◌≡◌, ℕ, ◌+◌, ◌*◌, ◌^◌, ◌<◌, ◌≤◌, ◌-◌, ◌&&◌, nat_le, max, true, if◌then◌else◌, List, [], ◌∷◌, Some}
+use Rattle.program_agenda.specs.declared.pace.Pace.{Pace}
+use Rattle.program_agenda.specs.Paces.{is_free, spent}
+
+-- so many octets left at a moment, in milliseconds
+pub record Departure : Type 0 where
+  pub at : ℕ
+  pub octets : ℕ
+
+-- the pace after a run of departures, newest first
+abbrev pub paced : Pace → List Departure → Pace
+paced pace [] = pace
+paced pace (departure ∷ earlier) = spent departure.octets departure.at (paced pace earlier)
+
+-- each left at a moment at which something might leave
+abbrev pub IsPaced : Pace → List Departure → Type 0
+IsPaced pace [] = Unit {0}
+IsPaced pace (departure ∷ earlier) = (is_free departure.at (paced pace earlier) ≡ true) × IsPaced pace earlier
+
+-- none of them is larger
+abbrev pub AreAtMost : ℕ → List Departure → Type 0
+AreAtMost most [] = Unit {0}
+AreAtMost most (departure ∷ earlier) = (departure.octets ≤ most) × AreAtMost most earlier
+
+-- how many octets left from one moment to another, both included
+abbrev pub octets_within : ℕ → ℕ → List Departure → ℕ
+octets_within start end [] = 0
+octets_within start end (departure ∷ earlier) =
+    (if nat_le start departure.at && nat_le departure.at end then departure.octets else 0) + octets_within start end earlier
+
+-- in any span of milliseconds there leaves at most what the limit, in octets a second, allows in it and in the ten milliseconds
+-- of slack, and one departure; for departures of less than 4 GiB, and up to a moment that is five centuries off
+abbrev pub KeepsToRate : Type 0
+KeepsToRate = (pace : Pace) (limit most start end : ℕ) (run : List Departure) → pace.limit ≡ Some limit → IsPaced pace run
+    → most < 2 ^ 32 → AreAtMost most run → end < 2 ^ 44
+    → octets_within start end run * 1000 ≤ max limit 1 * (end + 10 - start) + most * 1000

@@ -1,0 +1,13 @@
+-- Meaning. What a refusal says of what was to be done.
+use Rattle.std.specs.Prelude.{if◌then◌else◌}
+use Rattle.entity_parts.specs.Refusals.{is_passing, is_final}
+use Rattle.entity_parts.specs.declared.refusal.EntityRefusal.{EntityRefusal}
+use Rattle.program_agenda.specs.declared.fate.Obstacle.{Obstacle}
+use Rattle.program_agenda.specs.declared.fate.Obstacle.TheVariants as obstacle
+
+-- it passes by, or nothing more can come of it, or it lasts for now
+abbrev pub obstacle_of : EntityRefusal → Obstacle
+obstacle_of refusal =
+    if is_passing refusal then obstacle.Passing
+    else if is_final refusal then obstacle.Final
+    else obstacle.Lasting
