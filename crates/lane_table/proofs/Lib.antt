@@ -6,3 +6,4 @@ pub mod IssuedFacts
 pub mod NumberFacts
 pub mod ImageFacts
 pub mod LengthFacts
+pub mod GlanceFacts

@@ -4,3 +4,4 @@ pub mod Steps
 pub mod Keeping
 pub mod LaneLaws
 pub mod Images
+pub mod Glances

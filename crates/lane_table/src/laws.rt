@@ -1,6 +1,7 @@
 //! What holds of every transaction and of every lane, over their definitions alone.
 
 ghost use Rattle.lane_table.specs.Images.{GivesOwnFiles};
+ghost use Rattle.lane_table.specs.Glances.{SaysAsReport};
 ghost use Rattle.lane_table.specs.LaneLaws.{TellsWords, CompletesGood, SendsLaneLists, SendsWhatLogsTell, NumbersTellLanes, StepsKeep, FitsJournal, KeepsToLimit};
 
 /// What a transaction tells its user, at either end, is a beginning of a word of its side, and a
@@ -54,4 +55,9 @@ pub fn lengths()
 /// refused.
 pub fn journals()
     ensures { KeepsToLimit }
+{}
+
+/// A look at a transaction shows what a Report would say, which is an event and takes a place in the journal.
+pub fn reports()
+    ensures { SaysAsReport }
 {}

@@ -3,10 +3,12 @@
 #![tactic(auto)]
 
 mod done;
+mod glance;
 mod lane_side;
 pub mod laws;
 mod refused;
 
 pub use done::Done;
+pub use glance::{Glance, GlancedFile};
 pub use lane_side::{LaneSide, Numbers};
 pub use refused::Refused;

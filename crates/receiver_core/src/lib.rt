@@ -4,6 +4,7 @@
 
 mod answering;
 mod first_event;
+mod glance;
 mod image;
 mod pdus;
 mod plan;

@@ -4,6 +4,7 @@
 
 mod control;
 mod first_event;
+mod glance;
 mod pdus;
 mod plan;
 mod planning;

@@ -1,6 +1,7 @@
 use cfdp_types::{Image, TxnKey};
 use indications::Indication;
-use lane_table::{Done, Refused};
+use lane_table::{Done, Glance, Refused};
+use std::alloc::AllocError;
 use std::marker::{Model, PhantomData};
 use std::sync::Wait;
 use txn_events::{Event, Refusal};
@@ -31,6 +32,7 @@ impl<N: Names, R: Copy> Held<N, R> {
     ghost use Rattle.cfdp_types.specs.declared.limits.TheConstants.{JOURNAL_ENTRIES};
     ghost use Rattle.shared_lanes.specs.Held.{IsBehindLock};
     ghost use Rattle.lane_table.specs.Lane.{issued_by, key_of};
+    ghost use Rattle.lane_table.specs.Glances.{glance_of};
     ghost use Rattle.lane_table.specs.Steps.{image_of};
     ghost use Rattle.txn_lane.specs.Transactions.{IsWhy};
 
@@ -89,6 +91,13 @@ impl<N: Names, R: Copy> Held<N, R> {
         ensures refused { IfErr result (λ why. IsWhy (image_of self.now.lane key stamp) why) }
     {
         self.lane.image(key, stamp)
+    }
+
+    /// A look at the transaction that the lane runs or ran last, if there is one.
+    pub fn glance(&self) -> Result<Option<Glance>, AllocError>
+        ensures { IfOk result (λ glance. glance ≡ glance_of self.now.lane) }
+    {
+        self.lane.glance()
     }
 
     /// The outlet alone, through which nothing comes any more.

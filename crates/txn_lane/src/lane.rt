@@ -20,7 +20,7 @@ pub struct Lane {
     source: EntityId,
     last: Option<u64>,
     before: Option<u64>,
-    running: Option<Running>,
+    pub(crate) running: Option<Running>,
 }
 
 impl Model for Lane {

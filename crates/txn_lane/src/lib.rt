@@ -4,6 +4,7 @@
 #![tactic(auto)]
 
 mod copying;
+mod glance;
 mod handing;
 mod lane;
 mod lane_refusals;
@@ -16,5 +17,5 @@ mod transaction;
 pub use cfdp_types::{Deposit, Image, TimerOp};
 pub use indications::Outlet;
 pub use lane::Lane;
-pub use lane_table::{Done, LaneSide, Numbers, Refused};
+pub use lane_table::{Done, Glance, GlancedFile, LaneSide, Numbers, Refused};
 pub use txn_events::{Event, Refusal, What};
