@@ -1,6 +1,5 @@
 //! What a look at a lane shows, without an event.
-ghost use Rattle.std.specs.Prelude.{◌≡◌, IfOk};
-ghost use Rattle.std.specs.Option.{option_copied, option_map};
+ghost use Rattle.std.specs.Prelude.{◌≡◌, IfOk, option_copied, option_map};
 ghost use Rattle.sender_core.specs.Core as sender;
 ghost use Rattle.sender_core.specs.Core.{sending_of};
 ghost use Rattle.receiver_core.specs.Core as receiver;
@@ -92,14 +91,14 @@ fn glance_at_receiver(core: &ReceiverCore) -> Result<Glance, AllocError>
 
 // The file that Metadata describes, if it came.
 fn described(metadata: Option<&Metadata>) -> Result<Option<GlancedFile>, AllocError>
-    ensures { IfOk result (λ file. file ≡ option_map file_of_metadata (option_copied metadata)) }
+    ensures { IfOk result (λ file. file ≡ option_map file_of_metadata (option_copied metadata.entry)) }
 {
-    let Some(metadata) = metadata else {
-        return Ok(None);
-    };
-    Ok(Some(GlancedFile {
-        size: metadata.size,
-        source_name: metadata.source_name.copy()?,
-        destination_name: metadata.destination_name.copy()?,
-    }))
+    match metadata {
+        None => Ok(None),
+        Some(first) => Ok(Some(GlancedFile {
+            size: first.size,
+            source_name: first.source_name.copy()?,
+            destination_name: first.destination_name.copy()?,
+        })),
+    }
 }
