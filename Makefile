@@ -1,6 +1,6 @@
 SHELL := /bin/bash
 .SHELLFLAGS := -o pipefail -c
-.PHONY: demo build programs transfer install memory test bench soak
+.PHONY: demo try build programs transfer install deb memory test bench soak
 
 program := crates/cfdp_replay/out/cfdp_replay
 server := crates/cfdp_server/out/cfdp_server
@@ -12,6 +12,10 @@ PREFIX ?= /usr/local
 demo:
 	@examples/demo.sh examples/lost-segments.script
 
+# all tests of crates, unproved, side by side: minutes in place of hours for who changes something; no gate
+try:
+	@tools/try.py
+
 # the script program, proved and built
 build:
 	@echo "Proving the script program and all that it stands on, and building it: some minutes the first time."
@@ -21,16 +25,9 @@ build:
 	@rm -f crates/cfdp_replay/build.log
 	@echo "The program: $(program)"
 
-# the server and the put, proved and built
+# the server and the put, proved and built, on all processors
 programs:
-	@echo "Proving the server and the put and all that they stand on, and building them: the first time takes as long as"
-	@echo "proving does, half an hour or more."
-	@for one in cfdp_server cfdp_put; do \
-	    (cd crates/$$one && rt run -- --version < /dev/null 2>&1 | tee build.log \
-	        | sed -un 's/^rt: chose --jobs [0-9]* for \(.*\)/    \1 .../p; s/^crate \([a-z_]*\): .*/    \1 is proved/p' \
-	        || { cat build.log; exit 1; }; rm -f build.log) || exit 1; \
-	done
-	@echo "The programs: $(server) and $(put)"
+	@tools/build.py cfdp_server cfdp_put
 
 # a file of 4 MiB crosses loopback, through a relay that loses and doubles datagrams
 transfer: programs
