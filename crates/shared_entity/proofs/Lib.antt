@@ -1,2 +1,3 @@
 pub mod OpeningFacts
 pub mod QueueFacts
+pub mod ReadFacts

@@ -1,15 +1,19 @@
 -- The queues and outlets that an entity is opened with.
-use Rattle.std.proofs.Common.{◌≡◌, ℕ, zero, suc, ◌<◌, All, List, [], ◌∷◌, ◌++◌, length, Option, Some, slice_get, slice_index, slice_index_or, Result, Ok, Err, IfOk, refl, sym, ap, ◌∙◌, subst, arith}
+use Rattle.std.proofs.Common.{◌≡◌, ℕ, zero, suc, ◌<◌, All, List, [], ◌∷◌, ◌++◌, length, Option, Some, slice_get, slice_index, slice_index_or, Result, Ok, Err, IfOk, refl, sym, ap, ◌∙◌, subst, vec_len, arith}
 use Rattle.std.specs.Option.{option_map, unwrap_or}
 use Rattle.std.proofs.lemmas.Option.{slice_get_within, slice_get-get_or}
 use Rattle.std.proofs.lemmas.List.Elements.{All-nil, All-push}
 use Rattle.std.proofs.lemmas.List.{append-nil}
 use Rattle.atomic_table.specs.Seated.{TableId}
+use Rattle.config_reading.specs.Values.{ConfigValue}
+use Rattle.entity_routing.specs.Places.{lanes_of}
 use Rattle.queue_rule.specs.declared.view.PortView.{PortView}
 use Rattle.user_queues.specs.Opened.{fresh_outlet, fresh_outlets, IsOpenedFor}
 use Rattle.user_queues.specs.Names.{no_queue}
 use Rattle.user_queues.specs.Shared.{OutletEnd, PortEnd}
-use Rattle.shared_entity.specs.Opening.{IsFresh, queue_at}
+use Rattle.user_queues.specs.declared.queues.Queues.{Queues}
+use Rattle.user_queues.specs.declared.queues.UserQueue.{UserQueue}
+use Rattle.shared_entity.specs.Opening.{IsFresh, AreOpenedFor, lanes_in, AreQueuesFor, queue_in}
 
 -- ---- outlets
 
@@ -86,6 +90,20 @@ opened_as_counted (Ok queues) long_of users_of port outlets long counts f room s
 
 -- ---- what a run picks
 
-pub picked_named : {A : Type 0} (queue_of : A → TableId) (users : List A) (user : ℕ) (ends : A) → slice_get users user ≡ Some ends
-    → queue_of ends ≡ queue_at queue_of users user
-picked_named {A} queue_of users user ends is = sym (ap (λ (o : Option A). unwrap_or (option_map queue_of o) (no_queue user)) is)
+-- where queues were opened, the run may name them so
+pub picked : {R : Type 0} (config : ConfigValue) (queues : Queues R) → AreOpenedFor config queues
+    → AreQueuesFor (queue_in queues) (lanes_in queues) config queues
+picked {R} config queues opened = record {
+  opened = opened;
+  named = λ user ends is.
+      sym (ap (λ (o : Option (UserQueue R)). unwrap_or (option_map (λ (e : UserQueue R). e.port.queue) o) (no_queue user)) is);
+  lanes_named = refl;
+}
+
+-- a queue for each user, and each with the user's lanes
+pub both_opened : {R E : Type 0} (config : ConfigValue) (result : Result (Queues R) E) → IfOk result (λ queues. vec_len queues.users ≡ length config.users)
+    → IfOk result (λ queues. (user : ℕ) (ends : UserQueue R) → slice_get queues.users.items user ≡ Some ends
+    → IsOpenedFor user (lanes_of config user) config.entity.capacity ends.port ends.outlets.items)
+    → IfOk result (AreOpenedFor config)
+both_opened config (Err why) many opened = tt
+both_opened config (Ok queues) many opened = record { users = many; opened = opened }

@@ -1,2 +1,3 @@
 pub mod Opening
+pub mod Reads
 pub mod Answering

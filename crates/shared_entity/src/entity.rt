@@ -1,6 +1,8 @@
-ghost use Rattle.std.specs.Prelude.{◌≡◌, IsTrue, Ok, IfOk, OnErr};
-ghost use Rattle.lane_table.specs.Steps.{IsKeyed};
+ghost use Rattle.std.specs.Prelude.{◌≡◌, IsTrue, false, Ok, IfOk, OnErr, IsErr};
+ghost use Rattle.lane_table.specs.Steps.{IsKeyed, image_of};
+ghost use Rattle.lane_traces.specs.Traces.{how_far};
 ghost use Rattle.shared_entity.specs.Answering.{IsAt, MayAnswerAt, MayGiveImage, MayTrace};
+ghost use Rattle.shared_entity.specs.Reads.{is_lane_of, read_at, IsUpToMemory};
 
 use crate::opening::add_lanes;
 use crate::outlets::OutletRoom;
@@ -46,11 +48,9 @@ impl<N: Names, R: Copy> Model for Entity<N, R> {
 }
 
 impl<N: Names, R: Copy> Entity<N, R> {
-    ghost use Rattle.std.specs.Prelude.{◌≡◌, ℕ, true, false, All, IfOk, Some, length, map, slice_get, vec_len};
-    ghost use Rattle.std.specs.List.{sum_by};
+    ghost use Rattle.std.specs.Prelude.{◌≡◌, true, false, All, IfOk, length, map, vec_len};
     ghost use Rattle.entity_parts.specs.Asking.{MayRequest};
-    ghost use Rattle.entity_routing.specs.Places.{lanes_of};
-    ghost use Rattle.user_queues.specs.Opened.{IsOpenedFor};
+    ghost use Rattle.shared_entity.specs.Opening.{AreQueuesFor};
 
     /// An entity with this configuration, to which nothing has happened, over the queues that were opened for it; and the
     /// ports of its users, in order.
@@ -59,12 +59,7 @@ impl<N: Names, R: Copy> Entity<N, R> {
         config: Config,
         queues: Queues<R>,
     ) -> Result<(Entity<N, R>, Vec<UserPort>), AllocError>
-        requires opened { (user : ℕ) (ends : _) → slice_get queues.users.items user ≡ Some ends
-            → IsOpenedFor user (lanes_of config user) config.entity.capacity ends.port ends.outlets.items }
-        requires named { (user : ℕ) (ends : _) → slice_get queues.users.items user ≡ Some ends
-            → ends.port.queue ≡ N.queue user }
-        requires lanes { N.lanes ≡ sum_by (λ ends. vec_len ends.outlets) queues.users.items }
-        requires users { vec_len queues.users ≡ length config.users }
+        requires { AreQueuesFor N.queue N.lanes config queues }
         ensures config { IfOk result (λ opened. opened.0 ≡ config) }
         ensures ports { IfOk result (λ opened. opened.1.items ≡ map (λ ends. ends.port) queues.users.items) }
         ensures named { IfOk result
@@ -340,6 +335,7 @@ fn bring<N: Names, R: Wait + Copy, G: Gate<N, R>>(
     ensures answer { MayAnswerAt N.queue (G.gives gate.now) (record { place = place; event = event.now }) result }
     ensures gave { IfOk result (λ answer. G.gives gate.now held.old event.now answer held.new) }
     ensures same { OnErr result (held.new ≡ held.old) }
+    ensures wrong { IsErr result → is_lane_of place held.old.lane ≡ false }
 {
     if !is_at(held, place) {
         return Err(EntityRefusal::WrongLane);
@@ -349,7 +345,8 @@ fn bring<N: Names, R: Wait + Copy, G: Gate<N, R>>(
 
 // Whether what lies behind a lock is the lane of a place.
 fn is_at<N: Names, R: Copy>(held: &Held<N, R>, place: Place) -> bool
-    ensures { IsTrue result → IsAt N.queue place held.now }
+    ensures there { IsTrue result → IsAt N.queue place held.now }
+    ensures exact { result ≡ is_lane_of place held.now.lane }
 {
     held.user() == place.user && held.lane() == place.lane
 }
@@ -361,7 +358,8 @@ fn image_at<N: Names, R: Copy>(
     key: TxnKey,
     stamp: u32,
 ) -> Result<Image, EntityRefusal>
-    ensures { MayGiveImage N.queue key stamp (Ok place) result }
+    ensures may { MayGiveImage N.queue key stamp (Ok place) result }
+    ensures exact { IsUpToMemory (read_at place (λ lane. image_of lane key stamp) held.now) result }
 {
     if !is_at(held, place) {
         return Err(EntityRefusal::WrongLane);
@@ -378,7 +376,8 @@ fn trace_at<N: Names, R: Copy>(
     place: Place,
     key: TxnKey,
 ) -> Result<Traced, EntityRefusal>
-    ensures { MayTrace N.queue key (Ok place) result }
+    ensures may { MayTrace N.queue key (Ok place) result }
+    ensures exact { result ≡ read_at place (λ lane. how_far lane key) held.now }
 {
     if !is_at(held, place) {
         return Err(EntityRefusal::WrongLane);

@@ -1,7 +1,7 @@
 //! How the queues of an entity's users are opened, by its configuration.
 ghost use Rattle.std.specs.Prelude.{◌≡◌, ℕ, Some, IfOk, length, slice_get, vec_len};
 ghost use Rattle.entity_routing.specs.Places.{lanes_of};
-ghost use Rattle.user_queues.specs.Opened.{IsOpenedFor};
+ghost use Rattle.shared_entity.specs.Opening.{AreOpenedFor};
 
 use entity_config::Config;
 use entity_routing::lanes_of;
@@ -15,9 +15,7 @@ pub fn queues_of<R: Wait + Copy>(
     alloc: Global,
     config: &Config,
 ) -> Result<Queues<R>, AllocError>
-    ensures users { IfOk result (λ queues. vec_len queues.users ≡ length config.now.users) }
-    ensures opened { IfOk result (λ queues. (user : ℕ) (ends : _) → slice_get queues.users.items user ≡ Some ends
-        → IsOpenedFor user (lanes_of config.now user) config.now.entity.capacity ends.port ends.outlets.items) }
+    ensures { IfOk result (AreOpenedFor config.now) }
 {
     let lanes = lane_counts(alloc, config)?;
     open(rt, alloc, lanes.as_slice(), config.entity().capacity)

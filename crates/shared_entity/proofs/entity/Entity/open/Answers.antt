@@ -15,7 +15,7 @@ add_lanes-requires g c =
     let steps : into_iter_items at.ends-iterator ≡ ends ∷ into_iter_items c.next.new.self = c.in-Some.ensures.steps.0 in
     let is = get_middle c.args.queues.users.items at.yielded ends (into_iter_items c.next.new.self) (rw (← steps) at.invariant.all) in
     opened_fresh g.N.Names.queue (length at.yielded) (lanes_of c.args.config (length at.yielded)) c.args.config.entity.capacity ends.port ends.outlets.items
-    (c.requires.opened (length at.yielded) ends is) (c.requires.named (length at.yielded) ends is)
+    (c.requires.opened.opened (length at.yielded) ends is) (c.requires.named (length at.yielded) ends is)
 
 pub new-requires : goal.new-requires
 new-requires g c =
@@ -23,7 +23,7 @@ new-requires g c =
     let all = all_yielded at.yielded (into_iter_items at.ends-iterator) c.args.queues.users.items at.invariant.all
     (sym at.invariant.long ∙ c.in-None.ensures.steps.0) in
     let counted = subst (λ (l : List (UserQueue g.row.R.Denot)). vec_len at.lanes ≡ sum_by (λ ends. vec_len ends.outlets) l) all at.invariant.counted in
-    omega (arith, counted, c.requires.lanes, c.len-3.ensures)
+    omega (arith, counted, c.requires.lanes_named, c.len-3.ensures)
 
 pub returns-clause-ports : goal.returns-clause-ports
 returns-clause-ports g c =
@@ -45,5 +45,5 @@ returns-clause-named g c =
     subst (All named) (sym ports)
     (All-map named (λ (ends : UserQueue g.row.R.Denot). ends.port) users
     (all_by_place (λ (ends : UserQueue g.row.R.Denot). named ends.port) users
-    (λ user ends is. opened_named queue user (lanes_of config user) config.entity.capacity ends.port ends.outlets.items (c.requires.opened user ends is)
+    (λ user ends is. opened_named queue user (lanes_of config user) config.entity.capacity ends.port ends.outlets.items (c.requires.opened.opened user ends is)
     (c.requires.named user ends is))))
