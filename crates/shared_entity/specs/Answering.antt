@@ -1,13 +1,16 @@
 -- Meaning. What an entity that threads share may answer.
-use Rattle.std.specs.Prelude.{◌≡◌, ◌⊎◌, ℕ, Result, Ok, Err, IfOk, IfErr}
+use Rattle.std.specs.Prelude.{◌≡◌, ◌⊎◌, ℕ, Option, Result, Ok, Err, IfOk, IfErr}
 use Rattle.atomic_table.specs.Seated.{TableId}
 use Rattle.cfdp_types.specs.declared.image.Image.{Image}
 use Rattle.cfdp_types.specs.declared.key.TxnKey.{TxnKey}
 use Rattle.txn_lane.specs.Transactions.{IsWhy}
 use Rattle.txn_events.specs.declared.event.Event.{Event}
 use Rattle.txn_events.specs.declared.refusal.Refusal.{Refusal}
+use Rattle.txn_events.specs.declared.refusal.Refusal.TheVariants as refusal
 use Rattle.lane_table.specs.Steps.{image_of, plainly}
+use Rattle.lane_table.specs.Glances.{glance_of}
 use Rattle.lane_table.specs.Images.{IsOwnFile}
+use Rattle.lane_table.specs.declared.glance.Glance.{Glance}
 use Rattle.lane_traces.specs.Traces.{how_far, IsHowFar}
 use Rattle.lane_traces.specs.declared.traced.Traced.{Traced}
 use Rattle.entity_routing.specs.Routes.{Routed}
@@ -85,3 +88,15 @@ MayTrace queue key (Err why) result = result ≡ Err (answer.Route why)
 MayTrace queue key (Ok place) result =
     IfOk result (MayBeTraced queue place key)
     × IfErr result (λ why. (why ≡ answer.WrongLane) ⊎ MayLackTrace queue place key why)
+
+-- a look at the lane of a place, for what lay behind its lock
+pub record MayBeGlanced (queue : ℕ → TableId) (place : Place) (glance : Option Glance) : Type 0 where
+  pub held : HeldValue
+  pub there : IsAt queue place held
+  pub is_shown : glance ≡ glance_of held.lane
+
+-- what is answered to a look at the lane of a place
+abbrev pub MayGlance : (ℕ → TableId) → Place → Result (Option Glance) EntityRefusal → Type 0
+MayGlance queue place result =
+    IfOk result (MayBeGlanced queue place)
+    × IfErr result (λ why. (why ≡ answer.WrongLane) ⊎ (why ≡ answer.Lane (plainly refusal.NoMemory)))

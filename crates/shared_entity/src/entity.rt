@@ -1,7 +1,8 @@
 ghost use Rattle.std.specs.Prelude.{◌≡◌, IsTrue, false, Ok, IfOk, OnErr, IsErr};
+ghost use Rattle.lane_table.specs.Glances.{glance_of};
 ghost use Rattle.lane_table.specs.Steps.{IsKeyed, image_of};
 ghost use Rattle.lane_traces.specs.Traces.{how_far};
-ghost use Rattle.shared_entity.specs.Answering.{IsAt, MayAnswerAt, MayGiveImage, MayTrace};
+ghost use Rattle.shared_entity.specs.Answering.{IsAt, MayAnswerAt, MayGiveImage, MayGlance, MayTrace};
 ghost use Rattle.shared_entity.specs.Reads.{is_lane_of, read_at, IsUpToMemory};
 
 use crate::opening::add_lanes;
@@ -12,14 +13,14 @@ use entity_parts::{EntityRefusal, may_request, read_pdu};
 use entity_routing::{
     Place, Request, key_of_pdu, params_of_put, place_of_key, place_of_own, place_of_pdu,
 };
-use lane_table::Refused;
+use lane_table::{Glance, Refused};
 use lane_traces::{Traced, how_far};
 use pdu_codec::Pdu;
 use shared_lanes::{Gate, Held, Names, Point};
 use std::alloc::{AllocError, Global};
 use std::marker::Model;
 use std::sync::{Mutex, Wait};
-use txn_events::{Event, What};
+use txn_events::{Event, Refusal, What};
 use user_queues::{LaneOutlet, Queues, UserPort, UserQueue};
 
 /// A protocol entity that threads share. Each call says by the configuration which lane an event goes to, takes that
@@ -144,7 +145,7 @@ impl<N: Names, R: Wait + Copy> Entity<N, R> {
     ghost use Rattle.entity_parts.specs.Asking.{MayRequest};
     ghost use Rattle.entity_routing.specs.Routes.{key_place, routed_key, routed_own, routed_request, routed_reading, routed_put, routed_pdu, put_params};
     ghost use Rattle.entity_parts.specs.Refusals.{IsUnreadFrom};
-    ghost use Rattle.shared_entity.specs.Answering.{MayAnswer, MayAnswerAt, MayGiveImage, MayTrace};
+    ghost use Rattle.shared_entity.specs.Answering.{MayAnswer, MayAnswerAt, MayGiveImage, MayGlance, MayTrace};
 
     /// A user asks for something.
     pub fn request<G: Gate<N, R>>(
@@ -257,6 +258,18 @@ impl<N: Names, R: Wait + Copy> Entity<N, R> {
         };
         let held = lock.lock(rt);
         trace_at(&held, place, key)
+    }
+
+    /// A look at the transaction that the lane of a place runs or ran last, if there is one. It is no event, and the
+    /// lane's lock is held for no longer than the names of its file are copied.
+    pub fn glance(&self, rt: &R, place: Place) -> Result<Option<Glance>, EntityRefusal>
+        ensures { MayGlance N.queue place result }
+    {
+        let Some(lock) = self.lock_of(place) else {
+            return Err(EntityRefusal::WrongLane);
+        };
+        let held = lock.lock(rt);
+        glance_at(&held, place)
     }
 
     // Something happens to a transaction, in the entity itself.
@@ -385,5 +398,25 @@ fn trace_at<N: Names, R: Copy>(
     match how_far(held.key(), held.journal(), held.trace(), key) {
         Ok(traced) => Ok(traced),
         Err(why) => Err(EntityRefusal::Lane(Refused { why, echo: None })),
+    }
+}
+
+// A look at the last transaction of what lies behind a lock, if that is the lane of the place.
+fn glance_at<N: Names, R: Copy>(
+    held: &Held<N, R>,
+    place: Place,
+) -> Result<Option<Glance>, EntityRefusal>
+    ensures may { MayGlance N.queue place result }
+    ensures exact { IsUpToMemory (read_at place (λ lane. Ok (glance_of lane)) held.now) result }
+{
+    if !is_at(held, place) {
+        return Err(EntityRefusal::WrongLane);
+    }
+    match held.glance() {
+        Ok(glance) => Ok(glance),
+        Err(_) => Err(EntityRefusal::Lane(Refused {
+            why: Refusal::NoMemory,
+            echo: None,
+        })),
     }
 }

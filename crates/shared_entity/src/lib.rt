@@ -9,6 +9,7 @@ mod queues;
 pub use entity::Entity;
 pub use entity_parts::EntityRefusal;
 pub use entity_routing::{Place, Request, RouteRefusal};
+pub use lane_table::{Glance, GlancedFile};
 pub use lane_traces::Traced;
 pub use queues::queues_of;
 pub use shared_lanes::{Gate, Held, Names, NoGate, Point};

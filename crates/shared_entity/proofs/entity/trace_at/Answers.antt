@@ -10,7 +10,7 @@ pub returns-in-Ok-clause-may : goal.returns-in-Ok-clause-may
 returns-in-Ok-clause-may g c =
     let there : IsAt g.N.Names.queue c.args.place c.args.held.now = c.if-not-is_at.ensures.there refl in
     let told : how_far c.args.held.now.lane c.args.key ≡ Ok c.in-Ok.traced =
-    sym (c.in-Ok.ensures ∙ (λ i. how_far_by (c.key.ensures i) (c.journal.ensures i) (c.trace.ensures i) c.args.key)) in (
+    sym (c.in-Ok.ensures ∙ (λ i. how_far_by (c.key.ensures i) (c.journal.ensures.events i) (c.trace.ensures i) c.args.key)) in (
       record {
         held = c.args.held.now;
         there = there;
@@ -23,9 +23,9 @@ returns-in-Ok-clause-may g c =
 pub returns-in-Ok-clause-exact : goal.returns-in-Ok-clause-exact
 returns-in-Ok-clause-exact g c =
     read_there c.args.place (λ (lane : State). how_far lane c.args.key) c.args.held.now (Ok c.in-Ok.traced) (sym c.if-not-is_at.ensures.exact)
-    (sym (c.in-Ok.ensures ∙ (λ i. how_far_by (c.key.ensures i) (c.journal.ensures i) (c.trace.ensures i) c.args.key)))
+    (sym (c.in-Ok.ensures ∙ (λ i. how_far_by (c.key.ensures i) (c.journal.ensures.events i) (c.trace.ensures i) c.args.key)))
 
 pub returns-in-Err-clause-exact : goal.returns-in-Err-clause-exact
 returns-in-Err-clause-exact g c =
     read_there c.args.place (λ (lane : State). how_far lane c.args.key) c.args.held.now (Err c.in-Err.why) (sym c.if-not-is_at.ensures.exact)
-    (sym (c.in-Err.ensures ∙ (λ i. how_far_by (c.key.ensures i) (c.journal.ensures i) (c.trace.ensures i) c.args.key)))
+    (sym (c.in-Err.ensures ∙ (λ i. how_far_by (c.key.ensures i) (c.journal.ensures.events i) (c.trace.ensures i) c.args.key)))
