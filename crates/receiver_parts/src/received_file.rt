@@ -203,7 +203,10 @@ impl ReceivedFile {
 fn copy_of(file_data: &FileData) -> Result<FileData, AllocError>
     ensures { IfOk result (λ copy. copy ≡ file_data.now) }
 {
-    file_data.clone()
+    Ok(FileData {
+        offset: file_data.offset,
+        octets: file_data.octets.copy()?,
+    })
 }
 
 // Whether one of the runs has an offset.
