@@ -1,5 +1,5 @@
 -- The look at the file over what is kept is that of the table.
-use Rattle.std.proofs.Common.{◌≡◌, ℕ, ◌+◌, ◌<◌, ◌≤◌, Bool, true, false, not, ◌&&◌, ◌||◌, ◌==◌, nat_lt, if◌then◌else◌, List, [], ◌∷◌, length, get_or, Option, Some, None, eqb, refl, sym, ap, ◌∙◌, arith, inl, inr, IsTrue, ◌↔◌, zero, suc}
+use Rattle.std.proofs.Common.{◌≡◌, ℕ, ◌<◌, ◌≤◌, Bool, true, false, not, ◌&&◌, ◌||◌, ◌==◌, nat_lt, if◌then◌else◌, List, [], ◌∷◌, length, Option, Some, None, eqb, refl, sym, ap, ◌∙◌, arith, inl, inr, IsTrue, ◌↔◌}
 use Rattle.std.proofs.lemmas.Bool.{cases_Bool, eqb-true, ltb-false}
 use Rattle.std.proofs.lemmas.Option.{slice_get-get_or}
 use Rattle.std.specs.Prelude.{is_some}

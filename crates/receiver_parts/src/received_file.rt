@@ -1,5 +1,5 @@
 //! The octets of a file that came so far.
-ghost use Rattle.std.specs.Prelude.{◌≡◌, ℕ, ◌+◌, ◌-◌, ◌<◌, ◌≤◌, if◌then◌else◌, All, IfOk, OnOk, length, slice_get, vec_len, map, take, drop};
+ghost use Rattle.std.specs.Prelude.{◌≡◌, ℕ, ◌+◌, ◌-◌, ◌<◌, ◌≤◌, if◌then◌else◌, All, IfOk, OnOk, length, slice_get, slice_index, vec_len, map, take, drop};
 ghost use Rattle.gap_list.specs.Covered.{covered};
 ghost use Rattle.gap_list.specs.Runs.{in_runs, is_within};
 ghost use Rattle.modular_sum.specs.Pieces.{IsSumOf, sum_after};
@@ -40,7 +40,7 @@ pub struct NewSegment {
 }
 
 impl ReceivedFile {
-    ghost use Rattle.std.specs.Prelude.{◌≡◌, ℕ, ◌+◌, ◌<◌, ◌≤◌, IfOk, OnOk, IsTrue, false, None, Some, length, vec_len, not, unwrap_or};
+    ghost use Rattle.std.specs.Prelude.{◌≡◌, ℕ, ◌+◌, ◌<◌, ◌≤◌, IfOk, OnOk, IsTrue, false, None, Some, length, slice_index, vec_len};
     ghost use Rattle.gap_list.specs.Runs.{in_runs, new_runs, with_range};
     ghost use Rattle.receiver_table.specs.Answers.{octets_from};
     ghost use Rattle.cfdp_types.specs.declared.limits.TheConstants.{FILE_OCTETS};
@@ -90,16 +90,17 @@ impl ReceivedFile {
         })
     }
 
-    // The octet at an offset, and 0 where it is missing.
-    fn octet(&self, missing: &[Run], offset: u32) -> u8
-        requires { in_runs missing.now offset ≡ not (covered self.now.gaps offset) }
-        ensures { result ≡ unwrap_or (received_of self.now offset) 0 }
+    // So many octets: those that are kept, and behind them 0.
+    fn lengthened(&self, size: u32) -> Result<Vec<u8>, AllocError>
+        ensures items { IfOk result (λ octets. (i : ℕ) → i < size → i < vec_len self.now.octets
+            → slice_index octets.items i ≡ slice_index self.now.octets.items i) }
+        ensures len { IfOk result (λ octets. vec_len octets ≡ size) }
     {
-        if is_among(missing, offset) {
-            0
-        } else {
-            self.octets[offset as usize]
-        }
+        let mut octets = Vec::with_capacity(*self.octets.allocator(), size as usize)?;
+        let kept = self.octets.len().min(size as usize);
+        octets.extend_from_slice(&self.octets.as_slice()[..kept])?;
+        octets.resize(size as usize, 0)?;
+        Ok(octets)
     }
 
     // The octets below a size, with 0 for those that are missing.
@@ -107,10 +108,8 @@ impl ReceivedFile {
         ensures { IfOk result (λ octets. octets.items ≡ octets_from (received_of self.now) 0 size) }
     {
         let missing = self.gaps.missing(size)?;
-        let mut octets = Vec::with_capacity(*self.octets.allocator(), size as usize)?;
-        for offset in 0..size {
-            octets.push(self.octet(missing.as_slice(), offset))?;
-        }
+        let mut octets = self.lengthened(size)?;
+        blank(&mut octets, missing.as_slice());
         Ok(octets)
     }
 
@@ -203,15 +202,41 @@ impl ReceivedFile {
 fn copy_of(file_data: &FileData) -> Result<FileData, AllocError>
     ensures { IfOk result (λ copy. copy ≡ file_data.now) }
 {
-    file_data.clone()
+    Ok(FileData {
+        offset: file_data.offset,
+        octets: file_data.octets.copy()?,
+    })
 }
 
-// Whether one of the runs has an offset.
-fn is_among(runs: &[Run], offset: u32) -> bool
-    ensures { result ≡ in_runs runs.now offset }
+// Puts 0 at the offsets of a run.
+fn blank_run(kept: &mut [u8], run: Run)
+    requires ordered { run.start ≤ run.end }
+    requires room { run.end ≤ length kept.old }
+    ensures items { (i : ℕ) → slice_index kept.new i ≡ (if is_within run.start run.end i then 0 else slice_index kept.old i) }
+    ensures len { length kept.new ≡ length kept.old }
 {
-    runs.iter()
-        .any(|run| run.start <= offset && offset < run.end)
+    kept[run.start as usize..run.end as usize].fill(0);
+}
+
+// Puts 0 at the offsets of the runs.
+fn blank_runs(kept: &mut [u8], runs: &[Run])
+    requires inside { All (λ run. (run.start ≤ run.end) × (run.end ≤ length kept.old)) runs.now }
+    ensures items { (i : ℕ) → slice_index kept.new i ≡ (if in_runs runs.now i then 0 else slice_index kept.old i) }
+    ensures len { length kept.new ≡ length kept.old }
+{
+    for run in runs {
+        blank_run(kept, *run);
+    }
+}
+
+// Puts 0 at the offsets of the runs, in a vector that has them.
+fn blank(kept: &mut Vec<u8>, runs: &[Run])
+    requires inside { All (λ run. (run.start ≤ run.end) × (run.end ≤ vec_len kept.old)) runs.now }
+    ensures items { (i : ℕ) → slice_index kept.new.items i
+        ≡ (if in_runs runs.now i then 0 else slice_index kept.old.items i) }
+    ensures len { vec_len kept.new ≡ vec_len kept.old }
+{
+    blank_runs(kept, runs);
 }
 
 // At least so many octets, of which the first are the same.
