@@ -1,1 +1,2 @@
 pub mod StoreRows
+pub mod MessageRows

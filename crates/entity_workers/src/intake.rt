@@ -1,5 +1,5 @@
 //! The way in: datagrams are decoded, and wait for the workers.
-ghost use Rattle.std.specs.Prelude.{◌<◌, IfErr, IsErr};
+ghost use Rattle.std.specs.Prelude.{◌≡◌, ◌<◌, Ok, IfOk, IfErr, IsErr};
 ghost use Rattle.pdu_reading.specs.Reading.{reading};
 ghost use Rattle.entity_workers.specs.Faults.{IsNotTaken};
 
@@ -54,17 +54,13 @@ impl IntakeSend {
 
 /// A datagram that came, as workers get it. What octets are not read as a PDU is told first, then want of memory.
 pub fn message_of(alloc: Global, octets: &[u8]) -> Result<Message, IntakeFault>
+    ensures read { IfOk result (λ message. reading octets.now ≡ Ok message) }
     ensures why { IfErr result (IsNotTaken (reading octets.now)) }
-    ensures unread { IsErr (reading octets.now) → IsErr result }
 {
-    let pdu = match decode(alloc, octets) {
-        Ok(pdu) => pdu,
-        Err(DecodeFault::NoMemory) => return Err(IntakeFault::NoMemory),
-        Err(fault) => return Err(IntakeFault::Decode(fault)),
-    };
-    match Vec::from_slice(alloc, octets) {
-        Ok(octets) => Ok(Message::new(octets, pdu)),
-        Err(_) => Err(IntakeFault::NoMemory),
+    match decode(alloc, octets) {
+        Ok(pdu) => Ok(Message::new(pdu)),
+        Err(DecodeFault::NoMemory) => Err(IntakeFault::NoMemory),
+        Err(fault) => Err(IntakeFault::Decode(fault)),
     }
 }
 

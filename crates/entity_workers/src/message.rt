@@ -1,50 +1,41 @@
 use pdu_codec::Pdu;
 use std::marker::Model;
 
-/// A datagram that waits for a worker: its octets, and the PDU that they are read as. Contracts see both.
+/// A PDU that came in a datagram, and waits for a worker. Contracts see it.
 #[derive(Drop)]
 pub struct Message {
-    octets: Vec<u8>,
     pdu: Pdu,
 }
 
 impl Model for Message {
-    ghost use Rattle.std.specs.Prelude.{◌≡◌, Ok};
-    ghost use Rattle.pdu_reading.specs.Reading.{reading};
-    ghost use Rattle.entity_workers.specs.Messages.{MessageValue};
+    ghost use Rattle.pdu_values.specs.Pdu.{PduValue};
+    ghost use Rattle.entity_workers.specs.Messages.{HasCome};
 
-    ghost Value = { MessageValue };
+    ghost Value = { PduValue };
 
-    ghost view = { λ m. record { octets = m.octets.items; pdu = m.pdu } };
+    ghost view = { λ m. m.pdu };
 
-    ghost invariant = { λ m. reading m.octets.items ≡ Ok m.pdu };
+    ghost invariant = { λ m. HasCome m.pdu };
 }
 
 impl Message {
-    ghost use Rattle.std.specs.Prelude.{◌≡◌, Ok};
-    ghost use Rattle.pdu_reading.specs.Reading.{reading};
+    ghost use Rattle.std.specs.Prelude.{◌≡◌};
+    ghost use Rattle.entity_workers.specs.Messages.{HasCome};
 
-    /// A datagram with the PDU that it is read as.
-    pub fn new(octets: Vec<u8>, pdu: Pdu) -> Message
-        requires { reading octets.items ≡ Ok pdu }
-        ensures { result ≡ record { octets = octets.items; pdu = pdu } }
+    /// A PDU that was read from a datagram.
+    pub fn new(pdu: Pdu) -> Message
+        requires { HasCome pdu }
+        ensures { result ≡ pdu }
     {
-        Message { octets, pdu }
-    }
-
-    /// The octets, as they came.
-    pub fn octets(&self) -> &[u8]
-        ensures { result.now ≡ self.now.octets }
-    {
-        self.octets.as_slice()
+        Message { pdu }
     }
 
     /// The PDU alone.
     pub fn into_pdu(self) -> Pdu
-        ensures pdu { result ≡ self.pdu }
-        ensures read { reading self.octets ≡ Ok result }
+        ensures pdu { result ≡ self }
+        ensures came { HasCome result }
     {
-        let Message { pdu, .. } = self;
+        let Message { pdu } = self;
         pdu
     }
 }

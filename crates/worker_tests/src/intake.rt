@@ -1,7 +1,7 @@
 //! What an intake takes.
 use crate::datagrams::METADATA;
 use entity_workers::{Intake, IntakeFault};
-use pdu_codec::DecodeFault;
+use pdu_codec::{DecodeFault, encode};
 use std::sync::Wait;
 use std::test::*;
 
@@ -10,7 +10,9 @@ fn datagrams_wait(rt: HostRuntime) -> Result<(), Fail> {
     let (send, end) = Intake::new(rt.alloc(), 2)?;
     assert_eq!(rt; send.send(&rt, METADATA), Ok(()));
     let message = end.receive(&rt).ok_or("nothing came")?;
-    assert!(rt; message.octets() == METADATA);
+    let mut octets = Vec::new(rt.alloc());
+    encode(&message.into_pdu(), &mut octets)?;
+    assert!(rt; octets.as_slice() == METADATA);
     Ok(())
 }
 
