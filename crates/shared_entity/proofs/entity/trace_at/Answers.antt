@@ -8,7 +8,7 @@ pub returns-in-Ok : goal.returns-in-Ok
 returns-in-Ok g c =
     let there : IsAt g.N.Names.queue c.args.place c.args.held.now = c.if-not-is_at.ensures refl in
     let told : how_far c.args.held.now.lane c.args.key ≡ Ok c.in-Ok.traced =
-    sym (c.in-Ok.ensures ∙ (λ i. how_far_by (c.key.ensures i) (c.journal.ensures i) (c.trace.ensures i) c.args.key)) in (
+    sym (c.in-Ok.ensures ∙ (λ i. how_far_by (c.key.ensures i) (c.journal.ensures.events i) (c.trace.ensures i) c.args.key)) in (
       record {
         held = c.args.held.now;
         there = there;
