@@ -1,4 +1,4 @@
-use crate::peers::{address_of, peer_of};
+use crate::peers::{address_of, other_end_of};
 use entity_config::Config;
 use lane_table::Done;
 use pdu_codec::encode;
@@ -35,7 +35,7 @@ impl<'a> PduSender<'a> {
 
     /// Sends a PDU to the entity at its other end, and tells how many octets went out.
     pub fn send(&mut self, pdu: &Pdu) -> usize {
-        let Some(address) = address_of(self.config, peer_of(pdu)) else {
+        let Some(address) = address_of(self.config, other_end_of(pdu)) else {
             return 0;
         };
         self.octets.clear();
