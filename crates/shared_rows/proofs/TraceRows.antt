@@ -14,12 +14,12 @@ use Rattle.lane_traces.specs.Traces.{how_far, IsHowFar}
 use Rattle.lane_traces.proofs.TraceFacts.{tells_how_far}
 use Rattle.shared_rows.proofs.ImageRows.{stands}
 
-abbrev traced : ℕ → Bool → Traced
+abbrev pub traced : ℕ → Bool → Traced
 traced entries ended = record { entries = entries; ended = ended }
 
 -- ---- what is told
 
-still_open : how_far storing (key 5) ≡ Ok (traced 3 false)
+pub still_open : how_far storing (key 5) ≡ Ok (traced 3 false)
 unfolding initial step state_of runs_of runs_from
 still_open = refl
 
@@ -27,7 +27,7 @@ ended_by_cancel : how_far (after fresh cancelled) (key 5) ≡ Ok (traced 2 true)
 unfolding initial step state_of runs_of runs_from
 ended_by_cancel = refl
 
-above_the_last : how_far storing (key 6) ≡ Err refusal.NoTransaction
+pub above_the_last : how_far storing (key 6) ≡ Err refusal.NoTransaction
 above_the_last = refl
 
 below_the_last : how_far storing (key 4) ≡ Err refusal.OldTransaction
