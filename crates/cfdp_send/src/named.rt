@@ -1,8 +1,5 @@
 //! The entity of a run, over queues that bear the run's name.
-ghost use Rattle.std.specs.Prelude.{◌≡◌, ℕ, Some, length, slice_get, vec_len};
-ghost use Rattle.std.specs.List.{sum_by};
-ghost use Rattle.entity_routing.specs.Places.{lanes_of};
-ghost use Rattle.user_queues.specs.Opened.{IsOpenedFor};
+ghost use Rattle.shared_entity.specs.Opening.{AreQueuesFor};
 
 use crate::outputs::Outputs;
 use crate::threads::{Wanted, put_over};
@@ -50,12 +47,7 @@ fn put_opened<
     wanted: Wanted,
     outputs: Outputs<W, P>,
 ) -> Result<u8, ProgramFault>
-    requires opened { (user : ℕ) (ends : _) → slice_get queues.users.items user ≡ Some ends
-        → IsOpenedFor user (lanes_of config user) config.entity.capacity ends.port ends.outlets.items }
-    requires named { (user : ℕ) (ends : _) → slice_get queues.users.items user ≡ Some ends
-        → ends.port.queue ≡ N.queue user }
-    requires lanes { N.lanes ≡ sum_by (λ ends. vec_len ends.outlets) queues.users.items }
-    requires users { vec_len queues.users ≡ length config.users }
+    requires { AreQueuesFor N.queue N.lanes config queues }
 {
     let (entity, ports) = Entity::<N, R>::open(alloc, config, queues)?;
     put_over(rt, alloc, &entity, ports, socket, wanted, outputs)

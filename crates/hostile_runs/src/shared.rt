@@ -1,8 +1,5 @@
 //! Files come to the entity that threads share: two in one thread, event by event, then one through a worker.
-ghost use Rattle.std.specs.Prelude.{◌≡◌, ℕ, Some, length, slice_get, vec_len};
-ghost use Rattle.std.specs.List.{sum_by};
-ghost use Rattle.entity_routing.specs.Places.{lanes_of};
-ghost use Rattle.user_queues.specs.Opened.{IsOpenedFor};
+ghost use Rattle.shared_entity.specs.Opening.{AreQueuesFor};
 
 use crate::fault::Fault;
 use crate::transcript::Transcript;
@@ -84,12 +81,7 @@ fn play_named<N: Names + Send + Sync, R: Threads + Wait + Copy + Send + Sync>(
     config: Config,
     queues: Queues<R>,
 ) -> Result<bool, Fault>
-    requires opened { (user : ℕ) (ends : _) → slice_get queues.users.items user ≡ Some ends
-        → IsOpenedFor user (lanes_of config user) config.entity.capacity ends.port ends.outlets.items }
-    requires named { (user : ℕ) (ends : _) → slice_get queues.users.items user ≡ Some ends
-        → ends.port.queue ≡ N.queue user }
-    requires lanes { N.lanes ≡ sum_by (λ ends. vec_len ends.outlets) queues.users.items }
-    requires users { vec_len queues.users ≡ length config.users }
+    requires { AreQueuesFor N.queue N.lanes config queues }
 {
     match Entity::<N, R>::open(alloc, config, queues) {
         Ok((entity, ports)) => {

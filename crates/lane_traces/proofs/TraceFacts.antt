@@ -1,5 +1,5 @@
 -- A beginning of a word has an end exactly where its last indication is one; so what a sound lane tells holds of its log.
-use Rattle.std.proofs.Common.{◌≡◌, ◌↔◌, ℕ, zero, suc, ◌-◌, ◌==◌, ◌||◌, ◌&&◌, Bool, true, false, nat_lt, List, [], ◌∷◌, length, slice_get, Option, Some, None, Result, Ok, Err, refl, sym, ap, ◌∙◌, subst, arith, if◌then◌else◌}
+use Rattle.std.proofs.Common.{◌≡◌, ◌↔◌, ℕ, suc, ◌-◌, ◌==◌, ◌||◌, Bool, true, false, List, [], ◌∷◌, length, slice_get, Option, Some, None, Result, Ok, Err, refl, sym, ap, ◌∙◌, subst, arith, if◌then◌else◌}
 use Rattle.std.specs.List.{list_any}
 use Rattle.std.specs.Option.{option_map}
 use Rattle.std.proofs.lemmas.Bool.{eqb-true}
@@ -13,11 +13,11 @@ use Rattle.txn_events.specs.declared.event.Event.{Event}
 use Rattle.txn_events.specs.declared.refusal.Refusal.{Refusal}
 use Rattle.txn_events.specs.declared.refusal.Refusal.TheVariants.{NoTransaction, OldTransaction}
 use Rattle.lane_table.specs.Logs.{Log, side_of, issued, IsLegal}
-use Rattle.lane_table.specs.Lane.{State, IsSound, IsRun, key_at, key_of, log_of, entries_in, issued_in, issued_by}
+use Rattle.lane_table.specs.Lane.{IsRun, key_at, key_of, log_of, entries_in, issued_in, issued_by}
 use Rattle.lane_table.proofs.LogFacts.{lane_words}
 use Rattle.lane_table.proofs.StepFacts.{both_true}
 use Rattle.lane_traces.specs.declared.traced.Traced.{Traced}
-use Rattle.lane_traces.specs.Traces.{is_end_told, is_over, traced_by, is_same_key, is_older_than, how_far_by, how_far, IsHowFar, TellsHowFar}
+use Rattle.lane_traces.specs.Traces.{is_end_told, is_over, traced_by, is_same_key, is_older_than, how_far_by, TellsHowFar}
 
 -- ---- ends stand last
 

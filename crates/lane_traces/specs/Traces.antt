@@ -1,5 +1,5 @@
 -- Meaning. How far a lane's transaction is.
-use Rattle.std.specs.Prelude.{◌≡◌, ◌↔◌, ℕ, ◌-◌, ◌==◌, ◌&&◌, Bool, true, false, nat_lt, if◌then◌else◌, List, length, slice_get, Option, Some, None, Result, Ok, Err}
+use Rattle.std.specs.Prelude.{◌≡◌, ◌↔◌, ◌-◌, ◌==◌, ◌&&◌, Bool, true, false, nat_lt, if◌then◌else◌, List, length, slice_get, Option, Some, None, Result, Ok, Err}
 use Rattle.cfdp_types.specs.declared.key.TxnKey.{TxnKey}
 use Rattle.indications.specs.declared.indication.Indication.{Indication}
 use Rattle.indications.specs.Words.{is_end, IsBegunOf, IsWordOf}

@@ -8,8 +8,8 @@ use Rattle.pdu_values.specs.Pdu.{PduValue, is_toward_sender}
 use Rattle.config_reading.specs.Values.{ConfigValue, has_id}
 
 -- the entity that a PDU goes to: the one that sends the file, or the one that receives it, by the kind of the PDU
-abbrev pub peer_of : PduValue → EntityId
-peer_of pdu = if is_toward_sender pdu.body then pdu.header.source else pdu.header.destination
+abbrev pub other_end_of : PduValue → EntityId
+other_end_of pdu = if is_toward_sender pdu.body then pdu.header.source else pdu.header.destination
 
 -- the text that a configuration has for the address of an entity
 abbrev pub address_text : ConfigValue → EntityId → Option (List ℕ)

@@ -8,6 +8,6 @@ mod reach;
 mod sender;
 
 pub use addresses::{PeerAddress, address_among, addresses_of};
-pub use peers::{address_of, peer_of};
+pub use peers::{address_of, other_end_of};
 pub use reach::reach_of;
 pub use sender::{PduSender, wake_reader};

@@ -1,5 +1,5 @@
 ghost use Rattle.std.specs.Prelude.{◌≡◌, IfSome};
-ghost use Rattle.program_link.specs.Peers.{peer_of, ListensAt};
+ghost use Rattle.program_link.specs.Peers.{other_end_of, ListensAt};
 
 use cfdp_types::EntityId;
 use entity_config::Config;
@@ -7,8 +7,8 @@ use pdu_values::Pdu;
 use std::net::SocketAddr;
 
 /// The entity that a PDU goes to, which is the one at its transaction's other end.
-pub fn peer_of(pdu: &Pdu) -> EntityId
-    ensures { result ≡ peer_of pdu.now }
+pub fn other_end_of(pdu: &Pdu) -> EntityId
+    ensures { result ≡ other_end_of pdu.now }
 {
     let header = pdu.header();
     if pdu.is_toward_sender() {

@@ -1,5 +1,5 @@
 use crate::addresses::{PeerAddress, address_among, addresses_of};
-use crate::peers::peer_of;
+use crate::peers::other_end_of;
 use entity_config::Config;
 use lane_table::Done;
 use pdu_codec::encode;
@@ -36,7 +36,7 @@ impl<'a> PduSender<'a> {
 
     /// Sends a PDU to the entity at its other end, and tells how many octets went out.
     pub fn send(&mut self, pdu: &Pdu) -> usize {
-        let Some(address) = address_among(self.peers.as_slice(), peer_of(pdu)) else {
+        let Some(address) = address_among(self.peers.as_slice(), other_end_of(pdu)) else {
             return 0;
         };
         self.octets.clear();

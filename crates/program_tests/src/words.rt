@@ -121,6 +121,9 @@ fn too_great_a_remote(rt: HostRuntime) -> Result<(), Fail> {
         alloc,
         "p --config c --bind 1.2.3.4:5 --user u --remote 18446744073709551616 --class 1 s t",
     )?;
-    assert_eq!(rt; put_words(alloc, line.as_slice()).err(), Some(WordsFault::Usage));
+    assert_eq!(rt;
+        put_words(alloc, line.as_slice()).err(),
+        Some(WordsFault::Usage)
+    );
     Ok(())
 }

@@ -1,5 +1,5 @@
--- Worked answers of the entity that threads share, and the outlets that it is opened with.
-use Rattle.std.proofs.Common.{◌≡◌, ℕ, List, [], ◌∷◌, length, Result, Ok, Err, inl, inr, refl, sym, ap, ◌∙◌, ⊎_elim, arith}
+-- Worked answers of the entity that threads share.
+use Rattle.std.proofs.Common.{◌≡◌, ℕ, [], Result, Ok, Err, inl, inr, refl, sym, ap, ◌∙◌, ⊎_elim, arith}
 use Rattle.atomic_table.specs.Seated.{TableId}
 use Rattle.cfdp_types.specs.declared.image.Image.{Image}
 use Rattle.cfdp_types.specs.declared.key.TxnKey.{TxnKey}
@@ -20,19 +20,16 @@ use Rattle.entity_routing.specs.Routes.{Routed}
 use Rattle.entity_routing.specs.declared.place.Place.{Place}
 use Rattle.entity_routing.specs.declared.refusal.RouteRefusal.{RouteRefusal}
 use Rattle.entity_routing.specs.declared.refusal.RouteRefusal.TheVariants as routes
-use Rattle.user_queues.specs.Names.{no_queue}
-use Rattle.user_queues.specs.Shared.{OutletEnd}
 use Rattle.shared_lanes.specs.Held.{HeldValue, HasStepped}
 use Rattle.entity_parts.specs.declared.refusal.EntityRefusal.{EntityRefusal}
 use Rattle.entity_parts.specs.declared.refusal.EntityRefusal.TheVariants as answer
 use Rattle.shared_entity.specs.Answering.{IsAt, MayGive, MayAnswerAt, MayAnswer, MayBeImage, MayLackImage, MayGiveImage}
-use Rattle.shared_entity.specs.Opening.{IsFresh, queue_at}
 use Rattle.shared_rows.proofs.HeldRows.{queue, outlet, at_first, after_put, done, behind_at_first, not_bobs_queue, answers_taken, answers_refused}
 use Rattle.shared_rows.proofs.ImageRows.{came, stands, own_file}
 
 -- ---- what lies at a place
 
-abbrev place : ℕ → ℕ → Place
+abbrev pub place : ℕ → ℕ → Place
 place user lane = record { user = user; lane = lane }
 
 at_its_place : IsAt queue (place 0 0) at_first
@@ -134,7 +131,7 @@ no_answer_of_a_gate given may = cc
 -- ---- images
 
 -- the lane that waits for its file to be kept, with its outlet
-abbrev waits : HeldValue
+abbrev pub waits : HeldValue
 waits = record { lane = storing; outlet = outlet 0 2 (sent_after fresh came) }
 
 waits_there : IsAt queue (place 0 2) waits
@@ -236,27 +233,3 @@ no_wrong_lane_unrouted may = cc
 
 no_other_route_to_it : MayGiveImage queue (key 5) 2 (Err routes.NoRoute) (Err (answer.Route routes.NotYours)) → ⊥
 no_other_route_to_it may = cc
-
--- ---- what the entity is opened with
-
-fresh_outlet : IsFresh queue (outlet 1 2 [])
-fresh_outlet = record { of_queue = refl; none_sent = refl }
-
-not_of_bobs_queue : IsFresh queue (record (outlet 0 2 []) { queue = queue 1 }) → ⊥
-not_of_bobs_queue is = let user : 1 ≡ 0 = ap (λ (q : TableId). q.words) is.of_queue in omega (arith, user)
-
-not_used : IsFresh queue after_put.outlet → ⊥
-not_used is = let count : 1 ≡ 0 = ap length is.none_sent in omega (arith, count)
-
--- each user's queue is the one at the user's place, and beyond them there is none
-abbrev opened : List OutletEnd
-opened = outlet 5 0 [] ∷ outlet 7 1 [] ∷ []
-
-queue_of_alice : queue_at (λ end. end.queue) opened 0 ≡ queue 5
-queue_of_alice = refl
-
-queue_of_bob : queue_at (λ end. end.queue) opened 1 ≡ queue 7
-queue_of_bob = refl
-
-queue_of_nobody : queue_at (λ end. end.queue) opened 2 ≡ no_queue 2
-queue_of_nobody = refl

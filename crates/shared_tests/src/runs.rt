@@ -1,8 +1,6 @@
 //! Runs of an entity that threads share: each opens one, with the queues of its users, and plays.
-ghost use Rattle.std.specs.Prelude.{◌≡◌, ℕ, All, Some, length, slice_get, vec_len};
-ghost use Rattle.std.specs.List.{sum_by};
-ghost use Rattle.entity_routing.specs.Places.{lanes_of};
-ghost use Rattle.user_queues.specs.Opened.{IsOpenedFor};
+ghost use Rattle.std.specs.Prelude.{◌≡◌, All};
+ghost use Rattle.shared_entity.specs.Opening.{AreQueuesFor};
 
 use crate::{apart, calls, crowd, deliveries, narrow, settings};
 use entity_config::Config;
@@ -54,12 +52,7 @@ fn play_named<N: Names + Send + Sync, R: Threads + Wait + Copy + Send + Sync>(
     queues: Queues<R>,
     run: Run,
 ) -> Result<String, AllocError>
-    requires opened { (user : ℕ) (ends : _) → slice_get queues.users.items user ≡ Some ends
-        → IsOpenedFor user (lanes_of config user) config.entity.capacity ends.port ends.outlets.items }
-    requires named { (user : ℕ) (ends : _) → slice_get queues.users.items user ≡ Some ends
-        → ends.port.queue ≡ N.queue user }
-    requires lanes { N.lanes ≡ sum_by (λ ends. vec_len ends.outlets) queues.users.items }
-    requires users { vec_len queues.users ≡ length config.users }
+    requires { AreQueuesFor N.queue N.lanes config queues }
 {
     let mut text = String::new(alloc);
     let (entity, ports) = Entity::<N, R>::open(alloc, config, queues)?;

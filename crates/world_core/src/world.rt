@@ -209,7 +209,7 @@ impl World {
         let params = params_of_put(&self.config, put.destination())?;
         match put.copy() {
             Ok(copy) => self.tell(Place { user, lane }, Event::Put(copy, params)),
-            Err(_) => Err(EntityRefusal::Lane(self.users.refuse_put(user, lane, put))),
+            Err(_) => Err(EntityRefusal::Lane(self.users.why_put_refused(user, lane, put))),
         }
     }
 

@@ -59,7 +59,7 @@ impl UserPart {
 
     /// Why a lane of the user does not take a Put of this request for which there is no memory: for a reason of its
     /// own, or else for want of memory.
-    pub fn refuse_put(&self, lane: usize, request: &PutRequest) -> Refused
+    pub fn why_put_refused(&self, lane: usize, request: &PutRequest) -> Refused
         requires { lane < length self.now.lanes }
         ensures { (state : State) (params : ParamsParts) → slice_get self.now.lanes lane ≡ Some state
             → IsWhyRefused state self.now.queue (Put request.now params) result }

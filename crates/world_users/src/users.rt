@@ -74,13 +74,13 @@ impl Users {
 
     /// Why a lane of a user does not take a Put of this request for which there is no memory: for a reason of its own,
     /// or else for want of memory.
-    pub fn refuse_put(&self, user: usize, lane: usize, request: &PutRequest) -> Refused
+    pub fn why_put_refused(&self, user: usize, lane: usize, request: &PutRequest) -> Refused
         requires { MayHappen self.now user lane }
         ensures { (layout : Layout) (history : List Happening) (params : ParamsParts)
             → UsersStandAfter layout history self.now → IsLaneIn layout user lane
             → IsRefusedAt layout history user lane (Put request.now params) result }
     {
-        self.parts[user].refuse_put(lane, request)
+        self.parts[user].why_put_refused(lane, request)
     }
 
     /// The file of a deposit that waits at a lane of a user, by its key and its stamp.

@@ -1,8 +1,5 @@
 //! Threads that deliver, each to a lane of its own.
-ghost use Rattle.std.specs.Prelude.{◌≡◌, ℕ, Some, length, slice_get, vec_len};
-ghost use Rattle.std.specs.List.{sum_by};
-ghost use Rattle.entity_routing.specs.Places.{lanes_of};
-ghost use Rattle.user_queues.specs.Opened.{IsOpenedFor};
+ghost use Rattle.shared_entity.specs.Opening.{AreQueuesFor};
 
 use crate::entities::datagrams::{given_up, metadata, part};
 use crate::fault::Fault;
@@ -139,12 +136,7 @@ fn come_named<N: Names + Send + Sync, R: Threads + Wait + Copy + Send + Sync>(
     queues: Queues<R>,
     size: Size,
 ) -> Result<u64, Fault>
-    requires opened { (user : ℕ) (ends : _) → slice_get queues.users.items user ≡ Some ends
-        → IsOpenedFor user (lanes_of config user) config.entity.capacity ends.port ends.outlets.items }
-    requires named { (user : ℕ) (ends : _) → slice_get queues.users.items user ≡ Some ends
-        → ends.port.queue ≡ N.queue user }
-    requires lanes { N.lanes ≡ sum_by (λ ends. vec_len ends.outlets) queues.users.items }
-    requires users { vec_len queues.users ≡ length config.users }
+    requires { AreQueuesFor N.queue N.lanes config queues }
 {
     let (entity, _ports) = Entity::<N, R>::open(alloc, config, queues)?;
     deliver_all(&rt, alloc, &entity, size)

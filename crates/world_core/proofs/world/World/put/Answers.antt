@@ -16,15 +16,15 @@ returns-in-Err-clause-answered c =
     let lane = subst (λ (w : WorldValue). c.args.lane < w.config.entity.put_lanes) (sym c.self.view_is) c.requires.lane in
     subst (λ (w : WorldValue). (history : List Happening) → StandsAfter w history
     → Answers w.config history (routed_put (record { user = c.args.user; lane = c.args.lane }) c.args.put.now (put_params w.config c.args.put.now.destination))
-    w.posts (Err (Lane c.refuse_put.result))) c.self.view_is
+    w.posts (Err (Lane c.why_put_refused.result))) c.self.view_is
     (λ history stands.
-    put_refused config history c.args.user c.args.lane c.args.put.now c.in_ok-params.params c.self.inside.users c.refuse_put.result
+    put_refused config history c.args.user c.args.lane c.args.put.now c.in_ok-params.params c.self.inside.users c.why_put_refused.result
     (ap (put_params config) (sym c.destination.ensures) ∙ sym c.params_of_put.ensures ∙ c.in_ok-params.was)
-    (c.refuse_put.ensures (layout_of config) history c.in_ok-params.params stands.stand
+    (c.why_put_refused.ensures (layout_of config) history c.in_ok-params.params stands.stand
     (lane_at config (record { user = c.args.user; lane = c.args.lane }) (Put c.args.put.now c.in_ok-params.params) c.self.invariant.kept (user, lane))))
 
-pub refuse_put-requires : goal.refuse_put-requires
-refuse_put-requires c =
+pub why_put_refused-requires : goal.why_put_refused-requires
+why_put_refused-requires c =
     let config = c.self.inside.config in
     let user = subst (λ (w : WorldValue). c.args.user < length w.config.users) (sym c.self.view_is) c.requires.user in
     let lane = subst (λ (w : WorldValue). c.args.lane < w.config.entity.put_lanes) (sym c.self.view_is) c.requires.lane in record {
