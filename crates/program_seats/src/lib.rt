@@ -1,0 +1,12 @@
+//! The seats of a control socket's clients: what waits to be sent to each, and whose turn an answer belongs to. The thread that
+//! answers never waits for a client.
+#![tactic(auto)]
+
+mod asker;
+mod outbox;
+mod seat;
+mod seats;
+
+pub use asker::Asker;
+pub use outbox::{Outbox, Way};
+pub use seats::{LAST_MS, SEATS, Seats, TEXT_OCTETS};

@@ -1,0 +1,247 @@
+//! All seats, each under a lock of its own.
+use crate::asker::Asker;
+use crate::outbox::Way;
+use crate::seat::Seat;
+use std::alloc::{AllocError, Global};
+use std::net::Shutdown;
+use std::os::unix::net::UnixStream;
+use std::sync::{Condvar, CondvarTimeouts, Mutex, Wait};
+use std::time::{Clock, Duration};
+
+/// How many clients are served at once.
+pub const SEATS: usize = 16;
+
+/// How many octets may wait for one client.
+pub const TEXT_OCTETS: usize = 256 * 1024;
+
+/// How many milliseconds the clients may take, at the end, for what waits for them.
+pub const LAST_MS: u64 = 200;
+
+// A seat, and what wakes those that wait for a change of it.
+#[derive(Drop)]
+struct Place {
+    seat: Mutex<Seat<TEXT_OCTETS>>,
+    changed: Condvar,
+}
+
+/// The seats of clients. The thread that answers never waits for a client.
+#[derive(Drop)]
+pub struct Seats {
+    alloc: Global,
+    places: Vec<Place>,
+}
+
+impl Seats {
+    /// `SEATS` free seats.
+    pub fn new(alloc: Global) -> Result<Seats, AllocError> {
+        let mut places = Vec::with_capacity(alloc, SEATS)?;
+        for _ in 0..SEATS {
+            places.push(Place {
+                seat: Mutex::new(Seat::new(alloc)),
+                changed: Condvar::new(),
+            })?;
+        }
+        Ok(Seats { alloc, places })
+    }
+
+    /// Lets a client sit down, where a seat is free. The stream is another handle of the client's.
+    pub fn sit<R: Wait>(&self, rt: &R, stream: &UnixStream) -> Option<Asker> {
+        for (number, place) in self.places.iter().enumerate() {
+            let mut seat = place.seat.lock(rt);
+            if seat.is_closed || seat.stream.is_some() {
+                continue;
+            }
+            let other = stream.try_clone().ok()?;
+            let visit = seat.sit(self.alloc, other)?;
+            return Some(Asker {
+                seat: number,
+                visit,
+            });
+        }
+        None
+    }
+
+    /// The client has left, and its seat is free.
+    pub fn leave<R: Wait>(&self, rt: &R, asker: Asker) {
+        if let Some(place) = self.places.get(asker.seat) {
+            let mut seat = place.seat.lock(rt);
+            if seat.is_here(asker.visit) {
+                seat.leave();
+            }
+            drop(seat);
+            place.changed.notify_all();
+        }
+    }
+
+    /// A command of the client's is about to be left at the desk.
+    pub fn ask<R: Wait>(&self, rt: &R, asker: Asker) -> bool {
+        match self.places.get(asker.seat) {
+            Some(place) => {
+                let mut seat = place.seat.lock(rt);
+                let may_ask = seat.is_here(asker.visit) && seat.outbox.way() == Way::Open;
+                seat.is_asking = may_ask;
+                may_ask
+            }
+            None => false,
+        }
+    }
+
+    /// Waits until the client's command was answered; whether more may be read from it.
+    pub fn wait_answer<R: Wait>(&self, rt: &R, asker: Asker) -> bool {
+        let Some(place) = self.places.get(asker.seat) else {
+            return false;
+        };
+        let mut seat = place.seat.lock(rt);
+        for _ in rt.forever() {
+            if !seat.is_here(asker.visit) || seat.outbox.way() != Way::Open {
+                return false;
+            }
+            if !seat.is_asking {
+                return true;
+            }
+            seat = place.changed.wait(rt, seat);
+        }
+        false
+    }
+
+    /// Answers a client's command; whether the client is still there and there was room. Where it is not, nothing happens.
+    pub fn answer<R: Wait>(&self, rt: &R, asker: Asker, text: &[u8]) -> bool {
+        match self.places.get(asker.seat) {
+            Some(place) => {
+                let mut seat = place.seat.lock(rt);
+                let taken = seat.answer(asker.visit, text);
+                drop(seat);
+                place.changed.notify_all();
+                taken
+            }
+            None => false,
+        }
+    }
+
+    /// The client reads events too from now on.
+    pub fn follow<R: Wait>(&self, rt: &R, asker: Asker) {
+        if let Some(place) = self.places.get(asker.seat) {
+            let mut seat = place.seat.lock(rt);
+            if seat.is_here(asker.visit) {
+                seat.follows = true;
+            }
+        }
+    }
+
+    /// Whether anyone reads events too.
+    pub fn has_followers<R: Wait>(&self, rt: &R) -> bool {
+        for place in &self.places {
+            if place.seat.lock(rt).follows {
+                return true;
+            }
+        }
+        false
+    }
+
+    /// Sends a text, of whole lines, to all who follow. A client for which there is no room is cut off.
+    pub fn tell<R: Wait>(&self, rt: &R, text: &[u8]) {
+        for place in &self.places {
+            let mut seat = place.seat.lock(rt);
+            let is_sent = seat.follows && seat.outbox.way() == Way::Open;
+            if is_sent {
+                let _taken = seat.put(text);
+            }
+            drop(seat);
+            if is_sent {
+                place.changed.notify_all();
+            }
+        }
+    }
+
+    /// Waits until something is there to be sent, and gives it in place of what `texts` holds; not where nothing more
+    /// will be.
+    pub fn take<R: Wait>(&self, rt: &R, asker: Asker, texts: &mut Vec<u8>) -> bool {
+        let Some(place) = self.places.get(asker.seat) else {
+            return false;
+        };
+        let mut seat = place.seat.lock(rt);
+        for _ in rt.forever() {
+            if !seat.is_here(asker.visit) || seat.outbox.way() == Way::Cut {
+                return false;
+            }
+            if !seat.outbox.is_empty() {
+                seat.outbox.take(texts);
+                return true;
+            }
+            if seat.outbox.way() == Way::Ending {
+                return false;
+            }
+            seat = place.changed.wait(rt, seat);
+        }
+        false
+    }
+
+    /// Nothing more is read from the client: what waits for it is still sent.
+    pub fn end<R: Wait>(&self, rt: &R, asker: Asker) {
+        if let Some(place) = self.places.get(asker.seat) {
+            let mut seat = place.seat.lock(rt);
+            if seat.is_here(asker.visit) {
+                seat.end();
+            }
+            drop(seat);
+            place.changed.notify_all();
+        }
+    }
+
+    /// The client can't be written to: it is cut off.
+    pub fn cut<R: Wait>(&self, rt: &R, asker: Asker) {
+        if let Some(place) = self.places.get(asker.seat) {
+            let mut seat = place.seat.lock(rt);
+            if seat.is_here(asker.visit) {
+                seat.cut();
+            }
+            drop(seat);
+            place.changed.notify_all();
+        }
+    }
+
+    /// Whether nobody may sit down any more.
+    pub fn is_closed<R: Wait>(&self, rt: &R) -> bool {
+        for place in &self.places {
+            if !place.seat.lock(rt).is_closed {
+                return false;
+            }
+        }
+        true
+    }
+
+    /// Nobody may sit down any more, nothing more is read from those who sit, and what waits for them is sent: by `finish`
+    /// they are cut off.
+    pub fn close<R: Wait>(&self, rt: &R) {
+        for place in &self.places {
+            let mut seat = place.seat.lock(rt);
+            seat.is_closed = true;
+            seat.end();
+            seat.shut(Shutdown::Read);
+            drop(seat);
+            place.changed.notify_all();
+        }
+    }
+
+    /// Gives the clients `LAST_MS` to take what waits for them, and then cuts them off. All streams are shut then.
+    pub fn finish<R: Wait + Clock>(&self, rt: &R) {
+        let begun = rt.monotonic().unwrap_or(Duration::ZERO);
+        let end = begun.saturating_add(Duration::from_millis(LAST_MS));
+        for place in &self.places {
+            let mut seat = place.seat.lock(rt);
+            for _ in rt.forever() {
+                let now = rt.monotonic().unwrap_or(Duration::MAX);
+                if seat.stream.is_none() || now >= end {
+                    break;
+                }
+                let (again, _) = place
+                    .changed
+                    .wait_timeout(rt, seat, end.saturating_sub(now));
+                seat = again;
+            }
+            seat.cut();
+            drop(seat);
+            place.changed.notify_all();
+        }
+    }
+}
