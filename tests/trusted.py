@@ -1,5 +1,5 @@
 #!/usr/bin/env python3
-"""Prints docs/trusted.md: the definitions that have to be believed, in the order in which to read them.
+"""Prints docs/trusted.md: the definitions that have to be believed, in reading order, and where each notion is defined.
 
 usage: tests/trusted.py > docs/trusted.md
        tests/trusted.py --check     fails where the page is stale, or a file of specs/ doesn't say what it is
@@ -21,28 +21,109 @@ ends_schedules pdu_codec entity_config script_replay server_lines""".split()
 
 INTRO = """# What has to be believed
 
-This page is printed by `tests/trusted.py`, and the gate fails where it is stale.
+`tests/trusted.py` prints this page, and the gate fails where it is stale.
 
-A proof says that a call keeps its contract. What a contract says is written in definitions, in the folders `specs/` of the
-crates: if one of them says something else than it should, the proofs are about something else. So they have to be read. They
-are below, in the order in which to read them: layer by layer (`docs/architecture.md`), and in a crate each behind those that it cites. The first line of each file says what it
-is:
+A proof says that a call keeps its contract. A contract speaks in definitions, which stand in the folders `specs/` of the crates. If a
+definition says something else than it should, the proofs are about something else; so somebody has to read the definitions. They are
+below in reading order: layer by layer (`docs/architecture.md`), and in a crate each behind those that it cites. The first line of each
+file says what it is:
 
-- **Meaning**: what the contracts of public calls and the laws are said in. All of these are listed.
-- **Of the code**: how the code keeps what is meant: what a value of the code stands for, what stays between two steps. {cited}
-  The others occur in contracts of calls that only the repository's own code makes, and in proofs. Nothing that is
-  promised is said in their terms, so a wrong one could only make a proof fail, and they need no belief.
-- **Rows**: worked examples, and values that they go by. They show that a definition says what it should; no promise rests on
-  them but where one is listed.
+- **Meaning**: the contracts of public calls and the laws speak in these. All of them are listed.
+- **Of the code**: how the code keeps what is meant, such as what a value of the code stands for, or what holds between two steps.
+  {cited} The others occur in proofs and in contracts of calls that only the repository's own code makes. No promise speaks in their
+  terms, so a wrong one could only make a proof fail, and nobody has to believe them.
+- **Rows**: worked examples, and the values that they use. They show that a definition says what it should. No promise rests on them,
+  except where one is listed.
 
-Types, their fields and constants are those of the code: `specs/declared/` is made from it. Each `Lib.antt` only names the other
-files. What a contract sees of a type with private fields, and what is kept by it whenever nobody is inside a call, stands at the type
-itself, and what a trait asks of those who implement it at the trait: these have to be believed as well, and are listed behind the
-files.
+Three things beside these files have to be believed: the types, their fields and constants, which are those of the code
+(`specs/declared/` is made from it; each `Lib.antt` only names the other files); the model and the invariant of a type with private
+fields, which stand at the type; and what a trait asks of its implementations, which stands at the trait. Models and traits are listed
+behind the files.
 
-Beside the definitions these are trusted, and the README has the list: the toolchain, with its checker, its compiler and its
-library; the contracts of the kit's ported crates; the C library and the operating system. The programs' `main`, what sockets, files
-and terminals do, and all that no contract says are tested, or neither (`docs/proved.md`)."""
+These are trusted as well, and the README lists them: the toolchain, with its checker, its compiler and its library; the contracts of
+the kit's ported crates; the C library and the operating system. The programs' `main`, what sockets, files and terminals do, and all
+that no contract says are only tested or not claimed (`docs/proved.md`)."""
+
+READING = """## How to read a definition
+
+A definition is a function that computes, or a statement. A line of comment stands above each whose name does not say it all.
+`docs/glossary.md` has the words.
+
+**The table of an end** is a function of a state. `State` is a record of everything that the table asks, and `step` says how one log entry
+changes each part. `Refusals.antt` has one definition for each reason, in the order of their numbers; `refusal_at` takes the first that
+applies. `Answers.antt` has one definition for each row of the table: a `Response` says which indications the user receives, what is sent,
+whether the file is handed out and which timers it arms; `and_then` joins two. `accepted_at` makes the answer of a response: the PDUs in
+their order come from the response, the timer operations (`effect_of`) from the state after the step. `answer_at` is refusal and answer
+together.
+
+**Worked transactions** are lemmas that the checker computes on both sides. PDUs stand in them as hex numbers, by `digits`, as they travel.
+There a refusal is no answer: indications, PDUs and the deposit are an option. Each whole transaction comes with the lemma that its log
+is legal. Rows stand in `specs/` or `proofs/` of a crate (`*Rows.antt`), or in a crate of rows."""
+
+# Which notion is defined where. A line is a notion, and behind the colon the files of crates; a crate alone means all of its files.
+MAP = """
+condition codes, checksum types: cfdp_types/Condition ChecksumType
+handlers that a role allows, fault tables: cfdp_types/Handlers
+parameters of a remote entity and their ranges; Put requests: cfdp_types/Params Put
+what a step does with timers; whether what came first or last counts: cfdp_types/Steps
+parameters of worked transactions; their PDUs and their Put: cfdp_types/Reference txn_events/Examples
+the modular checksum, of octets at an offset and of a file in pieces: modular_sum
+sets of offsets, maximal runs, what is missing; what a gap list covers: gap_list/Runs Covered
+PDUs as values, codes of directives, numbers as octets: pdu_values/Pdu Directive Numbers
+spelling: what is written, what fits: pdu_values/Spelling Requests Tlvs
+reading, the fixed header, the first fault: pdu_reading/Reading FixedHeader FirstFault
+laws of octets and PDUs: pdu_codec/Laws
+configurations and their limits; what a text means; faults by number: config_reading/Values Texts Walk Reads Faults
+the reference configuration, and settings: entity_config/Reference Settings
+indications by kind; words of both sides; the last indication: indications/Kinds Words
+lane lists, and the side that a transaction shows: indications/LaneLists
+what a `WordReader` keeps: marks, offsets, the words after which it stands: ind_words/Marks Offsets Reading
+a queue that threads share: what each participant knows, and the rule of all: queue_rule/Views Rule Passes
+a queue of one thread: what goes in, what is taken: user_queues/Queue
+the ends of a shared queue, a queue that was just opened, the queues of a run: user_queues/Shared Opened Names
+refusals by number and name: of a lane, of a route, of an entity: txn_events/Refusal entity_routing/Refusal entity_parts/Refusals
+what both ends ask of an event; what opens, what is too large, the echo of a PDU: txn_events/Events
+answers, logs, and after which log a core stands: txn_events/Logs
+stamps and counts of timers, as the code keeps them: txn_events/Timers
+the receiver: state, received octets, phases, counts: receiver_table/Reception
+the receiver: refusals; the look at the file, NAKs, faults, all responses: receiver_table/Refusals Answers
+the receiver: what the file store gets: receiver_table/Images
+the receiver: legal logs, good files; the laws: receiver_laws/LegalReceptions ReceptionLaws
+the sender, likewise: sender_table/Sending Refusals Answers sender_laws/LegalSendings SendingLaws
+how the code of an end keeps its state, and what a plan is: receiver_parts receiver_core sender_core
+when a PDU agrees with a Put; the laws of each end by itself: ends_laws/Agreement SenderLaws ReceiverLaws
+two ends: moves, what was sent, schedules; the laws: ends_schedules/Schedules ScheduleLaws
+lanes and entities as the ends of a schedule: ends_lanes/LaneMoves EntityMoves
+lanes: state, numbers; a transaction at either end with its log: lane_table/Lane Logs
+lanes: refusals and what follows; which bundles fit; the laws: lane_table/Steps Keeping LaneLaws
+the file that a lane hands out; a look at a lane's transaction: lane_table/Images Glances
+a step of a lane's code; a transaction's code, over the logs of both ends: txn_lane/Stepping Transactions
+how a lane's code keeps its transaction and hands its bundle over: txn_lane/LaneCode RunningCode Handing
+how far a transaction is: lane_traces/Traces
+to which lane an event goes, or why to none: entity_routing/Places Routes RouteLaws
+the lanes of a configuration in their first state; what a user may ask: entity_parts/FirstLanes Asking
+histories of the entity of one thread, and the laws: world_table/Histories HistoryLaws
+users after a history; what `World` answers; events where the configuration says: world_users/Standing world_core/Opening Worlds Answering Routed
+laws of every run, by keys; of every script: world_laws/EntityLaws script_laws/ScriptLaws
+the list of timers that run: timer_list/Timers
+file names that a folder store takes; a store in memory; faults of a store: file_stores/Names MemoryStore Faults
+what lies behind a lane's lock, and a step of it: shared_lanes/Held
+what `Entity` may answer; what it is opened with: shared_entity/Answering Opening
+workers: what waits, faults, which answers a carrier accepts; deposits: entity_workers/Messages Faults Carrying Depositing
+words of a line, and operands that scripts and commands share: line_words/Words Operands
+printed lines: indications; answers and refusals: answer_texts/ToldTexts AnswerTexts
+what a line of a script says: script_lines/Commands
+a reader's lines, what a writer gains, how the end of a run is reported: script_io/Lines Output Ending
+what a line does to a script's session, what it prints, and a whole script: script_replay/Sessions Texts Run
+what a line of a server's commands asks for: server_lines/Commands
+options and words of the programs; numbers on a command line: program_words/Lines Numbers
+turns of files, timers and deposits; what becomes of a refusal: program_agenda/Turns Fates program_station/Obstacles
+the pace of what leaves, and its law: program_agenda/Paces PaceLaws
+where a PDU goes, how far its data reaches; when a step's timers expire: program_link/Peers Reaches program_desk/Steps
+what a program prints for a fault: program_start/Faults
+what the server prints of an answer; exit status and progress of a put: cfdp_serve/Answers cfdp_send/Ended Progress
+the texts of configurations that tests read: test_configs/Texts
+"""
 
 
 def fail(text):
@@ -209,10 +290,10 @@ def page():
     found = read_definitions([crate for _, crates in groups for crate in crates])
     listed = believed(found)
     others = [path for path in listed if found[path].kind != MEANING]
-    cited = (f"{len(others)} files of the code or of rows are cited by a definition of meaning, or by the contract of a public call of "
-             "a crate that the README's table of promises names, at once or through others: these are listed, too, with a word "
-             "on what they are.")
-    out = ["\n".join(wrap_intro(INTRO.format(cited=cited)))]
+    cited = (f"A definition of meaning, or the contract of a public call of a crate that the README's table of promises names, cites "
+             f"{len(others)} files of the code or of rows, directly or through others: these are listed, too, marked as what they are.")
+    out = ["\n".join(wrap_intro(INTRO.format(cited=cited))), "\n".join(wrap_intro(READING))]
+    out.append("## Where each notion is defined\n\n" + map_table())
     for title, crates in groups:
         files = [path for path in listed if found[path].crate in crates]
         if not files:
@@ -228,6 +309,31 @@ def page():
     out.append("## Models, and what traits ask\n\n" + at_types(groups))
     out.append("## What need not be believed\n\n" + rest_table(found, listed))
     return "\n\n".join(out) + "\n"
+
+
+def map_table():
+    """The table of the map, whose files have to be there."""
+    rows = ["| Notion | Files of `specs/` |", "|---|---|"]
+    for line in MAP.strip().splitlines():
+        notion, _, files = line.rpartition(": ")
+        rows.append(f"| {notion} | {', '.join(map_files(files.split()))} |")
+    return "\n".join(rows)
+
+
+def map_files(words):
+    """The files of a row: a crate with a file, a further file of the same crate, or a crate alone."""
+    crate = None
+    for word in words:
+        named, _, module = word.rpartition("/")
+        if not named and module[0].islower():
+            if not (TOP / "crates" / module / "specs").is_dir():
+                fail(f"the map names {module}, which has no specs/")
+            yield f"all of `{module}`"
+            continue
+        crate = named or crate
+        if not file_of(crate, module).exists():
+            fail(f"the map names {crate}/specs/{module}.antt, which is not there")
+        yield f"`{crate}/{module}`" if named else f"`{module}`"
 
 
 def at_types(groups):
