@@ -1,6 +1,6 @@
 SHELL := /bin/bash
 .SHELLFLAGS := -o pipefail -c
-.PHONY: demo try build programs transfer install deb memory test bench soak
+.PHONY: demo try build programs transfer install memory test bench soak
 
 program := crates/cfdp_replay/out/cfdp_replay
 server := crates/cfdp_server/out/cfdp_server
