@@ -4,3 +4,4 @@ pub mod AnswerRows
 pub mod OpeningRows
 pub mod TraceRows
 pub mod ReadRows
+pub mod GlanceRows
