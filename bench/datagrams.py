@@ -22,7 +22,7 @@ import programs
 # The PDUs of the two sizes, the octets of file in each, and the seconds between two datagrams.
 FEW, MANY = 400, 1_400
 PART = 1_400
-PAUSE = 0.002
+PAUSE = 0.0003
 
 # How fast the put's file leaves, in octets a second, so that none is lost.
 RATE = 1_000_000
