@@ -1,6 +1,6 @@
 SHELL := /bin/bash
 .SHELLFLAGS := -o pipefail -c
-.PHONY: demo try build programs transfer install memory test bench soak
+.PHONY: demo try build programs programs-at-once transfer install memory test bench soak
 
 program := crates/cfdp_replay/out/cfdp_replay
 server := crates/cfdp_server/out/cfdp_server
@@ -25,8 +25,19 @@ build:
 	@rm -f crates/cfdp_replay/build.log
 	@echo "The program: $(program)"
 
-# the server and the put, proved and built, on all processors
+# the server and the put, proved and built
 programs:
+	@echo "Proving the server and the put and all that they stand on, and building them: the first time takes as long as"
+	@echo "proving does, half an hour or more."
+	@for one in cfdp_server cfdp_put; do \
+	    (cd crates/$$one && rt run -- --version < /dev/null 2>&1 | tee build.log \
+	        | sed -un 's/^rt: chose --jobs [0-9]* for \(.*\)/    \1 .../p; s/^crate \([a-z_]*\): .*/    \1 is proved/p' \
+	        || { cat build.log; exit 1; }; rm -f build.log) || exit 1; \
+	done
+	@echo "The programs: $(server) and $(put)"
+
+# the same on all processors, in a folder of its own; not yet run to its end
+programs-at-once:
 	@tools/build.py cfdp_server cfdp_put
 
 # a file of 4 MiB crosses loopback, through a relay that loses and doubles datagrams
