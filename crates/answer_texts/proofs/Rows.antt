@@ -7,7 +7,7 @@ use Rattle.cfdp_types.specs.declared.names.Class.TheVariants.{Two}
 use Rattle.cfdp_types.specs.declared.names.Delivery.TheVariants.{Complete, Incomplete}
 use Rattle.cfdp_types.specs.declared.names.FileStatus.TheVariants.{Discarded, Rejected, Retained, Unreported}
 use Rattle.txn_events.specs.declared.refusal.Refusal.TheVariants as refusal
-use Rattle.txn_events.specs.Examples.{header, eof_value}
+use Rattle.txn_events.specs.Examples.{header}
 use Rattle.indications.specs.declared.indication.Phase.TheVariants as phase
 use Rattle.indications.specs.declared.indication.Indication.TheVariants as told
 use Rattle.pdu_values.specs.Numbers.{digits as octets_of}

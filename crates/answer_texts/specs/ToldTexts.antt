@@ -33,6 +33,20 @@ phase_name SuspendedPhase = codes "suspended"
 phase_name StoringPhase = codes "storing"
 phase_name Closing = codes "closing"
 
+-- the name of an indication
+abbrev pub indication_name : Indication → List ℕ
+indication_name Transaction = codes "Transaction"
+indication_name EofSent = codes "EOF-Sent"
+indication_name EofRecv = codes "EOF-Recv"
+indication_name (TransactionFinished condition delivery status) = codes "Transaction-Finished"
+indication_name (MetadataRecv source size source_name destination_name messages) = codes "Metadata-Recv"
+indication_name (FileSegmentRecv offset octets) = codes "File-Segment-Recv"
+indication_name (SuspendedIndication condition) = codes "Suspended"
+indication_name (Resumed progress) = codes "Resumed"
+indication_name (Report phase progress) = codes "Report"
+indication_name (Fault condition progress) = codes "Fault"
+indication_name (Abandoned condition progress) = codes "Abandoned"
+
 -- octets in hex, or a dash for none
 abbrev pub hex_word : List ℕ → List ℕ
 hex_word octets = if length octets == 0 then codes "-" else encode_lower octets
@@ -41,52 +55,51 @@ hex_word octets = if length octets == 0 then codes "-" else encode_lower octets
 abbrev pub messages_text : List (List ℕ) → List ℕ
 messages_text messages = flat_map (λ message. codes " " ++ hex_word message) messages
 
--- a name and a number
-abbrev pub number_text : List ℕ → ℕ → List ℕ
-number_text name number = name ++ (codes " " ++ decimal number)
-
--- a name, a condition and a progress
-abbrev pub fault_text : List ℕ → ℕ → ℕ → List ℕ
-fault_text name condition progress =
-    name ++ (codes " " ++ (decimal condition ++ (codes " " ++ decimal progress)))
+-- a number behind a space
+abbrev pub operand : ℕ → List ℕ
+operand number = codes " " ++ decimal number
 
 -- a part of a file
 abbrev pub segment_text : ℕ → ℕ → List ℕ
-segment_text offset octets =
-    codes "File-Segment-Recv " ++ (decimal offset ++ (codes " " ++ decimal octets))
+segment_text offset octets = operand offset ++ operand octets
 
 -- what a transaction does, and its progress
 abbrev pub report_text : Phase → ℕ → List ℕ
-report_text phase progress =
-    codes "Report " ++ (phase_name phase ++ (codes " " ++ decimal progress))
+report_text phase progress = codes " " ++ (phase_name phase ++ operand progress)
+
+-- a condition and a progress
+abbrev pub fault_text : ℕ → ℕ → List ℕ
+fault_text condition progress = operand condition ++ operand progress
 
 -- how a transaction ended
 abbrev pub finished_text : ℕ → Delivery → FileStatus → List ℕ
 finished_text condition delivery status =
-    codes "Transaction-Finished " ++ (decimal condition ++ (codes " " ++
-    (delivery_name delivery ++ (codes " " ++ status_name status))))
+    operand condition ++ (codes " " ++ (delivery_name delivery ++ (codes " " ++ status_name status)))
 
 -- a file and its names
 abbrev pub metadata_text : EntityId → ℕ → List ℕ → List ℕ → List ℕ
 metadata_text source size source_name destination_name =
-    codes "Metadata-Recv " ++ (decimal source.0 ++ (codes " " ++ (decimal size ++ (codes " " ++
-    (hex_word source_name ++ (codes " " ++ hex_word destination_name))))))
+    operand source.0 ++ (operand size ++ (codes " " ++ (hex_word source_name ++ (codes " " ++ hex_word destination_name))))
+
+-- what an indication says behind its name
+abbrev pub operands_text : Indication → List ℕ
+operands_text Transaction = []
+operands_text EofSent = []
+operands_text EofRecv = []
+operands_text (TransactionFinished condition delivery status) =
+    finished_text condition delivery status
+operands_text (MetadataRecv source size source_name destination_name messages) =
+    metadata_text source size source_name destination_name ++ messages_text messages
+operands_text (FileSegmentRecv offset octets) = segment_text offset octets
+operands_text (SuspendedIndication condition) = operand condition
+operands_text (Resumed progress) = operand progress
+operands_text (Report phase progress) = report_text phase progress
+operands_text (Fault condition progress) = fault_text condition progress
+operands_text (Abandoned condition progress) = fault_text condition progress
 
 -- what is said of a transaction
 abbrev pub indication_text : Indication → List ℕ
-indication_text Transaction = codes "Transaction"
-indication_text EofSent = codes "EOF-Sent"
-indication_text EofRecv = codes "EOF-Recv"
-indication_text (TransactionFinished condition delivery status) =
-    finished_text condition delivery status
-indication_text (MetadataRecv source size source_name destination_name messages) =
-    metadata_text source size source_name destination_name ++ messages_text messages
-indication_text (FileSegmentRecv offset octets) = segment_text offset octets
-indication_text (SuspendedIndication condition) = number_text (codes "Suspended") condition
-indication_text (Resumed progress) = number_text (codes "Resumed") progress
-indication_text (Report phase progress) = report_text phase progress
-indication_text (Fault condition progress) = fault_text (codes "Fault") condition progress
-indication_text (Abandoned condition progress) = fault_text (codes "Abandoned") condition progress
+indication_text said = indication_name said ++ operands_text said
 
 -- the two numbers of a transaction
 abbrev pub key_text : TxnKey → List ℕ

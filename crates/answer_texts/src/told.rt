@@ -1,7 +1,8 @@
 //! The texts of what a user is told. Each function adds to a text; after an `Err` the text is no answer.
 ghost use Rattle.std.specs.Prelude.{◌≡◌, ◌++◌, IfOk, OnOk, string_bytes, codes, decimal};
-ghost use Rattle.answer_texts.specs.ToldTexts.{bundle_text, line_head, indication_text, finished_text, metadata_text, segment_text, report_text, fault_text, number_text, messages_text, hex_word, delivery_name, status_name, phase_name};
+ghost use Rattle.answer_texts.specs.ToldTexts.{bundle_text, line_head, indication_text, operands_text, finished_text, metadata_text, segment_text, report_text, fault_text, messages_text, hex_word};
 
+use crate::names::{delivery_name, indication_name, phase_name, status_name};
 use cfdp_types::{Condition, Delivery, EntityId, FileStatus, Messages, Octets};
 use indications::{Bundle, Indication, Phase};
 use std::alloc::{AllocError, Global};
@@ -39,10 +40,17 @@ fn push_indication(alloc: Global, text: &mut String, said: &Indication) -> Resul
     ensures { OnOk result (string_bytes text.new
         ≡ string_bytes text.old ++ indication_text said.now) }
 {
+    text.push_str(indication_name(said))?;
+    push_operands(alloc, text, said)
+}
+
+// What an indication says behind its name.
+fn push_operands(alloc: Global, text: &mut String, said: &Indication) -> Result<(), AllocError>
+    ensures { OnOk result (string_bytes text.new
+        ≡ string_bytes text.old ++ operands_text said.now) }
+{
     match said {
-        Indication::Transaction => text.push_str("Transaction"),
-        Indication::EofSent => text.push_str("EOF-Sent"),
-        Indication::EofRecv => text.push_str("EOF-Recv"),
+        Indication::Transaction | Indication::EofSent | Indication::EofRecv => Ok(()),
         Indication::TransactionFinished {
             condition,
             delivery,
@@ -59,17 +67,17 @@ fn push_indication(alloc: Global, text: &mut String, said: &Indication) -> Resul
             push_messages(alloc, text, messages)
         }
         Indication::FileSegmentRecv { offset, length } => push_segment(text, *offset, *length),
-        Indication::Suspended { condition } => push_suspended(text, *condition),
-        Indication::Resumed { progress } => push_number(text, "Resumed", *progress),
+        Indication::Suspended { condition } => push_value(text, u64::from(condition.code())),
+        Indication::Resumed { progress } => push_value(text, u64::from(*progress)),
         Indication::Report { phase, progress } => push_report(text, *phase, *progress),
         Indication::Fault {
             condition,
             progress,
-        } => { push_fault(text, "Fault", *condition, *progress) }
+        } => { push_fault(text, *condition, *progress) }
         Indication::Abandoned {
             condition,
             progress,
-        } => { push_fault(text, "Abandoned", *condition, *progress) }
+        } => { push_fault(text, *condition, *progress) }
     }
 }
 
@@ -82,13 +90,9 @@ fn push_finished(
     ensures { OnOk result (string_bytes text.new
         ≡ string_bytes text.old ++ finished_text condition delivery status) }
 {
-    let code = condition.code();
-    let delivery = delivery_name(delivery);
-    let status = status_name(status);
-    text.push_str("Transaction-Finished")?;
-    push_value(text, u64::from(code))?;
-    push_word(text, delivery)?;
-    push_word(text, status)
+    push_value(text, u64::from(condition.code()))?;
+    push_word(text, delivery_name(delivery))?;
+    push_word(text, status_name(status))
 }
 
 fn push_metadata(
@@ -102,11 +106,9 @@ fn push_metadata(
     ensures { OnOk result (string_bytes text.new
         ≡ string_bytes text.old ++ metadata_text source size source_name.now destination_name.now) }
 {
-    let source = source.0;
     let from = hex_word(alloc, source_name)?;
     let to = hex_word(alloc, destination_name)?;
-    text.push_str("Metadata-Recv")?;
-    push_value(text, source)?;
+    push_value(text, source.0)?;
     push_value(text, size)?;
     push_word(text, from.as_str())?;
     push_word(text, to.as_str())
@@ -116,47 +118,24 @@ fn push_segment(text: &mut String, offset: u32, octets: u32) -> Result<(), Alloc
     ensures { OnOk result (string_bytes text.new
         ≡ string_bytes text.old ++ segment_text offset octets) }
 {
-    write!(text, "File-Segment-Recv {offset} {octets}")
-}
-
-fn push_suspended(text: &mut String, condition: Condition) -> Result<(), AllocError>
-    ensures { OnOk result (string_bytes text.new
-        ≡ string_bytes text.old ++ number_text (codes "Suspended") condition) }
-{
-    push_number(text, "Suspended", u32::from(condition.code()))
+    push_value(text, u64::from(offset))?;
+    push_value(text, u64::from(octets))
 }
 
 fn push_report(text: &mut String, phase: Phase, progress: u32) -> Result<(), AllocError>
     ensures { OnOk result (string_bytes text.new
         ≡ string_bytes text.old ++ report_text phase progress) }
 {
-    let phase = phase_name(phase);
-    text.push_str("Report")?;
-    push_word(text, phase)?;
+    push_word(text, phase_name(phase))?;
     push_value(text, u64::from(progress))
 }
 
-fn push_fault(
-    text: &mut String,
-    name: &str,
-    condition: Condition,
-    progress: u32,
-) -> Result<(), AllocError>
+fn push_fault(text: &mut String, condition: Condition, progress: u32) -> Result<(), AllocError>
     ensures { OnOk result (string_bytes text.new
-        ≡ string_bytes text.old ++ fault_text name.now condition progress) }
+        ≡ string_bytes text.old ++ fault_text condition progress) }
 {
-    let code = condition.code();
-    text.push_str(name)?;
-    push_value(text, u64::from(code))?;
+    push_value(text, u64::from(condition.code()))?;
     push_value(text, u64::from(progress))
-}
-
-fn push_number(text: &mut String, name: &str, number: u32) -> Result<(), AllocError>
-    ensures { OnOk result (string_bytes text.new
-        ≡ string_bytes text.old ++ number_text name.now number) }
-{
-    text.push_str(name)?;
-    push_value(text, u64::from(number))
 }
 
 fn push_messages(alloc: Global, text: &mut String, messages: &Messages) -> Result<(), AllocError>
@@ -195,36 +174,5 @@ fn hex_word(alloc: Global, octets: &Octets) -> Result<String, AllocError>
         String::from_str(alloc, "-")
     } else {
         hex::encode(alloc, octets)
-    }
-}
-
-fn delivery_name(delivery: Delivery) -> &'static str
-    ensures { result.now ≡ delivery_name delivery }
-{
-    match delivery {
-        Delivery::Complete => "complete",
-        Delivery::Incomplete => "incomplete",
-    }
-}
-
-fn status_name(status: FileStatus) -> &'static str
-    ensures { result.now ≡ status_name status }
-{
-    match status {
-        FileStatus::Discarded => "discarded",
-        FileStatus::Rejected => "rejected",
-        FileStatus::Retained => "retained",
-        FileStatus::Unreported => "unreported",
-    }
-}
-
-fn phase_name(phase: Phase) -> &'static str
-    ensures { result.now ≡ phase_name phase }
-{
-    match phase {
-        Phase::Active => "active",
-        Phase::Suspended => "suspended",
-        Phase::Storing => "storing",
-        Phase::Closing => "closing",
     }
 }

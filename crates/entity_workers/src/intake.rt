@@ -1,6 +1,6 @@
 //! The way in: datagrams are decoded, and wait for the workers.
-ghost use Rattle.std.specs.Prelude.{◌≡◌, ◌<◌, Ok, IfOk, IfErr, IsErr};
-ghost use Rattle.pdu_reading.specs.Reading.{reading};
+ghost use Rattle.std.specs.Prelude.{◌≡◌, ◌<◌, Err, IfErr, IsErr, IsOk};
+ghost use Rattle.pdu_reading.specs.Reading.{reading, IsUnlessMemory};
 ghost use Rattle.entity_workers.specs.Faults.{IsNotTaken};
 
 use crate::fault::IntakeFault;
@@ -43,7 +43,11 @@ impl IntakeSend {
         ensures why { IfErr result (IsNotTaken (reading octets.now)) }
         ensures unread { IsErr (reading octets.now) → IsErr result }
     {
-        let message = message_of(self.alloc, octets)?;
+        let message = match message_of(self.alloc, octets) {
+            Ok(message) => message,
+            Err(DecodeFault::NoMemory) => return Err(IntakeFault::NoMemory),
+            Err(fault) => return Err(IntakeFault::Decode(fault)),
+        };
         match self.to.send(rt, message) {
             Ok(()) => Ok(()),
             Err(SendError::OutOfMemory(_)) => Err(IntakeFault::NoMemory),
@@ -52,16 +56,12 @@ impl IntakeSend {
     }
 }
 
-/// A datagram that came, as workers get it. What octets are not read as a PDU is told first, then want of memory.
-pub fn message_of(alloc: Global, octets: &[u8]) -> Result<Message, IntakeFault>
-    ensures read { IfOk result (λ message. reading octets.now ≡ Ok message) }
-    ensures why { IfErr result (IsNotTaken (reading octets.now)) }
+/// A datagram that came, as workers get it.
+pub fn message_of(alloc: Global, octets: &[u8]) -> Result<Message, DecodeFault>
+    ensures exact { IsUnlessMemory result (reading octets.now) }
+    ensures memory { result ≡ Err DecodeFault.NoMemory → IsOk (reading octets.now) }
 {
-    match decode(alloc, octets) {
-        Ok(pdu) => Ok(Message::new(pdu)),
-        Err(DecodeFault::NoMemory) => Err(IntakeFault::NoMemory),
-        Err(fault) => Err(IntakeFault::Decode(fault)),
-    }
+    Ok(Message::new(decode(alloc, octets)?))
 }
 
 impl IntakeEnd {

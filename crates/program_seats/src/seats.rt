@@ -5,6 +5,7 @@ use crate::seat::Seat;
 use std::alloc::{AllocError, Global};
 use std::net::Shutdown;
 use std::os::unix::net::UnixStream;
+use std::sync::atomic::{AtomicU64, Ordering};
 use std::sync::{Condvar, CondvarTimeouts, Mutex, Wait};
 use std::time::{Clock, Duration};
 
@@ -12,7 +13,7 @@ use std::time::{Clock, Duration};
 pub const SEATS: usize = 16;
 
 /// How many octets may wait for one client.
-pub const TEXT_OCTETS: usize = 256 * 1024;
+pub const TEXT_OCTETS: usize = 4 * 1024 * 1024;
 
 /// How many milliseconds the clients may take, at the end, for what waits for them.
 pub const LAST_MS: u64 = 200;
@@ -29,6 +30,7 @@ struct Place {
 pub struct Seats {
     alloc: Global,
     places: Vec<Place>,
+    dropped: AtomicU64,
 }
 
 impl Seats {
@@ -41,7 +43,31 @@ impl Seats {
                 changed: Condvar::new(),
             })?;
         }
-        Ok(Seats { alloc, places })
+        Ok(Seats {
+            alloc,
+            places,
+            dropped: AtomicU64::new(0),
+        })
+    }
+
+    /// How many clients were cut off since they didn't read what was sent.
+    pub fn dropped(&self) -> u64 {
+        self.dropped.load(Ordering::Relaxed)
+    }
+
+    /// How many clients sit.
+    pub fn taken<R: Wait>(&self, rt: &R) -> usize {
+        let mut count = 0usize;
+        for place in &self.places {
+            if place.seat.lock(rt).stream.is_some() {
+                count = count.saturating_add(1);
+            }
+        }
+        count
+    }
+
+    fn note_dropped(&self) {
+        let _before = self.dropped.fetch_add(1, Ordering::Relaxed);
     }
 
     /// Lets a client sit down, where a seat is free. The stream is another handle of the client's.
@@ -109,8 +135,12 @@ impl Seats {
         match self.places.get(asker.seat) {
             Some(place) => {
                 let mut seat = place.seat.lock(rt);
+                let was_open = seat.is_here(asker.visit) && seat.outbox.way() == Way::Open;
                 let taken = seat.answer(asker.visit, text);
                 drop(seat);
+                if was_open && !taken {
+                    self.note_dropped();
+                }
                 place.changed.notify_all();
                 taken
             }
@@ -143,14 +173,30 @@ impl Seats {
         for place in &self.places {
             let mut seat = place.seat.lock(rt);
             let is_sent = seat.follows && seat.outbox.way() == Way::Open;
-            if is_sent {
-                let _taken = seat.put(text);
-            }
+            let is_dropped = is_sent && !seat.put(text);
             drop(seat);
+            if is_dropped {
+                self.note_dropped();
+            }
             if is_sent {
                 place.changed.notify_all();
             }
         }
+    }
+
+    /// Sends a text, of whole lines, to one client, beside its answers. Where there is no room for it, the client is cut off.
+    pub fn send<R: Wait>(&self, rt: &R, asker: Asker, text: &[u8]) {
+        let Some(place) = self.places.get(asker.seat) else {
+            return;
+        };
+        let mut seat = place.seat.lock(rt);
+        let is_open = seat.is_here(asker.visit) && seat.outbox.way() == Way::Open;
+        let is_dropped = is_open && !seat.put(text);
+        drop(seat);
+        if is_dropped {
+            self.note_dropped();
+        }
+        place.changed.notify_all();
     }
 
     /// Waits until something is there to be sent, and gives it in place of what `texts` holds; not where nothing more

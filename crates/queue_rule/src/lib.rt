@@ -6,5 +6,5 @@ mod steps;
 mod view;
 
 pub use rule::{Fair, GivesBack, NextLane, OfUser, QueueOfUser, Sends, Takes};
-pub use steps::{QueuePass, SharedQueue, admit, next_lane, open, open_port, send, take};
+pub use steps::{QueuePass, SharedQueue, admit, next_lane, open, open_port, send, take, waiting};
 pub use view::{OutletView, PortView, View};

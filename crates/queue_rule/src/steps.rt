@@ -1,10 +1,11 @@
 //! What those that share a queue do, each in one step.
-ghost use Rattle.std.specs.Prelude.{◌≡◌, ◌<◌, [], IfErr, IfOk, OnOk, OnErr, IfSome, IfNone};
+ghost use Rattle.std.specs.Prelude.{◌≡◌, ◌<◌, ◌≤◌, [], IfErr, IfOk, OnOk, OnErr, IfSome, IfNone};
+ghost use Rattle.crossbeam_queue.specs.Fifo.{Held};
 ghost use Rattle.crossbeam_queue.specs.Passes.{view, IsPassOf, ruled_capacity};
 ghost use Rattle.queue_rule.specs.Passes.{IsOutletOf, IsPortOf, StaysOutlet, StaysPort};
 ghost use Rattle.queue_rule.specs.declared.view.View.TheVariants.{Origin, Outlet, Port};
 ghost use Rattle.queue_rule.specs.Views.{outlet_in, port_in, with_sent, with_taken, with_lane, with_known, new_port, next_outlet};
-ghost use Rattle.queue_rule.specs.Views.{MaySend, IsOrderly, IsWholeWith};
+ghost use Rattle.queue_rule.specs.Views.{MaySend, IsLearned, IsOrderly, IsWholeWith};
 
 use crate::rule::{Fair, GivesBack, NextLane, OfUser, QueueOfUser, Sends, Takes};
 use crate::view::View;
@@ -48,6 +49,17 @@ pub fn take<R: Wait>(rt: &R, queue: &SharedQueue, pass: &mut QueuePass) -> Optio
     ensures orderly { IsOrderly (Port (port_in (view pass.new))) }
 {
     queue.pop_as::<Takes, R>(rt, pass)
+}
+
+/// How many bundles lay in the queue at one moment of the call.
+pub fn waiting<R: Wait>(rt: &R, queue: &SharedQueue, pass: &mut QueuePass) -> usize
+    requires pass { IsPortOf queue.now pass.old }
+    ensures stays { StaysPort queue.now pass.old pass.new }
+    ensures same { view pass.new ≡ view pass.old }
+    ensures within { result ≤ ruled_capacity queue.now }
+    ensures count { Held result (IsLearned (view pass.old)) }
+{
+    queue.len_as::<Takes, R>(rt, pass)
 }
 
 /// A queue that holds nothing, with room for so many bundles, and its first pass.

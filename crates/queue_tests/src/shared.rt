@@ -162,10 +162,11 @@ pub(crate) fn ends_of_two<R: Wait + Copy>(
 
 #[test]
 fn given_back(rt: HostRuntime) -> Result<(), Fail> {
-    let Some(ends) = ends_of_two(rt, rt.alloc(), 4)? else {
+    let Some(mut ends) = ends_of_two(rt, rt.alloc(), 4)? else {
         panic!(rt; "no ends");
     };
     assert!(rt; are_of_first_user(&ends));
+    assert!(rt; ends.port.room() == 4 && ends.port.waiting(&rt) == 0);
     assert!(rt; are_given_back(&rt, ends));
     Ok(())
 }

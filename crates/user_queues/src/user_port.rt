@@ -3,7 +3,7 @@ ghost use Rattle.std.specs.List.{list_all};
 
 use crate::lane_outlet::LaneOutlet;
 use indications::Bundle;
-use queue_rule::{QueuePass, SharedQueue, admit, next_lane, open_port, take};
+use queue_rule::{QueuePass, SharedQueue, admit, next_lane, open_port, take, waiting};
 use std::alloc::{AllocError, Global};
 use std::marker::Model;
 use std::sync::{Arc, Wait};
@@ -34,8 +34,9 @@ impl Model for UserPort {
 }
 
 impl UserPort {
-    ghost use Rattle.std.specs.Prelude.{◌≡◌, ◌<◌, [], length, IfOk, IfSome, IfNone};
+    ghost use Rattle.std.specs.Prelude.{◌≡◌, ◌<◌, ◌≤◌, [], length, IfOk, IfSome, IfNone};
     ghost use Rattle.std.specs.List.{list_all};
+    ghost use Rattle.crossbeam_queue.specs.Fifo.{Held};
     ghost use Rattle.user_queues.specs.Opened.{IsNextLane};
     ghost use Rattle.user_queues.specs.Shared.{is_admitted};
     ghost use Rattle.queue_rule.specs.Views.{new_port, with_taken, with_known, IsTakenInOrder, IsTakenOfLanes, IsWholeWith};
@@ -89,6 +90,22 @@ impl UserPort {
         ensures of_lanes { IsTakenOfLanes self.new.knows }
     {
         take(rt, &self.queue, &mut self.pass)
+    }
+
+    /// How many bundles lay in the queue at one moment of the call.
+    pub fn waiting<R: Wait>(&mut self, rt: &R) -> usize
+        ensures same { self.new ≡ self.old }
+        ensures within { result ≤ self.old.knows.room }
+        ensures count { Held result (IsWholeWith self.old.knows) }
+    {
+        waiting(rt, &self.queue, &mut self.pass)
+    }
+
+    /// How many bundles the queue has room for.
+    pub fn room(&self) -> usize
+        ensures { result ≡ self.now.knows.room }
+    {
+        self.queue.capacity()
     }
 
     /// Takes the outlet of a lane back, through which nothing can come any more.

@@ -1,0 +1,59 @@
+//! The words for what a user hears of.
+ghost use Rattle.std.specs.Prelude.{◌≡◌};
+ghost use Rattle.answer_texts.specs.ToldTexts.{indication_name, delivery_name, status_name, phase_name};
+
+use cfdp_types::{Delivery, FileStatus};
+use indications::{Indication, Phase};
+
+/// The name of an indication.
+pub fn indication_name(said: &Indication) -> &'static str
+    ensures { result.now ≡ indication_name said.now }
+{
+    match said {
+        Indication::Transaction => "Transaction",
+        Indication::EofSent => "EOF-Sent",
+        Indication::EofRecv => "EOF-Recv",
+        Indication::TransactionFinished { .. } => "Transaction-Finished",
+        Indication::MetadataRecv { .. } => "Metadata-Recv",
+        Indication::FileSegmentRecv { .. } => "File-Segment-Recv",
+        Indication::Suspended { .. } => "Suspended",
+        Indication::Resumed { .. } => "Resumed",
+        Indication::Report { .. } => "Report",
+        Indication::Fault { .. } => "Fault",
+        Indication::Abandoned { .. } => "Abandoned",
+    }
+}
+
+/// Whether the receiver has the whole file, in a word.
+pub fn delivery_name(delivery: Delivery) -> &'static str
+    ensures { result.now ≡ delivery_name delivery }
+{
+    match delivery {
+        Delivery::Complete => "complete",
+        Delivery::Incomplete => "incomplete",
+    }
+}
+
+/// What became of the file, in a word.
+pub fn status_name(status: FileStatus) -> &'static str
+    ensures { result.now ≡ status_name status }
+{
+    match status {
+        FileStatus::Discarded => "discarded",
+        FileStatus::Rejected => "rejected",
+        FileStatus::Retained => "retained",
+        FileStatus::Unreported => "unreported",
+    }
+}
+
+/// What a transaction does, in a word.
+pub fn phase_name(phase: Phase) -> &'static str
+    ensures { result.now ≡ phase_name phase }
+{
+    match phase {
+        Phase::Active => "active",
+        Phase::Suspended => "suspended",
+        Phase::Storing => "storing",
+        Phase::Closing => "closing",
+    }
+}

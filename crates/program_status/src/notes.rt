@@ -1,0 +1,82 @@
+//! What the server saw last of each lane.
+use indications::{Bundle, Indication};
+use station_lines::{Ending, Moment};
+use std::alloc::{AllocError, Global};
+
+/// What the server saw last of a lane's transaction.
+#[derive(Clone, Copy, Debug)]
+pub struct LaneNote {
+    /// When its last indication came.
+    pub last: Option<Moment>,
+    /// How it ended, where it did.
+    pub ending: Option<Ending>,
+}
+
+impl LaneNote {
+    const NOTHING: LaneNote = LaneNote {
+        last: None,
+        ending: None,
+    };
+}
+
+/// What the server saw last of each lane of each user.
+#[derive(Drop)]
+pub struct LaneNotes {
+    users: Vec<Vec<LaneNote>>,
+}
+
+impl LaneNotes {
+    /// Nothing was seen, of so many users.
+    pub fn new(alloc: Global, users: usize) -> Result<LaneNotes, AllocError> {
+        let mut all = Vec::with_capacity(alloc, users)?;
+        for _ in 0..users {
+            all.push(Vec::new(alloc))?;
+        }
+        Ok(LaneNotes { users: all })
+    }
+
+    /// What was seen of a lane.
+    pub fn of(&self, user: usize, lane: usize) -> LaneNote {
+        match self.users.get(user).and_then(|lanes| lanes.get(lane)) {
+            Some(note) => *note,
+            None => LaneNote::NOTHING,
+        }
+    }
+
+    /// Notes a bundle that came at a moment.
+    pub fn note(&mut self, bundle: &Bundle, at: Moment) -> Result<(), AllocError> {
+        let Some(lanes) = self.users.get_mut(bundle.user) else {
+            return Ok(());
+        };
+        let missing = (bundle.lane.saturating_add(1)).saturating_sub(lanes.len());
+        for _ in 0..missing {
+            lanes.push(LaneNote::NOTHING)?;
+        }
+        if let Some(note) = lanes.get_mut(bundle.lane) {
+            *note = LaneNote {
+                last: Some(at),
+                ending: ending_in(bundle.inds.as_slice()),
+            };
+        }
+        Ok(())
+    }
+}
+
+// How a transaction ended, by the last of its indications.
+fn ending_in(indications: &[Indication]) -> Option<Ending> {
+    match indications.last()? {
+        Indication::TransactionFinished {
+            condition,
+            delivery,
+            status,
+        } => Some(Ending::Finished {
+            condition: *condition,
+            delivery: *delivery,
+            status: *status,
+        }),
+        Indication::Abandoned { condition, .. } => Some(Ending::Abandoned {
+            condition: *condition,
+        }),
+        _ => None,
+    }
+}

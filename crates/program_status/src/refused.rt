@@ -1,0 +1,41 @@
+//! Refusals, as lines show them.
+use program_tallies::RefusalCase;
+use station_lines::{Datagram, RefusedCase};
+use std::alloc::{AllocError, Global};
+
+/// Where a case's datagram came from, or nothing where none did.
+pub(crate) fn origin_of(alloc: Global, case: &RefusalCase) -> Result<Option<String>, AllocError> {
+    match case.from {
+        None => Ok(None),
+        Some(address) => {
+            let mut text = String::new(alloc);
+            write!(text, "{address}")?;
+            Ok(Some(text))
+        }
+    }
+}
+
+/// A case with so many refusals, whose datagram came from there.
+pub(crate) fn refused_case<'a>(
+    case: &'a RefusalCase,
+    origin: &'a Option<String>,
+    count: u64,
+) -> RefusedCase<'a> {
+    RefusedCase {
+        number: case.kind.number,
+        name: case.kind.name,
+        fault: if case.kind.fault == 0 {
+            None
+        } else {
+            Some(case.kind.fault)
+        },
+        count,
+        datagram: match origin {
+            Some(from) => Some(Datagram {
+                from: from.as_str(),
+                octets: case.octets(),
+            }),
+            None => None,
+        },
+    }
+}

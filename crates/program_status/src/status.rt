@@ -1,0 +1,201 @@
+//! The lines of a status.
+use crate::notes::LaneNotes;
+use crate::refused::{origin_of, refused_case};
+use cfdp_types::limits::{JOURNAL_ENTRIES, JOURNAL_ENTRIES_KEPT};
+use entity_routing::Place;
+use lane_table::Glance;
+use program_tallies::Tallies;
+use shared_entity::{Entity, EntityRefusal};
+use shared_lanes::Names;
+use station_lines::{
+    Counters, EntityStatus, LogStatus, Moment, Notice, RemoteStatus, TransactionStatus, UserStatus,
+    push_entity, push_log, push_refusal, push_remote, push_transaction, push_user,
+};
+use std::alloc::{AllocError, Global};
+use std::sync::Wait;
+use user_queues::UserPort;
+
+// From which number on a lane has few left: a thousand rounds of as many lanes and users as there may be.
+const LAST_NUMBERS: u64 = u64::MAX - 512_000;
+
+/// What a status shows beside the entity.
+#[derive(Clone, Copy)]
+pub struct Shown<'a> {
+    pub version: &'a str,
+    pub started: Moment,
+    pub now: Moment,
+    pub tallies: &'a Tallies,
+    pub notes: &'a LaneNotes,
+    /// The number of the last event.
+    pub events: u64,
+    pub log: Option<LogStatus>,
+    pub clients: usize,
+    pub dropped_clients: u64,
+    /// How many files the store was given, and how many of them it did not keep.
+    pub stores: (u64, u64),
+}
+
+/// Adds a line for the entity, for the log, for each user, for each lane that has run a transaction, for each remote entity,
+/// and for each kind of refusal. Each lane's lock is taken for itself.
+pub fn push_status<N: Names, R: Wait + Copy>(
+    rt: &R,
+    alloc: Global,
+    text: &mut String,
+    entity: &Entity<N, R>,
+    ports: &mut [UserPort],
+    shown: &Shown<'_>,
+) -> Result<(), AllocError> {
+    push_head(alloc, text, entity, shown)?;
+    push_users(rt, alloc, text, entity, ports)?;
+    for user in 0..entity.users() {
+        push_lanes(rt, alloc, text, entity, user, shown.notes)?;
+    }
+    push_remotes(alloc, text, entity, shown.tallies)?;
+    push_refusals(rt, alloc, text, shown.tallies)
+}
+
+fn push_head<N: Names, R: Copy>(
+    alloc: Global,
+    text: &mut String,
+    entity: &Entity<N, R>,
+    shown: &Shown<'_>,
+) -> Result<(), AllocError> {
+    let status = EntityStatus {
+        id: entity.config().entity().local,
+        version: shown.version,
+        started: shown.started,
+        now: shown.now,
+        workers: shown.tallies.workers.len(),
+        clients: shown.clients,
+        events: shown.events,
+        counters: counters_of(shown),
+    };
+    push_entity(alloc, text, &status)?;
+    match &shown.log {
+        Some(log) => push_log(alloc, text, log),
+        None => Ok(()),
+    }
+}
+
+fn counters_of(shown: &Shown<'_>) -> Counters {
+    let totals = shown.tallies.totals();
+    let (calls, failures) = shown.stores;
+    Counters {
+        datagrams_in: totals.datagrams_in,
+        octets_in: totals.octets_in,
+        datagrams_out: totals.datagrams_out,
+        octets_out: totals.octets_out,
+        failed_sends: totals.failed_sends,
+        failed_reads: totals.failed_reads,
+        foreign_datagrams: totals.foreign_datagrams,
+        decode_faults: totals.decode_faults,
+        refused: shown.tallies.ledger.total(),
+        stored: calls.saturating_sub(failures),
+        failed_stores: failures,
+        dropped_clients: shown.dropped_clients,
+    }
+}
+
+fn push_users<N: Names, R: Wait + Copy>(
+    rt: &R,
+    alloc: Global,
+    text: &mut String,
+    entity: &Entity<N, R>,
+    ports: &mut [UserPort],
+) -> Result<(), AllocError> {
+    for port in ports.iter_mut() {
+        let user = UserStatus {
+            name: entity.config().name_of(port.user()).unwrap_or(""),
+            waiting: port.waiting(rt),
+            capacity: port.room(),
+        };
+        push_user(alloc, text, &user)?;
+    }
+    Ok(())
+}
+
+// Adds a line for each lane of a user that has run a transaction.
+fn push_lanes<N: Names, R: Wait + Copy>(
+    rt: &R,
+    alloc: Global,
+    text: &mut String,
+    entity: &Entity<N, R>,
+    user: usize,
+    notes: &LaneNotes,
+) -> Result<(), AllocError> {
+    for lane in 0..LANES {
+        match entity.glance(rt, Place { user, lane }) {
+            Ok(Some(glance)) => {
+                let note = notes.of(user, lane);
+                let transaction = TransactionStatus {
+                    glance: &glance,
+                    user: entity.config().name_of(user).unwrap_or(""),
+                    lane,
+                    last: note.last,
+                    ending: if glance.has_ended { note.ending } else { None },
+                    notice: notice_of(&glance),
+                };
+                push_transaction(alloc, text, &transaction)?;
+            }
+            Ok(None) => {}
+            Err(EntityRefusal::WrongLane) => break,
+            Err(_) => return Err(AllocError),
+        }
+    }
+    Ok(())
+}
+
+// More lanes than a user may have.
+const LANES: usize = 1_024;
+
+// What an operator should know of a lane.
+fn notice_of(glance: &Glance) -> Option<Notice> {
+    if !glance.has_ended && glance.entries >= JOURNAL_ENTRIES - JOURNAL_ENTRIES_KEPT {
+        Some(Notice::JournalFull)
+    } else if glance.key.seq >= LAST_NUMBERS {
+        Some(Notice::LastNumbers)
+    } else {
+        None
+    }
+}
+
+fn push_remotes<N: Names, R: Copy>(
+    alloc: Global,
+    text: &mut String,
+    entity: &Entity<N, R>,
+    tallies: &Tallies,
+) -> Result<(), AllocError> {
+    let config = entity.config();
+    for place in 0..config.remotes() {
+        let Some(remote) = config.remote_at(place) else {
+            break;
+        };
+        let totals = tallies.remote_totals(place);
+        let status = RemoteStatus {
+            id: remote.id,
+            address: config.address_of(remote.id),
+            held: false,
+            datagrams_in: totals.datagrams_in,
+            octets_in: totals.octets_in,
+            datagrams_out: totals.datagrams_out,
+            octets_out: totals.octets_out,
+            failed_sends: totals.failed_sends,
+        };
+        push_remote(alloc, text, &status)?;
+    }
+    Ok(())
+}
+
+fn push_refusals<R: Wait>(
+    rt: &R,
+    alloc: Global,
+    text: &mut String,
+    tallies: &Tallies,
+) -> Result<(), AllocError> {
+    for case in &tallies.ledger.cases(rt, alloc)? {
+        let origin = origin_of(alloc, case)?;
+        let shown = refused_case(case, &origin, case.count);
+        push_refusal(alloc, text, &shown, Moment(case.last))?;
+    }
+    Ok(())
+}

@@ -1,0 +1,49 @@
+//! What all threads of a program count.
+use crate::ledger::Ledger;
+use crate::traffic::{RemoteTotals, Totals, Traffic};
+use std::alloc::{AllocError, Global};
+
+/// What all threads of a program count.
+#[derive(Drop)]
+pub struct Tallies {
+    /// By the main thread.
+    pub own: Traffic,
+    /// By each worker.
+    pub workers: Vec<Traffic>,
+    pub ledger: Ledger,
+}
+
+impl Tallies {
+    /// Nothing was counted, by so many workers and of so many remote entities.
+    pub fn new(alloc: Global, workers: usize, remotes: usize) -> Result<Tallies, AllocError> {
+        let mut all = Vec::with_capacity(alloc, workers)?;
+        for _ in 0..workers {
+            all.push(Traffic::new(alloc, remotes)?)?;
+        }
+        Ok(Tallies {
+            own: Traffic::new(alloc, remotes)?,
+            workers: all,
+            ledger: Ledger::new(alloc)?,
+        })
+    }
+
+    /// The sums over all threads.
+    pub fn totals(&self) -> Totals {
+        let mut totals = Totals::default();
+        self.own.add_to(&mut totals);
+        for worker in &self.workers {
+            worker.add_to(&mut totals);
+        }
+        totals
+    }
+
+    /// The sums over all threads for the remote entity at a place of the configuration.
+    pub fn remote_totals(&self, place: usize) -> RemoteTotals {
+        let mut totals = RemoteTotals::default();
+        self.own.add_remote_to(place, &mut totals);
+        for worker in &self.workers {
+            worker.add_remote_to(place, &mut totals);
+        }
+        totals
+    }
+}

@@ -1,0 +1,181 @@
+//! What one thread counts of its datagrams.
+use std::alloc::{AllocError, Global};
+use std::sync::atomic::{AtomicU64, Ordering};
+
+// A number that one thread raises and others read.
+#[derive(Drop)]
+struct Counter {
+    value: AtomicU64,
+}
+
+impl Counter {
+    fn new() -> Counter {
+        Counter {
+            value: AtomicU64::new(0),
+        }
+    }
+
+    fn add(&self, more: u64) {
+        let _before = self.value.fetch_add(more, Ordering::Relaxed);
+    }
+
+    fn get(&self) -> u64 {
+        self.value.load(Ordering::Relaxed)
+    }
+}
+
+// What is counted of one remote entity.
+#[derive(Drop)]
+struct RemoteTraffic {
+    datagrams_in: Counter,
+    octets_in: Counter,
+    datagrams_out: Counter,
+    octets_out: Counter,
+    failed_sends: Counter,
+}
+
+/// What was counted of one remote entity.
+#[derive(Clone, Copy, Debug, PartialEq, Eq, Default)]
+pub struct RemoteTotals {
+    pub datagrams_in: u64,
+    pub octets_in: u64,
+    pub datagrams_out: u64,
+    pub octets_out: u64,
+    pub failed_sends: u64,
+}
+
+/// What was counted of all datagrams.
+#[derive(Clone, Copy, Debug, PartialEq, Eq, Default)]
+pub struct Totals {
+    pub datagrams_in: u64,
+    pub octets_in: u64,
+    pub datagrams_out: u64,
+    pub octets_out: u64,
+    pub failed_sends: u64,
+    pub failed_reads: u64,
+    pub foreign_datagrams: u64,
+    pub decode_faults: u64,
+    /// How many threads read no more, since their socket failed too often.
+    pub ended_reads: u64,
+}
+
+/// What one thread counts of its datagrams. It alone raises the numbers, so counting waits for nobody.
+#[derive(Drop)]
+pub struct Traffic {
+    datagrams_in: Counter,
+    octets_in: Counter,
+    failed_reads: Counter,
+    foreign_datagrams: Counter,
+    decode_faults: Counter,
+    ended_reads: Counter,
+    /// Sends for an entity that has no address.
+    unaddressed: Counter,
+    remotes: Vec<RemoteTraffic>,
+}
+
+impl Traffic {
+    /// Nothing was counted, of so many remote entities.
+    pub fn new(alloc: Global, remotes: usize) -> Result<Traffic, AllocError> {
+        let mut all = Vec::with_capacity(alloc, remotes)?;
+        for _ in 0..remotes {
+            all.push(RemoteTraffic {
+                datagrams_in: Counter::new(),
+                octets_in: Counter::new(),
+                datagrams_out: Counter::new(),
+                octets_out: Counter::new(),
+                failed_sends: Counter::new(),
+            })?;
+        }
+        Ok(Traffic {
+            datagrams_in: Counter::new(),
+            octets_in: Counter::new(),
+            failed_reads: Counter::new(),
+            foreign_datagrams: Counter::new(),
+            decode_faults: Counter::new(),
+            ended_reads: Counter::new(),
+            unaddressed: Counter::new(),
+            remotes: all,
+        })
+    }
+
+    /// A datagram came, from the remote entity at a place of the configuration, or from elsewhere.
+    pub fn note_arrival(&self, octets: usize, place: Option<usize>) {
+        self.datagrams_in.add(1);
+        self.octets_in.add(octets as u64);
+        match place.and_then(|place| self.remotes.get(place)) {
+            Some(remote) => {
+                remote.datagrams_in.add(1);
+                remote.octets_in.add(octets as u64);
+            }
+            None => self.foreign_datagrams.add(1),
+        }
+    }
+
+    /// A datagram left, or did not, for the remote entity at a place of the configuration.
+    pub fn note_departure(&self, place: usize, octets: Option<usize>) {
+        let Some(remote) = self.remotes.get(place) else {
+            return;
+        };
+        match octets {
+            Some(octets) => {
+                remote.datagrams_out.add(1);
+                remote.octets_out.add(octets as u64);
+            }
+            None => remote.failed_sends.add(1),
+        }
+    }
+
+    /// A datagram could not leave, since its entity has no address.
+    pub fn note_unaddressed(&self) {
+        self.unaddressed.add(1);
+    }
+
+    /// A read failed.
+    pub fn note_failed_read(&self) {
+        self.failed_reads.add(1);
+    }
+
+    /// The thread reads no more.
+    pub fn note_end_of_reads(&self) {
+        self.ended_reads.add(1);
+    }
+
+    /// A datagram was no PDU.
+    pub fn note_decode_fault(&self) {
+        self.decode_faults.add(1);
+    }
+
+    /// Adds what was counted so far.
+    pub(crate) fn add_to(&self, totals: &mut Totals) {
+        totals.datagrams_in = totals.datagrams_in.wrapping_add(self.datagrams_in.get());
+        totals.octets_in = totals.octets_in.wrapping_add(self.octets_in.get());
+        totals.failed_reads = totals.failed_reads.wrapping_add(self.failed_reads.get());
+        totals.foreign_datagrams = totals
+            .foreign_datagrams
+            .wrapping_add(self.foreign_datagrams.get());
+        totals.decode_faults = totals.decode_faults.wrapping_add(self.decode_faults.get());
+        totals.ended_reads = totals.ended_reads.wrapping_add(self.ended_reads.get());
+        totals.failed_sends = totals.failed_sends.wrapping_add(self.unaddressed.get());
+        for remote in &self.remotes {
+            totals.datagrams_out = totals
+                .datagrams_out
+                .wrapping_add(remote.datagrams_out.get());
+            totals.octets_out = totals.octets_out.wrapping_add(remote.octets_out.get());
+            totals.failed_sends = totals.failed_sends.wrapping_add(remote.failed_sends.get());
+        }
+    }
+
+    /// Adds what was counted so far of one remote entity.
+    pub(crate) fn add_remote_to(&self, place: usize, totals: &mut RemoteTotals) {
+        let Some(remote) = self.remotes.get(place) else {
+            return;
+        };
+        totals.datagrams_in = totals.datagrams_in.wrapping_add(remote.datagrams_in.get());
+        totals.octets_in = totals.octets_in.wrapping_add(remote.octets_in.get());
+        totals.datagrams_out = totals
+            .datagrams_out
+            .wrapping_add(remote.datagrams_out.get());
+        totals.octets_out = totals.octets_out.wrapping_add(remote.octets_out.get());
+        totals.failed_sends = totals.failed_sends.wrapping_add(remote.failed_sends.get());
+    }
+}

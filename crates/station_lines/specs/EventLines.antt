@@ -1,0 +1,111 @@
+-- Meaning. The lines of events.
+use Rattle.std.specs.Prelude.{ℕ, Bool, if◌then◌else◌, List, [], ◌++◌, codes}
+use Rattle.cfdp_types.specs.declared.key.EntityId.{EntityId}
+use Rattle.cfdp_types.specs.declared.key.TxnKey.{TxnKey}
+use Rattle.cfdp_types.specs.declared.names.FileStatus.{FileStatus}
+use Rattle.cfdp_types.specs.declared.names.FileStatus.TheVariants.{Retained, Rejected}
+use Rattle.indications.specs.declared.indication.Indication.{Indication}
+use Rattle.indications.specs.declared.indication.Indication.TheVariants.{Transaction, EofSent, EofRecv, TransactionFinished, MetadataRecv, FileSegmentRecv, Suspended, Resumed, Report, Fault, Abandoned}
+use Rattle.answer_texts.specs.ToldTexts.{indication_name, phase_name, status_name}
+use Rattle.json.specs.Token.{Token}
+use Rattle.station_lines.specs.Members.{text_member, number_member, octets_member, moment_member, hexes_member, line_of}
+use Rattle.station_lines.specs.Shared.{key_members, finished_members, case_members, datagram_members, class_number}
+use Rattle.station_lines.specs.declared.event.EventHead.{EventHead}
+use Rattle.station_lines.specs.declared.event.IndicationEvent.{IndicationEvent}
+use Rattle.station_lines.specs.declared.event.PutEvent.{PutEvent}
+use Rattle.station_lines.specs.declared.members.RefusedCase.{RefusedCase}
+
+-- what each event begins with
+abbrev pub head_members : EventHead → List ℕ → List Token
+head_members head kind =
+    moment_member (codes "at") head.at ++ (number_member (codes "number") head.number ++ text_member (codes "kind") kind)
+
+-- the line of a server's start
+abbrev pub start_line : EventHead → EntityId → List ℕ → List ℕ
+start_line head id version =
+    line_of (head_members head (codes "start") ++ (number_member (codes "id") id.0 ++ text_member (codes "version") version))
+
+-- ---- indications
+
+-- what Metadata-Recv says: the file's entity and size, its names, and the messages
+abbrev pub metadata_members : EntityId → ℕ → List ℕ → List ℕ → List (List ℕ) → List Token
+metadata_members source size source_name destination_name messages =
+    number_member (codes "origin") source.0 ++ (number_member (codes "size") size
+    ++ (octets_member (codes "file") source_name ++ (octets_member (codes "to") destination_name
+    ++ hexes_member (codes "messages") messages)))
+
+-- a condition and a progress
+abbrev pub fault_members : ℕ → ℕ → List Token
+fault_members condition progress =
+    number_member (codes "condition") condition ++ number_member (codes "progress") progress
+
+-- what an indication says behind its name
+abbrev pub said_members : Indication → List Token
+said_members Transaction = []
+said_members EofSent = []
+said_members EofRecv = []
+said_members (TransactionFinished condition delivery status) = finished_members condition delivery status
+said_members (MetadataRecv source size source_name destination_name messages) =
+    metadata_members source size source_name destination_name messages
+said_members (FileSegmentRecv offset octets) =
+    number_member (codes "offset") offset ++ number_member (codes "length") octets
+said_members (Suspended condition) = number_member (codes "condition") condition
+said_members (Resumed progress) = number_member (codes "progress") progress
+said_members (Report phase progress) =
+    text_member (codes "phase") (phase_name phase) ++ number_member (codes "progress") progress
+said_members (Fault condition progress) = fault_members condition progress
+said_members (Abandoned condition progress) = fault_members condition progress
+
+-- the line of an indication
+abbrev pub indication_line : EventHead → IndicationEvent → List ℕ
+indication_line head event =
+    line_of (head_members head (codes "indication") ++ (text_member (codes "user") event.user.now
+    ++ (key_members event.key ++ (text_member (codes "name") (indication_name event.indication.now)
+    ++ said_members event.indication.now))))
+
+-- ---- Puts, the store, refusals
+
+-- whose Put it is, and where the file goes
+abbrev pub put_head : PutEvent → List Token
+put_head put =
+    text_member (codes "user") put.user.now ++ (key_members put.key
+    ++ (number_member (codes "peer") put.peer.0 ++ number_member (codes "class") (class_number put.class)))
+
+-- its file
+abbrev pub put_file : PutEvent → List Token
+put_file put =
+    octets_member (codes "file") put.file.now ++ (octets_member (codes "to") put.to.now
+    ++ number_member (codes "size") put.size)
+
+-- the line of a Put
+abbrev pub put_line : EventHead → PutEvent → List ℕ
+put_line head put = line_of (head_members head (codes "put") ++ (put_head put ++ put_file put))
+
+-- what became of a file that the store kept, or did not
+abbrev pub stored_status : Bool → FileStatus
+stored_status is_retained = if is_retained then Retained else Rejected
+
+-- the line of a store's answer
+abbrev pub stored_line : EventHead → TxnKey → Bool → List ℕ
+stored_line head key is_retained =
+    line_of (head_members head (codes "stored") ++ (key_members key
+    ++ text_member (codes "status") (status_name (stored_status is_retained))))
+
+-- the line of refusals of one kind
+abbrev pub refused_line : EventHead → RefusedCase → List ℕ
+refused_line head case =
+    line_of (head_members head (codes "refused") ++ (case_members (codes "refusal") case ++ datagram_members case.datagram))
+
+-- ---- events without members of their own
+
+-- the line of such an event
+abbrev pub plain_line : EventHead → List ℕ → List ℕ
+plain_line head kind = line_of (head_members head kind)
+
+-- the line of a worker that reads no more
+abbrev pub reads_ended_line : EventHead → List ℕ
+reads_ended_line head = plain_line head (codes "reads-ended")
+
+-- the line of a server's end
+abbrev pub end_line : EventHead → List ℕ
+end_line head = plain_line head (codes "end")

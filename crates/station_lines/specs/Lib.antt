@@ -1,0 +1,5 @@
+pub mod Moments
+pub mod Members
+pub mod Shared
+pub mod StatusLines
+pub mod EventLines

@@ -1,0 +1,181 @@
+-- Meaning. The lines of a status.
+use Rattle.std.specs.Prelude.{ℕ, if◌then◌else◌, List, [], ◌++◌, Option, Some, None, codes}
+use Rattle.std.specs.Option.{option_copied}
+use Rattle.indications.specs.declared.side.Side.{Side}
+use Rattle.indications.specs.declared.side.Side.TheVariants.{Sender, Receiver}
+use Rattle.lane_table.specs.declared.glance.Glance.{Glance}
+use Rattle.lane_table.specs.declared.glance.GlancedFile.{GlancedFile}
+use Rattle.answer_texts.specs.ToldTexts.{phase_name}
+use Rattle.json.specs.Token.{Token}
+use Rattle.station_lines.specs.Members.{text_member, flag_member, number_member, octets_member, moment_member, object_member, line_of}
+use Rattle.station_lines.specs.Shared.{key_members, finished_members, case_members, datagram_members, class_number}
+use Rattle.station_lines.specs.declared.moment.Moment.{Moment}
+use Rattle.station_lines.specs.declared.members.RefusedCase.{RefusedCase}
+use Rattle.station_lines.specs.declared.status.Counters.{Counters}
+use Rattle.station_lines.specs.declared.status.Ending.{Ending}
+use Rattle.station_lines.specs.declared.status.Ending.TheVariants.{Finished, Abandoned}
+use Rattle.station_lines.specs.declared.status.EntityStatus.{EntityStatus}
+use Rattle.station_lines.specs.declared.status.LogStatus.{LogStatus}
+use Rattle.station_lines.specs.declared.status.Notice.{Notice}
+use Rattle.station_lines.specs.declared.status.Notice.TheVariants.{JournalFull, LastNumbers}
+use Rattle.station_lines.specs.declared.status.RemoteStatus.{RemoteStatus}
+use Rattle.station_lines.specs.declared.status.TransactionStatus.{TransactionStatus}
+use Rattle.station_lines.specs.declared.status.UserStatus.{UserStatus}
+
+-- ---- the entity
+
+-- who it is, and since when
+abbrev pub entity_head : EntityStatus → List Token
+entity_head e =
+    text_member (codes "kind") (codes "entity") ++ (number_member (codes "id") e.id.0
+    ++ (text_member (codes "version") e.version.now ++ moment_member (codes "started") e.started))
+
+-- how it stands
+abbrev pub entity_state : EntityStatus → List Token
+entity_state e =
+    moment_member (codes "now") e.now ++ (number_member (codes "workers") e.workers
+    ++ (number_member (codes "clients") e.clients ++ number_member (codes "events") e.events))
+
+-- the counters of what comes and goes
+abbrev pub traffic_members : Counters → List Token
+traffic_members c =
+    number_member (codes "datagrams_in") c.datagrams_in ++ (number_member (codes "octets_in") c.octets_in
+    ++ (number_member (codes "datagrams_out") c.datagrams_out ++ number_member (codes "octets_out") c.octets_out))
+
+-- the counters of what fails on the way
+abbrev pub trouble_members : Counters → List Token
+trouble_members c =
+    number_member (codes "failed_sends") c.failed_sends ++ (number_member (codes "failed_reads") c.failed_reads
+    ++ (number_member (codes "foreign_datagrams") c.foreign_datagrams
+    ++ number_member (codes "decode_faults") c.decode_faults))
+
+-- the counters of what becomes of it
+abbrev pub outcome_members : Counters → List Token
+outcome_members c =
+    number_member (codes "refused") c.refused ++ (number_member (codes "stored") c.stored
+    ++ (number_member (codes "failed_stores") c.failed_stores
+    ++ number_member (codes "dropped_clients") c.dropped_clients))
+
+-- the counters
+abbrev pub counter_members : Counters → List Token
+counter_members counters = traffic_members counters ++ (trouble_members counters ++ outcome_members counters)
+
+-- the line of the entity
+abbrev pub entity_line : EntityStatus → List ℕ
+entity_line e =
+    line_of (entity_head e ++ (entity_state e ++ object_member (codes "counters") (counter_members e.counters)))
+
+-- ---- the log and users
+
+-- the line of the file that events are written to
+abbrev pub log_line : LogStatus → List ℕ
+log_line log =
+    line_of (text_member (codes "kind") (codes "log") ++ (flag_member (codes "failing") log.failing
+    ++ (number_member (codes "written") log.written ++ number_member (codes "lost") log.lost)))
+
+-- the line of a user
+abbrev pub user_line : UserStatus → List ℕ
+user_line user =
+    line_of (text_member (codes "kind") (codes "user") ++ (text_member (codes "name") user.name.now
+    ++ (number_member (codes "waiting") user.waiting ++ number_member (codes "capacity") user.capacity)))
+
+-- ---- transactions
+
+-- the end of a transaction that a lane runs
+abbrev pub role_name : Side → List ℕ
+role_name Sender = codes "sender"
+role_name Receiver = codes "receiver"
+
+-- what a transaction does, as a Report says it, until it ended
+abbrev pub state_name : Glance → List ℕ
+state_name glance = if glance.has_ended then codes "ended" else phase_name glance.phase
+
+-- which transaction it is, and whose
+abbrev pub transaction_head : TransactionStatus → List Token
+transaction_head t =
+    text_member (codes "kind") (codes "transaction") ++ (key_members t.glance.now.key
+    ++ (text_member (codes "user") t.user.now ++ number_member (codes "lane") t.lane))
+
+-- what an end of it does, and with whom
+abbrev pub transaction_part : Glance → List Token
+transaction_part glance =
+    text_member (codes "role") (role_name glance.end) ++ (number_member (codes "peer") glance.peer.0
+    ++ (number_member (codes "class") (class_number glance.class) ++ text_member (codes "state") (state_name glance)))
+
+-- a file's names and its size, if they are known
+abbrev pub file_members : Option GlancedFile → List Token
+file_members None = []
+file_members (Some file) =
+    octets_member (codes "file") file.source_name
+    ++ (octets_member (codes "to") file.destination_name ++ number_member (codes "size") file.size)
+
+-- its file, and how far it came
+abbrev pub transaction_file : Glance → List Token
+transaction_file glance =
+    file_members glance.file
+    ++ (number_member (codes "octets") glance.progress ++ number_member (codes "events") glance.entries)
+
+-- when its last indication came, if the server saw one
+abbrev pub last_members : Option Moment → List Token
+last_members None = []
+last_members (Some last) = moment_member (codes "last") last
+
+-- how it ended
+abbrev pub end_members : Ending → List Token
+end_members (Finished condition delivery status) = finished_members condition delivery status
+end_members (Abandoned condition) = number_member (codes "condition") condition
+
+-- the same, if the server saw that
+abbrev pub ending_members : Option Ending → List Token
+ending_members None = []
+ending_members (Some ending) = end_members ending
+
+-- a notice, in a word
+abbrev pub notice_name : Notice → List ℕ
+notice_name JournalFull = codes "journal-full"
+notice_name LastNumbers = codes "last-numbers"
+
+-- what an operator should know, if there is something
+abbrev pub notice_members : Option Notice → List Token
+notice_members None = []
+notice_members (Some notice) = text_member (codes "notice") (notice_name notice)
+
+-- what the server saw of it, and a notice
+abbrev pub transaction_end : TransactionStatus → List Token
+transaction_end t = last_members t.last ++ (ending_members t.ending ++ notice_members t.notice)
+
+-- the line of a transaction
+abbrev pub transaction_line : TransactionStatus → List ℕ
+transaction_line t =
+    line_of (transaction_head t ++ (transaction_part t.glance.now ++ (transaction_file t.glance.now ++ transaction_end t)))
+
+-- ---- remote entities and refusals
+
+-- the address of a remote entity, if it has one
+abbrev pub address_members : Option (List ℕ) → List Token
+address_members None = []
+address_members (Some address) = text_member (codes "address") address
+
+-- which remote entity it is, and where
+abbrev pub remote_head : RemoteStatus → List Token
+remote_head r =
+    text_member (codes "kind") (codes "remote") ++ (number_member (codes "id") r.id.0
+    ++ address_members (option_copied r.address))
+
+-- what comes from a remote entity and goes to it
+abbrev pub crossing_members : RemoteStatus → List Token
+crossing_members r =
+    number_member (codes "datagrams_in") r.datagrams_in ++ (number_member (codes "octets_in") r.octets_in
+    ++ (number_member (codes "datagrams_out") r.datagrams_out ++ number_member (codes "octets_out") r.octets_out))
+
+-- the line of a remote entity
+abbrev pub remote_line : RemoteStatus → List ℕ
+remote_line r =
+    line_of (remote_head r ++ (flag_member (codes "held") r.held
+    ++ (crossing_members r ++ number_member (codes "failed_sends") r.failed_sends)))
+
+-- the line of a kind of refusal
+abbrev pub refusal_line : RefusedCase → Moment → List ℕ
+refusal_line case last =
+    line_of (text_member (codes "kind") (codes "refusal") ++ (case_members (codes "number") case
+    ++ (moment_member (codes "last") last ++ datagram_members case.datagram)))

@@ -1,0 +1,38 @@
+//! What the lines of events show.
+
+use crate::moment::Moment;
+use cfdp_types::{Class, EntityId, TxnKey};
+use indications::Indication;
+
+/// When an event happened, and its number: 1 for the server's first.
+#[derive(Clone, Copy, Debug)]
+pub struct EventHead {
+    pub at: Moment,
+    pub number: u64,
+}
+
+/// An indication to a user.
+#[derive(Clone, Copy, Debug)]
+pub struct IndicationEvent<'a> {
+    /// The user's name.
+    pub user: &'a str,
+    pub key: TxnKey,
+    pub indication: &'a Indication,
+}
+
+/// A Put that opened a transaction.
+#[derive(Clone, Copy, Debug)]
+pub struct PutEvent<'a> {
+    /// The user's name.
+    pub user: &'a str,
+    pub key: TxnKey,
+    /// The entity that is to receive the file.
+    pub peer: EntityId,
+    pub class: Class,
+    /// The name of the file here.
+    pub file: &'a [u8],
+    /// The name of the file at the receiver.
+    pub to: &'a [u8],
+    /// In octets.
+    pub size: u64,
+}

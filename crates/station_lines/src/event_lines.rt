@@ -1,0 +1,242 @@
+//! The lines of events. A follower gets them behind the word `event` and a space, which these functions don't write.
+ghost use Rattle.std.specs.Prelude.{◌≡◌, ◌++◌, OnErr, OnOk, string_bytes};
+ghost use Rattle.station_lines.specs.EventLines.{head_members, start_line, indication_line, said_members, metadata_members, put_line, put_head, put_file, stored_line, stored_status, refused_line, reads_ended_line, end_line, plain_line};
+
+use crate::event::{EventHead, IndicationEvent, PutEvent};
+use crate::line::Line;
+use crate::members::{
+    RefusedCase, case_members, class_number, datagram_members, finished_members, key_members,
+};
+use answer_texts::{indication_name, phase_name, status_name};
+use cfdp_types::{EntityId, FileStatus, Messages, Octets, TxnKey};
+use indications::Indication;
+use std::alloc::{AllocError, Global};
+
+fn head_members(line: &mut Line, head: EventHead, kind: &str) -> Result<(), AllocError>
+    ensures { OnOk result (line.new ≡ line.old ++ head_members head kind.now) }
+{
+    line.moment("at", head.at)?;
+    line.number("number", head.number)?;
+    line.text("kind", kind)
+}
+
+/// Adds the line of a server's start: its entity and its version.
+pub fn push_start_event(
+    alloc: Global,
+    text: &mut String,
+    head: EventHead,
+    id: EntityId,
+    version: &str,
+) -> Result<(), AllocError>
+    ensures added { OnOk result (string_bytes text.new ≡ string_bytes text.old ++ start_line head id version.now) }
+    ensures kept { OnErr result (string_bytes text.new ≡ string_bytes text.old) }
+{
+    let mut line = Line::begin(alloc)?;
+    head_members(&mut line, head, "start")?;
+    line.number("id", id.0)?;
+    line.text("version", version)?;
+    line.end(text)
+}
+
+/// Adds the line of an indication.
+pub fn push_indication_event(
+    alloc: Global,
+    text: &mut String,
+    head: EventHead,
+    event: &IndicationEvent<'_>,
+) -> Result<(), AllocError>
+    ensures added { OnOk result (string_bytes text.new ≡ string_bytes text.old ++ indication_line head event.entry.now) }
+    ensures kept { OnErr result (string_bytes text.new ≡ string_bytes text.old) }
+{
+    let mut line = Line::begin(alloc)?;
+    head_members(&mut line, head, "indication")?;
+    line.text("user", event.user)?;
+    key_members(&mut line, event.key)?;
+    line.text("name", indication_name(event.indication))?;
+    said_members(&mut line, event.indication)?;
+    line.end(text)
+}
+
+// What an indication says behind its name.
+fn said_members(line: &mut Line, said: &Indication) -> Result<(), AllocError>
+    ensures { OnOk result (line.new ≡ line.old ++ said_members said.now) }
+{
+    match said {
+        Indication::Transaction | Indication::EofSent | Indication::EofRecv => Ok(()),
+        Indication::TransactionFinished {
+            condition,
+            delivery,
+            status,
+        } => finished_members(line, *condition, *delivery, *status),
+        Indication::MetadataRecv {
+            source,
+            size,
+            source_name,
+            destination_name,
+            messages,
+        } => metadata_members(
+            line,
+            *source,
+            *size,
+            source_name,
+            destination_name,
+            messages,
+        ),
+        Indication::FileSegmentRecv { offset, length } => {
+            line.number("offset", u64::from(*offset))?;
+            line.number("length", u64::from(*length))
+        }
+        Indication::Suspended { condition } => line.number(
+            "condition",
+            u64::from(condition.code()),
+        ),
+        Indication::Resumed { progress } => line.number("progress", u64::from(*progress)),
+        Indication::Report { phase, progress } => {
+            line.text("phase", phase_name(*phase))?;
+            line.number("progress", u64::from(*progress))
+        }
+        Indication::Fault {
+            condition,
+            progress,
+        }
+        | Indication::Abandoned {
+            condition,
+            progress,
+        } => {
+            line.number("condition", u64::from(condition.code()))?;
+            line.number("progress", u64::from(*progress))
+        }
+    }
+}
+
+fn metadata_members(
+    line: &mut Line,
+    source: EntityId,
+    size: u64,
+    source_name: &Octets,
+    destination_name: &Octets,
+    messages: &Messages,
+) -> Result<(), AllocError>
+    ensures { OnOk result (line.new
+        ≡ line.old ++ metadata_members source size source_name.now destination_name.now messages.now) }
+{
+    line.number("origin", source.0)?;
+    line.number("size", size)?;
+    line.octets("file", source_name.as_slice())?;
+    line.octets("to", destination_name.as_slice())?;
+    line.hexes("messages", messages.as_slice())
+}
+
+/// Adds the line of a Put.
+pub fn push_put_event(
+    alloc: Global,
+    text: &mut String,
+    head: EventHead,
+    put: &PutEvent<'_>,
+) -> Result<(), AllocError>
+    ensures added { OnOk result (string_bytes text.new ≡ string_bytes text.old ++ put_line head put.entry.now) }
+    ensures kept { OnErr result (string_bytes text.new ≡ string_bytes text.old) }
+{
+    let mut line = Line::begin(alloc)?;
+    head_members(&mut line, head, "put")?;
+    put_head(&mut line, put)?;
+    put_file(&mut line, put)?;
+    line.end(text)
+}
+
+fn put_head(line: &mut Line, put: &PutEvent<'_>) -> Result<(), AllocError>
+    ensures { OnOk result (line.new ≡ line.old ++ put_head put.entry.now) }
+{
+    line.text("user", put.user)?;
+    key_members(line, put.key)?;
+    line.number("peer", put.peer.0)?;
+    line.number("class", class_number(put.class))
+}
+
+fn put_file(line: &mut Line, put: &PutEvent<'_>) -> Result<(), AllocError>
+    ensures { OnOk result (line.new ≡ line.old ++ put_file put.entry.now) }
+{
+    line.octets("file", put.file)?;
+    line.octets("to", put.to)?;
+    line.number("size", put.size)
+}
+
+/// Adds the line of a store's answer: whether it kept the file of a transaction.
+pub fn push_stored_event(
+    alloc: Global,
+    text: &mut String,
+    head: EventHead,
+    key: TxnKey,
+    is_retained: bool,
+) -> Result<(), AllocError>
+    ensures added { OnOk result (string_bytes text.new ≡ string_bytes text.old ++ stored_line head key is_retained) }
+    ensures kept { OnErr result (string_bytes text.new ≡ string_bytes text.old) }
+{
+    let mut line = Line::begin(alloc)?;
+    head_members(&mut line, head, "stored")?;
+    key_members(&mut line, key)?;
+    line.text("status", status_name(stored_status(is_retained)))?;
+    line.end(text)
+}
+
+fn stored_status(is_retained: bool) -> FileStatus
+    ensures { result ≡ stored_status is_retained }
+{
+    if is_retained {
+        FileStatus::Retained
+    } else {
+        FileStatus::Rejected
+    }
+}
+
+/// Adds the line of refusals of one kind since the last such line.
+pub fn push_refused_event(
+    alloc: Global,
+    text: &mut String,
+    head: EventHead,
+    case: &RefusedCase<'_>,
+) -> Result<(), AllocError>
+    ensures added { OnOk result (string_bytes text.new ≡ string_bytes text.old ++ refused_line head case.entry.now) }
+    ensures kept { OnErr result (string_bytes text.new ≡ string_bytes text.old) }
+{
+    let mut line = Line::begin(alloc)?;
+    head_members(&mut line, head, "refused")?;
+    case_members(&mut line, "refusal", case)?;
+    datagram_members(&mut line, case.datagram)?;
+    line.end(text)
+}
+
+/// Adds the line of a worker that reads no more.
+pub fn push_reads_ended_event(
+    alloc: Global,
+    text: &mut String,
+    head: EventHead,
+) -> Result<(), AllocError>
+    ensures added { OnOk result (string_bytes text.new ≡ string_bytes text.old ++ reads_ended_line head) }
+    ensures kept { OnErr result (string_bytes text.new ≡ string_bytes text.old) }
+{
+    push_plain_event(alloc, text, head, "reads-ended")
+}
+
+/// Adds the line of a server's end.
+pub fn push_end_event(alloc: Global, text: &mut String, head: EventHead) -> Result<(), AllocError>
+    ensures added { OnOk result (string_bytes text.new ≡ string_bytes text.old ++ end_line head) }
+    ensures kept { OnErr result (string_bytes text.new ≡ string_bytes text.old) }
+{
+    push_plain_event(alloc, text, head, "end")
+}
+
+// An event without members of its own.
+fn push_plain_event(
+    alloc: Global,
+    text: &mut String,
+    head: EventHead,
+    kind: &str,
+) -> Result<(), AllocError>
+    ensures added { OnOk result (string_bytes text.new ≡ string_bytes text.old ++ plain_line head kind.now) }
+    ensures kept { OnErr result (string_bytes text.new ≡ string_bytes text.old) }
+{
+    let mut line = Line::begin(alloc)?;
+    head_members(&mut line, head, kind)?;
+    line.end(text)
+}

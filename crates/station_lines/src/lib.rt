@@ -1,0 +1,26 @@
+//! The lines that a server writes of itself: its status, and what happens. Each is one JSON object and a line feed, with
+//! the members that `docs/control-socket.md` lays down. Each function adds a line to a text; after an `Err` the text is
+//! as it was.
+#![tactic(auto)]
+
+mod event;
+mod event_lines;
+mod line;
+mod members;
+mod moment;
+mod status;
+mod status_lines;
+
+pub use event::{EventHead, IndicationEvent, PutEvent};
+pub use event_lines::{
+    push_end_event, push_indication_event, push_put_event, push_reads_ended_event,
+    push_refused_event, push_start_event, push_stored_event,
+};
+pub use members::{Datagram, RefusedCase, SHOWN_OCTETS};
+pub use moment::Moment;
+pub use status::{
+    Counters, Ending, EntityStatus, LogStatus, Notice, RemoteStatus, TransactionStatus, UserStatus,
+};
+pub use status_lines::{
+    push_entity, push_log, push_refusal, push_remote, push_transaction, push_user,
+};

@@ -1,0 +1,113 @@
+//! Members that lines of several kinds have.
+ghost use Rattle.std.specs.Prelude.{◌≡◌, ◌++◌, OnOk};
+ghost use Rattle.station_lines.specs.Shared.{key_members, finished_members, case_members, datagram_members, fault_members, first_octets, class_number};
+
+use crate::line::Line;
+use answer_texts::{delivery_name, status_name};
+use cfdp_types::{Class, Condition, Delivery, FileStatus, TxnKey};
+use std::alloc::AllocError;
+
+/// The most octets of a refused datagram that a line shows.
+pub const SHOWN_OCTETS: usize = 64;
+
+/// Refusals of one kind, with the last case.
+#[derive(Clone, Copy, Debug)]
+pub struct RefusedCase<'a> {
+    /// The number of the refusal.
+    pub number: u8,
+    /// The name of the refusal.
+    pub name: &'a str,
+    /// The number of the fault, of octets that are no PDU.
+    pub fault: Option<u8>,
+    /// How often it came.
+    pub count: u64,
+    /// The datagram that was refused, unless it was a command or a timer.
+    pub datagram: Option<Datagram<'a>>,
+}
+
+/// A datagram that came.
+#[derive(Clone, Copy, Debug)]
+pub struct Datagram<'a> {
+    /// The address that it came from.
+    pub from: &'a str,
+    /// What it carried. A line shows the first octets, at most `SHOWN_OCTETS`.
+    pub octets: &'a [u8],
+}
+
+pub(crate) fn key_members(line: &mut Line, key: TxnKey) -> Result<(), AllocError>
+    ensures { OnOk result (line.new ≡ line.old ++ key_members key) }
+{
+    line.number("source", key.source.0)?;
+    line.number("seq", key.seq)
+}
+
+// How a transaction finished.
+pub(crate) fn finished_members(
+    line: &mut Line,
+    condition: Condition,
+    delivery: Delivery,
+    status: FileStatus,
+) -> Result<(), AllocError>
+    ensures { OnOk result (line.new ≡ line.old ++ finished_members condition delivery status) }
+{
+    line.number("condition", u64::from(condition.code()))?;
+    line.text("delivery", delivery_name(delivery))?;
+    line.text("status", status_name(status))
+}
+
+// A kind of refusal and how often it came. Its number goes under a name that depends on the line.
+pub(crate) fn case_members(
+    line: &mut Line,
+    number_name: &str,
+    case: &RefusedCase<'_>,
+) -> Result<(), AllocError>
+    ensures { OnOk result (line.new ≡ line.old ++ case_members number_name.now case.entry.now) }
+{
+    line.number(number_name, u64::from(case.number))?;
+    line.text("name", case.name)?;
+    fault_members(line, case.fault)?;
+    line.number("count", case.count)
+}
+
+fn fault_members(line: &mut Line, fault: Option<u8>) -> Result<(), AllocError>
+    ensures { OnOk result (line.new ≡ line.old ++ fault_members fault) }
+{
+    match fault {
+        None => Ok(()),
+        Some(fault) => line.number("fault", u64::from(fault)),
+    }
+}
+
+pub(crate) fn datagram_members(
+    line: &mut Line,
+    datagram: Option<Datagram<'_>>,
+) -> Result<(), AllocError>
+    ensures { OnOk result (line.new ≡ line.old ++ datagram_members datagram.entry) }
+{
+    let Some(datagram) = datagram else {
+        return Ok(());
+    };
+    line.text("from", datagram.from)?;
+    line.hex("octets", first_octets(datagram.octets, SHOWN_OCTETS))
+}
+
+// The first octets, at most so many.
+#[tactic(auto, unfolding(crate::specs::Shared::first_octets))]
+fn first_octets(octets: &[u8], most: usize) -> &[u8]
+    ensures { result.now ≡ first_octets most octets.now }
+{
+    if octets.len() <= most {
+        octets
+    } else {
+        &octets[..most]
+    }
+}
+
+pub(crate) fn class_number(class: Class) -> u64
+    ensures { result ≡ class_number class }
+{
+    match class {
+        Class::One => 1,
+        Class::Two => 2,
+    }
+}

@@ -1,0 +1,135 @@
+//! What the lines of a status show.
+
+use crate::moment::Moment;
+use cfdp_types::{Condition, Delivery, EntityId, FileStatus};
+use lane_table::Glance;
+
+/// The entity and its server.
+#[derive(Clone, Copy, Debug)]
+pub struct EntityStatus<'a> {
+    pub id: EntityId,
+    /// The server's version.
+    pub version: &'a str,
+    /// When the server started.
+    pub started: Moment,
+    /// When the status was asked for.
+    pub now: Moment,
+    /// Its workers that read the socket.
+    pub workers: usize,
+    /// The clients that it has.
+    pub clients: usize,
+    /// The number of the last event.
+    pub events: u64,
+    pub counters: Counters,
+}
+
+/// What a server counts, from its start on.
+#[derive(Clone, Copy, Debug)]
+pub struct Counters {
+    /// Datagrams that were read from the socket.
+    pub datagrams_in: u64,
+    /// Their octets.
+    pub octets_in: u64,
+    /// Datagrams that were sent.
+    pub datagrams_out: u64,
+    /// Their octets.
+    pub octets_out: u64,
+    /// PDUs that the system didn't send, or that are for an entity without an address.
+    pub failed_sends: u64,
+    /// Reads from the socket that failed.
+    pub failed_reads: u64,
+    /// Datagrams from an address that the configuration doesn't have.
+    pub foreign_datagrams: u64,
+    /// Datagrams that are no PDU.
+    pub decode_faults: u64,
+    /// Datagrams, commands and timers that the entity refused.
+    pub refused: u64,
+    /// Received files that the store kept.
+    pub stored: u64,
+    /// Received files that the store didn't keep.
+    pub failed_stores: u64,
+    /// Clients that were cut because they didn't read.
+    pub dropped_clients: u64,
+}
+
+/// The file that events are written to.
+#[derive(Clone, Copy, Debug)]
+pub struct LogStatus {
+    /// Whether the file can't be written now.
+    pub failing: bool,
+    /// The events that were written.
+    pub written: u64,
+    /// The events that were lost, since the file couldn't be written.
+    pub lost: u64,
+}
+
+/// A user's queue.
+#[derive(Clone, Copy, Debug)]
+pub struct UserStatus<'a> {
+    /// The user's name.
+    pub name: &'a str,
+    /// The bundles that wait.
+    pub waiting: usize,
+    /// The most bundles that can wait.
+    pub capacity: usize,
+}
+
+/// The transaction that a lane runs or ran last.
+#[derive(Clone, Copy, Debug)]
+pub struct TransactionStatus<'a> {
+    pub glance: &'a Glance,
+    /// The name of its user.
+    pub user: &'a str,
+    /// The number of the user's lane.
+    pub lane: usize,
+    /// When its last indication came, where the server saw one.
+    pub last: Option<Moment>,
+    /// How it ended, where the server saw its end.
+    pub ending: Option<Ending>,
+    /// What there is to be done about the transaction or its lane.
+    pub notice: Option<Notice>,
+}
+
+/// How a transaction ended.
+#[derive(Clone, Copy, Debug)]
+pub enum Ending {
+    /// As Transaction-Finished says it.
+    Finished {
+        condition: Condition,
+        delivery: Delivery,
+        status: FileStatus,
+    },
+    /// Abandoned, for this condition.
+    Abandoned {
+        condition: Condition,
+    },
+}
+
+/// What an operator should know of a transaction or its lane.
+#[derive(Clone, Copy, Debug)]
+pub enum Notice {
+    /// It takes no more events.
+    JournalFull,
+    /// The lane has few numbers left for transactions.
+    LastNumbers,
+}
+
+/// A remote entity.
+#[derive(Clone, Copy, Debug)]
+pub struct RemoteStatus<'a> {
+    pub id: EntityId,
+    /// Its address, where the configuration has one.
+    pub address: Option<&'a str>,
+    /// Whether nothing is sent to it for now.
+    pub held: bool,
+    /// Datagrams that came from its address.
+    pub datagrams_in: u64,
+    /// Their octets.
+    pub octets_in: u64,
+    /// Datagrams that were sent to it.
+    pub datagrams_out: u64,
+    /// Their octets.
+    pub octets_out: u64,
+    /// PDUs for it that weren't sent.
+    pub failed_sends: u64,
+}

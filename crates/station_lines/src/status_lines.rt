@@ -1,0 +1,329 @@
+//! The lines of a status.
+ghost use Rattle.std.specs.Prelude.{◌≡◌, ◌++◌, OnErr, OnOk, string_bytes, codes};
+ghost use Rattle.std.specs.Option.{option_copied};
+ghost use Rattle.station_lines.specs.Members.{object_member};
+ghost use Rattle.station_lines.specs.StatusLines.{entity_line, entity_head, entity_state, counter_members, traffic_members, trouble_members, outcome_members, log_line, user_line, transaction_line, transaction_head, transaction_part, transaction_file, transaction_end, file_members, last_members, ending_members, end_members, notice_members, notice_name, role_name, state_name, remote_line, remote_head, crossing_members, address_members, refusal_line};
+
+use crate::line::Line;
+use crate::members::{
+    RefusedCase, case_members, class_number, datagram_members, finished_members, key_members,
+};
+use crate::moment::Moment;
+use crate::status::{
+    Counters, Ending, EntityStatus, LogStatus, Notice, RemoteStatus, TransactionStatus, UserStatus,
+};
+use answer_texts::phase_name;
+use indications::Side;
+use lane_table::{Glance, GlancedFile};
+use std::alloc::{AllocError, Global};
+
+/// Adds the line of the entity.
+pub fn push_entity(
+    alloc: Global,
+    text: &mut String,
+    entity: &EntityStatus<'_>,
+) -> Result<(), AllocError>
+    ensures added { OnOk result (string_bytes text.new ≡ string_bytes text.old ++ entity_line entity.entry.now) }
+    ensures kept { OnErr result (string_bytes text.new ≡ string_bytes text.old) }
+{
+    let mut line = Line::begin(alloc)?;
+    entity_head(&mut line, entity)?;
+    entity_state(&mut line, entity)?;
+    counters_object(&mut line, &entity.counters)?;
+    line.end(text)
+}
+
+// Who it is, and since when.
+fn entity_head(line: &mut Line, entity: &EntityStatus<'_>) -> Result<(), AllocError>
+    ensures { OnOk result (line.new ≡ line.old ++ entity_head entity.entry.now) }
+{
+    line.text("kind", "entity")?;
+    line.number("id", entity.id.0)?;
+    line.text("version", entity.version)?;
+    line.moment("started", entity.started)
+}
+
+// How it stands.
+fn entity_state(line: &mut Line, entity: &EntityStatus<'_>) -> Result<(), AllocError>
+    ensures { OnOk result (line.new ≡ line.old ++ entity_state entity.entry.now) }
+{
+    line.moment("now", entity.now)?;
+    line.number("workers", entity.workers as u64)?;
+    line.number("clients", entity.clients as u64)?;
+    line.number("events", entity.events)
+}
+
+#[tactic(auto, unfolding(crate::specs::Members::object_member))]
+fn counters_object(line: &mut Line, counters: &Counters) -> Result<(), AllocError>
+    ensures { OnOk result (line.new
+        ≡ line.old ++ object_member (codes "counters") (counter_members counters.now)) }
+{
+    line.begin_object("counters")?;
+    counter_members(line, counters)?;
+    line.end_object()
+}
+
+fn counter_members(line: &mut Line, counters: &Counters) -> Result<(), AllocError>
+    ensures { OnOk result (line.new ≡ line.old ++ counter_members counters.now) }
+{
+    traffic_members(line, counters)?;
+    trouble_members(line, counters)?;
+    outcome_members(line, counters)
+}
+
+fn traffic_members(line: &mut Line, counters: &Counters) -> Result<(), AllocError>
+    ensures { OnOk result (line.new ≡ line.old ++ traffic_members counters.now) }
+{
+    line.four_numbers(
+        ("datagrams_in", counters.datagrams_in),
+        ("octets_in", counters.octets_in),
+        ("datagrams_out", counters.datagrams_out),
+        ("octets_out", counters.octets_out),
+    )
+}
+
+fn trouble_members(line: &mut Line, counters: &Counters) -> Result<(), AllocError>
+    ensures { OnOk result (line.new ≡ line.old ++ trouble_members counters.now) }
+{
+    line.four_numbers(
+        ("failed_sends", counters.failed_sends),
+        ("failed_reads", counters.failed_reads),
+        ("foreign_datagrams", counters.foreign_datagrams),
+        ("decode_faults", counters.decode_faults),
+    )
+}
+
+fn outcome_members(line: &mut Line, counters: &Counters) -> Result<(), AllocError>
+    ensures { OnOk result (line.new ≡ line.old ++ outcome_members counters.now) }
+{
+    line.four_numbers(
+        ("refused", counters.refused),
+        ("stored", counters.stored),
+        ("failed_stores", counters.failed_stores),
+        ("dropped_clients", counters.dropped_clients),
+    )
+}
+
+/// Adds the line of the file that events are written to.
+pub fn push_log(alloc: Global, text: &mut String, log: &LogStatus) -> Result<(), AllocError>
+    ensures added { OnOk result (string_bytes text.new ≡ string_bytes text.old ++ log_line log.now) }
+    ensures kept { OnErr result (string_bytes text.new ≡ string_bytes text.old) }
+{
+    let mut line = Line::begin(alloc)?;
+    line.text("kind", "log")?;
+    line.flag("failing", log.failing)?;
+    line.number("written", log.written)?;
+    line.number("lost", log.lost)?;
+    line.end(text)
+}
+
+/// Adds the line of a user.
+pub fn push_user(alloc: Global, text: &mut String, user: &UserStatus<'_>) -> Result<(), AllocError>
+    ensures added { OnOk result (string_bytes text.new ≡ string_bytes text.old ++ user_line user.entry.now) }
+    ensures kept { OnErr result (string_bytes text.new ≡ string_bytes text.old) }
+{
+    let mut line = Line::begin(alloc)?;
+    line.text("kind", "user")?;
+    line.text("name", user.name)?;
+    line.number("waiting", user.waiting as u64)?;
+    line.number("capacity", user.capacity as u64)?;
+    line.end(text)
+}
+
+/// Adds the line of the transaction that a lane runs or ran last.
+pub fn push_transaction(
+    alloc: Global,
+    text: &mut String,
+    transaction: &TransactionStatus<'_>,
+) -> Result<(), AllocError>
+    ensures added { OnOk result (string_bytes text.new ≡ string_bytes text.old ++ transaction_line transaction.entry.now) }
+    ensures kept { OnErr result (string_bytes text.new ≡ string_bytes text.old) }
+{
+    let mut line = Line::begin(alloc)?;
+    transaction_head(&mut line, transaction)?;
+    transaction_part(&mut line, transaction.glance)?;
+    transaction_file(&mut line, transaction.glance)?;
+    transaction_end(&mut line, transaction)?;
+    line.end(text)
+}
+
+// Which transaction it is, and whose.
+fn transaction_head(line: &mut Line, transaction: &TransactionStatus<'_>) -> Result<(), AllocError>
+    ensures { OnOk result (line.new ≡ line.old ++ transaction_head transaction.entry.now) }
+{
+    line.text("kind", "transaction")?;
+    key_members(line, transaction.glance.key)?;
+    line.text("user", transaction.user)?;
+    line.number("lane", transaction.lane as u64)
+}
+
+// What this end of it does, and with whom.
+fn transaction_part(line: &mut Line, glance: &Glance) -> Result<(), AllocError>
+    ensures { OnOk result (line.new ≡ line.old ++ transaction_part glance.now) }
+{
+    line.text("role", role_name(glance.end))?;
+    line.number("peer", glance.peer.0)?;
+    line.number("class", class_number(glance.class))?;
+    line.text("state", state_name(glance))
+}
+
+// Its file, and how far it came.
+fn transaction_file(line: &mut Line, glance: &Glance) -> Result<(), AllocError>
+    ensures { OnOk result (line.new ≡ line.old ++ transaction_file glance.now) }
+{
+    file_members(line, &glance.file)?;
+    line.number("octets", u64::from(glance.progress))?;
+    line.number("events", u64::from(glance.entries))
+}
+
+fn file_members(line: &mut Line, file: &Option<GlancedFile>) -> Result<(), AllocError>
+    ensures { OnOk result (line.new ≡ line.old ++ file_members file.now) }
+{
+    let Some(file) = file else {
+        return Ok(());
+    };
+    line.octets("file", file.source_name.as_slice())?;
+    line.octets("to", file.destination_name.as_slice())?;
+    line.number("size", file.size)
+}
+
+// What the server saw of it, and a notice.
+fn transaction_end(line: &mut Line, transaction: &TransactionStatus<'_>) -> Result<(), AllocError>
+    ensures { OnOk result (line.new ≡ line.old ++ transaction_end transaction.entry.now) }
+{
+    last_members(line, transaction.last)?;
+    ending_members(line, transaction.ending)?;
+    notice_members(line, transaction.notice)
+}
+
+fn last_members(line: &mut Line, last: Option<Moment>) -> Result<(), AllocError>
+    ensures { OnOk result (line.new ≡ line.old ++ last_members last) }
+{
+    match last {
+        None => Ok(()),
+        Some(last) => line.moment("last", last),
+    }
+}
+
+fn ending_members(line: &mut Line, ending: Option<Ending>) -> Result<(), AllocError>
+    ensures { OnOk result (line.new ≡ line.old ++ ending_members ending) }
+{
+    match ending {
+        None => Ok(()),
+        Some(ending) => end_members(line, ending),
+    }
+}
+
+fn end_members(line: &mut Line, ending: Ending) -> Result<(), AllocError>
+    ensures { OnOk result (line.new ≡ line.old ++ end_members ending) }
+{
+    match ending {
+        Ending::Finished {
+            condition,
+            delivery,
+            status,
+        } => finished_members(line, condition, delivery, status),
+        Ending::Abandoned { condition } => line.number("condition", u64::from(condition.code())),
+    }
+}
+
+fn notice_members(line: &mut Line, notice: Option<Notice>) -> Result<(), AllocError>
+    ensures { OnOk result (line.new ≡ line.old ++ notice_members notice) }
+{
+    match notice {
+        None => Ok(()),
+        Some(notice) => line.text("notice", notice_name(notice)),
+    }
+}
+
+fn notice_name(notice: Notice) -> &'static str
+    ensures { result.now ≡ notice_name notice }
+{
+    match notice {
+        Notice::JournalFull => "journal-full",
+        Notice::LastNumbers => "last-numbers",
+    }
+}
+
+fn role_name(end: Side) -> &'static str
+    ensures { result.now ≡ role_name end }
+{
+    match end {
+        Side::Sender => "sender",
+        Side::Receiver => "receiver",
+    }
+}
+
+fn state_name(glance: &Glance) -> &'static str
+    ensures { result.now ≡ state_name glance.now }
+{
+    if glance.has_ended {
+        "ended"
+    } else {
+        phase_name(glance.phase)
+    }
+}
+
+/// Adds the line of a remote entity.
+pub fn push_remote(
+    alloc: Global,
+    text: &mut String,
+    remote: &RemoteStatus<'_>,
+) -> Result<(), AllocError>
+    ensures added { OnOk result (string_bytes text.new ≡ string_bytes text.old ++ remote_line remote.entry.now) }
+    ensures kept { OnErr result (string_bytes text.new ≡ string_bytes text.old) }
+{
+    let mut line = Line::begin(alloc)?;
+    remote_head(&mut line, remote)?;
+    line.flag("held", remote.held)?;
+    crossing_members(&mut line, remote)?;
+    line.number("failed_sends", remote.failed_sends)?;
+    line.end(text)
+}
+
+// Which one it is, and where.
+fn remote_head(line: &mut Line, remote: &RemoteStatus<'_>) -> Result<(), AllocError>
+    ensures { OnOk result (line.new ≡ line.old ++ remote_head remote.entry.now) }
+{
+    line.text("kind", "remote")?;
+    line.number("id", remote.id.0)?;
+    address_members(line, remote.address)
+}
+
+fn address_members(line: &mut Line, address: Option<&str>) -> Result<(), AllocError>
+    ensures { OnOk result (line.new ≡ line.old ++ address_members (option_copied address.entry)) }
+{
+    match address {
+        None => Ok(()),
+        Some(address) => line.text("address", address),
+    }
+}
+
+fn crossing_members(line: &mut Line, remote: &RemoteStatus<'_>) -> Result<(), AllocError>
+    ensures { OnOk result (line.new ≡ line.old ++ crossing_members remote.entry.now) }
+{
+    line.four_numbers(
+        ("datagrams_in", remote.datagrams_in),
+        ("octets_in", remote.octets_in),
+        ("datagrams_out", remote.datagrams_out),
+        ("octets_out", remote.octets_out),
+    )
+}
+
+/// Adds the line of a kind of refusal, whose last case came at a moment.
+pub fn push_refusal(
+    alloc: Global,
+    text: &mut String,
+    case: &RefusedCase<'_>,
+    last: Moment,
+) -> Result<(), AllocError>
+    ensures added { OnOk result (string_bytes text.new ≡ string_bytes text.old ++ refusal_line case.entry.now last) }
+    ensures kept { OnErr result (string_bytes text.new ≡ string_bytes text.old) }
+{
+    let mut line = Line::begin(alloc)?;
+    line.text("kind", "refusal")?;
+    case_members(&mut line, "number", case)?;
+    line.moment("last", last)?;
+    datagram_members(&mut line, case.datagram)?;
+    line.end(text)
+}
