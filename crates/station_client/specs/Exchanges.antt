@@ -1,0 +1,16 @@
+-- Meaning. What came of one command so far: its answer, and the events in between.
+use Rattle.std.specs.Prelude.{◌++◌, ℕ, List, [], ◌∷◌, drop}
+use Rattle.station_client.specs.declared.lines.LineKind.{LineKind}
+use Rattle.station_client.specs.declared.lines.LineKind.TheVariants as kinds
+
+-- the lines of the answer, each with its line feed, and the events without their word, the oldest first
+pub record ExchangeValue : Type 0 where
+  pub answer : List ℕ
+  pub events : List (List ℕ)
+
+-- what a line adds
+abbrev pub with_line : LineKind → List ℕ → ExchangeValue → ExchangeValue
+with_line kinds.Answer line old = record old { answer = old.answer ++ line ++ 10 ∷ [] }
+with_line kinds.Event line old = record old { events = old.events ++ drop 6 line ∷ [] }
+with_line kinds.End line old = old
+with_line kinds.Busy line old = old

@@ -1,0 +1,96 @@
+//! One command's answer, and the events that came in between.
+ghost use Rattle.std.specs.Prelude.{◌≡◌, ◌≤◌, [], length, OnOk, OnErr};
+ghost use Rattle.station_client.specs.Exchanges.{with_line};
+
+use crate::fault::StationFault;
+use crate::lines::LineKind;
+use std::alloc::Global;
+use std::collections::VecDeque;
+use std::marker::Model;
+use std::mem;
+
+/// The most octets of an answer.
+pub const ANSWER_OCTETS: usize = 32 * 1024 * 1024;
+
+// How many octets stand before an event's own text.
+const EVENT_WORD_OCTETS: usize = 6;
+
+/// The answer so far, and the events that nobody took yet.
+#[derive(Debug, Drop)]
+pub struct Exchange {
+    answer: Vec<u8>,
+    events: VecDeque<Vec<u8>>,
+}
+
+impl Model for Exchange {
+    ghost use Rattle.std.specs.Prelude.{map};
+    ghost use Rattle.station_client.specs.Exchanges.{ExchangeValue};
+
+    ghost Value = { ExchangeValue };
+
+    ghost view = { λ e. record { answer = e.answer.items; events = map (λ event. event.items) e.events.items } };
+}
+
+impl Exchange {
+    /// Nothing came.
+    pub fn new(alloc: Global) -> Exchange
+        ensures { result ≡ record { answer = []; events = [] } }
+    {
+        Exchange {
+            answer: Vec::new(alloc),
+            events: VecDeque::new(alloc),
+        }
+    }
+
+    /// Adds a line of a kind.
+    pub fn add(&mut self, alloc: Global, kind: LineKind, line: &[u8]) -> Result<(), StationFault>
+        ensures ok { OnOk result (self.new ≡ with_line kind line.now self.old) }
+        ensures err { OnErr result (self.new ≡ self.old) }
+    {
+        match kind {
+            LineKind::Answer => self.add_answer(line),
+            LineKind::Event => self.add_event(alloc, line),
+            LineKind::End | LineKind::Busy => Ok(()),
+        }
+    }
+
+    // Adds a line of the answer.
+    fn add_answer(&mut self, line: &[u8]) -> Result<(), StationFault>
+        ensures ok { OnOk result (self.new ≡ with_line LineKind.Answer line.now self.old) }
+        ensures err { OnErr result (self.new ≡ self.old) }
+    {
+        if self.answer.len() > ANSWER_OCTETS || line.len() >= ANSWER_OCTETS {
+            return Err(StationFault::TooLong);
+        }
+        self.answer.try_reserve(line.len() + 1)?;
+        self.answer.extend_from_slice(line)?;
+        self.answer.extend_from_slice(b"\n".as_slice())?;
+        Ok(())
+    }
+
+    // Adds an event.
+    fn add_event(&mut self, alloc: Global, line: &[u8]) -> Result<(), StationFault>
+        ensures ok { OnOk result (self.new ≡ with_line LineKind.Event line.now self.old) }
+        ensures err { OnErr result (self.new ≡ self.old) }
+    {
+        let text = line.get(EVENT_WORD_OCTETS..).unwrap_or(b"".as_slice());
+        let kept = Vec::from_slice(alloc, text)?;
+        if self.events.push_back(kept).is_err() {
+            return Err(StationFault::NoMemory);
+        }
+        Ok(())
+    }
+
+    /// Takes the answer.
+    pub fn take_answer(&mut self, alloc: Global) -> Vec<u8>
+        ensures answer { result.items ≡ self.old.answer }
+        ensures left { self.new ≡ record self.old { answer = [] } }
+    {
+        mem::replace(&mut self.answer, Vec::new(alloc))
+    }
+
+    /// Takes the oldest event.
+    pub fn take_event(&mut self) -> Option<Vec<u8>> {
+        self.events.pop_front()
+    }
+}

@@ -1,0 +1,52 @@
+use std::alloc::AllocError;
+
+/// Why a station doesn't answer.
+#[derive(Clone, Copy, Debug, PartialEq, Eq)]
+pub enum StationFault {
+    /// Nobody listens at the path.
+    NoServer,
+    /// The path isn't one that a socket can have, or it isn't ours to use.
+    BadPath,
+    /// The station has no seat for one client more.
+    Busy,
+    /// The station ended, or cut us off.
+    Gone,
+    /// No whole answer came in time.
+    TimedOut,
+    /// A line or an answer was longer than those of a station are.
+    TooLong,
+    /// The command has a line feed inside.
+    BadCommand,
+    /// Memory ran out.
+    NoMemory,
+    /// The system refuses a call.
+    System,
+}
+
+impl StationFault {
+    /// What happened, as words for a message.
+    pub fn text(self) -> &'static str {
+        match self {
+            StationFault::NoServer => "no server answers at the control socket",
+            StationFault::BadPath => "the control socket can't be used",
+            StationFault::Busy => "the server has no seat for another client",
+            StationFault::Gone => "the server went away",
+            StationFault::TimedOut => "the server didn't answer in time",
+            StationFault::TooLong => "the server's answer is too long",
+            StationFault::BadCommand => "a command is one line",
+            StationFault::NoMemory => "no memory",
+            StationFault::System => "the system refuses a call",
+        }
+    }
+}
+
+impl From<AllocError> for StationFault {
+    ghost use Rattle.std.specs.Prelude.{◌≡◌};
+    ghost use Rattle.station_client.specs.declared.fault.StationFault.TheVariants as fault;
+
+    ghost from_gives = { λ _ e. e ≡ fault.NoMemory };
+
+    fn from(_lack: AllocError) -> StationFault {
+        StationFault::NoMemory
+    }
+}

@@ -1,0 +1,14 @@
+//! A station's control socket from the client's side: commands, answers, events.
+#![tactic(auto)]
+
+mod exchange;
+mod fault;
+mod lines;
+mod station;
+#[cfg(test)]
+mod tests;
+
+pub use exchange::{ANSWER_OCTETS, Exchange};
+pub use fault::StationFault;
+pub use lines::{Incoming, LINE_OCTETS, LineKind, kind_of};
+pub use station::Station;

@@ -1,0 +1,236 @@
+//! The control socket itself.
+use crate::exchange::Exchange;
+use crate::fault::StationFault;
+use crate::lines::{Incoming, LINE_OCTETS, LineKind};
+use std::alloc::Global;
+use std::io::{ErrorKind, Read, Write};
+use std::net::Net;
+use std::os::unix::net::UnixStream;
+use std::sync::Wait;
+use std::time::{Clock, Duration};
+use std::{io, thread};
+
+// How many octets are asked of the system at once.
+const BLOCK_OCTETS: usize = 16 * 1024;
+
+// For how many milliseconds one rests before the next try to connect.
+const REST_MILLIS: u64 = 50;
+
+/// A station, by its control socket. After a fault every later call gives the same fault, but for `BadCommand`, which leaves
+/// all as it was.
+#[derive(Drop)]
+pub struct Station {
+    alloc: Global,
+    stream: UnixStream,
+    block: Vec<u8>,
+    line: Vec<u8>,
+    incoming: Incoming,
+    exchange: Exchange,
+    fault: Option<StationFault>,
+}
+
+impl Station {
+    /// Connects to the control socket at a path. It asks for nothing yet, so a station without a free seat says so at the
+    /// first `ask` or `next_event`.
+    pub fn connect<R: Net>(rt: &R, alloc: Global, path: &str) -> Result<Station, StationFault> {
+        let stream = UnixStream::connect(rt, path).map_err(|error| fault_of_connect(&error))?;
+        Ok(Station {
+            alloc,
+            stream,
+            block: vec![in alloc; 0; BLOCK_OCTETS]?,
+            line: Vec::new(alloc),
+            incoming: Incoming::new(alloc),
+            exchange: Exchange::new(alloc),
+            fault: None,
+        })
+    }
+
+    /// As `connect`, and where no server is there tries again until the limit of time is over.
+    pub fn connect_within<R: Net + Clock + Wait>(
+        rt: &R,
+        alloc: Global,
+        path: &str,
+        limit: Duration,
+    ) -> Result<Station, StationFault> {
+        let until = moment_behind(rt, limit)?;
+        for _ in rt.forever() {
+            match Station::connect(rt, alloc, path) {
+                Err(StationFault::NoServer) if !left_until(rt, until)?.is_zero() => {
+                    thread::sleep(rt, Duration::from_millis(REST_MILLIS));
+                }
+                ended => return ended,
+            }
+        }
+        Err(StationFault::NoServer)
+    }
+
+    /// Sends a command, a line without its line feed, and gives the lines of its answer, each with its line feed and without
+    /// the dot. Events that come in between wait for `next_event`.
+    pub fn ask<R: Clock + Wait>(
+        &mut self,
+        rt: &R,
+        command: &[u8],
+        limit: Duration,
+    ) -> Result<Vec<u8>, StationFault> {
+        self.check()?;
+        if command.contains(&b'\n') {
+            return Err(StationFault::BadCommand);
+        }
+        let answered = self.exchange_line(rt, command, limit);
+        self.keep_fault(answered)
+    }
+
+    /// The next event's JSON, without its word `event`. None where none came within the limit of time. The station tells events
+    /// once it was asked to `follow`.
+    pub fn next_event<R: Clock + Wait>(
+        &mut self,
+        rt: &R,
+        limit: Duration,
+    ) -> Result<Option<Vec<u8>>, StationFault> {
+        if let Some(event) = self.exchange.take_event() {
+            return Ok(Some(event));
+        }
+        self.check()?;
+        let found = match self.wait_event(rt, limit) {
+            Err(StationFault::TimedOut) => Ok(None),
+            found => found,
+        };
+        self.keep_fault(found)
+    }
+
+    // The fault of an earlier call, if there was one.
+    fn check(&self) -> Result<(), StationFault> {
+        match self.fault {
+            Some(fault) => Err(fault),
+            None => Ok(()),
+        }
+    }
+
+    // Keeps a fault for the calls that follow.
+    fn keep_fault<T>(&mut self, outcome: Result<T, StationFault>) -> Result<T, StationFault> {
+        if let Err(fault) = &outcome {
+            self.fault = Some(*fault);
+        }
+        outcome
+    }
+
+    // Sends a command and reads until the end of its answer.
+    fn exchange_line<R: Clock + Wait>(
+        &mut self,
+        rt: &R,
+        command: &[u8],
+        limit: Duration,
+    ) -> Result<Vec<u8>, StationFault> {
+        let until = moment_behind(rt, limit)?;
+        self.send(command, limit)?;
+        for _ in rt.forever() {
+            if self.read_line(rt, until)? == LineKind::End {
+                break;
+            }
+        }
+        Ok(self.exchange.take_answer(self.alloc))
+    }
+
+    // Sends a command. Where the station has closed its end, what it said before is still to be read.
+    fn send(&mut self, command: &[u8], limit: Duration) -> Result<(), StationFault> {
+        let mut text = Vec::with_capacity(self.alloc, command.len().saturating_add(1))?;
+        text.extend_from_slice(command)?;
+        text.extend_from_slice(b"\n".as_slice())?;
+        let sent = self
+            .stream
+            .set_write_timeout(Some(limit.max(Duration::from_millis(1))))
+            .and_then(|()| (&self.stream).write_all(text.as_slice()));
+        match sent {
+            Err(error) if error.kind() == ErrorKind::BrokenPipe => Ok(()),
+            Err(error) => Err(fault_of(&error)),
+            Ok(()) => Ok(()),
+        }
+    }
+
+    // Reads until an event came.
+    fn wait_event<R: Clock + Wait>(
+        &mut self,
+        rt: &R,
+        limit: Duration,
+    ) -> Result<Option<Vec<u8>>, StationFault> {
+        let until = moment_behind(rt, limit)?;
+        for _ in rt.forever() {
+            if self.read_line(rt, until)? == LineKind::Event {
+                break;
+            }
+        }
+        Ok(self.exchange.take_event())
+    }
+
+    // Reads the next line and adds it to what came; what it was.
+    fn read_line<R: Clock + Wait>(
+        &mut self,
+        rt: &R,
+        until: Duration,
+    ) -> Result<LineKind, StationFault> {
+        for _ in rt.forever() {
+            match self.incoming.next_line(&mut self.line)? {
+                Some(LineKind::Busy) => return Err(StationFault::Busy),
+                Some(kind) => {
+                    self.exchange.add(self.alloc, kind, self.line.as_slice())?;
+                    return Ok(kind);
+                }
+                None if self.incoming.len() > LINE_OCTETS => return Err(StationFault::TooLong),
+                None => self.read_more(rt, until)?,
+            }
+        }
+        Err(StationFault::System)
+    }
+
+    // Reads what the station sent, once.
+    fn read_more<R: Clock>(&mut self, rt: &R, until: Duration) -> Result<(), StationFault> {
+        let left = left_until(rt, until)?;
+        if left.is_zero() {
+            return Err(StationFault::TimedOut);
+        }
+        self.stream
+            .set_read_timeout(Some(left))
+            .map_err(|error| fault_of(&error))?;
+        match (&self.stream).read(self.block.as_mut_slice()) {
+            Ok(0) => Err(StationFault::Gone),
+            Ok(count) => self.incoming.push(&self.block[..count]),
+            Err(error) if error.kind() == ErrorKind::Interrupted => Ok(()),
+            Err(error) => Err(fault_of(&error)),
+        }
+    }
+}
+
+// The moment that comes so long after now, on the system's own clock.
+fn moment_behind<R: Clock>(rt: &R, limit: Duration) -> Result<Duration, StationFault> {
+    let now = rt.monotonic().map_err(|_| StationFault::System)?;
+    Ok(now.saturating_add(limit))
+}
+
+// How long it is until a moment.
+fn left_until<R: Clock>(rt: &R, until: Duration) -> Result<Duration, StationFault> {
+    let now = rt.monotonic().map_err(|_| StationFault::System)?;
+    Ok(until.saturating_sub(now))
+}
+
+// Why there is no connection.
+fn fault_of_connect(error: &io::Error) -> StationFault {
+    match error.kind() {
+        ErrorKind::NotFound | ErrorKind::ConnectionRefused => StationFault::NoServer,
+        ErrorKind::PermissionDenied | ErrorKind::InvalidInput | ErrorKind::NotADirectory => {
+            StationFault::BadPath
+        }
+        _ => fault_of(error),
+    }
+}
+
+// Why reading or writing failed.
+fn fault_of(error: &io::Error) -> StationFault {
+    match error.kind() {
+        ErrorKind::WouldBlock | ErrorKind::TimedOut => StationFault::TimedOut,
+        ErrorKind::BrokenPipe | ErrorKind::ConnectionReset | ErrorKind::UnexpectedEof => {
+            StationFault::Gone
+        }
+        ErrorKind::OutOfMemory => StationFault::NoMemory,
+        _ => StationFault::System,
+    }
+}
