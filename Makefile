@@ -71,6 +71,8 @@ test:
 	@examples/transfer.sh $(server) $(put) 1 1048576 0 0
 	@examples/transfer.sh $(server) $(put) 1 4096 0 0 --closure
 	@tests/server.py $(server)
+	@tests/control.py $(server)
+	@tests/numbers.py $(server) $(put)
 	@tests/manual.sh $(server) $(put)
 
 # how fast and how large a run is; no part of the gate

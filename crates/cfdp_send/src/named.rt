@@ -11,6 +11,7 @@ use std::alloc::Global;
 use std::io::Write;
 use std::marker::Brand;
 use std::net::UdpSocket;
+use std::rt::Files;
 use std::sync::Wait;
 use std::thread::Threads;
 use std::time::Clock;
@@ -18,7 +19,7 @@ use user_queues::Queues;
 
 /// Opens an entity with its queues, and puts.
 pub(crate) fn put_named<
-    R: Threads + Wait + Clock + Copy + Drop + Send + Sync,
+    R: Threads + Wait + Clock + Files + Copy + Drop + Send + Sync,
     W: Write + Drop,
     P: Write + Drop,
 >(
@@ -35,7 +36,7 @@ pub(crate) fn put_named<
 
 fn put_opened<
     N: Names + Send + Sync,
-    R: Threads + Wait + Clock + Copy + Drop + Send + Sync,
+    R: Threads + Wait + Clock + Files + Copy + Drop + Send + Sync,
     W: Write + Drop,
     P: Write + Drop,
 >(

@@ -4,7 +4,9 @@ use crate::outputs::Outputs;
 use crate::threads::Wanted;
 use cfdp_types::{PutFault, PutRequest};
 use entity_config::{Config, Setting};
+use program_numbers::HeldNumbers;
 use program_start::{ProgramFault, load_config, load_file, open_socket, tell_fault};
+use program_station::Sources;
 use program_words::{PutWords, WordsFault, put_help, put_version, put_words};
 use std::alloc::Global;
 use std::io::Write;
@@ -55,9 +57,12 @@ fn start<
     let mut outputs = outputs;
     match put_words(alloc, words) {
         Ok(words) => {
-            let config = config_by(rt, alloc, &words)?;
-            let wanted = wanted_by(rt, alloc, &config, &words)?;
+            let mut config = config_by(rt, alloc, &words)?;
+            let mut wanted = wanted_by(rt, alloc, &config, &words)?;
             let socket = open_socket(rt, words.bind)?;
+            if let Some(path) = words.numbers {
+                wanted.numbers = Some(HeldNumbers::open(rt, alloc, path, &mut config)?);
+            }
             put_named(rt, alloc, config, &socket, wanted, outputs)
         }
         Err(WordsFault::Help) => {
@@ -112,6 +117,12 @@ fn wanted_by<R: Files>(
             user,
             put: put.with_closure(words.closure),
             octets_a_second: words.rate,
+            sources: if words.known_sources {
+                Sources::KnownAlone
+            } else {
+                Sources::Any
+            },
+            numbers: None,
         }),
         Err(PutFault::NoMemory) => Err(ProgramFault::NoMemory),
         Err(_) => Err(ProgramFault::Usage),

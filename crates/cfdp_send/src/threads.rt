@@ -7,14 +7,17 @@ use cfdp_types::{PutRequest, TxnKey};
 use entity_routing::Request;
 use program_desk::{Desk, Step, Urgency};
 use program_link::PduSender;
+use program_numbers::HeldNumbers;
 use program_start::ProgramFault;
-use program_station::{REST_MS, Station, flat, moment};
+use program_station::{REST_MS, Sources, Station, flat, moment};
+use program_tallies::Tallies;
 use program_threads::{MainThread, WayIn, run_beside};
 use shared_entity::{Entity, EntityRefusal};
 use shared_lanes::{Names, NoGate};
 use std::alloc::{AllocError, Global};
 use std::io::Write;
 use std::net::UdpSocket;
+use std::rt::Files;
 use std::sync::Wait;
 use std::thread;
 use std::thread::Threads;
@@ -27,12 +30,15 @@ const STEPS: usize = 1_024;
 // How long the main thread sleeps at most, in milliseconds.
 const LONGEST_SLEEP_MS: u64 = 60_000;
 
-/// What is put, by which user, and how fast its octets may leave.
+/// What is put, by which user, how fast its octets may leave, and whose answers are heard.
 #[derive(Drop)]
 pub(crate) struct Wanted {
     pub(crate) user: usize,
     pub(crate) put: PutRequest,
     pub(crate) octets_a_second: Option<u64>,
+    pub(crate) sources: Sources,
+    /// The file of its number, where there is one.
+    pub(crate) numbers: Option<HeldNumbers>,
 }
 
 // What the main thread has.
@@ -44,6 +50,7 @@ struct Putter<'a, N: Names, R: Copy, W: Drop, P: Drop> {
     /// The steps that are to be noted, the last one first.
     steps: Vec<Step>,
     station: Station<'a, N, R, RefusingStore>,
+    numbers: Option<HeldNumbers>,
     ports: Vec<UserPort>,
     user: usize,
     /// What is put, until it is.
@@ -56,7 +63,7 @@ struct Putter<'a, N: Names, R: Copy, W: Drop, P: Drop> {
 /// Puts over an opened entity and its socket until the transaction has ended; the exit status then.
 pub(crate) fn put_over<
     N: Names + Send + Sync,
-    R: Threads + Wait + Clock + Copy + Drop + Send + Sync,
+    R: Threads + Wait + Clock + Files + Copy + Drop + Send + Sync,
     W: Write + Drop,
     P: Write + Drop,
 >(
@@ -69,7 +76,10 @@ pub(crate) fn put_over<
     outputs: Outputs<W, P>,
 ) -> Result<u8, ProgramFault> {
     let desk = Desk::new(alloc, STEPS, 1)?;
-    put_at(rt, alloc, entity, ports, socket, &desk, wanted, outputs)
+    let tallies = Tallies::new(alloc, 1, entity.config().remotes())?;
+    put_at(
+        rt, alloc, entity, ports, socket, &desk, &tallies, wanted, outputs,
+    )
 }
 
 // Puts at a desk, all of whose room is made; so is that of the threads before the first one starts. The worker has the main
@@ -77,7 +87,7 @@ pub(crate) fn put_over<
 fn put_at<
     'x,
     N: Names + Send + Sync,
-    R: Threads + Wait + Clock + Copy + Drop + Send + Sync,
+    R: Threads + Wait + Clock + Files + Copy + Drop + Send + Sync,
     W: Write + Drop,
     P: Write + Drop,
 >(
@@ -87,11 +97,25 @@ fn put_at<
     ports: Vec<UserPort>,
     socket: &'x UdpSocket,
     desk: &'x Desk,
+    tallies: &'x Tallies,
     wanted: Wanted,
     outputs: Outputs<W, P>,
 ) -> Result<u8, ProgramFault> {
-    let putter = putter_over(rt, alloc, entity, ports, socket, desk, wanted, outputs)?;
-    let way_in = WayIn::new(rt, alloc, 1, entity.config(), socket, desk, Urgency::Soon)?;
+    let sources = wanted.sources;
+    let putter = putter_over(
+        rt, alloc, entity, ports, socket, desk, tallies, wanted, outputs,
+    )?;
+    let config = entity.config();
+    let way_in = WayIn::new(
+        rt,
+        alloc,
+        tallies,
+        config,
+        socket,
+        desk,
+        Urgency::Soon,
+        sources,
+    )?;
     run_beside(rt, alloc, entity, socket, desk, way_in, putter)
 }
 
@@ -102,15 +126,18 @@ fn putter_over<'x, N: Names, R: Wait + Clock + Copy, W: Drop, P: Drop>(
     ports: Vec<UserPort>,
     socket: &'x UdpSocket,
     desk: &'x Desk,
+    tallies: &'x Tallies,
     wanted: Wanted,
     outputs: Outputs<W, P>,
 ) -> Result<Putter<'x, N, R, W, P>, AllocError> {
-    let sender = PduSender::new(alloc, socket, entity.config())?;
+    let sender = PduSender::new(alloc, socket, entity.config(), &tallies.own)?;
     let steps = Vec::with_capacity(alloc, desk.step_room())?;
     let Wanted {
         user,
         put,
         octets_a_second,
+        numbers,
+        ..
     } = wanted;
     let size = put.file().as_slice().len() as u64;
     let store = RefusingStore { refused: 0 };
@@ -120,6 +147,7 @@ fn putter_over<'x, N: Names, R: Wait + Clock + Copy, W: Drop, P: Drop>(
         desk,
         steps,
         station: Station::new(rt, alloc, entity, sender, store, octets_a_second),
+        numbers,
         ports,
         user,
         put: Some(put),
@@ -128,18 +156,21 @@ fn putter_over<'x, N: Names, R: Wait + Clock + Copy, W: Drop, P: Drop>(
     })
 }
 
-impl<'a, N: Names, R: Wait + Clock + Copy, W: Write + Drop, P: Write + Drop> MainThread
+impl<'a, N: Names, R: Wait + Clock + Files + Copy, W: Write + Drop, P: Write + Drop> MainThread
     for Putter<'a, N, R, W, P> {
     /// Puts, and works until the transaction has ended.
     fn work(self) -> Result<u8, ProgramFault> {
         let mut putter = self;
         let ended = put_and_work(&mut putter);
         putter.outputs.end_line();
+        if let Some(numbers) = &putter.numbers {
+            numbers.leave(putter.rt);
+        }
         ended
     }
 }
 
-fn put_and_work<N: Names, R: Wait + Clock + Copy, W: Write + Drop, P: Write + Drop>(
+fn put_and_work<N: Names, R: Wait + Clock + Files + Copy, W: Write + Drop, P: Write + Drop>(
     putter: &mut Putter<'_, N, R, W, P>,
 ) -> Result<u8, ProgramFault> {
     let (rt, desk) = (putter.rt, putter.desk);
@@ -170,7 +201,7 @@ fn put_and_work<N: Names, R: Wait + Clock + Copy, W: Write + Drop, P: Write + Dr
     Ok(2)
 }
 
-impl<'a, N: Names, R: Wait + Clock + Copy, W: Drop, P: Drop> Putter<'a, N, R, W, P> {
+impl<'a, N: Names, R: Wait + Clock + Files + Copy, W: Drop, P: Drop> Putter<'a, N, R, W, P> {
     // Asks the entity for the Put.
     fn begin(&mut self) -> Result<TxnKey, ProgramFault> {
         let entity = self.station.entity();
@@ -181,6 +212,9 @@ impl<'a, N: Names, R: Wait + Clock + Copy, W: Drop, P: Drop> Putter<'a, N, R, W,
         let request = Request::Put(0, put);
         if !entity.may_request(self.user, &request) {
             return Err(ProgramFault::Usage);
+        }
+        if let Some(numbers) = &mut self.numbers {
+            numbers.cover(self.rt)?;
         }
         match flat(entity.request(self.rt, &NoGate, self.user, request)) {
             Ok(done) => {

@@ -4,7 +4,9 @@
 
 mod answers;
 mod commands;
+mod console;
 mod named;
+mod reports;
 mod serving;
 mod threads;
 mod working;

@@ -1,7 +1,7 @@
 //! The entity of a run, over queues that bear the run's name.
 ghost use Rattle.shared_entity.specs.Opening.{AreQueuesFor};
 
-use crate::threads::serve_over;
+use crate::threads::{Given, Sockets, serve_over};
 use entity_config::Config;
 use program_start::ProgramFault;
 use program_words::ServerWords;
@@ -10,7 +10,6 @@ use shared_lanes::Names;
 use std::alloc::Global;
 use std::io::{Read, Write};
 use std::marker::Brand;
-use std::net::UdpSocket;
 use std::rt::Files;
 use std::sync::Wait;
 use std::thread::Threads;
@@ -26,13 +25,12 @@ pub(crate) fn serve_named<
     rt: &R,
     alloc: Global,
     config: Config,
-    socket: &UdpSocket,
+    sockets: Sockets<'_>,
     words: &ServerWords<'_>,
-    reader: I,
-    writer: W,
+    given: Given<I, W>,
 ) -> Result<u8, ProgramFault> {
     let queues = queues_of(*rt, alloc, &config)?;
-    serve_opened::<Brand, R, I, W>(rt, alloc, config, queues, socket, words, reader, writer)
+    serve_opened::<Brand, R, I, W>(rt, alloc, config, queues, sockets, words, given)
 }
 
 fn serve_opened<
@@ -45,13 +43,12 @@ fn serve_opened<
     alloc: Global,
     config: Config,
     queues: Queues<R>,
-    socket: &UdpSocket,
+    sockets: Sockets<'_>,
     words: &ServerWords<'_>,
-    reader: I,
-    writer: W,
+    given: Given<I, W>,
 ) -> Result<u8, ProgramFault>
     requires { AreQueuesFor N.queue N.lanes config queues }
 {
     let (entity, ports) = Entity::<N, R>::open(alloc, config, queues)?;
-    serve_over(rt, alloc, &entity, ports, socket, words, reader, writer)
+    serve_over(rt, alloc, &entity, ports, sockets, words, given)
 }

@@ -1,10 +1,16 @@
 //! How the server starts.
 use crate::named::serve_named;
+use crate::threads::{Given, Sockets};
+use entity_config::Config;
+use program_control::ControlSocket;
+use program_numbers::HeldNumbers;
+use program_seats::Seats;
 use program_start::{ProgramFault, load_config, open_socket, print, tell_fault};
-use program_words::{WordsFault, server_help, server_version, server_words};
+use program_threads::Control;
+use program_words::{ServerWords, WordsFault, server_help, server_version, server_words};
 use std::alloc::Global;
 use std::io::{Read, Write};
-use std::net::Net;
+use std::net::{Net, UdpSocket};
 use std::rt::Files;
 use std::sync::Wait;
 use std::thread::Threads;
@@ -13,6 +19,7 @@ use std::time::Clock;
 /// Runs the server by its command line, whose first word is the program's own name, until `quit` or the end of the commands
 /// that `reader` gives. The answers go to `writer`, and why it ended too early to `errors`. The result is the exit status: 0,
 /// or 1 where it ended too early. Where the output takes no more, it ends once the reader has given one more line or its end.
+/// With a control socket clients command it, and neither `reader` nor `writer` is used.
 pub fn serve<
     R: Threads + Wait + Net + Clock + Files + AllocGlobal + Copy + Drop + Send + Sync,
     I: Read + Send + Drop,
@@ -51,9 +58,18 @@ fn start<
     let mut writer = writer;
     match server_words(alloc, words) {
         Ok(words) => {
-            let config = load_config(rt, alloc, words.config)?;
+            let mut config = load_config(rt, alloc, words.config)?;
             let socket = open_socket(rt, words.bind)?;
-            serve_named(rt, alloc, config, &socket, &words, reader, writer)
+            let numbers = match words.numbers {
+                Some(path) => Some(HeldNumbers::open(rt, alloc, path, &mut config)?),
+                None => None,
+            };
+            let given = Given {
+                numbers,
+                reader,
+                writer,
+            };
+            serve_at(rt, alloc, config, &socket, &words, given)
         }
         Err(WordsFault::Help) => {
             print(&mut writer, server_help())?;
@@ -65,4 +81,40 @@ fn start<
         }
         Err(fault) => Err(fault_of(fault)),
     }
+}
+
+// Serves at an opened socket, by the reader's lines or by those of clients at a socket of their own.
+fn serve_at<
+    'x,
+    R: Threads + Wait + Net + Clock + Files + AllocGlobal + Copy + Drop + Send + Sync,
+    I: Read + Send + Drop,
+    W: Write + Drop,
+>(
+    rt: &R,
+    alloc: Global,
+    config: Config,
+    datagrams: &'x UdpSocket,
+    words: &'x ServerWords<'x>,
+    given: Given<I, W>,
+) -> Result<u8, ProgramFault> {
+    let Some(path) = words.control else {
+        let sockets = Sockets {
+            datagrams,
+            control: None,
+        };
+        return serve_named(rt, alloc, config, sockets, words, given);
+    };
+    let seats = Seats::new(alloc)?;
+    let Ok(socket) = ControlSocket::open(rt, alloc, path) else {
+        return Err(ProgramFault::Bind);
+    };
+    let sockets = Sockets {
+        datagrams,
+        control: Some(Control {
+            socket: &socket,
+            path,
+            seats: &seats,
+        }),
+    };
+    serve_named(rt, alloc, config, sockets, words, given)
 }

@@ -1,16 +1,23 @@
 //! The threads of the server: one reads commands, beside those of each program.
 use crate::commands::Server;
+use crate::console::Console;
 use entity_workers::FolderStore;
 use program_desk::{Desk, Urgency};
+use program_events::EventLog;
 use program_link::PduSender;
+use program_numbers::HeldNumbers;
+use program_seats::Seats;
 use program_start::ProgramFault;
-use program_station::Station;
-use program_threads::{WayIn, run_commanded};
+use program_station::{Sources, Station, wall_moment};
+use program_status::{Events, LaneNotes};
+use program_tallies::Tallies;
+use program_threads::{Control, WayIn, run_commanded, run_controlled};
 use program_words::ServerWords;
 use script_io::in_blocks;
 use shared_entity::Entity;
 use shared_lanes::Names;
-use std::alloc::Global;
+use station_lines::Moment;
+use std::alloc::{AllocError, Global};
 use std::io::{Read, Write};
 use std::net::UdpSocket;
 use std::rt::Files;
@@ -24,6 +31,22 @@ const STEPS: usize = 1_024;
 
 const LINES: usize = 16;
 
+/// The sockets of a server: for datagrams, and for clients where those command it.
+#[derive(Clone, Copy)]
+pub(crate) struct Sockets<'x> {
+    pub(crate) datagrams: &'x UdpSocket,
+    pub(crate) control: Option<Control<'x>>,
+}
+
+/// What a server is given: its numbers, where a file keeps them, and where commands come from and answers go without a control
+/// socket.
+#[derive(Drop)]
+pub(crate) struct Given<I: Drop, W: Drop> {
+    pub(crate) numbers: Option<HeldNumbers>,
+    pub(crate) reader: I,
+    pub(crate) writer: W,
+}
+
 /// Serves over an opened entity and its socket until the commands end; the exit status then.
 pub(crate) fn serve_over<
     N: Names + Send + Sync,
@@ -35,73 +58,185 @@ pub(crate) fn serve_over<
     alloc: Global,
     entity: &Entity<N, R>,
     ports: Vec<UserPort>,
-    socket: &UdpSocket,
+    sockets: Sockets<'_>,
     words: &ServerWords<'_>,
-    reader: I,
-    writer: W,
+    given: Given<I, W>,
 ) -> Result<u8, ProgramFault> {
     let desk = Desk::new(alloc, STEPS, LINES)?;
-    serve_at(
-        rt, alloc, entity, ports, socket, &desk, words, reader, writer,
-    )
+    let tallies = Tallies::new(alloc, words.workers as usize, entity.config().remotes())?;
+    let opened = Opened {
+        rt,
+        alloc,
+        entity,
+        socket: sockets.datagrams,
+        desk: &desk,
+        tallies: &tallies,
+        words,
+    };
+    match sockets.control {
+        None => serve_reader(&opened, ports, given),
+        Some(control) => serve_clients::<N, R, W>(&opened, ports, given.numbers, control),
+    }
 }
 
-// Serves at a desk, all of whose room is made; so is that of the threads before the first one starts.
-fn serve_at<
+// What is opened of a server before its threads start.
+#[derive(Drop)]
+struct Opened<'x, N: Names, R: Copy> {
+    rt: &'x R,
+    alloc: Global,
+    entity: &'x Entity<N, R>,
+    socket: &'x UdpSocket,
+    desk: &'x Desk,
+    tallies: &'x Tallies,
+    words: &'x ServerWords<'x>,
+}
+
+// Serves by the lines of a reader.
+fn serve_reader<
     'x,
     N: Names + Send + Sync,
     R: Threads + Wait + Clock + Files + AllocGlobal + Copy + Drop + Send + Sync,
     I: Read + Send + Drop,
     W: Write + Drop,
->(
-    rt: &'x R,
-    alloc: Global,
-    entity: &'x Entity<N, R>,
-    ports: Vec<UserPort>,
-    socket: &'x UdpSocket,
-    desk: &'x Desk,
-    words: &ServerWords<'_>,
-    reader: I,
-    writer: W,
-) -> Result<u8, ProgramFault> {
-    let main_thread = server_over(rt, alloc, entity, ports, socket, desk, words, writer)?;
-    let workers = words.workers as usize;
-    let config = entity.config();
-    let others = if words.follow {
-        Urgency::Soon
-    } else {
-        Urgency::WithItsTimers
-    };
-    let way_in = WayIn::new(rt, alloc, workers, config, socket, desk, others)?;
+>(opened: &Opened<'x, N, R>, ports: Vec<UserPort>, given: Given<I, W>) -> Result<u8, ProgramFault> {
+    let Opened {
+        rt,
+        alloc,
+        entity,
+        socket,
+        desk,
+        ..
+    } = *opened;
+    let Given {
+        numbers,
+        reader,
+        writer,
+    } = given;
+    let main_thread = server_over(opened, ports, numbers, Console::Printed(writer))?;
+    let way_in = way_in_of(opened)?;
     let Ok(reader) = in_blocks(alloc, reader) else {
         return Err(ProgramFault::NoMemory);
     };
     run_commanded(rt, alloc, entity, socket, desk, way_in, reader, main_thread)
 }
 
-// What the main thread of a server has.
-fn server_over<'x, N: Names, R: Wait + Clock + Files + AllocGlobal + Copy + Drop, W: Drop>(
-    rt: &'x R,
-    alloc: Global,
-    entity: &'x Entity<N, R>,
+// Serves by the lines of clients.
+fn serve_clients<
+    'x,
+    N: Names + Send + Sync,
+    R: Threads + Wait + Clock + Files + AllocGlobal + Copy + Drop + Send + Sync,
+    W: Write + Drop,
+>(
+    opened: &Opened<'x, N, R>,
     ports: Vec<UserPort>,
-    socket: &'x UdpSocket,
-    desk: &'x Desk,
-    words: &ServerWords<'_>,
-    writer: W,
+    numbers: Option<HeldNumbers>,
+    control: Control<'x>,
+) -> Result<u8, ProgramFault> {
+    let Opened {
+        rt,
+        alloc,
+        entity,
+        socket,
+        desk,
+        ..
+    } = *opened;
+    let console = Console::<W>::Seated(control.seats);
+    let main_thread = server_over(opened, ports, numbers, console)?;
+    let way_in = way_in_of(opened)?;
+    run_controlled(
+        rt,
+        alloc,
+        entity,
+        socket,
+        desk,
+        way_in,
+        control,
+        main_thread,
+    )
+}
+
+// The way in of a server's datagrams. What users receive is looked at within a millisecond where it is taken as it comes.
+fn way_in_of<'x, N: Names, R: Wait + Clock + Copy>(
+    opened: &Opened<'x, N, R>,
+) -> Result<WayIn<'x, R>, ProgramFault> {
+    let words = opened.words;
+    let others = if words.follow || words.control.is_some() || words.log.is_some() {
+        Urgency::Soon
+    } else {
+        Urgency::WithItsTimers
+    };
+    let sources = if words.known_sources {
+        Sources::KnownAlone
+    } else {
+        Sources::Any
+    };
+    let config = opened.entity.config();
+    let way_in = WayIn::new(
+        opened.rt,
+        opened.alloc,
+        opened.tallies,
+        config,
+        opened.socket,
+        opened.desk,
+        others,
+        sources,
+    )?;
+    Ok(way_in)
+}
+
+// What the main thread of a server has.
+fn server_over<'x, N: Names, R: Wait + Clock + Files + AllocGlobal + Copy + Drop, W: Write + Drop>(
+    opened: &Opened<'x, N, R>,
+    ports: Vec<UserPort>,
+    numbers: Option<HeldNumbers>,
+    console: Console<'x, W>,
 ) -> Result<Server<'x, N, R, FolderStore<R>, W>, ProgramFault> {
+    let Opened {
+        rt,
+        alloc,
+        entity,
+        socket,
+        desk,
+        tallies,
+        words,
+    } = *opened;
     let folder = String::from_str(alloc, words.folder)?;
-    let sender = PduSender::new(alloc, socket, entity.config())?;
+    let sender = PduSender::new(alloc, socket, entity.config(), &tallies.own)?;
     let steps = Vec::with_capacity(alloc, desk.step_room())?;
     let store = FolderStore::new(*rt, folder);
+    let events = events_of::<R>(alloc, words, console.seats())?;
     Ok(Server {
         rt,
         alloc,
         desk,
         steps,
         station: Station::new(rt, alloc, entity, sender, store, words.rate),
+        numbers,
         ports,
-        follows: words.follow,
-        writer,
+        follows: words.follow && console.seats().is_none(),
+        console,
+        events,
+        tallies,
+        notes: LaneNotes::new(alloc, entity.users())?,
+        started: Moment(wall_moment(rt)),
+        refusals_due: 0,
+        refusals_seen: 0,
+        ended_reads_seen: 0,
     })
+}
+
+// The events of a server, where clients or a log may read them.
+fn events_of<'x, R: Wait + Files>(
+    alloc: Global,
+    words: &ServerWords<'_>,
+    seats: Option<&'x Seats>,
+) -> Result<Option<Events<'x, R>>, AllocError> {
+    let log = match words.log {
+        Some(path) => Some(EventLog::new(alloc, String::from_str(alloc, path)?)),
+        None => None,
+    };
+    if seats.is_none() && log.is_none() {
+        return Ok(None);
+    }
+    Ok(Some(Events::new(alloc, seats, log)?))
 }

@@ -1,8 +1,8 @@
 //! The main thread of the server, which works in turns.
-use crate::commands::{Next, Server, push_bad_command};
+use crate::commands::{Next, Server};
 use entity_workers::Filestore;
 use program_desk::NextLine;
-use program_start::{ProgramFault, print};
+use program_start::ProgramFault;
 use program_station::{REST_MS, moment};
 use program_threads::MainThread;
 use shared_lanes::Names;
@@ -15,25 +15,48 @@ use std::time::{Clock, Duration};
 // How long the main thread sleeps at most, in milliseconds.
 const LONGEST_SLEEP_MS: u64 = 60_000;
 
+// The same where events are reported: once a second refusals are looked at, and a log that could not be written is tried again.
+const LONGEST_SLEEP_WITH_EVENTS_MS: u64 = 1_000;
+
 // How many rounds of bundles, one of each user, are printed at once, and behind how many octets no round begins.
 const ROUNDS: usize = 256;
 
 const PRINTED_OCTETS: usize = 65_536;
 
-impl<'a, N: Names, R: Wait + Clock + Files + Copy, S: Filestore + Drop, W: Write + Drop> MainThread
-    for Server<'a, N, R, S, W> {
+impl<
+    'a,
+    N: Names,
+    R: Wait + Clock + Files + AllocGlobal + Copy + Drop,
+    S: Filestore + Drop,
+    W: Write + Drop,
+> MainThread for Server<'a, N, R, S, W> {
     /// Works in turns until `quit` or the end of the commands: each has at most one command, one timer that has expired, a
     /// few PDUs of files under way and one deposit.
     fn work(self) -> Result<u8, ProgramFault> {
         let mut server = self;
-        work(&mut server)
+        server.report_start()?;
+        work(&mut server)?;
+        let now = moment(server.rt);
+        server.report_end(now)?;
+        if let Some(numbers) = &server.numbers {
+            numbers.leave(server.rt);
+        }
+        Ok(0)
     }
 }
 
-fn work<N: Names, R: Wait + Clock + Files + Copy, S: Filestore + Drop, W: Write + Drop>(
-    server: &mut Server<'_, N, R, S, W>,
-) -> Result<u8, ProgramFault> {
+fn work<
+    N: Names,
+    R: Wait + Clock + Files + AllocGlobal + Copy + Drop,
+    S: Filestore + Drop,
+    W: Write + Drop,
+>(server: &mut Server<'_, N, R, S, W>) -> Result<(), ProgramFault> {
     let (rt, desk) = (server.rt, server.desk);
+    let longest = if server.events.is_some() {
+        LONGEST_SLEEP_WITH_EVENTS_MS
+    } else {
+        LONGEST_SLEEP_MS
+    };
     let mut text = String::new(server.alloc);
     for _ in rt.forever() {
         let has_settled = server.station.settle_left(desk, &mut server.steps);
@@ -42,53 +65,87 @@ fn work<N: Names, R: Wait + Clock + Files + Copy, S: Filestore + Drop, W: Write 
             continue;
         }
         text.clear();
-        let next = answer_next(server, &mut text)?;
-        let has_written = !text.is_empty();
-        print(&mut server.writer, text.as_str())?;
+        let (has_answered, next) = answer_next(server, &mut text)?;
         if next == Next::Quits {
             break;
         }
         let now = moment(rt);
+        let has_received = receive(server, &mut text)?;
         let has_worked = server.station.turn(now);
-        if !has_settled && !has_written && !has_worked {
+        report(server, now)?;
+        if !has_settled && !has_answered && !has_received && !has_worked {
             let until = server.station.next_moment(now);
-            desk.wait(rt, now, until.min(now.saturating_add(LONGEST_SLEEP_MS)));
+            desk.wait(rt, now, until.min(now.saturating_add(longest)));
         }
     }
-    Ok(0)
+    Ok(())
 }
 
-// Answers the next command, if there is one, and adds what users are told where that is followed; whether the server goes on.
-fn answer_next<N: Names, R: Wait + Clock + Files + Copy, S: Filestore + Drop, W: Drop>(
-    server: &mut Server<'_, N, R, S, W>,
-    text: &mut String,
-) -> Result<Next, ProgramFault> {
-    let next = match server.desk.take_line(server.rt) {
-        NextLine::Line(line) => server.obey(line.as_slice(), text)?,
-        NextLine::TooLong => {
-            push_bad_command(text)?;
-            Next::GoesOn
-        }
-        NextLine::Awaited => Next::GoesOn,
-        NextLine::End => Next::Quits,
+// Answers the next command, if there is one; whether there was one, and whether the server goes on.
+fn answer_next<
+    N: Names,
+    R: Wait + Clock + Files + AllocGlobal + Copy + Drop,
+    S: Filestore + Drop,
+    W: Write + Drop,
+>(server: &mut Server<'_, N, R, S, W>, text: &mut String) -> Result<(bool, Next), ProgramFault> {
+    let asked = match server.desk.take_line(server.rt) {
+        NextLine::Line(asked) => asked,
+        NextLine::Awaited => return Ok((false, Next::GoesOn)),
+        NextLine::End => return Ok((false, Next::Quits)),
         NextLine::NoMemory => return Err(ProgramFault::NoMemory),
         NextLine::Deserted => return Err(ProgramFault::Start),
     };
-    if server.follows {
-        take_rounds(server, text)?;
+    let next = server.obey(&asked, text)?;
+    server.console.answer(server.rt, asked.asker, text)?;
+    if let Next::Follows(asker, most) = next {
+        server.follow(asker, most)?;
     }
-    Ok(next)
+    text.clear();
+    Ok((true, next))
 }
 
-// Adds what users received so far, in rounds, as long as one bundle came in the last.
-fn take_rounds<N: Names, R: Wait + Clock + Files + Copy, S: Filestore + Drop, W: Drop>(
-    server: &mut Server<'_, N, R, S, W>,
-    text: &mut String,
-) -> Result<(), ProgramFault> {
+// Takes what users received so far, where that is wanted, in rounds, as long as one bundle came in the last; whether one
+// did.
+fn receive<
+    N: Names,
+    R: Wait + Clock + Files + AllocGlobal + Copy + Drop,
+    S: Filestore + Drop,
+    W: Write + Drop,
+>(server: &mut Server<'_, N, R, S, W>, text: &mut String) -> Result<bool, ProgramFault> {
+    if !server.receives() {
+        return Ok(false);
+    }
+    if let Some(events) = &mut server.events {
+        events.begin_turn(server.rt);
+    }
+    let mut has_received = false;
     for _ in 0..ROUNDS {
-        if text.len() >= PRINTED_OCTETS || !server.take_each(text)? {
+        let reported = match &server.events {
+            Some(events) => events.octets(),
+            None => 0,
+        };
+        if text.len().max(reported) >= PRINTED_OCTETS || !server.receive_each(text)? {
             break;
         }
+        has_received = true;
+    }
+    if !text.is_empty() {
+        server.console.answer(server.rt, None, text)?;
+        text.clear();
+    }
+    Ok(has_received)
+}
+
+// Reports what came of a turn.
+fn report<
+    N: Names,
+    R: Wait + Clock + Files + AllocGlobal + Copy + Drop,
+    S: Filestore + Drop,
+    W: Write + Drop,
+>(server: &mut Server<'_, N, R, S, W>, now: u64) -> Result<(), ProgramFault> {
+    server.report_turn(now)?;
+    if let Some(events) = &mut server.events {
+        events.end_turn(server.rt, now);
     }
     Ok(())
 }

@@ -1,6 +1,7 @@
 //! Where other threads leave what the main thread has to do.
 use crate::step::{Step, Urgency};
-use crate::trays::{Line, LinesEnd, Rest, Trays};
+use crate::trays::{AskedLine, Line, LinesEnd, Rest, Trays};
+use program_seats::Asker;
 use std::alloc::{AllocError, Global};
 use std::mem;
 use std::sync::atomic::{AtomicBool, Ordering};
@@ -13,10 +14,8 @@ const NAP_MS: u64 = 1;
 /// What the main thread finds of the commands.
 #[derive(Debug, Drop)]
 pub enum NextLine {
-    /// A line, without its line feed.
-    Line(Vec<u8>),
-    /// A line of more octets than one may have.
-    TooLong,
+    /// A line, and whose it is.
+    Line(AskedLine),
     /// None so far.
     Awaited,
     /// None will come any more.
@@ -58,17 +57,8 @@ impl Desk {
         self.step_room
     }
 
-    /// Leaves a line; whether more are wanted.
-    pub fn leave_line<R: Wait>(&self, rt: &R, octets: Vec<u8>) -> bool {
-        self.leave(rt, Line::Octets(octets))
-    }
-
-    /// Leaves word of a line that is too long; whether more are wanted.
-    pub fn leave_long_line<R: Wait>(&self, rt: &R) -> bool {
-        self.leave(rt, Line::TooLong)
-    }
-
-    fn leave<R: Wait>(&self, rt: &R, line: Line) -> bool {
+    /// Leaves a line, for the client that waits for its answer where it came from one; whether more are wanted.
+    pub fn leave_line<R: Wait>(&self, rt: &R, line: Line, asker: Option<Asker>) -> bool {
         let mut trays = self.trays.lock(rt);
         for _ in rt.forever() {
             if trays.is_closed {
@@ -79,7 +69,7 @@ impl Desk {
             }
             trays = self.room.wait(rt, trays);
         }
-        if trays.lines.push_back(line).is_err() {
+        if trays.lines.push_back(AskedLine { line, asker }).is_err() {
             trays.lines_end = LinesEnd::NoMemory;
         }
         drop(trays);
@@ -155,8 +145,7 @@ impl Desk {
         let mut trays = self.trays.lock(rt);
         let was_full = trays.lines.len() >= self.line_room;
         let next = match (trays.lines.pop_front(), trays.lines_end) {
-            (Some(Line::Octets(octets)), _) => NextLine::Line(octets),
-            (Some(Line::TooLong), _) => NextLine::TooLong,
+            (Some(line), _) => NextLine::Line(line),
             (None, LinesEnd::Open) => NextLine::Awaited,
             (None, LinesEnd::Over) => NextLine::End,
             (None, LinesEnd::NoMemory) => NextLine::NoMemory,

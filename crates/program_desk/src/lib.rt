@@ -9,3 +9,4 @@ mod trays;
 pub use desk::{Desk, NextLine};
 pub use reading::read_lines;
 pub use step::{Step, Urgency};
+pub use trays::{AskedLine, Line};

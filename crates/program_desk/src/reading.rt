@@ -1,5 +1,6 @@
 //! What comes from outside: lines of commands.
 use crate::desk::Desk;
+use crate::trays::Line;
 use memchr::memchr;
 use script_io::{INTERRUPTIONS, NextLine, ReplayFault, next_line};
 use std::alloc::Global;
@@ -13,7 +14,9 @@ pub fn read_lines<R: Wait, B: BufRead>(rt: &R, alloc: Global, reader: &mut B, de
     for _ in rt.forever() {
         let wants_more = match next_line(reader, &mut line) {
             Ok(NextLine::Line) => leave_line(rt, alloc, line.as_slice(), desk),
-            Ok(NextLine::TooLong) => desk.leave_long_line(rt) && skip_line(rt, reader),
+            Ok(NextLine::TooLong) => {
+                desk.leave_line(rt, Line::TooLong, None) && skip_line(rt, reader)
+            },
             Ok(NextLine::End) | Err(ReplayFault::Read) => false,
             Err(_) => {
                 desk.fail_lines(rt);
@@ -30,7 +33,9 @@ pub fn read_lines<R: Wait, B: BufRead>(rt: &R, alloc: Global, reader: &mut B, de
 // Leaves one line; whether more are to be read.
 fn leave_line<R: Wait>(rt: &R, alloc: Global, line: &[u8], desk: &Desk) -> bool {
     match Vec::from_slice(alloc, line) {
-        Ok(octets) => desk.leave_line(rt, octets) && line != b"quit".as_slice(),
+        Ok(octets) => {
+            desk.leave_line(rt, Line::Octets(octets), None) && line != b"quit".as_slice()
+        }
         Err(_) => {
             desk.fail_lines(rt);
             false

@@ -1,15 +1,24 @@
 //! What lies between the threads, under one lock.
 use crate::step::{Step, Urgency};
+use program_seats::Asker;
 use std::alloc::{AllocError, Global};
 use std::collections::VecDeque;
 
 /// A line of commands, as it came.
-#[derive(Drop)]
-pub(crate) enum Line {
+#[derive(Debug, Drop)]
+pub enum Line {
     /// Its octets, without the line feed.
     Octets(Vec<u8>),
     /// More octets than a line may have.
     TooLong,
+}
+
+/// A line of commands, and whose it is.
+#[derive(Debug, Drop)]
+pub struct AskedLine {
+    pub line: Line,
+    /// The client that waits for its answer, where it came from one.
+    pub asker: Option<Asker>,
 }
 
 /// How the lines ended.
@@ -39,7 +48,7 @@ pub(crate) enum Rest {
 /// What lies between the threads.
 #[derive(Drop)]
 pub(crate) struct Trays {
-    pub(crate) lines: VecDeque<Line>,
+    pub(crate) lines: VecDeque<AskedLine>,
     pub(crate) lines_end: LinesEnd,
     pub(crate) steps: Vec<Step>,
     /// Whether one of the steps can't wait for a millisecond.

@@ -1,11 +1,12 @@
 -- Meaning. Where a PDU goes.
-use Rattle.std.specs.Prelude.{◌≡◌, ℕ, List, Option, Some, find, if◌then◌else◌}
+use Rattle.std.specs.Prelude.{◌≡◌, ◌==◌, ℕ, List, Option, Some, find, if◌then◌else◌}
 use Rattle.std.specs.Option.{option_map}
 use Rattle.std.specs.Net.Grammar.{IsSocketText}
 use Rattle.std.specs.declared.net.socket_addr.SocketAddr.{SocketAddr}
 use Rattle.cfdp_types.specs.declared.key.EntityId.{EntityId}
 use Rattle.pdu_values.specs.Pdu.{PduValue, is_toward_sender}
 use Rattle.config_reading.specs.Values.{ConfigValue, has_id}
+use Rattle.program_link.specs.declared.addresses.PeerAddress.{PeerAddress}
 
 -- the entity that a PDU goes to: the one that sends the file, or the one that receives it, by the kind of the PDU
 abbrev pub other_end_of : PduValue → EntityId
@@ -18,3 +19,7 @@ address_text config id = option_map (λ peer. peer.address) (find (has_id id) co
 -- the entity listens at this address, by the configuration
 abbrev pub ListensAt : ConfigValue → EntityId → SocketAddr → Type 0
 ListensAt config id address = (text : List ℕ) × (address_text config id ≡ Some text) × IsSocketText text address
+
+-- the first with an ID of those that were looked up
+abbrev pub peer_among : List PeerAddress → EntityId → Option PeerAddress
+peer_among peers id = find (λ peer. peer.id.0 == id.0) peers

@@ -1,7 +1,7 @@
 //! Where entities listen, looked up once.
-ghost use Rattle.std.specs.Prelude.{All, IfOk, IfSome};
+ghost use Rattle.std.specs.Prelude.{◌≡◌, All, IfOk, IfSome};
 ghost use Rattle.config_reading.specs.Values.{ConfigValue};
-ghost use Rattle.program_link.specs.Peers.{ListensAt};
+ghost use Rattle.program_link.specs.Peers.{ListensAt, peer_among};
 
 use crate::peers::address_of;
 use cfdp_types::EntityId;
@@ -13,6 +13,8 @@ use std::net::SocketAddr;
 #[derive(Clone, Copy, Debug, Drop)]
 pub struct PeerAddress {
     pub id: EntityId,
+    /// Its place among the remote entities of the configuration.
+    pub place: usize,
     pub address: SocketAddr,
 }
 
@@ -35,22 +37,33 @@ fn peer_at(config: &Config, place: usize) -> Option<PeerAddress>
 {
     let id = config.remote_at(place)?.id;
     let address = address_of(config, id)?;
-    Some(PeerAddress { id, address })
+    Some(PeerAddress { id, place, address })
 }
 
-/// Where an entity listens, among those that were looked up.
-pub fn address_among(peers: &[PeerAddress], id: EntityId) -> Option<SocketAddr>
-    ensures { (config : ConfigValue) → All (λ peer. ListensAt config peer.id peer.address) peers.now
-        → IfSome result (λ address. ListensAt config id address) }
+/// The entity with an ID, among those that were looked up.
+pub fn peer_among(peers: &[PeerAddress], id: EntityId) -> Option<PeerAddress>
+    ensures found { result ≡ peer_among peers.now id }
+    ensures listens { (config : ConfigValue) → All (λ peer. ListensAt config peer.id peer.address) peers.now
+        → IfSome result (λ peer. ListensAt config id peer.address) }
 {
     match peers {
         [] => None,
         [first, rest @ ..] => {
             if first.id == id {
-                Some(first.address)
+                Some(*first)
             } else {
-                address_among(rest, id)
+                peer_among(rest, id)
             }
         }
     }
+}
+
+/// The place in the configuration of the entity that listens at an address, among those that were looked up.
+pub fn place_of_address(peers: &[PeerAddress], address: SocketAddr) -> Option<usize> {
+    for peer in peers {
+        if peer.address == address {
+            return Some(peer.place);
+        }
+    }
+    None
 }

@@ -7,7 +7,7 @@ mod peers;
 mod reach;
 mod sender;
 
-pub use addresses::{PeerAddress, address_among, addresses_of};
+pub use addresses::{PeerAddress, addresses_of, peer_among, place_of_address};
 pub use peers::{address_of, other_end_of};
 pub use reach::reach_of;
 pub use sender::{PduSender, wake_reader};

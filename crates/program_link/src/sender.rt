@@ -1,51 +1,64 @@
-use crate::addresses::{PeerAddress, address_among, addresses_of};
+use crate::addresses::{PeerAddress, addresses_of, peer_among, place_of_address};
 use crate::peers::other_end_of;
 use entity_config::Config;
 use lane_table::Done;
 use pdu_codec::encode;
 use pdu_values::Pdu;
+use program_tallies::Traffic;
 use shared_entity::EntityRefusal;
 use std::alloc::{AllocError, Global};
-use std::net::UdpSocket;
+use std::net::{SocketAddr, UdpSocket};
 
 // Room for each PDU that an entity sends: its File Data have at most 1,400 octets of file, its Metadata two names and four
 // messages of at most 255 octets each, its NAKs at most 64 requests, and a header has at most 28 octets.
 const PDU_OCTETS: usize = 2_048;
 
-/// Sends PDUs through a socket, in room of its own. A PDU that can't be sent is lost, as it may be on its way.
+/// Sends PDUs through a socket, in room of its own, and counts them. A PDU that can't be sent is lost, as it may be on its way.
 #[derive(Drop)]
 pub struct PduSender<'a> {
     socket: &'a UdpSocket,
+    traffic: &'a Traffic,
     peers: Vec<PeerAddress>,
     octets: Vec<u8>,
 }
 
 impl<'a> PduSender<'a> {
-    /// A sender over a socket, to where a configuration says that its remote entities listen: they are looked up once.
+    /// A sender over a socket, to where a configuration says that its remote entities listen: they are looked up once. What
+    /// leaves is counted in `traffic`.
     pub fn new(
         alloc: Global,
         socket: &'a UdpSocket,
         config: &Config,
+        traffic: &'a Traffic,
     ) -> Result<PduSender<'a>, AllocError> {
         Ok(PduSender {
             socket,
+            traffic,
             peers: addresses_of(alloc, config)?,
             octets: Vec::with_capacity(alloc, PDU_OCTETS)?,
         })
     }
 
+    /// The place in the configuration of the remote entity that listens at an address.
+    pub fn place_of(&self, address: SocketAddr) -> Option<usize> {
+        place_of_address(self.peers.as_slice(), address)
+    }
+
     /// Sends a PDU to the entity at its other end, and tells how many octets went out.
     pub fn send(&mut self, pdu: &Pdu) -> usize {
-        let Some(address) = address_among(self.peers.as_slice(), other_end_of(pdu)) else {
+        let Some(peer) = peer_among(self.peers.as_slice(), other_end_of(pdu)) else {
+            self.traffic.note_unaddressed();
             return 0;
         };
         self.octets.clear();
         if encode(pdu, &mut self.octets).is_err() {
+            self.traffic.note_departure(peer.place, None);
             return 0;
         }
-        self.socket
-            .send_to(self.octets.as_slice(), address)
-            .unwrap_or(0)
+        let sent = self.socket.send_to(self.octets.as_slice(), peer.address);
+        let octets = sent.ok();
+        self.traffic.note_departure(peer.place, octets);
+        octets.unwrap_or(0)
     }
 
     /// Sends the PDUs of a step, in order, and tells how many octets went out.

@@ -20,6 +20,8 @@ pub enum ProgramFault {
     Config(u8),
     /// The socket can't be opened at its address.
     Bind,
+    /// The file of numbers says none, can't be read or written, or another program uses it; or no number is left.
+    Numbers,
     /// A thread can't be started.
     Start,
     /// The output takes no more.
@@ -54,6 +56,7 @@ fn plain_text(fault: &ProgramFault) -> &'static str
         ProgramFault::Read => "read fault",
         ProgramFault::Config(_) => "config fault",
         ProgramFault::Bind => "bind fault",
+        ProgramFault::Numbers => "numbers fault",
         ProgramFault::Start => "start fault",
         ProgramFault::Write => "write fault",
         ProgramFault::NoMemory => "no memory",

@@ -7,3 +7,11 @@ pub fn moment(rt: &impl Clock) -> u64 {
         Err(_) => 0,
     }
 }
+
+/// The moment by the runtime's wall clock, in milliseconds since 1970, or 0 where that has none.
+pub fn wall_moment(rt: &impl Clock) -> u64 {
+    match rt.since_1970() {
+        Ok(time) => u64::try_from(time.as_millis()).unwrap_or(u64::MAX),
+        Err(_) => 0,
+    }
+}

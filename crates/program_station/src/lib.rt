@@ -9,7 +9,7 @@ mod forwarder;
 mod station;
 
 pub use answers::flat;
-pub use arrivals::{Arrivals, READ_FAILURES};
-pub use clock::moment;
+pub use arrivals::{Arrivals, READ_FAILURES, Sources};
+pub use clock::{moment, wall_moment};
 pub use forwarder::{Forwarder, forwarders_of, run_forwarders};
-pub use station::{REST_MS, Station};
+pub use station::{REST_MS, Station, StoredNote};

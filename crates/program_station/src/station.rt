@@ -29,6 +29,14 @@ enum Waiting {
     Rest(DepositRest),
 }
 
+/// What became of a received file.
+#[derive(Clone, Copy, Debug, PartialEq, Eq)]
+pub struct StoredNote {
+    pub key: TxnKey,
+    /// Whether the store kept it.
+    pub is_kept: bool,
+}
+
 /// A step of which something is left to be noted, since there was no memory.
 #[derive(Drop)]
 struct Unsettled {
@@ -51,6 +59,7 @@ pub struct Station<'a, N: Names, R: Copy, S: Drop> {
     unsettled: Option<Unsettled>,
     kept_timer: Option<Armed>,
     kept_deposit: Option<Waiting>,
+    stored: Option<StoredNote>,
 }
 
 impl<'a, N: Names, R: Wait + Copy + Clock, S: Filestore + Drop> Station<'a, N, R, S> {
@@ -74,6 +83,7 @@ impl<'a, N: Names, R: Wait + Copy + Clock, S: Filestore + Drop> Station<'a, N, R
             unsettled: None,
             kept_timer: None,
             kept_deposit: None,
+            stored: None,
         }
     }
 
@@ -279,6 +289,7 @@ impl<'a, N: Names, R: Wait + Copy + Clock, S: Filestore + Drop> Station<'a, N, R
         if self.store.calls() == u64::MAX {
             return false;
         }
+        let (calls, failures) = (self.store.calls(), self.store.failures());
         let answer = match self.agenda.next_deposit() {
             None => return false,
             Some(Waiting::New(deposit)) => {
@@ -286,8 +297,16 @@ impl<'a, N: Names, R: Wait + Copy + Clock, S: Filestore + Drop> Station<'a, N, R
             }
             Some(Waiting::Rest(rest)) => finish(self.rt, self.entity, &mut self.store, rest),
         };
+        let was_asked = self.store.calls() > calls;
+        let is_kept = self.store.failures() == failures;
         match answer {
             Ok(done) => {
+                if was_asked {
+                    self.stored = Some(StoredNote {
+                        key: done.key,
+                        is_kept,
+                    });
+                }
                 self.settle_own(done);
                 true
             }
@@ -297,6 +316,16 @@ impl<'a, N: Names, R: Wait + Copy + Clock, S: Filestore + Drop> Station<'a, N, R
             }
             Err(_) => true,
         }
+    }
+
+    /// What became of the file that the last turn stored, unless it was taken.
+    pub fn take_stored(&mut self) -> Option<StoredNote> {
+        self.stored.take()
+    }
+
+    /// How many files the store was given, and how many of them it did not keep.
+    pub fn stores(&self) -> (u64, u64) {
+        (self.store.calls(), self.store.failures())
     }
 
     /// The moment until which nothing has to be done unless something comes, after a turn of which nothing came.

@@ -22,12 +22,11 @@ pub(crate) fn refused_case<'a>(
     count: u64,
 ) -> RefusedCase<'a> {
     RefusedCase {
-        number: case.kind.number,
-        name: case.kind.name,
-        fault: if case.kind.fault == 0 {
-            None
-        } else {
-            Some(case.kind.fault)
+        number: case.kind.number(),
+        name: case.kind.name(),
+        fault: match case.kind.fault() {
+            Some(fault) => Some(fault.number()),
+            None => None,
         },
         count,
         datagram: match origin {

@@ -39,7 +39,7 @@ impl Ledger {
         let _before = self.total.fetch_add(1, Ordering::Relaxed);
         let mut cases = self.cases.lock(rt);
         for case in cases.iter_mut() {
-            if case.kind.number == kind.number && case.kind.fault == kind.fault {
+            if case.kind == kind {
                 case.note(at, from, octets);
                 return;
             }

@@ -1,19 +1,77 @@
 //! Kinds of refusals, and the last case of each.
-ghost use Rattle.std.specs.Prelude.{◌≡◌, ◌≤◌, min, take, length};
+ghost use Rattle.std.specs.Prelude.{◌≡◌, ◌≤◌, length};
+ghost use Rattle.entity_parts.specs.Refusals.{name_of, number_of};
+ghost use Rattle.program_tallies.specs.Kinds.{fault_of, kind_of, name_of_kind, number_of_kind};
 
+use entity_parts::EntityRefusal;
+use entity_routing::RouteRefusal;
+use pdu_reading::DecodeFault;
 use std::net::SocketAddr;
+use txn_events::Refusal;
 
 /// How many octets of a refused datagram are kept.
 pub const SHOWN_OCTETS: usize = 64;
 
 /// A kind of refusal.
 #[derive(Clone, Copy, Debug, PartialEq, Eq)]
-pub struct RefusalKind {
-    /// The number of the refusal.
-    pub number: u8,
-    pub name: &'static str,
-    /// The number of the decode fault, or 0 where it is none.
-    pub fault: u8,
+pub enum RefusalKind {
+    /// No lane is told.
+    Route(RouteRefusal),
+    /// The lane refuses.
+    Lane(Refusal),
+    /// Another lane lies behind the lock.
+    WrongLane,
+    /// The datagram's source is no address of the configuration, and only those are heard.
+    ForeignSource,
+}
+
+impl RefusalKind {
+    /// The kind of an entity's refusal.
+    pub fn of(refusal: &EntityRefusal) -> RefusalKind
+        ensures kind { result ≡ kind_of refusal.now }
+        ensures number { number_of_kind result ≡ number_of refusal.now }
+        ensures name { name_of_kind result ≡ name_of refusal.now }
+    {
+        match refusal {
+            EntityRefusal::Route(why) => RefusalKind::Route(*why),
+            EntityRefusal::Lane(refused) => RefusalKind::Lane(refused.why),
+            EntityRefusal::WrongLane => RefusalKind::WrongLane,
+        }
+    }
+
+    /// The number that is printed for refusals of the kind.
+    pub fn number(self) -> u8
+        ensures { result ≡ number_of_kind self }
+    {
+        match self {
+            RefusalKind::Route(why) => why.number(),
+            RefusalKind::Lane(why) => why.number(),
+            RefusalKind::WrongLane => EntityRefusal::WrongLane.number(),
+            RefusalKind::ForeignSource => 27,
+        }
+    }
+
+    /// The name that is printed for them.
+    pub fn name(self) -> &'static str
+        ensures { result.now ≡ name_of_kind self }
+    {
+        match self {
+            RefusalKind::Route(why) => why.name(),
+            RefusalKind::Lane(why) => why.name(),
+            RefusalKind::WrongLane => EntityRefusal::WrongLane.name(),
+            RefusalKind::ForeignSource => "ForeignSource",
+        }
+    }
+
+    /// What is wrong with a datagram that is no PDU.
+    pub fn fault(self) -> Option<DecodeFault>
+        ensures { result ≡ fault_of self }
+    {
+        match self {
+            RefusalKind::Route(RouteRefusal::DecodeFault(fault)) => Some(fault),
+            _ => None,
+        }
+    }
 }
 
 /// What is known of one kind of refusal.

@@ -1,4 +1,5 @@
-use program_desk::{Desk, NextLine};
+use program_desk::{Desk, Line, NextLine};
+use program_seats::Asker;
 use std::alloc::{AllocError, Global};
 use std::sync::Wait;
 use std::test::*;
@@ -14,8 +15,10 @@ enum End {
 // What the main thread finds, in a letter.
 fn letter_of(next: NextLine) -> u8 {
     match next {
-        NextLine::Line(_) => b'l',
-        NextLine::TooLong => b't',
+        NextLine::Line(asked) => match asked.line {
+            Line::Octets(_) => b'l',
+            Line::TooLong => b't',
+        },
         NextLine::Awaited => b'a',
         NextLine::End => b'e',
         NextLine::NoMemory => b'm',
@@ -35,8 +38,8 @@ fn tell_end<R: Wait>(rt: &R, desk: &Desk, end: End) {
 fn found<R: Wait>(rt: &R, alloc: Global, first: End, second: End) -> Result<[u8; 5], AllocError> {
     let desk = Desk::new(alloc, 1, 2)?;
     let before = letter_of(desk.take_line(rt));
-    desk.leave_line(rt, Vec::from_slice(alloc, b"quit")?);
-    desk.leave_long_line(rt);
+    desk.leave_line(rt, Line::Octets(Vec::from_slice(alloc, b"quit")?), None);
+    desk.leave_line(rt, Line::TooLong, None);
     tell_end(rt, &desk, first);
     tell_end(rt, &desk, second);
     let line = letter_of(desk.take_line(rt));
@@ -61,15 +64,28 @@ fn ends(rt: HostRuntime) -> Result<(), Fail> {
     Ok(())
 }
 
+// A line comes with the client that waits for its answer.
+#[test]
+fn askers(rt: HostRuntime) -> Result<(), Fail> {
+    let desk = Desk::new(rt.alloc(), 1, 1)?;
+    let asker = Asker { seat: 3, visit: 7 };
+    desk.leave_line(&rt, Line::TooLong, Some(asker));
+    match desk.take_line(&rt) {
+        NextLine::Line(asked) => assert_eq!(rt; asked.asker, Some(asker)),
+        other => panic!(rt; "{other:?}"),
+    }
+    Ok(())
+}
+
 // Who leaves something at a closed desk is told that nothing more is wanted, and does not wait.
 #[test]
 fn closed(rt: HostRuntime) -> Result<(), Fail> {
     let alloc = rt.alloc();
     let desk = Desk::new(alloc, 1, 1)?;
-    assert!(rt; desk.leave_line(&rt, Vec::new(alloc)));
+    assert!(rt; desk.leave_line(&rt, Line::TooLong, None));
     desk.close(&rt);
     assert!(rt; desk.is_closed());
-    assert!(rt; !desk.leave_line(&rt, Vec::new(alloc)));
-    assert!(rt; !desk.leave_long_line(&rt));
+    assert!(rt; !desk.leave_line(&rt, Line::Octets(Vec::new(alloc)), None));
+    assert!(rt; !desk.leave_line(&rt, Line::TooLong, None));
     Ok(())
 }

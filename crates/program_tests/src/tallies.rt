@@ -1,17 +1,12 @@
+use entity_routing::RouteRefusal;
+use pdu_reading::DecodeFault;
 use program_tallies::{RefusalKind, RemoteTotals, Tallies, Totals};
 use std::test::*;
+use txn_events::Refusal;
 
-const ODD: RefusalKind = RefusalKind {
-    number: 20,
-    name: "DecodeFault",
-    fault: 3,
-};
+const ODD: RefusalKind = RefusalKind::Route(RouteRefusal::DecodeFault(DecodeFault::TooShort));
 
-const LATE: RefusalKind = RefusalKind {
-    number: 2,
-    name: "OldTransaction",
-    fault: 0,
-};
+const LATE: RefusalKind = RefusalKind::Lane(Refusal::OldTransaction);
 
 // What two workers and the main thread count is added up, for all remote entities and for each.
 #[test]

@@ -12,7 +12,7 @@ fn split(alloc: Global, line: &str) -> Result<Vec<String>, AllocError> {
     Ok(words)
 }
 
-// A command line of the put, and what it says: remote, class, rate, first number, closure.
+// A command line of the put, and what it says: remote, class, rate, first number, closure, whose answers are heard.
 #[derive(Clone, Copy)]
 struct PutRow {
     line: &'static str,
@@ -21,6 +21,7 @@ struct PutRow {
     rate: Option<u64>,
     first: Option<u64>,
     closure: bool,
+    known_sources: bool,
 }
 
 const PUTS: [PutRow; 3] = [
@@ -31,6 +32,7 @@ const PUTS: [PutRow; 3] = [
         rate: None,
         first: None,
         closure: false,
+        known_sources: false,
     },
     PutRow {
         line: "p --config=c --bind=1.2.3.4:5 --user=u --remote=0 --class=2 --closure --rate=1000000000 --first=0 s t",
@@ -39,14 +41,16 @@ const PUTS: [PutRow; 3] = [
         rate: Some(1_000_000_000),
         first: Some(0),
         closure: true,
+        known_sources: false,
     },
     PutRow {
-        line: "p --first 9223372036854775807 --rate 01 s --class 02 --remote 18446744073709551615 t --user u --bind 1.2.3.4:5 --config c",
+        line: "p --first 9223372036854775807 --rate 01 s --class 02 --remote 18446744073709551615 t --user u --bind 1.2.3.4:5 --known-sources --config c",
         remote: 18_446_744_073_709_551_615,
         class: Class::Two,
         rate: Some(1),
         first: Some(9_223_372_036_854_775_807),
         closure: false,
+        known_sources: true,
     },
 ];
 
@@ -61,6 +65,7 @@ fn is_put(words: &PutWords<'_>, row: &PutRow) -> bool {
         && words.rate == row.rate
         && words.first == row.first
         && words.closure == row.closure
+        && words.known_sources == row.known_sources
 }
 
 #[test]
@@ -110,6 +115,27 @@ fn servers(rt: HostRuntime) -> Result<(), Fail> {
             ))
         );
     }
+    Ok(())
+}
+
+// Where clients command, and where events go.
+#[test]
+fn places(rt: HostRuntime) -> Result<(), Fail> {
+    let alloc = rt.alloc();
+    let line = split(
+        alloc,
+        "s --config c --bind 1.2.3.4:5 --folder f --control=/run/c --log l --known-sources",
+    )?;
+    assert!(rt;
+        server_words(alloc, line.as_slice()).is_ok_and(|words| words.control == Some("/run/c")
+            && words.log == Some("l")
+            && words.known_sources)
+    );
+    let line = split(alloc, "s --config c --bind 1.2.3.4:5 --folder f --control=")?;
+    assert_eq!(rt;
+        server_words(alloc, line.as_slice()).err(),
+        Some(WordsFault::Usage)
+    );
     Ok(())
 }
 

@@ -1,7 +1,9 @@
 use crate::way_in::WayIn;
 use entity_workers::WorkersFault;
+use program_control::ControlSocket;
 use program_desk::{Desk, read_lines};
 use program_link::wake_reader;
+use program_seats::Seats;
 use program_start::ProgramFault;
 use program_station::run_forwarders;
 use shared_entity::Entity;
@@ -9,10 +11,19 @@ use shared_lanes::Names;
 use std::alloc::Global;
 use std::io::BufRead;
 use std::net::UdpSocket;
+use std::rt::Files;
 use std::sync::Wait;
 use std::thread;
 use std::thread::Threads;
 use std::time::Clock;
+
+/// A control socket, its path, and the seats of its clients.
+#[derive(Clone, Copy)]
+pub struct Control<'x> {
+    pub socket: &'x ControlSocket,
+    pub path: &'x str,
+    pub seats: &'x Seats,
+}
 
 /// What the main thread of a program does.
 pub trait MainThread {
@@ -34,7 +45,7 @@ fn fault_beside(ended: Result<u8, ProgramFault>, fault: WorkersFault) -> Result<
 pub fn run_beside<
     'x,
     N: Names + Send + Sync,
-    R: Threads + Wait + Clock + Copy + Send + Sync,
+    R: Threads + Wait + Clock + Files + Copy + Send + Sync,
     M: MainThread + Drop,
 >(
     rt: &'x R,
@@ -45,57 +56,12 @@ pub fn run_beside<
     way_in: WayIn<'x, R>,
     main_thread: M,
 ) -> Result<u8, ProgramFault> {
-    let WayIn {
-        arrivals,
-        forwarders,
-    } = way_in;
-    thread::scope(
-        thread::scope_env(),
-        rt,
-        move |scope| -> Result<u8, ProgramFault> {
-            let Ok(workers) = scope.spawn(move || run_forwarders(
-                rt, alloc, entity, arrivals, forwarders, desk,
-            )) else {
-                return Err(ProgramFault::Start);
-            };
-            let ended = main_thread.work();
-            desk.close(rt);
-            wake_reader(socket);
-            match workers.join(rt) {
-                Ok(()) => ended,
-                Err(fault) => fault_beside(ended, fault),
-            }
-        },
-    )
+    let work = Work::<'x, M>::Alone(main_thread);
+    beside_workers(rt, alloc, entity, socket, desk, way_in, work)
 }
 
-// The main thread's work beside a thread that reads lines of commands.
-fn work_beside<'x, R: Threads + Wait + Sync, B: BufRead + Send + Drop, M: MainThread + Drop>(
-    rt: &'x R,
-    alloc: Global,
-    desk: &'x Desk,
-    reader: B,
-    main_thread: M,
-) -> Result<u8, ProgramFault> {
-    let mut reader = reader;
-    thread::scope(
-        thread::scope_env(),
-        rt,
-        move |scope| -> Result<u8, ProgramFault> {
-            match scope.spawn(move || read_lines(rt, alloc, &mut reader, desk)) {
-                Ok(_lines) => {
-                    let ended = main_thread.work();
-                    desk.close(rt);
-                    ended
-                }
-                Err(_) => Err(ProgramFault::Start),
-            }
-        },
-    )
-}
-
-/// `run_beside` with one thread more, which reads lines of commands into the desk. It is started last: where the others can't be, nobody
-/// waits for a line.
+/// `run_beside` with one thread more, which reads lines of commands into the desk. It is started last: where the others can't
+/// be, nobody waits for a line.
 pub fn run_commanded<
     'x,
     N: Names + Send + Sync,
@@ -125,13 +91,147 @@ pub fn run_commanded<
             )) else {
                 return Err(ProgramFault::Start);
             };
-            let ended = work_beside(rt, alloc, desk, reader, main_thread);
+            let ended = work_commanded(rt, alloc, desk, reader, main_thread);
             desk.close(rt);
             wake_reader(socket);
             match workers.join(rt) {
                 Ok(()) => ended,
                 Err(fault) => fault_beside(ended, fault),
             }
+        },
+    )
+}
+
+/// `run_beside` with the threads of a control socket. The socket is gone once the work has ended.
+pub fn run_controlled<
+    'x,
+    N: Names + Send + Sync,
+    R: Threads + Wait + Clock + Files + Copy + Send + Sync,
+    M: MainThread + Drop,
+>(
+    rt: &'x R,
+    alloc: Global,
+    entity: &'x Entity<N, R>,
+    socket: &'x UdpSocket,
+    desk: &'x Desk,
+    way_in: WayIn<'x, R>,
+    control: Control<'x>,
+    main_thread: M,
+) -> Result<u8, ProgramFault> {
+    let work = Work::<'x, M>::Controlled(control, main_thread);
+    beside_workers(rt, alloc, entity, socket, desk, way_in, work)
+}
+
+// What works beside the workers: the main thread alone, or beside a control socket.
+#[derive(Drop)]
+enum Work<'x, M: Drop> {
+    Alone(M),
+    Controlled(Control<'x>, M),
+}
+
+// Works until nothing more is to be done.
+fn do_work<'x, R: Threads + Wait + Clock + Files + Sync, M: MainThread + Drop>(
+    rt: &'x R,
+    alloc: Global,
+    desk: &'x Desk,
+    work: Work<'x, M>,
+) -> Result<u8, ProgramFault> {
+    match work {
+        Work::Alone(main_thread) => main_thread.work(),
+        Work::Controlled(control, main_thread) => {
+            work_controlled(rt, alloc, desk, control, main_thread)
+        }
+    }
+}
+
+// Works beside the workers.
+fn beside_workers<
+    'x,
+    N: Names + Send + Sync,
+    R: Threads + Wait + Clock + Files + Copy + Send + Sync,
+    M: MainThread + Drop,
+>(
+    rt: &'x R,
+    alloc: Global,
+    entity: &'x Entity<N, R>,
+    socket: &'x UdpSocket,
+    desk: &'x Desk,
+    way_in: WayIn<'x, R>,
+    work: Work<'x, M>,
+) -> Result<u8, ProgramFault> {
+    let WayIn {
+        arrivals,
+        forwarders,
+    } = way_in;
+    thread::scope(
+        thread::scope_env(),
+        rt,
+        move |scope| -> Result<u8, ProgramFault> {
+            let Ok(workers) = scope.spawn(move || run_forwarders(
+                rt, alloc, entity, arrivals, forwarders, desk,
+            )) else {
+                return Err(ProgramFault::Start);
+            };
+            let ended = do_work(rt, alloc, desk, work);
+            desk.close(rt);
+            wake_reader(socket);
+            match workers.join(rt) {
+                Ok(()) => ended,
+                Err(fault) => fault_beside(ended, fault),
+            }
+        },
+    )
+}
+
+// The main thread's work beside a thread that reads lines of commands.
+fn work_commanded<'x, R: Threads + Wait + Sync, B: BufRead + Send + Drop, M: MainThread + Drop>(
+    rt: &'x R,
+    alloc: Global,
+    desk: &'x Desk,
+    reader: B,
+    main_thread: M,
+) -> Result<u8, ProgramFault> {
+    let mut reader = reader;
+    thread::scope(
+        thread::scope_env(),
+        rt,
+        move |scope| -> Result<u8, ProgramFault> {
+            match scope.spawn(move || read_lines(rt, alloc, &mut reader, desk)) {
+                Ok(_lines) => {
+                    let ended = main_thread.work();
+                    desk.close(rt);
+                    ended
+                }
+                Err(_) => Err(ProgramFault::Start),
+            }
+        },
+    )
+}
+
+// The main thread's work beside the threads of a control socket.
+fn work_controlled<'x, R: Threads + Wait + Clock + Files + Sync, M: MainThread + Drop>(
+    rt: &'x R,
+    alloc: Global,
+    desk: &'x Desk,
+    control: Control<'x>,
+    main_thread: M,
+) -> Result<u8, ProgramFault> {
+    let Control {
+        socket,
+        path,
+        seats,
+    } = control;
+    thread::scope(
+        thread::scope_env(),
+        rt,
+        move |scope| -> Result<u8, ProgramFault> {
+            let ended = match scope.spawn(move || socket.run(rt, alloc, desk, seats)) {
+                Ok(_clients) => main_thread.work(),
+                Err(_) => Err(ProgramFault::Start),
+            };
+            desk.close(rt);
+            socket.close(rt, path, seats);
+            ended
         },
     )
 }

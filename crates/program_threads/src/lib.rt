@@ -5,5 +5,5 @@
 mod beside;
 mod way_in;
 
-pub use beside::{MainThread, run_beside, run_commanded};
+pub use beside::{Control, MainThread, run_beside, run_commanded, run_controlled};
 pub use way_in::WayIn;

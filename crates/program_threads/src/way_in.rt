@@ -1,6 +1,7 @@
 use entity_config::Config;
 use program_desk::{Desk, Urgency};
-use program_station::{Arrivals, Forwarder, forwarders_of};
+use program_station::{Arrivals, Forwarder, Sources, forwarders_of};
+use program_tallies::Tallies;
 use std::alloc::{AllocError, Global};
 use std::net::UdpSocket;
 
@@ -13,19 +14,21 @@ pub struct WayIn<'a, R> {
 }
 
 impl<'a, R> WayIn<'a, R> {
-    /// A way in for so many workers. The main thread has to look as soon as `others` says at a step that nobody waits for.
+    /// A way in for each worker that `tallies` counts for, of datagrams from such sources. The main thread has to look as soon as
+    /// `others` says at a step that nobody waits for.
     pub fn new(
         rt: &'a R,
         alloc: Global,
-        workers: usize,
+        tallies: &'a Tallies,
         config: &'a Config,
         socket: &'a UdpSocket,
         desk: &'a Desk,
         others: Urgency,
+        sources: Sources,
     ) -> Result<WayIn<'a, R>, AllocError> {
         Ok(WayIn {
-            arrivals: Arrivals::new(alloc, socket, desk),
-            forwarders: forwarders_of(rt, alloc, workers, config, socket, desk, others)?,
+            arrivals: Arrivals::new(alloc, socket, desk, sources),
+            forwarders: forwarders_of(rt, alloc, tallies, config, socket, desk, others)?,
         })
     }
 }

@@ -25,13 +25,16 @@ abbrev pub put_program : App
 put_program = program_of (codes "cfdp_put")
     (valued (codes "config") true ∷ valued (codes "bind") true ∷ valued (codes "user") true
     ∷ valued (codes "remote") true ∷ valued (codes "class") true ∷ valued (codes "rate") false
-    ∷ flag (codes "closure") ∷ valued (codes "first") false ∷ placed (codes "source") ∷ placed (codes "target") ∷ [])
+    ∷ flag (codes "closure") ∷ valued (codes "first") false ∷ valued (codes "numbers") false
+    ∷ flag (codes "known-sources") ∷ placed (codes "source") ∷ placed (codes "target") ∷ [])
 
 -- what `cfdp_server` takes
 abbrev pub server_program : App
 server_program = program_of (codes "cfdp_server")
     (valued (codes "config") true ∷ valued (codes "bind") true ∷ valued (codes "folder") true
-    ∷ valued (codes "workers") false ∷ valued (codes "rate") false ∷ flag (codes "follow") ∷ [])
+    ∷ valued (codes "workers") false ∷ valued (codes "rate") false ∷ flag (codes "follow")
+    ∷ valued (codes "control") false ∷ valued (codes "log") false ∷ valued (codes "numbers") false
+    ∷ flag (codes "known-sources") ∷ [])
 
 -- the first value that a line, the program's own name first, gives to the option or word of a name
 abbrev pub Gives : App → List Text → Text → Text → Type 0

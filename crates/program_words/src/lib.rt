@@ -10,4 +10,4 @@ mod serving;
 pub use fault::WordsFault;
 pub use line::line_of;
 pub use putting::{PutWords, put_help, put_version, put_words};
-pub use serving::{ServerWords, server_help, server_version, server_words};
+pub use serving::{SERVER_VERSION, ServerWords, server_help, server_version, server_words};

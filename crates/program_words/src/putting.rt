@@ -33,11 +33,16 @@ pub struct PutWords<'a> {
     pub closure: bool,
     /// The number of the entity's first transaction, where it is another than the configuration's: at most 2^63 - 1.
     pub first: Option<u64>,
+    /// The path of the file that says where numbers begin.
+    pub numbers: Option<&'a str>,
+    /// Whether datagrams from addresses that the configuration doesn't have are dropped.
+    pub known_sources: bool,
 }
 
 const HELP: &str = "Sends one file by CFDP over UDP, and prints what its user is told.
 
-Usage: cfdp_put --config FILE --bind ADDR --user NAME --remote ID --class N [--closure] [--rate N] [--first N] SRC DST
+Usage: cfdp_put --config FILE --bind ADDR --user NAME --remote ID --class N [--closure] [--rate N] [--first N]
+       [--numbers FILE] [--known-sources] SRC DST
 
   --config FILE   the configuration of the entity, in TOML
   --bind ADDR     where it listens: A.B.C.D:PORT, all in decimal
@@ -47,6 +52,8 @@ Usage: cfdp_put --config FILE --bind ADDR --user NAME --remote ID --class N [--c
   --closure       in class 1, too, the receiver is to say at the end what became of the file
   --rate N        octets a second that leave for the file, 1 to 1000000000 (no limit where it is left out)
   --first N       where the numbers of transactions begin, in place of the configuration's `first`
+  --numbers FILE  keeps in this file where the numbers of the next run begin
+  --known-sources drops datagrams from addresses that the configuration doesn't have
   SRC             the file to be sent
   DST             its name at the receiver
   --help          prints this, and ends
@@ -88,6 +95,8 @@ fn command<'a>(alloc: Global) -> Result<Command<'a>, AllocError>
         .arg(optional(alloc, "rate"))?
         .arg(flag(alloc, "closure"))?
         .arg(optional(alloc, "first"))?
+        .arg(optional(alloc, "numbers"))?
+        .arg(flag(alloc, "known-sources"))?
         .arg(word(alloc, "source"))?
         .arg(word(alloc, "target"))?;
     Ok(command)
@@ -131,7 +140,9 @@ fn words_in<'a>(matches: &ArgMatches<'a>) -> Option<PutWords<'a>>
     let rate = rate_of(matches.get_str("rate"))?;
     let closure = matches.get_flag("closure");
     let first = first_of(matches.get_str("first"))?;
-    if !is_address(bind) || !is_name(source) || !is_name(target) {
+    let numbers = matches.get_str("numbers");
+    let known_sources = matches.get_flag("known-sources");
+    if !is_address(bind) || !is_name(source) || !is_name(target) || numbers == Some("") {
         return None;
     }
     Some(PutWords {
@@ -145,6 +156,8 @@ fn words_in<'a>(matches: &ArgMatches<'a>) -> Option<PutWords<'a>>
         rate,
         closure,
         first,
+        numbers,
+        known_sources,
     })
 }
 

@@ -22,11 +22,20 @@ pub struct ServerWords<'a> {
     pub rate: Option<u64>,
     /// Whether each user's indications are printed as they come.
     pub follow: bool,
+    /// The path of the socket by which clients command the server, in place of standard input and output.
+    pub control: Option<&'a str>,
+    /// The path of the file to which events are appended.
+    pub log: Option<&'a str>,
+    /// The path of the file that says where numbers begin.
+    pub numbers: Option<&'a str>,
+    /// Whether datagrams from addresses that the configuration doesn't have are dropped.
+    pub known_sources: bool,
 }
 
 const HELP: &str = "Receives and sends files by CFDP over UDP, as one entity.
 
 Usage: cfdp_server --config FILE --bind ADDR --folder DIR [--workers N] [--rate N] [--follow]
+       [--control PATH] [--log FILE] [--numbers FILE] [--known-sources]
 
   --config FILE   the configuration of the entity, in TOML
   --bind ADDR     where it listens: A.B.C.D:PORT, all in decimal
@@ -34,21 +43,31 @@ Usage: cfdp_server --config FILE --bind ADDR --folder DIR [--workers N] [--rate 
   --workers N     threads that take datagrams, 1 to 16 (4 where it is left out)
   --rate N        octets a second that leave for files under way, 1 to 1000000000 (no limit where it is left out)
   --follow        prints what each user is told as it comes, as if it were taken between the commands
+  --control PATH  takes commands and answers at this socket, in place of standard input and output
+  --log FILE      appends events to this file, one JSON object a line
+  --numbers FILE  keeps in this file where the numbers of the next run begin
+  --known-sources drops datagrams from addresses that the configuration doesn't have
   --help          prints this, and ends
   --version       prints the version, and ends
 
-Commands come on the standard input, one a line:
+Commands come on the standard input, or by the socket, one a line:
   put USER LANE CLASS DEST SRC DST [closure]
   cancel|suspend|resume|report|abandon USER SOURCE SEQ
   take USER
   trace SOURCE SEQ
+  status
   quit
+By the socket also:
+  follow [N]
 ";
 
 /// What `--help` of the server prints.
 pub fn server_help() -> &'static str {
     HELP
 }
+
+/// The version of the server.
+pub const SERVER_VERSION: &str = "0.1";
 
 /// What `--version` of the server prints.
 pub fn server_version() -> &'static str {
@@ -66,7 +85,11 @@ fn command<'a>(alloc: Global) -> Result<Command<'a>, AllocError>
         .arg(required(alloc, "folder"))?
         .arg(optional(alloc, "workers"))?
         .arg(optional(alloc, "rate"))?
-        .arg(flag(alloc, "follow"))?;
+        .arg(flag(alloc, "follow"))?
+        .arg(optional(alloc, "control"))?
+        .arg(optional(alloc, "log"))?
+        .arg(optional(alloc, "numbers"))?
+        .arg(flag(alloc, "known-sources"))?;
     Ok(command)
 }
 
@@ -93,7 +116,12 @@ fn words_in<'a>(matches: &ArgMatches<'a>) -> Option<ServerWords<'a>>
     let workers = workers_of(matches.get_str("workers"))?;
     let rate = rate_of(matches.get_str("rate"))?;
     let follow = matches.get_flag("follow");
-    if !is_address(bind) || folder.is_empty() {
+    let control = matches.get_str("control");
+    let log = matches.get_str("log");
+    let numbers = matches.get_str("numbers");
+    let known_sources = matches.get_flag("known-sources");
+    let is_named = control != Some("") && log != Some("") && numbers != Some("");
+    if !is_address(bind) || folder.is_empty() || !is_named {
         return None;
     }
     Some(ServerWords {
@@ -103,6 +131,10 @@ fn words_in<'a>(matches: &ArgMatches<'a>) -> Option<ServerWords<'a>>
         workers,
         rate,
         follow,
+        control,
+        log,
+        numbers,
+        known_sources,
     })
 }
 

@@ -44,6 +44,14 @@ others : map (command_of reference_config) (codes "take bob" ∷ codes "trace 2 
     ∷ []
 others = refl
 
+services : map (command_of reference_config) (codes "status" ∷ codes "follow" ∷ codes "follow 100" ∷ [])
+    ≡ Some command.Status ∷ Some (command.Follow 0) ∷ Some (command.Follow 100) ∷ []
+services = refl
+
+bad_services : map (command_of reference_config) (codes "status now" ∷ codes "follow x" ∷ codes "follow 1 2" ∷ codes "follow " ∷ codes "follow 18446744073709551616" ∷ [])
+    ≡ replicate 5 None
+bad_services = refl
+
 bad_others : map (command_of reference_config) ([] ∷ codes "take" ∷ codes "take carol" ∷ codes "trace 2" ∷ codes "quit now" ∷ codes "quit " ∷ codes "cancel alice 2"
     ∷ codes "stop alice 2 4" ∷ codes " quit" ∷ [])
     ≡ replicate 9 None

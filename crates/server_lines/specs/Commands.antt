@@ -90,6 +90,17 @@ abbrev pub trace_of : List (List ℕ) → Option Command
 trace_of (source ∷ seq ∷ []) = option_map command.Trace (key_from source seq)
 trace_of operands = None
 
+-- status, and nothing else
+abbrev pub status_of : List (List ℕ) → Option Command
+status_of [] = Some command.Status
+status_of operands = None
+
+-- follow, or follow and a number of events
+abbrev pub follow_of : List (List ℕ) → Option Command
+follow_of [] = Some (command.Follow 0)
+follow_of (count ∷ []) = option_map command.Follow (number_of count)
+follow_of operands = None
+
 -- quit, and nothing else
 abbrev pub quit_of : List (List ℕ) → Option Command
 quit_of [] = Some command.Quit
@@ -100,6 +111,8 @@ abbrev pub other_by : ConfigValue → List ℕ → List (List ℕ) → Option Co
 other_by config kind operands =
     if bytes_eq kind (codes "take") then take_of config operands
     else if bytes_eq kind (codes "trace") then trace_of operands
+    else if bytes_eq kind (codes "status") then status_of operands
+    else if bytes_eq kind (codes "follow") then follow_of operands
     else if bytes_eq kind (codes "quit") then quit_of operands
     else asked_of config kind operands
 

@@ -1,14 +1,14 @@
 ghost use Rattle.std.specs.Prelude.{◌≡◌, IfOk};
 ghost use Rattle.std.specs.Option.{option_copied};
 ghost use Rattle.line_words.specs.Words.{words_left};
-ghost use Rattle.server_lines.specs.Commands.{command_of, other_by, asked_of, asked_from, take_of, trace_of, quit_of};
+ghost use Rattle.server_lines.specs.Commands.{command_of, other_by, asked_of, asked_from, take_of, trace_of, status_of, follow_of, quit_of};
 
 use crate::operands::user_of;
 use crate::put::put;
 use cfdp_types::{Class, EntityId, Octets, TxnKey};
 use entity_config::Config;
 use entity_routing::Request;
-use line_words::{Rest, key_from, last_word, next_word, request_for, split_word};
+use line_words::{Rest, key_from, last_word, next_word, number_of, request_for, split_word};
 use std::alloc::{AllocError, Global};
 
 /// A file that a user wants to be sent.
@@ -37,6 +37,10 @@ pub enum Command {
     Take(usize),
     /// How far a transaction is.
     Trace(TxnKey),
+    /// What goes on.
+    Status,
+    /// The client reads events too from now on, after the last ones of those that are kept, so many at most.
+    Follow(u64),
     /// The server is to end.
     Quit,
 }
@@ -64,6 +68,10 @@ fn other(config: &Config, kind: &[u8], operands: Rest<'_>) -> Option<Command>
         take(config, operands)
     } else if kind == b"trace".as_slice() {
         trace(operands)
+    } else if kind == b"status".as_slice() {
+        status(operands)
+    } else if kind == b"follow".as_slice() {
+        follow(operands)
     } else if kind == b"quit".as_slice() {
         quit(operands)
     } else {
@@ -84,6 +92,28 @@ fn trace(operands: Rest<'_>) -> Option<Command>
     let (source, operands) = next_word(operands)?;
     let key = key_from(source, last_word(operands)?)?;
     Some(Command::Trace(key))
+}
+
+fn status(operands: Rest<'_>) -> Option<Command>
+    ensures { result ≡ status_of (words_left (option_copied operands.entry)) }
+{
+    match next_word(operands) {
+        None => Some(Command::Status),
+        Some(_) => None,
+    }
+}
+
+fn follow(operands: Rest<'_>) -> Option<Command>
+    ensures { result ≡ follow_of (words_left (option_copied operands.entry)) }
+{
+    let Some((count, operands)) = next_word(operands) else {
+        return Some(Command::Follow(0));
+    };
+    let count = number_of(count)?;
+    match next_word(operands) {
+        None => Some(Command::Follow(count)),
+        Some(_) => None,
+    }
 }
 
 fn quit(operands: Rest<'_>) -> Option<Command>

@@ -24,7 +24,11 @@ returns c =
     let with_closure = c.in_ok-arg-7.ensures.shape c.flag.ensures.local ∙ ap₂ with_rule with_rate closure_is in
     let first_is : rule_of c.optional-2.result ≡ valued (codes "first") false = search rules in
     let with_first = c.in_ok-arg-8.ensures.shape c.optional-2.ensures.local ∙ ap₂ with_rule with_closure first_is in
+    let numbers_is : rule_of c.optional-3.result ≡ valued (codes "numbers") false = search rules in
+    let with_numbers = c.in_ok-arg-9.ensures.shape c.optional-3.ensures.local ∙ ap₂ with_rule with_first numbers_is in
+    let known_is : rule_of c.flag-2.result ≡ flag (codes "known-sources") = search rules in
+    let with_known = c.in_ok-arg-10.ensures.shape c.flag-2.ensures.local ∙ ap₂ with_rule with_numbers known_is in
     let source_is : rule_of c.word.result ≡ placed (codes "source") = search rules in
-    let with_source = c.in_ok-arg-9.ensures.shape c.word.ensures.local ∙ ap₂ with_rule with_first source_is in
+    let with_source = c.in_ok-arg-11.ensures.shape c.word.ensures.local ∙ ap₂ with_rule with_known source_is in
     let target_is : rule_of c.word-2.result ≡ placed (codes "target") = search rules in
     c.in_ok-command.ensures.shape c.word-2.ensures.local ∙ ap₂ with_rule with_source target_is

@@ -19,4 +19,12 @@ returns c =
     let rate_is : rule_of c.optional-2.result ≡ valued (codes "rate") false = search rules in
     let with_rate = c.in_ok-arg-5.ensures.shape c.optional-2.ensures.local ∙ ap₂ with_rule with_workers rate_is in
     let follow_is : rule_of c.flag.result ≡ flag (codes "follow") = search rules in
-    c.in_ok-command.ensures.shape c.flag.ensures.local ∙ ap₂ with_rule with_rate follow_is
+    let with_follow = c.in_ok-arg-6.ensures.shape c.flag.ensures.local ∙ ap₂ with_rule with_rate follow_is in
+    let control_is : rule_of c.optional-3.result ≡ valued (codes "control") false = search rules in
+    let with_control = c.in_ok-arg-7.ensures.shape c.optional-3.ensures.local ∙ ap₂ with_rule with_follow control_is in
+    let log_is : rule_of c.optional-4.result ≡ valued (codes "log") false = search rules in
+    let with_log = c.in_ok-arg-8.ensures.shape c.optional-4.ensures.local ∙ ap₂ with_rule with_control log_is in
+    let numbers_is : rule_of c.optional-5.result ≡ valued (codes "numbers") false = search rules in
+    let with_numbers = c.in_ok-arg-9.ensures.shape c.optional-5.ensures.local ∙ ap₂ with_rule with_log numbers_is in
+    let known_is : rule_of c.flag-2.result ≡ flag (codes "known-sources") = search rules in
+    c.in_ok-command.ensures.shape c.flag-2.ensures.local ∙ ap₂ with_rule with_numbers known_is

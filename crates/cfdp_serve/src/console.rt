@@ -1,0 +1,57 @@
+//! Where answers go.
+use program_seats::{Asker, Seats};
+use program_start::{ProgramFault, print};
+use std::io::Write;
+use std::sync::Wait;
+
+/// Where answers go: they are printed, or sent to the client that asked.
+#[derive(Drop)]
+pub(crate) enum Console<'a, W: Drop> {
+    Printed(W),
+    Seated(&'a Seats),
+}
+
+impl<'a, W: Write + Drop> Console<'a, W> {
+    /// The clients' seats, where there are clients.
+    pub(crate) fn seats(&self) -> Option<&'a Seats> {
+        match self {
+            Console::Printed(_) => None,
+            Console::Seated(seats) => Some(*seats),
+        }
+    }
+
+    /// Gives an answer, and what users received meanwhile, to who asked.
+    pub(crate) fn answer<R: Wait>(
+        &mut self,
+        rt: &R,
+        asker: Option<Asker>,
+        text: &mut String,
+    ) -> Result<(), ProgramFault> {
+        match self.seats() {
+            Some(seats) => send(rt, seats, asker, text),
+            None => self.print(text.as_str()),
+        }
+    }
+
+    // Prints a text, where texts are printed.
+    fn print(&mut self, text: &str) -> Result<(), ProgramFault> {
+        match self {
+            Console::Printed(writer) => print(writer, text),
+            Console::Seated(_) => Ok(()),
+        }
+    }
+}
+
+// Sends an answer to the client that asked, with the line that ends it.
+fn send<R: Wait>(
+    rt: &R,
+    seats: &Seats,
+    asker: Option<Asker>,
+    text: &mut String,
+) -> Result<(), ProgramFault> {
+    if let Some(asker) = asker {
+        text.push_str(".\n")?;
+        let _is_there = seats.answer(rt, asker, text.as_bytes());
+    }
+    Ok(())
+}

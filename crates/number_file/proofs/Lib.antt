@@ -1,0 +1,2 @@
+pub mod RoundFacts
+pub mod RoundRows

@@ -1,0 +1,12 @@
+//! A file that says where the numbers of the next run begin, so that none comes twice, wherever the machine stops.
+#![tactic(auto)]
+
+mod file;
+mod laws;
+mod rounds;
+#[cfg(test)]
+mod tests;
+
+pub use file::{NumberFile, NumbersFault};
+pub use laws::numbers;
+pub use rounds::{Cover, LAST_ROUND, Rounds};

@@ -1,0 +1,38 @@
+//! The two threads of one client.
+use crate::reading::read_commands;
+use crate::writing::write_answers;
+use program_desk::Desk;
+use program_seats::{Asker, Seats};
+use script_io::in_blocks;
+use std::alloc::Global;
+use std::net::Shutdown;
+use std::os::unix::net::UnixStream;
+use std::sync::Wait;
+use std::thread;
+use std::thread::Threads;
+
+/// Serves the client of a seat until it leaves: this thread reads, and another one writes.
+pub(crate) fn serve_client<'x, R: Threads + Wait + Sync>(
+    rt: &'x R,
+    alloc: Global,
+    stream: UnixStream,
+    asker: Asker,
+    desk: &'x Desk,
+    seats: &'x Seats,
+) {
+    let shared = &stream;
+    thread::scope(thread::scope_env(), rt, move |scope| {
+        let started = scope.spawn(move || {
+            let mut writer = shared;
+            write_answers(rt, alloc, &mut writer, asker, seats)
+        });
+        if started.is_ok()
+            && let Ok(mut reader) = in_blocks(alloc, shared)
+        {
+            read_commands(rt, alloc, &mut reader, asker, desk, seats);
+        }
+        seats.end(rt, asker);
+    });
+    let _as_it_may = stream.shutdown(Shutdown::Both);
+    seats.leave(rt, asker);
+}

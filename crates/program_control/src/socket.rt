@@ -1,0 +1,237 @@
+//! The socket itself: its file, who comes in, and its end.
+use crate::client::serve_client;
+use program_desk::Desk;
+use program_seats::Seats;
+use script_io::write_whole;
+use std::alloc::Global;
+use std::fs::Permissions;
+use std::io::ErrorKind;
+use std::net::{Net, Shutdown};
+use std::os::fd::{AsFd, AsRawFd, OwnedFd};
+use std::os::unix::fs::{FileTypeExt, MetadataExt, PermissionsExt};
+use std::os::unix::net::{SocketAddr, UnixListener, UnixStream};
+use std::rt::Files;
+use std::sync::Wait;
+use std::thread::Threads;
+use std::time::{Clock, Duration};
+use std::{fs, io, thread};
+
+// Who may connect: the owner alone.
+const OWNER_ALONE: u32 = 0o600;
+
+// How many clients may wait to come in.
+const WAITING: i32 = 16;
+
+// How many paths are tried beside the one that is wanted.
+const BESIDE: u64 = 100;
+
+// How long the thread that lets clients in rests where that fails.
+const REST_MILLIS: u64 = 20;
+
+/// Why there is no control socket.
+#[derive(Clone, Copy, Debug, PartialEq, Eq)]
+pub enum ControlFault {
+    /// Another server answers there.
+    Live,
+    /// Something lies there that is no socket.
+    NotSocket,
+    /// The system refuses it.
+    System,
+}
+
+/// A control socket that clients can connect to.
+#[derive(Drop)]
+pub struct ControlSocket {
+    listener: UnixListener,
+    // another handle of the same socket, by which it is shut
+    shutter: UnixStream,
+    // of the file: another server may have put one of its own there
+    device: u64,
+    node: u64,
+}
+
+impl ControlSocket {
+    /// Makes the socket's file, with the owner's rights alone before anyone can connect. The file of a server that is gone is
+    /// replaced. Of servers that start at the same time one gets the path.
+    pub fn open<R: Files + Net>(
+        rt: &R,
+        alloc: Global,
+        path: &str,
+    ) -> Result<ControlSocket, ControlFault> {
+        let (socket, own) = open_beside(rt, alloc, path).map_err(|_| ControlFault::System)?;
+        let placed = place(rt, alloc, own.as_str(), path);
+        let _gone = fs::remove_file(rt, own.as_str());
+        placed?;
+        Ok(socket)
+    }
+
+    /// Lets clients in, each at a free seat, until the seats are closed. It returns once all have left.
+    pub fn run<R: Threads + Wait + Clock + Sync>(
+        &self,
+        rt: &R,
+        alloc: Global,
+        desk: &Desk,
+        seats: &Seats,
+    ) {
+        let listener = &self.listener;
+        thread::scope(thread::scope_env(), rt, move |scope| {
+            for _ in rt.forever() {
+                match listener.accept() {
+                    Ok((stream, _)) => match seats.sit(rt, &stream) {
+                        Some(asker) => {
+                            let started = scope.spawn(move || {
+                                serve_client(rt, alloc, stream, asker, desk, seats)
+                            });
+                            if started.is_err() {
+                                seats.cut(rt, asker);
+                                seats.leave(rt, asker);
+                            }
+                        }
+                        None => refuse(stream),
+                    },
+                    Err(_) => {
+                        if seats.is_closed(rt) {
+                            return;
+                        }
+                        let _rested = thread::sleep(rt, Duration::from_millis(REST_MILLIS));
+                    }
+                }
+            }
+        });
+    }
+
+    /// Lets nobody in any more, and all who sit leave: what was answered is still sent, as far as they take it at once.
+    pub fn close<R: Files + Wait + Clock>(&self, rt: &R, path: &str, seats: &Seats) {
+        seats.close(rt);
+        let _as_it_may = self.shutter.shutdown(Shutdown::Both);
+        self.leave(rt, path);
+        seats.finish(rt);
+    }
+
+    /// Takes the socket's file away, if it is still the one at its path.
+    pub fn leave<R: Files>(&self, rt: &R, path: &str) {
+        if self.is_at(rt, path) {
+            let _gone = fs::remove_file(rt, path);
+        }
+    }
+
+    // Whether the file at a path is still this socket's.
+    fn is_at<R: Files>(&self, rt: &R, path: &str) -> bool {
+        match fs::symlink_metadata(rt, path) {
+            Ok(found) => found.dev() == self.device && found.ino() == self.node,
+            Err(_) => false,
+        }
+    }
+}
+
+// Gives a socket that listens at a path of its own the path that is wanted.
+fn place<R: Files + Net>(rt: &R, alloc: Global, own: &str, path: &str) -> Result<(), ControlFault> {
+    if let Some(stale) = stale_at(rt, path)? {
+        take_away(rt, alloc, own, path, stale)?;
+    }
+    match fs::hard_link(rt, own, path) {
+        Ok(()) => Ok(()),
+        Err(error) if error.kind() == ErrorKind::AlreadyExists => Err(ControlFault::Live),
+        Err(_) => Err(ControlFault::System),
+    }
+}
+
+// The device and the node of the file at a path, where it is a socket at which nobody listens; nothing where there is no file.
+fn stale_at<R: Files + Net>(rt: &R, path: &str) -> Result<Option<(u64, u64)>, ControlFault> {
+    let found = match fs::symlink_metadata(rt, path) {
+        Ok(found) => found,
+        Err(error) if error.kind() == ErrorKind::NotFound => return Ok(None),
+        Err(_) => return Err(ControlFault::System),
+    };
+    if !found.file_type().is_socket() {
+        return Err(ControlFault::NotSocket);
+    }
+    match UnixStream::connect(rt, path) {
+        Ok(_) => Err(ControlFault::Live),
+        Err(error) if error.kind() == ErrorKind::ConnectionRefused => {
+            Ok(Some((found.dev(), found.ino())))
+        }
+        Err(_) => Err(ControlFault::System),
+    }
+}
+
+// Takes a stale file away. Where another server was quicker, and its file lies there, that is put back.
+fn take_away<R: Files>(
+    rt: &R,
+    alloc: Global,
+    own: &str,
+    path: &str,
+    stale: (u64, u64),
+) -> Result<(), ControlFault> {
+    let Ok(aside) = format!(in alloc; "{own}.old") else {
+        return Err(ControlFault::System);
+    };
+    match fs::rename(rt, path, aside.as_str()) {
+        Ok(()) => {}
+        Err(error) if error.kind() == ErrorKind::NotFound => return Ok(()),
+        Err(_) => return Err(ControlFault::System),
+    }
+    let is_stale = match fs::symlink_metadata(rt, aside.as_str()) {
+        Ok(found) => (found.dev(), found.ino()) == stale,
+        Err(_) => false,
+    };
+    if !is_stale {
+        let _as_it_may = fs::hard_link(rt, aside.as_str(), path);
+    }
+    let _gone = fs::remove_file(rt, aside.as_str());
+    if is_stale {
+        Ok(())
+    } else {
+        Err(ControlFault::Live)
+    }
+}
+
+// Makes a socket at a path beside the one that is wanted, at which clients can connect; the path too.
+fn open_beside<R: Files + Net>(
+    rt: &R,
+    alloc: Global,
+    path: &str,
+) -> io::Result<(ControlSocket, String)> {
+    for number in 0..BESIDE {
+        let own = format!(in alloc; "{path}.{number}")?;
+        match open_new(rt, own.as_str()) {
+            Ok(socket) => return Ok((socket, own)),
+            Err(error) if error.kind() == ErrorKind::AddrInUse => {}
+            Err(error) => return Err(error),
+        }
+    }
+    Err(ErrorKind::AddrInUse.into())
+}
+
+// Makes a socket: its file, its rights, and only then lets clients connect.
+fn open_new<R: Files + Net>(rt: &R, path: &str) -> io::Result<ControlSocket> {
+    let address = SocketAddr::from_pathname(path)?;
+    let socket = rt.unix_socket()?;
+    rt.bind_unix(socket.as_fd(), &address)?;
+    let listening = listen_at(rt, path, socket);
+    if listening.is_err() {
+        let _gone = fs::remove_file(rt, path);
+    }
+    listening
+}
+
+fn listen_at<R: Files>(rt: &R, path: &str, socket: OwnedFd) -> io::Result<ControlSocket> {
+    fs::set_permissions(rt, path, Permissions::from_mode(OWNER_ALONE))?;
+    let found = fs::symlink_metadata(rt, path)?;
+    if libc::net::listen(socket.as_raw_fd(), WAITING) < 0 {
+        return Err(ErrorKind::Other.into());
+    }
+    let shutter = UnixStream::from(socket.try_clone()?);
+    Ok(ControlSocket {
+        listener: UnixListener::from(socket),
+        shutter,
+        device: found.dev(),
+        node: found.ino(),
+    })
+}
+
+// Tells a client that no seat is free.
+fn refuse(stream: UnixStream) {
+    let mut writer = &stream;
+    let _as_it_may = write_whole(&mut writer, b"busy\n");
+}

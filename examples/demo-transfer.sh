@@ -1,0 +1,79 @@
+#!/usr/bin/env bash
+# Moves a file between the server and the put over loopback, in class 2, and compares what came with what was sent. Both run
+# as they stand, with nothing proved.
+# usage: examples/demo-transfer.sh OCTETS
+set -euo pipefail
+octets=$1
+top=$(realpath "$(dirname "$0")/..")
+work=$(mktemp -d)
+serving=
+leave() {
+    if [ -n "$serving" ]; then kill "$serving" 2> /dev/null || true; fi
+    rm -rf "$work"
+}
+trap leave EXIT
+
+# tells TEXT: the run did not go as it should.
+tells() {
+    echo "$1"
+    tail -n 20 "$work"/server.log "$work"/put.log 2> /dev/null || true
+    exit 1
+}
+
+# says LINE..: sends lines to the server's control socket, and prints the answers.
+says() {
+    python3 - "$work/control" "$@" << 'CLIENT'
+import socket, sys
+with socket.socket(socket.AF_UNIX) as client:
+    client.settimeout(20)
+    client.connect(sys.argv[1])
+    client.sendall("".join(line + "\n" for line in sys.argv[2:]).encode())
+    client.shutdown(socket.SHUT_WR)
+    for line in client.makefile():
+        if line != ".\n":
+            print(line, end="")
+CLIENT
+}
+
+# runs PROGRAM WORDS..: runs a program of this repository as it stands.
+runs() {
+    cd "$top/crates/$1"
+    exec rt try --steps 1000000000000 --seconds 240 -- "${@:2}"
+}
+
+read -r at_server at_put < <(python3 - << 'PORTS'
+import socket
+found = [socket.socket(socket.AF_INET, socket.SOCK_DGRAM) for _ in range(2)]
+for one in found:
+    one.bind(("127.0.0.1", 0))
+print(*[one.getsockname()[1] for one in found])
+PORTS
+)
+sed "s/@PEER@/$at_put/" "$top/examples/transfer/ground.toml" > "$work/ground.toml"
+sed "s/@PEER@/$at_server/" "$top/examples/transfer/spacecraft.toml" > "$work/spacecraft.toml"
+mkdir "$work/received"
+head -c "$octets" /dev/urandom > "$work/image"
+
+echo "A file of $octets octets goes from cfdp_put to cfdp_server over loopback, in class 2, with nothing proved."
+echo "Compiling and starting the server: about a minute."
+(runs cfdp_server --config "$work/ground.toml" --bind "127.0.0.1:$at_server" --folder "$work/received" \
+    --control "$work/control" > "$work/server.log" 2>&1 < /dev/null) &
+serving=$!
+for _ in $(seq 2400); do
+    [ -S "$work/control" ] && break
+    kill -0 "$serving" 2> /dev/null || tells "The server ended."
+    sleep 0.1
+done
+echo "The server listens. Compiling and starting the put: about half a minute."
+(runs cfdp_put --config "$work/spacecraft.toml" --bind "127.0.0.1:$at_put" --user alice --remote 2 --class 2 --rate 2000000 \
+    "$work/image" image.received > "$work/put.log" 2>&1 < /dev/null) || true
+grep -q 'Transaction-Finished 0 complete retained' "$work/put.log" || tells "The put did not hear that the file is whole."
+echo "What the sender's user received last:"
+echo "    $(grep 'Transaction-Finished' "$work/put.log")"
+echo "What the server shows of the transaction:"
+says status | grep '"kind":"transaction"' | sed 's/^/    /'
+says quit > "$work/quit"
+wait "$serving" || tells "The server ended with status $?."
+serving=
+cmp "$work/image" "$work/received/image.received" || tells "The file that came is another."
+echo "The file came whole."

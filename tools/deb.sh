@@ -1,0 +1,58 @@
+#!/usr/bin/env bash
+# Makes a Debian package of programs that are built, installs it into a folder, and tries what lies there.
+# usage: tools/deb.sh PROGRAM..
+# The package lies in out/ then, by the version that the first program prints.
+set -euo pipefail
+top=$(realpath "$(dirname "$0")/..")
+version=$("$1" --version | cut -d ' ' -f 2)
+machine=$(dpkg --print-architecture)
+package=binesunset_${version}_$machine
+room=$(mktemp -d)
+trap 'rm -rf "$room"' EXIT
+
+folder=$room/$package
+install -d "$folder"/DEBIAN "$folder"/usr/bin "$folder"/usr/share/man/man1 "$folder"/lib/systemd/system
+install -d "$folder"/usr/share/doc/binesunset/examples
+for program in "$@"; do
+    name=$(basename "$program")
+    install -m 755 "$program" "$folder/usr/bin/$name"
+    gzip -9 -n -c "$top/docs/man/$name.1" > "$folder/usr/share/man/man1/$name.1.gz"
+done
+for unit in "$top"/examples/*.service; do
+    # a unit comes along with its program
+    [ -x "$folder/usr/bin/$(basename "$unit" .service)" ] || continue
+    sed 's|/usr/local/bin/|/usr/bin/|' "$unit" > "$folder/lib/systemd/system/$(basename "$unit")"
+done
+install -m 644 "$top"/examples/entity.toml "$folder"/usr/share/doc/binesunset/examples
+install -m 644 "$top"/README.md "$top"/docs/*.md "$folder"/usr/share/doc/binesunset
+if [ -f "$top/LICENSE" ]; then install -m 644 "$top/LICENSE" "$folder/usr/share/doc/binesunset/copyright"; fi
+cat > "$folder/DEBIAN/control" << CONTROL
+Package: binesunset
+Version: $version
+Architecture: $machine
+Maintainer: Binesunset
+Section: net
+Priority: optional
+Depends: libc6
+Installed-Size: $(du -sk "$folder" | cut -f 1)
+Description: CCSDS File Delivery Protocol over UDP
+ A server for CFDP (CCSDS 727.0-B-5) that sends and receives many files at once, in class 1 and class 2, and programs to put
+ files and to command a running server.
+CONTROL
+mkdir -p "$top/out"
+dpkg-deb --root-owner-group --build "$folder" "$top/out/$package.deb" > "$room/log"
+
+# into a folder, and each program and page there
+dpkg-deb --extract "$top/out/$package.deb" "$room/there"
+for program in "$@"; do
+    name=$(basename "$program")
+    "$room/there/usr/bin/$name" --version | grep -q "^$name $version\$"
+    gzip -d -c "$room/there/usr/share/man/man1/$name.1.gz" | cmp - "$top/docs/man/$name.1"
+done
+for unit in "$room"/there/lib/systemd/system/*.service; do
+    for named in $(grep -o '/usr/bin/cfdp_[a-z]*' "$unit" | sort -u); do
+        [ -x "$room/there$named" ] || { echo "$(basename "$unit") names $named, which the package doesn't have"; exit 1; }
+    done
+done
+[ "$(dpkg-deb --field "$top/out/$package.deb" Version)" = "$version" ]
+echo "out/$package.deb: $(dpkg-deb --contents "$top/out/$package.deb" | grep -c '^-') files, installed into a folder and tried"
