@@ -5,6 +5,7 @@ SHELL := /bin/bash
 program := crates/cfdp_replay/out/cfdp_replay
 server := crates/cfdp_server/out/cfdp_server
 put := crates/cfdp_put/out/cfdp_put
+ctl := crates/cfdp_ctl/out/cfdp_ctl
 hostile := crates/hostile_runs/out/hostile_runs
 PREFIX ?= /usr/local
 
@@ -25,30 +26,30 @@ build:
 	@rm -f crates/cfdp_replay/build.log
 	@echo "The program: $(program)"
 
-# the server and the put, proved and built
+# the server, the put and the program that commands a server, proved and built
 programs:
-	@echo "Proving the server and the put and all that they stand on, and building them: the first time takes as long as"
+	@echo "Proving the programs and all that they stand on, and building them: the first time takes as long as"
 	@echo "proving does, half an hour or more."
-	@for one in cfdp_server cfdp_put; do \
+	@for one in cfdp_server cfdp_put cfdp_ctl; do \
 	    (cd crates/$$one && rt run -- --version < /dev/null 2>&1 | tee build.log \
 	        | sed -un 's/^rt: chose --jobs [0-9]* for \(.*\)/    \1 .../p; s/^crate \([a-z_]*\): .*/    \1 is proved/p' \
 	        || { cat build.log; exit 1; }; rm -f build.log) || exit 1; \
 	done
-	@echo "The programs: $(server) and $(put)"
+	@echo "The programs: $(server), $(put) and $(ctl)"
 
 # the same on all processors, in a folder of its own; not yet run to its end
 programs-at-once:
-	@tools/build.py cfdp_server cfdp_put
+	@tools/build.py cfdp_server cfdp_put cfdp_ctl
 
 # a file of 4 MiB crosses loopback, through a relay that loses and doubles datagrams
 transfer: programs
 	@examples/transfer.sh $(server) $(put) 2 4194304 7 11
 
-# the server and the put, in place, with a page of the manual for each
+# the programs, in place, with a page of the manual for each
 install: programs
 	install -d $(DESTDIR)$(PREFIX)/bin $(DESTDIR)$(PREFIX)/share/man/man1
-	install -m 755 $(server) $(put) $(DESTDIR)$(PREFIX)/bin
-	install -m 644 docs/man/cfdp_server.1 docs/man/cfdp_put.1 $(DESTDIR)$(PREFIX)/share/man/man1
+	install -m 755 $(server) $(put) $(ctl) $(DESTDIR)$(PREFIX)/bin
+	install -m 644 docs/man/cfdp_server.1 docs/man/cfdp_put.1 docs/man/cfdp_ctl.1 $(DESTDIR)$(PREFIX)/share/man/man1
 
 # each allocation refused in turn, and changed datagrams: the program for both is proved and built
 memory:
@@ -73,7 +74,8 @@ test:
 	@tests/server.py $(server)
 	@tests/control.py $(server)
 	@tests/numbers.py $(server) $(put)
-	@tests/manual.sh $(server) $(put)
+	@tests/ctl.py $(ctl)
+	@tests/manual.sh $(server) $(put) $(ctl)
 
 # how fast and how large a run is; no part of the gate
 bench: build programs

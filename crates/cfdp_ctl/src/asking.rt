@@ -1,0 +1,69 @@
+//! The connection to the server, and its limits of time.
+use crate::fault::CtlFault;
+use station_client::Station;
+use std::alloc::Global;
+use std::net::Net;
+use std::sync::Wait;
+use std::time::{Clock, Duration};
+
+// How many milliseconds an answer may take where nobody says how long a server is awaited.
+const PATIENCE_MILLIS: u64 = 4_500;
+
+/// A connected server, and how long it may take to answer.
+#[derive(Drop)]
+pub(crate) struct Line {
+    pub(crate) station: Station,
+    limit: Duration,
+}
+
+impl Line {
+    /// Connects; where a server is awaited, for so many seconds.
+    pub(crate) fn open<R: Net + Clock + Wait>(
+        rt: &R,
+        alloc: Global,
+        path: &str,
+        awaited: Option<u64>,
+    ) -> Result<Line, CtlFault> {
+        let usual = Duration::from_millis(PATIENCE_MILLIS);
+        match awaited {
+            None => Ok(Line {
+                station: Station::connect(rt, alloc, path)?,
+                limit: usual,
+            }),
+            Some(seconds) => {
+                let patience = Duration::from_secs(seconds);
+                Ok(Line {
+                    station: Station::connect_within(rt, alloc, path, patience)?,
+                    limit: patience.max(usual),
+                })
+            }
+        }
+    }
+
+    /// The lines of the answer to a command.
+    pub(crate) fn ask<R: Clock + Wait>(
+        &mut self,
+        rt: &R,
+        command: &[u8],
+    ) -> Result<Vec<u8>, CtlFault> {
+        Ok(self.station.ask(rt, command, self.limit)?)
+    }
+
+    /// The JSON of the next event; none where none comes within so many milliseconds.
+    pub(crate) fn next_event<R: Clock + Wait>(
+        &mut self,
+        rt: &R,
+        milliseconds: u64,
+    ) -> Result<Option<Vec<u8>>, CtlFault> {
+        let limit = Duration::from_millis(milliseconds);
+        Ok(self.station.next_event(rt, limit)?)
+    }
+}
+
+/// The first line of an answer, without its line feed.
+pub(crate) fn first_line(answer: &[u8]) -> &[u8] {
+    match answer.iter().position(|octet| *octet == b'\n') {
+        Some(at) => &answer[..at],
+        None => answer,
+    }
+}

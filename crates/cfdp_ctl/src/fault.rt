@@ -1,0 +1,58 @@
+ghost use Rattle.std.specs.Prelude.{◌≡◌};
+ghost use Rattle.cfdp_ctl.specs.Exits.{status_of};
+
+use station_client::StationFault;
+use std::alloc::AllocError;
+
+/// Why the program ends.
+#[derive(Clone, Copy, Debug)]
+pub(crate) enum CtlFault {
+    /// The server doesn't answer.
+    Station(StationFault),
+    /// The words of the command line aren't text.
+    Words,
+    /// Neither the command line nor the environment has the path of the control socket.
+    NoPath,
+    /// Nobody reads what is printed.
+    Output,
+    /// The standard input can't be read.
+    Input,
+    /// Memory ran out.
+    NoMemory,
+}
+
+impl CtlFault {
+    /// What happened; nothing where nobody would read it.
+    pub(crate) fn text(self) -> Option<&'static str> {
+        match self {
+            CtlFault::Station(fault) => Some(fault.text()),
+            CtlFault::Words => Some("the words of the command line aren't text"),
+            CtlFault::NoPath => Some("--control PATH is missing, and CFDP_CONTROL isn't set"),
+            CtlFault::Output => None,
+            CtlFault::Input => Some("the standard input can't be read"),
+            CtlFault::NoMemory => Some("no memory"),
+        }
+    }
+
+    /// The exit status.
+    pub(crate) fn status(self) -> u8
+        ensures { result ≡ status_of self }
+    {
+        match self {
+            CtlFault::Words | CtlFault::NoPath => 2,
+            _ => 1,
+        }
+    }
+}
+
+impl From<StationFault> for CtlFault {
+    fn from(fault: StationFault) -> CtlFault {
+        CtlFault::Station(fault)
+    }
+}
+
+impl From<AllocError> for CtlFault {
+    fn from(_lack: AllocError) -> CtlFault {
+        CtlFault::NoMemory
+    }
+}

@@ -1,0 +1,92 @@
+//! Events as they come.
+use crate::asking::{Line, first_line};
+use crate::fault::CtlFault;
+use crate::screen::Screen;
+use ctl_views::{Event, Page, Tone, exit_status, outcome_of, read_event};
+use ctl_words::FollowWords;
+use std::alloc::Global;
+use std::io::Write;
+use std::sync::Wait;
+use std::time::Clock;
+
+// How many milliseconds one waits for an event before one waits again.
+const TURN_MILLIS: u64 = 60_000;
+
+/// Prints events until the server goes away.
+pub(crate) fn follow<R, W, E>(
+    rt: &R,
+    alloc: Global,
+    screen: &mut Screen<W, E>,
+    line: &mut Line,
+    words: FollowWords<'_>,
+) -> Result<u8, CtlFault>
+where
+    R: Clock + Wait,
+    W: Write + Drop,
+    E: Write + Drop,
+{
+    let answer = line.ask(rt, b"follow")?;
+    let status = exit_status(outcome_of(first_line(answer.as_slice())));
+    if status != 0 {
+        screen.print_lines(alloc, answer.as_slice())?;
+        return Ok(status);
+    }
+    for _ in rt.forever() {
+        if let Some(json) = line.next_event(rt, TURN_MILLIS)? {
+            print_json(alloc, screen, words, json.as_slice())?;
+        }
+    }
+    Ok(0)
+}
+
+// Prints an event by its JSON, if it is asked for.
+fn print_json<W: Write + Drop, E: Write + Drop>(
+    alloc: Global,
+    screen: &mut Screen<W, E>,
+    words: FollowWords<'_>,
+    json: &[u8],
+) -> Result<(), CtlFault> {
+    let text = String::from_utf8_lossy(alloc, json)?;
+    match read_event(alloc, text.as_str())? {
+        Some(event) if is_wanted(words, &event) => print_event(alloc, screen, words, json, &event),
+        _ => Ok(()),
+    }
+}
+
+fn print_event<W: Write + Drop, E: Write + Drop>(
+    alloc: Global,
+    screen: &mut Screen<W, E>,
+    words: FollowWords<'_>,
+    json: &[u8],
+    event: &Event,
+) -> Result<(), CtlFault> {
+    if words.json {
+        return screen.print_line(alloc, "", json);
+    }
+    let mut page = Page::new(alloc);
+    page.push(Tone::Plain, event.head.as_str())?;
+    page.push(Tone::Plain, " ")?;
+    page.push_line(event.tone, event.words.as_str())?;
+    screen.print_page(alloc, &page)
+}
+
+// Whether an event is about the user and the transaction that are asked for.
+fn is_wanted(words: FollowWords<'_>, event: &Event) -> bool {
+    is_of_user(words, event) && is_of_transaction(words, event)
+}
+
+fn is_of_user(words: FollowWords<'_>, event: &Event) -> bool {
+    match (words.user, &event.user) {
+        (None, _) => true,
+        (Some(name), Some(user)) => user.as_str() == name,
+        (Some(_), None) => false,
+    }
+}
+
+fn is_of_transaction(words: FollowWords<'_>, event: &Event) -> bool {
+    match (words.transaction, event.transaction) {
+        (None, _) => true,
+        (Some(asked), Some(own)) => asked.source == own.source && asked.seq == own.seq,
+        (Some(_), None) => false,
+    }
+}

@@ -1,0 +1,75 @@
+//! Looks at the status.
+use crate::asking::{Line, first_line};
+use crate::fault::CtlFault;
+use crate::screen::Screen;
+use ctl_views::{StatusView, exit_status, outcome_of};
+use ctl_words::StatusWords;
+use std::alloc::Global;
+use std::io::Write;
+use std::sync::Wait;
+use std::thread;
+use std::time::{Clock, Duration};
+
+/// Prints the status, once or again each second, and gives the exit status.
+pub(crate) fn look<R, W, E>(
+    rt: &R,
+    alloc: Global,
+    screen: &mut Screen<W, E>,
+    line: &mut Line,
+    words: StatusWords,
+) -> Result<u8, CtlFault>
+where
+    R: Clock + Wait,
+    W: Write + Drop,
+    E: Write + Drop,
+{
+    let mut view = StatusView::new(alloc);
+    let mut status = look_once(rt, alloc, screen, line, words, &mut view)?;
+    for _ in rt.forever() {
+        if !words.watch || status != 0 {
+            break;
+        }
+        thread::sleep(rt, Duration::from_secs(1));
+        status = look_once(rt, alloc, screen, line, words, &mut view)?;
+    }
+    Ok(status)
+}
+
+fn look_once<R, W, E>(
+    rt: &R,
+    alloc: Global,
+    screen: &mut Screen<W, E>,
+    line: &mut Line,
+    words: StatusWords,
+    view: &mut StatusView,
+) -> Result<u8, CtlFault>
+where
+    R: Clock + Wait,
+    W: Write + Drop,
+    E: Write + Drop,
+{
+    let answer = line.ask(rt, b"status")?;
+    let status = exit_status(outcome_of(first_line(answer.as_slice())));
+    if words.json || status != 0 {
+        screen.print_lines(alloc, answer.as_slice())?;
+    } else {
+        print_status(alloc, screen, words, view, answer.as_slice())?;
+    }
+    Ok(status)
+}
+
+fn print_status<W: Write + Drop, E: Write + Drop>(
+    alloc: Global,
+    screen: &mut Screen<W, E>,
+    words: StatusWords,
+    view: &mut StatusView,
+    answer: &[u8],
+) -> Result<(), CtlFault> {
+    let lines = String::from_utf8_lossy(alloc, answer)?;
+    let page = view.look(lines.as_str(), screen.width)?;
+    if words.watch {
+        screen.print_over(alloc, &page)
+    } else {
+        screen.print_page(alloc, &page)
+    }
+}

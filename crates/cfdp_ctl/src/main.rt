@@ -1,0 +1,23 @@
+//! Commands a running server over its control socket.
+#![tactic(auto)]
+
+mod asking;
+mod fault;
+mod following;
+mod looking;
+mod running;
+mod screen;
+mod tasks;
+
+use running::run;
+use screen::Screen;
+use std::io;
+use std::io::IsTerminal;
+use std::process::ExitCode;
+
+// Does what the words of the command line say.
+fn main(rt: HostRuntime) -> ExitCode {
+    let is_terminal = rt.stdout().is_terminal();
+    let mut screen = Screen::new(io::writer(&rt), rt.stderr(), is_terminal);
+    ExitCode::from(run(&rt, rt.alloc(), &mut screen))
+}

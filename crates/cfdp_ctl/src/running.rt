@@ -1,0 +1,183 @@
+//! What the words of the command line ask for.
+use crate::asking::Line;
+use crate::fault::CtlFault;
+use crate::following::follow;
+use crate::looking::look;
+use crate::screen::Screen;
+use crate::tasks::{run_command, run_input};
+use ctl_words::{Colour, CtlWords, Task, WordsFault, ctl_help, ctl_version, ctl_words};
+use std::alloc::Global;
+use std::env;
+use std::env::Env;
+use std::io::{ErrorKind, Write};
+use std::net::Net;
+use std::sync::Wait;
+use std::time::Clock;
+
+/// Does what the words of the command line say, and gives the exit status.
+pub(crate) fn run<R, W, E>(rt: &R, alloc: Global, screen: &mut Screen<W, E>) -> u8
+where
+    R: Net + Clock + Wait + Env + Input + AllocGlobal,
+    W: Write + Drop,
+    E: Write + Drop,
+{
+    match words_given(rt) {
+        Ok(words) => run_line(rt, alloc, screen, words.as_slice()),
+        Err(fault) => told(alloc, screen, fault),
+    }
+}
+
+// The words of the command line, of which the first is the program's own name.
+fn words_given<R: Env + AllocGlobal>(rt: &R) -> Result<Vec<String>, CtlFault> {
+    let mut words = Vec::new(rt.alloc());
+    match env::args(rt) {
+        Ok(given) => {
+            for word in given {
+                if words.push(word).is_err() {
+                    return Err(CtlFault::NoMemory);
+                }
+            }
+            Ok(words)
+        }
+        Err(error) if error.kind() == ErrorKind::OutOfMemory => Err(CtlFault::NoMemory),
+        Err(_) => Err(CtlFault::Words),
+    }
+}
+
+fn run_line<R, W, E>(rt: &R, alloc: Global, screen: &mut Screen<W, E>, line: &[String]) -> u8
+where
+    R: Net + Clock + Wait + Env + Input + AllocGlobal,
+    W: Write + Drop,
+    E: Write + Drop,
+{
+    match ctl_words(alloc, line) {
+        Ok(words) => match run_words(rt, alloc, screen, &words) {
+            Ok(status) => status,
+            Err(fault) => told(alloc, screen, fault),
+        },
+        Err(fault) => words_status(alloc, screen, &fault),
+    }
+}
+
+// Tells a fault, and gives its exit status.
+fn told<W: Write + Drop, E: Write + Drop>(
+    alloc: Global,
+    screen: &mut Screen<W, E>,
+    fault: CtlFault,
+) -> u8 {
+    if let Some(text) = fault.text()
+        && let Ok(line) = format!(in alloc; "cfdp_ctl: {text}\n")
+    {
+        screen.complain(alloc, line.as_str());
+    }
+    fault.status()
+}
+
+// Says why a command line isn't taken, or what it asks for.
+fn words_status<W: Write + Drop, E: Write + Drop>(
+    alloc: Global,
+    screen: &mut Screen<W, E>,
+    fault: &WordsFault,
+) -> u8 {
+    match fault {
+        WordsFault::Help => printed(alloc, screen, ctl_help()),
+        WordsFault::Version => printed(alloc, screen, ctl_version()),
+        WordsFault::NoMemory => told(alloc, screen, CtlFault::NoMemory),
+        WordsFault::Usage(text) => {
+            screen.complain(alloc, text.as_str());
+            2
+        }
+    }
+}
+
+// Prints a text, and gives the exit status.
+fn printed<W: Write + Drop, E: Write + Drop>(
+    alloc: Global,
+    screen: &mut Screen<W, E>,
+    text: &str,
+) -> u8 {
+    match screen.print(text.as_bytes()) {
+        Ok(()) => 0,
+        Err(fault) => told(alloc, screen, fault),
+    }
+}
+
+// A variable of the environment, where it is set to a text that isn't empty.
+fn variable<R: Env + AllocGlobal>(rt: &R, name: &str) -> Option<String> {
+    match env::var(rt, name) {
+        Ok(text) if !text.is_empty() => Some(text),
+        _ => None,
+    }
+}
+
+// How many columns the environment gives.
+fn columns_given<R: Env + AllocGlobal>(rt: &R) -> Option<usize> {
+    let text = variable(rt, "COLUMNS")?;
+    let columns = text.parse::<usize>().ok()?;
+    if columns < 40 || columns > 1000 {
+        None
+    } else {
+        Some(columns)
+    }
+}
+
+fn run_words<R, W, E>(
+    rt: &R,
+    alloc: Global,
+    screen: &mut Screen<W, E>,
+    words: &CtlWords<'_>,
+) -> Result<u8, CtlFault>
+where
+    R: Net + Clock + Wait + Env + Input + AllocGlobal,
+    W: Write + Drop,
+    E: Write + Drop,
+{
+    screen.is_coloured = is_coloured(rt, words.colour, screen.is_terminal);
+    if let Some(columns) = width_given(rt, words.width) {
+        screen.width = columns;
+    }
+    if let Some(path) = words.control {
+        return run_at(rt, alloc, screen, words, path);
+    }
+    match variable(rt, "CFDP_CONTROL") {
+        Some(path) => run_at(rt, alloc, screen, words, path.as_str()),
+        None => Err(CtlFault::NoPath),
+    }
+}
+
+fn is_coloured<R: Env + AllocGlobal>(rt: &R, colour: Colour, is_terminal: bool) -> bool {
+    match colour {
+        Colour::Always => true,
+        Colour::Never => false,
+        Colour::Auto => is_terminal && variable(rt, "NO_COLOR").is_none(),
+    }
+}
+
+// How many columns the command line or the environment gives.
+fn width_given<R: Env + AllocGlobal>(rt: &R, width: Option<u64>) -> Option<usize> {
+    match width {
+        Some(columns) => usize::try_from(columns).ok(),
+        None => columns_given(rt),
+    }
+}
+
+fn run_at<R, W, E>(
+    rt: &R,
+    alloc: Global,
+    screen: &mut Screen<W, E>,
+    words: &CtlWords<'_>,
+    path: &str,
+) -> Result<u8, CtlFault>
+where
+    R: Net + Clock + Wait + Input,
+    W: Write + Drop,
+    E: Write + Drop,
+{
+    let mut line = Line::open(rt, alloc, path, words.patience)?;
+    match &words.task {
+        Task::Status(task) => look(rt, alloc, screen, &mut line, *task),
+        Task::Follow(task) => follow(rt, alloc, screen, &mut line, *task),
+        Task::Command(text) => run_command(rt, alloc, screen, &mut line, text.as_bytes()),
+        Task::Input => run_input(rt, alloc, screen, &mut line),
+    }
+}

@@ -1,0 +1,112 @@
+//! What is printed, and where.
+use crate::fault::CtlFault;
+use ctl_views::{Page, Tone};
+use std::alloc::{AllocError, Global};
+use std::io::Write;
+
+// How many columns a table has where nobody says so.
+const COLUMNS: usize = 100;
+
+/// The outputs of the program.
+#[derive(Drop)]
+pub(crate) struct Screen<W: Drop, E: Drop> {
+    writer: W,
+    errors: E,
+    /// Whether the output is a terminal.
+    pub(crate) is_terminal: bool,
+    /// Whether colours are printed.
+    pub(crate) is_coloured: bool,
+    /// How many columns a table has.
+    pub(crate) width: usize,
+}
+
+impl<W: Write + Drop, E: Write + Drop> Screen<W, E> {
+    /// Outputs that nothing was printed on.
+    pub(crate) fn new(writer: W, errors: E, is_terminal: bool) -> Screen<W, E> {
+        Screen {
+            writer,
+            errors,
+            is_terminal,
+            is_coloured: false,
+            width: COLUMNS,
+        }
+    }
+
+    /// Prints octets as they are.
+    pub(crate) fn print(&mut self, octets: &[u8]) -> Result<(), CtlFault> {
+        if self.writer.write_all(octets).is_err() || self.writer.flush().is_err() {
+            return Err(CtlFault::Output);
+        }
+        Ok(())
+    }
+
+    /// Prints lines that came: as they are, but on a terminal without what it would obey.
+    pub(crate) fn print_lines(&mut self, alloc: Global, lines: &[u8]) -> Result<(), CtlFault> {
+        if !self.is_terminal {
+            return self.print(lines);
+        }
+        let text = String::from_utf8_lossy(alloc, lines)?;
+        let page = page_of(alloc, text.as_str())?;
+        self.print_page(alloc, &page)
+    }
+
+    /// Prints a line that came, behind a word, as `print_lines` does.
+    pub(crate) fn print_line(
+        &mut self,
+        alloc: Global,
+        word: &str,
+        line: &[u8],
+    ) -> Result<(), CtlFault> {
+        let mut octets = Vec::new(alloc);
+        octets.extend_from_slice(word.as_bytes())?;
+        octets.extend_from_slice(line)?;
+        octets.extend_from_slice(b"\n")?;
+        self.print_lines(alloc, octets.as_slice())
+    }
+
+    /// Prints a page.
+    pub(crate) fn print_page(&mut self, alloc: Global, page: &Page) -> Result<(), CtlFault> {
+        let mut octets = Vec::new(alloc);
+        page.push_to(&mut octets, self.is_coloured)?;
+        self.print(octets.as_slice())
+    }
+
+    /// Prints a page in place of the one before, on a terminal.
+    pub(crate) fn print_over(&mut self, alloc: Global, page: &Page) -> Result<(), CtlFault> {
+        if !self.is_terminal {
+            return self.print_page(alloc, page);
+        }
+        let mut octets = Vec::new(alloc);
+        octets.extend_from_slice(b"\x1b[?7l\x1b[H\x1b[J")?;
+        page.push_to(&mut octets, self.is_coloured)?;
+        octets.extend_from_slice(b"\x1b[?7h")?;
+        self.print(octets.as_slice())
+    }
+
+    /// Says lines on the standard error. Where they can't be said, they are lost.
+    pub(crate) fn complain(&mut self, alloc: Global, lines: &str) {
+        if let Ok(octets) = complaint(alloc, lines) {
+            let _said = self.errors.write_all(octets.as_slice());
+        }
+    }
+}
+
+// Lines as a page. The last needs no line feed.
+fn page_of(alloc: Global, text: &str) -> Result<Page, AllocError> {
+    let mut page = Page::new(alloc);
+    if text.is_empty() {
+        return Ok(page);
+    }
+    for line in text.strip_suffix('\n').unwrap_or(text).split('\n') {
+        page.push_line(Tone::Plain, line)?;
+    }
+    Ok(page)
+}
+
+// What is said on the standard error.
+fn complaint(alloc: Global, lines: &str) -> Result<Vec<u8>, AllocError> {
+    let mut octets = Vec::new(alloc);
+    let page = page_of(alloc, lines)?;
+    page.push_to(&mut octets, false)?;
+    Ok(octets)
+}

@@ -1,0 +1,10 @@
+use Rattle.std.proofs.Common.{◌++◌, flat_map, sym, ap, ◌∙◌, map-id}
+use Rattle.std.proofs.lemmas.Iterator.{YieldsList-from_chars}
+use Rattle.std.proofs.lemmas.Iterator.Consumers.{YieldsList-end}
+use Rattle.ctl_views.specs.Shown.{shown}
+use Rattle.ctl_views.proofs.shown.Shown.push_visible.Goals as goal
+
+pub returns : goal.returns
+returns c =
+    let end = YieldsList-end (YieldsList-from_chars c.args.text.now c.utf8.text cc) c.loop-letter.yielded _ c.loop-letter.yielded_by _ _ c.in-None.is c.next.ensures.steps in
+    c.loop-letter.invariant ∙ ap (λ letters. c.args.self.now ++ flat_map shown letters) (sym (map-id c.loop-letter.yielded) ∙ end.0)

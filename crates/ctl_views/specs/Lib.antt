@@ -1,0 +1,4 @@
+pub mod Amounts
+pub mod Outcomes
+pub mod Pages
+pub mod Shown

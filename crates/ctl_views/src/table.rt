@@ -1,0 +1,182 @@
+//! Tables that are as wide as is asked.
+use crate::page::{Page, Tone};
+use crate::shown::columns_of;
+use std::alloc::{AllocError, Global};
+
+// How many columns stand between two cells, and how few a cell keeps that is cut.
+const GAP: usize = 2;
+
+const LEAST: usize = 12;
+
+/// A column of a table, by its head.
+#[derive(Clone, Copy, Debug)]
+pub(crate) enum Column {
+    /// Words, at the left.
+    Left(&'static str),
+    /// Numbers, at the right.
+    Right(&'static str),
+}
+
+impl Column {
+    fn head(&self) -> &'static str {
+        match self {
+            Column::Left(head) | Column::Right(head) => head,
+        }
+    }
+
+    fn is_right(&self) -> bool {
+        matches!(self, Column::Right(_))
+    }
+}
+
+/// A row of a table.
+#[derive(Debug, Drop)]
+pub(crate) struct Row {
+    pub(crate) tone: Tone,
+    pub(crate) cells: Vec<String>,
+}
+
+impl Row {
+    /// A row of no cells.
+    pub(crate) fn new(alloc: Global, tone: Tone) -> Row {
+        Row {
+            tone,
+            cells: Vec::new(alloc),
+        }
+    }
+
+    /// Adds a cell.
+    pub(crate) fn push(&mut self, cell: String) -> Result<(), AllocError> {
+        match self.cells.push(cell) {
+            Ok(()) => Ok(()),
+            Err(_) => Err(AllocError),
+        }
+    }
+
+    /// Adds a cell with this text.
+    pub(crate) fn push_text(&mut self, alloc: Global, text: &str) -> Result<(), AllocError> {
+        self.push(String::from_str(alloc, text)?)
+    }
+
+    /// Adds a cell with a number, or with a dash where there is none.
+    pub(crate) fn push_number(
+        &mut self,
+        alloc: Global,
+        number: Option<u64>,
+    ) -> Result<(), AllocError> {
+        match number {
+            Some(number) => self.push(format!(in alloc; "{number}")?),
+            None => self.push_text(alloc, "-"),
+        }
+    }
+}
+
+/// Lays out a table below its title, in so many columns: what is too wide is cut in the last column. A table without rows is
+/// left out.
+pub(crate) fn push_table(
+    alloc: Global,
+    page: &mut Page,
+    title: &str,
+    columns: &[Column],
+    rows: &[Row],
+    width: usize,
+) -> Result<(), AllocError> {
+    if rows.is_empty() {
+        return Ok(());
+    }
+    let mut widths = widths_of(alloc, columns, rows)?;
+    fit(&mut widths, width);
+    page.push_line(Tone::Head, title)?;
+    push_heads(page, columns, widths.as_slice())?;
+    for row in rows {
+        push_row(page, columns, row, widths.as_slice())?;
+    }
+    page.end_line()
+}
+
+// How wide each column is.
+fn widths_of(alloc: Global, columns: &[Column], rows: &[Row]) -> Result<Vec<usize>, AllocError> {
+    let mut widths = Vec::new(alloc);
+    for (place, column) in columns.iter().enumerate() {
+        let mut widest = columns_of(column.head());
+        for row in rows {
+            if let Some(cell) = row.cells.get(place) {
+                widest = widest.max(columns_of(cell.as_str()));
+            }
+        }
+        if widths.push(widest).is_err() {
+            return Err(AllocError);
+        }
+    }
+    Ok(widths)
+}
+
+// Cuts the last column so that all fit.
+fn fit(widths: &mut Vec<usize>, width: usize) {
+    let mut total = 0usize;
+    for one in widths.as_slice() {
+        total = total.saturating_add(*one).saturating_add(GAP);
+    }
+    let excess = total.saturating_sub(width.saturating_add(GAP));
+    if let Some(last) = widths.pop() {
+        let cut = last.saturating_sub(excess).max(last.min(LEAST));
+        let _room = widths.push(cut);
+    }
+}
+
+fn push_heads(page: &mut Page, columns: &[Column], widths: &[usize]) -> Result<(), AllocError> {
+    let mut left_over = widths.len();
+    for (column, width) in columns.iter().zip(widths) {
+        left_over = left_over.saturating_sub(1);
+        push_cell(
+            page,
+            column,
+            Tone::Faint,
+            column.head(),
+            *width,
+            left_over == 0,
+        )?;
+    }
+    page.end_line()
+}
+
+fn push_row(
+    page: &mut Page,
+    columns: &[Column],
+    row: &Row,
+    widths: &[usize],
+) -> Result<(), AllocError> {
+    let mut left_over = widths.len();
+    for ((column, cell), width) in columns.iter().zip(row.cells.as_slice()).zip(widths) {
+        left_over = left_over.saturating_sub(1);
+        push_cell(
+            page,
+            column,
+            row.tone,
+            cell.as_str(),
+            *width,
+            left_over == 0,
+        )?;
+    }
+    page.end_line()
+}
+
+// Adds a cell, and the gap behind it where another follows.
+fn push_cell(
+    page: &mut Page,
+    column: &Column,
+    tone: Tone,
+    text: &str,
+    width: usize,
+    is_last: bool,
+) -> Result<(), AllocError> {
+    if is_last && !column.is_right() && columns_of(text) <= width {
+        return page.push(tone, text);
+    }
+    page.push_cell(tone, text, width, column.is_right())?;
+    if is_last {
+        Ok(())
+    } else {
+        page.push(Tone::Plain, "  ")
+    }
+}

@@ -1,0 +1,37 @@
+//! The options that the program has.
+use clap::{Arg, ArgAction, Command};
+use std::alloc::{AllocError, Global};
+
+/// An option with a value.
+fn valued<'a>(alloc: Global, name: &'static str) -> Arg<'a> {
+    Arg::new(alloc, name).long(name).action(ArgAction::Set)
+}
+
+/// A word that is there or not.
+fn flag<'a>(alloc: Global, name: &'static str) -> Arg<'a> {
+    Arg::new(alloc, name).long(name).action(ArgAction::SetTrue)
+}
+
+/// The options and words of the program.
+pub(crate) fn command<'a>(alloc: Global) -> Result<Command<'a>, AllocError> {
+    let command = with_options(alloc, Command::new(alloc, "cfdp_ctl").version("0.1"))?;
+    command.arg(
+        Arg::new(alloc, "words")
+            .action(ArgAction::Append)
+            .num_args(0..),
+    )
+}
+
+// The options of the program, and those of `status` and `follow`.
+fn with_options<'a>(alloc: Global, command: Command<'a>) -> Result<Command<'a>, AllocError> {
+    command
+        .override_usage("cfdp_ctl --control PATH [OPTIONS] [COMMAND [WORD..]]")
+        .arg(valued(alloc, "control"))?
+        .arg(valued(alloc, "wait-for-server"))?
+        .arg(valued(alloc, "colour"))?
+        .arg(valued(alloc, "width"))?
+        .arg(flag(alloc, "json"))?
+        .arg(flag(alloc, "watch"))?
+        .arg(valued(alloc, "user"))?
+        .arg(valued(alloc, "transaction"))
+}

@@ -1,0 +1,20 @@
+use std::alloc::AllocError;
+
+/// Why there is nothing to do.
+#[derive(Debug, Drop)]
+pub enum WordsFault {
+    /// A word is missing, unknown, given twice or out of range: the lines say which.
+    Usage(String),
+    /// The help was asked for.
+    Help,
+    /// The version was asked for.
+    Version,
+    /// Memory ran out.
+    NoMemory,
+}
+
+impl From<AllocError> for WordsFault {
+    fn from(_lack: AllocError) -> WordsFault {
+        WordsFault::NoMemory
+    }
+}

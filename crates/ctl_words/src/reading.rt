@@ -1,0 +1,248 @@
+//! What the matches of a command line say.
+ghost use Rattle.std.specs.Prelude.{IfOk, IfSome};
+ghost use Rattle.ctl_words.specs.Commands.{IsWithin};
+
+use crate::command::command;
+use crate::fault::WordsFault;
+use crate::text::command_text;
+use crate::words::{Colour, CtlWords, FollowWords, StatusWords, Task, TransactionWord};
+use clap::error::ErrorKind;
+use clap::{ArgMatches, Error};
+use std::alloc::{AllocError, Global};
+
+// The most seconds that a server is awaited.
+const MOST_PATIENCE: u64 = 86_400;
+
+// The options of `status` and of `follow`, and those of both.
+const STATUS_OPTIONS: [&str; 2] = ["json", "watch"];
+
+const FOLLOW_OPTIONS: [&str; 3] = ["json", "user", "transaction"];
+
+const TASK_OPTIONS: [&str; 4] = ["json", "watch", "user", "transaction"];
+
+/// What a command line of the program says; its first word is the program's own name.
+pub fn ctl_words<'a>(alloc: Global, line: &'a [String]) -> Result<CtlWords<'a>, WordsFault>
+    ensures patience { IfOk result (λ words. IfSome words.patience (IsWithin 0 86400)) }
+    ensures width { IfOk result (λ words. IfSome words.width (IsWithin 40 1000)) }
+{
+    let command = command(alloc)?;
+    match command.try_get_matches_from(line) {
+        Ok(matches) => words_in(alloc, &matches),
+        Err(error) => Err(fault_of(alloc, &error)),
+    }
+}
+
+// Why a command line is not taken.
+fn fault_of(alloc: Global, error: &Error) -> WordsFault {
+    match error.kind() {
+        ErrorKind::OutOfMemory => WordsFault::NoMemory,
+        ErrorKind::DisplayHelp => WordsFault::Help,
+        ErrorKind::DisplayVersion => WordsFault::Version,
+        _ => usage(error.to_string(alloc)),
+    }
+}
+
+// A usage fault with a text, where there was memory for it.
+fn usage(text: Result<String, AllocError>) -> WordsFault {
+    match text {
+        Ok(text) => WordsFault::Usage(text),
+        Err(_) => WordsFault::NoMemory,
+    }
+}
+
+// What the matches of a command line say.
+fn words_in<'a>(alloc: Global, matches: &ArgMatches<'a>) -> Result<CtlWords<'a>, WordsFault>
+    ensures patience { IfOk result (λ words. IfSome words.patience (IsWithin 0 86400)) }
+    ensures width { IfOk result (λ words. IfSome words.width (IsWithin 40 1000)) }
+{
+    let patience = number_of(alloc, matches, "wait-for-server", 0, MOST_PATIENCE)?;
+    let width = number_of(alloc, matches, "width", 40, 1000)?;
+    let colour = colour_of(alloc, matches)?;
+    let task = task_of(alloc, matches)?;
+    Ok(CtlWords {
+        control: matches.get_str("control"),
+        patience,
+        colour,
+        width,
+        task,
+    })
+}
+
+fn colour_of(alloc: Global, matches: &ArgMatches<'_>) -> Result<Colour, WordsFault> {
+    let Some(word) = matches.get_str("colour") else {
+        return Ok(Colour::Auto);
+    };
+    match colour_named(word) {
+        Some(colour) => Ok(colour),
+        None => Err(bad_value(alloc, "colour", word, "is none of auto, always and never")),
+    }
+}
+
+fn colour_named(word: &str) -> Option<Colour> {
+    match word {
+        "auto" => Some(Colour::Auto),
+        "always" => Some(Colour::Always),
+        "never" => Some(Colour::Never),
+        _ => None,
+    }
+}
+
+// What is to be done, by the first word.
+fn task_of<'a>(alloc: Global, matches: &ArgMatches<'a>) -> Result<Task<'a>, WordsFault> {
+    match matches.get_strs("words") {
+        None => input_task(alloc, matches),
+        Some(words) => task_by(alloc, matches, words),
+    }
+}
+
+fn task_by<'a>(
+    alloc: Global,
+    matches: &ArgMatches<'a>,
+    words: &[&'a str],
+) -> Result<Task<'a>, WordsFault> {
+    match words {
+        [] => input_task(alloc, matches),
+        ["status", others @ ..] => status_task(alloc, matches, others),
+        ["follow", others @ ..] => follow_task(alloc, matches, others),
+        [name, ..] => command_task(alloc, matches, name, words),
+    }
+}
+
+// Commands come from the standard input.
+fn input_task<'a>(alloc: Global, matches: &ArgMatches<'a>) -> Result<Task<'a>, WordsFault> {
+    only_options(alloc, matches, "the standard input", &[])?;
+    Ok(Task::Input)
+}
+
+fn command_task<'a>(
+    alloc: Global,
+    matches: &ArgMatches<'a>,
+    name: &str,
+    words: &[&str],
+) -> Result<Task<'a>, WordsFault> {
+    only_options(alloc, matches, name, &[])?;
+    match command_text(alloc, words)? {
+        Some(text) => Ok(Task::Command(text)),
+        None => Err(usage(String::from_str(
+            alloc,
+            "error: no word of a command may be empty, or have a space or a line feed\n",
+        ))),
+    }
+}
+
+fn status_task<'a>(
+    alloc: Global,
+    matches: &ArgMatches<'a>,
+    others: &[&str],
+) -> Result<Task<'a>, WordsFault> {
+    only_options(alloc, matches, "status", &STATUS_OPTIONS)?;
+    no_words(alloc, "status", others)?;
+    Ok(Task::Status(StatusWords {
+        json: matches.get_flag("json"),
+        watch: matches.get_flag("watch"),
+    }))
+}
+
+fn follow_task<'a>(
+    alloc: Global,
+    matches: &ArgMatches<'a>,
+    others: &[&str],
+) -> Result<Task<'a>, WordsFault> {
+    only_options(alloc, matches, "follow", &FOLLOW_OPTIONS)?;
+    no_words(alloc, "follow", others)?;
+    Ok(Task::Follow(FollowWords {
+        json: matches.get_flag("json"),
+        user: matches.get_str("user"),
+        transaction: transaction_asked(alloc, matches)?,
+    }))
+}
+
+// The transaction of the option, where the line has it.
+fn transaction_asked(
+    alloc: Global,
+    matches: &ArgMatches<'_>,
+) -> Result<Option<TransactionWord>, WordsFault> {
+    let Some(word) = matches.get_str("transaction") else {
+        return Ok(None);
+    };
+    match transaction_of(word) {
+        Some(transaction) => Ok(Some(transaction)),
+        None => Err(bad_value(alloc, "transaction", word, "is no transaction: SOURCE.SEQ")),
+    }
+}
+
+// The transaction that a word names.
+fn transaction_of(word: &str) -> Option<TransactionWord> {
+    let (source, seq) = word.split_once('.')?;
+    let source = decimal(source)?;
+    let seq = decimal(seq)?;
+    Some(TransactionWord { source, seq })
+}
+
+// The number that a word writes in decimal digits.
+fn decimal(word: &str) -> Option<u64> {
+    if word.starts_with('+') {
+        return None;
+    }
+    word.parse::<u64>().ok()
+}
+
+// The number of an option, if the line has it.
+fn number_of(
+    alloc: Global,
+    matches: &ArgMatches<'_>,
+    name: &str,
+    least: u64,
+    most: u64,
+) -> Result<Option<u64>, WordsFault>
+    ensures { IfOk result (λ found. IfSome found (IsWithin least most)) }
+{
+    let Some(word) = matches.get_str(name) else {
+        return Ok(None);
+    };
+    match decimal(word) {
+        Some(number) if number >= least && number <= most => Ok(Some(number)),
+        _ => Err(usage(format!(in alloc;
+            "error: --{name}: '{word}' is no number from {least} to {most}\n"
+        ))),
+    }
+}
+
+// Refuses options that a command doesn't have.
+fn only_options(
+    alloc: Global,
+    matches: &ArgMatches<'_>,
+    name: &str,
+    options: &[&str],
+) -> Result<(), WordsFault> {
+    for option in TASK_OPTIONS {
+        if is_given(matches, option) && !has_word(options, option) {
+            return Err(usage(format!(in alloc; "error: --{option} doesn't go with {name}\n")));
+        }
+    }
+    Ok(())
+}
+
+// Whether a line has an option.
+fn is_given(matches: &ArgMatches<'_>, option: &str) -> bool {
+    if matches!(option, "json" | "watch") {
+        matches.get_flag(option)
+    } else {
+        matches.contains_id(option)
+    }
+}
+
+fn has_word(words: &[&str], word: &str) -> bool {
+    words.iter().any(|one| *one == word)
+}
+
+fn no_words(alloc: Global, name: &str, others: &[&str]) -> Result<(), WordsFault> {
+    match others.first() {
+        None => Ok(()),
+        Some(other) => Err(usage(format!(in alloc; "error: {name} takes no word '{other}'\n"))),
+    }
+}
+
+fn bad_value(alloc: Global, option: &str, word: &str, what: &str) -> WordsFault {
+    usage(format!(in alloc; "error: --{option}: '{word}' {what}\n"))
+}

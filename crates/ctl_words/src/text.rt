@@ -1,0 +1,52 @@
+//! The text of a command.
+ghost use Rattle.std.specs.Prelude.{◌≡◌, IfOk, IfSome, codes, is_some, string_bytes};
+ghost use Rattle.std.specs.List.{join_by, list_all};
+ghost use Rattle.ctl_words.specs.Commands.{is_inner, is_word};
+
+use std::alloc::{AllocError, Global};
+
+/// The text of a command with these words: a space between each two. None where one of them is empty, or has a space or a line
+/// feed, so that a server would read it as other words.
+pub fn command_text(alloc: Global, words: &[&str]) -> Result<Option<String>, AllocError>
+    ensures text { IfOk result (λ found. IfSome found
+        (λ text. string_bytes text ≡ join_by (λ word. word.now) (codes " ") words.now)) }
+    ensures which { IfOk result (λ found. is_some found ≡ list_all (λ word. is_word word.now) words.now) }
+{
+    if !are_words(words) {
+        return Ok(None);
+    }
+    let text = words.join(alloc, " ")?;
+    Ok(Some(text))
+}
+
+// Whether a server reads each text as one word.
+fn are_words(words: &[&str]) -> bool
+    ensures { result ≡ list_all (λ word. is_word word.now) words.now }
+{
+    words.iter().all(|word| is_word(word))
+}
+
+// Whether a server reads a text as one word.
+fn is_word(text: &str) -> bool
+    ensures { result ≡ is_word text.now }
+{
+    if text.is_empty() {
+        false
+    } else {
+        are_inner(text.as_bytes())
+    }
+}
+
+// Whether no octet ends a word or a line.
+fn are_inner(octets: &[u8]) -> bool
+    ensures { result ≡ list_all is_inner octets.now }
+{
+    octets.iter().all(|octet| is_inner(*octet))
+}
+
+// Whether an octet ends neither a word nor a line.
+fn is_inner(octet: u8) -> bool
+    ensures { result ≡ is_inner octet }
+{
+    !(octet == b' ' || octet == b'\n')
+}

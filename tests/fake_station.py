@@ -1,0 +1,215 @@
+#!/usr/bin/env python3
+"""A control socket with invented transactions, by docs/control-socket.md.
+
+usage: tests/fake_station.py SOCKET [OPTION..]
+
+  --transactions N   transactions that are under way (3)
+  --users A,B        users (ops)
+  --step SECONDS     how long a file that is put takes from its start to its end (0.3)
+  --odd              names with quotes, control characters and octets that are no text
+  --half             answers a status with the front of a line, and no more
+  --busy             has no seat for anybody
+  --old              knows no status and no follow
+  --lose NAME        the file that ends incomplete
+"""
+import argparse
+import json
+import os
+import socket
+import threading
+import time
+
+
+def moment(seconds=None):
+    """A moment as the station writes it."""
+    seconds = time.time() if seconds is None else seconds
+    return time.strftime("%Y-%m-%dT%H:%M:%S", time.gmtime(seconds)) + f".{int(seconds * 1000) % 1000:03d}Z"
+
+
+def named(member, octets):
+    """A member for a file's name."""
+    try:
+        return {member: octets.decode()}
+    except UnicodeDecodeError:
+        return {member + "_hex": octets.hex()}
+
+
+class Station:
+    def __init__(self, options):
+        self.options = options
+        self.begun = time.time()
+        self.lock = threading.RLock()
+        self.number = 0
+        self.kept = []
+        self.clients = set()
+        self.followers = set()
+        self.sent = []
+
+    def tell(self, **members):
+        with self.lock:
+            self.number += 1
+            event = {"at": moment(), "number": self.number, **members}
+            self.kept = (self.kept + [event])[-1024:]
+            for client in list(self.followers):
+                client.send("event " + json.dumps(event, ensure_ascii=False) + "\n")
+
+    def indicate(self, sent, name, **members):
+        self.tell(kind="indication", user=sent["user"], source=1, seq=sent["seq"], name=name, **members)
+
+    def run_file(self, sent):
+        """A file that was put: its start, its progress, its end."""
+        self.tell(kind="put", user=sent["user"], source=1, seq=sent["seq"], peer=sent["peer"], **{"class": sent["class"]},
+                  **named("file", sent["file"]), **named("to", sent["to"]), size=sent["size"])
+        for step in range(10):
+            time.sleep(self.options.step / 10)
+            sent["octets"] = sent["size"] * (step + 1) // 10
+        self.indicate(sent, "EOF-Sent")
+        lost = self.options.lose and sent["file"].endswith(self.options.lose.encode())
+        sent["end"] = {"condition": 8, "delivery": "incomplete", "status": "discarded"} if lost else \
+            {"condition": 0, "delivery": "complete", "status": "retained"}
+        sent["state"] = "ended"
+        self.indicate(sent, "Transaction-Finished", **sent["end"])
+
+    def put_file(self, words):
+        """The answer to `put USER LANE CLASS DEST SRC DST`."""
+        if len(words) not in (7, 8) or not all(word.isdigit() for word in words[2:5]):
+            return "bad command\n"
+        if not os.path.isfile(words[5]):
+            return "read fault\n"
+        with self.lock:
+            sent = {"seq": 100 + len(self.sent), "user": words[1].decode(), "class": int(words[3]), "peer": int(words[4]),
+                    "file": words[5], "to": words[6], "size": os.path.getsize(words[5]), "octets": 0, "state": "active"}
+            self.sent.append(sent)
+        threading.Thread(target=self.run_file, args=(sent,), daemon=True).start()
+        return f"ok\ntxn 1 {sent['seq']}\n"
+
+    def transactions(self):
+        age = time.time() - self.begun
+        for n in range(self.options.transactions):
+            size = 100_000 * (n + 1)
+            octets = min(size, int(age * 20_000))
+            name = b'a "b"\x1b[31m\n\xff' if self.options.odd and n % 2 == 0 else \
+                b"<img src=x onerror=alert(1)></script>" if self.options.odd else b"file %d.bin" % n
+            end = {"condition": 0, "delivery": "complete", "status": "retained"} if octets == size else {}
+            yield {"kind": "transaction", "source": 7, "seq": n, "user": self.options.users[n % len(self.options.users)],
+                   "lane": n, "role": "receiver", "peer": 7, "class": 2, "state": "ended" if end else "active",
+                   **named("file", name), "to": f"b{n}.bin", "size": size, "octets": octets, "events": n,
+                   "last": moment(time.time() - 1.5), **end}
+        for place, sent in enumerate(list(self.sent)):
+            yield {"kind": "transaction", "source": 1, "seq": sent["seq"], "user": sent["user"], "lane": 100 + place,
+                   "role": "sender", "peer": sent["peer"], "class": sent["class"], "state": sent["state"],
+                   **named("file", sent["file"]), **named("to", sent["to"]), "size": sent["size"],
+                   "octets": sent["octets"], "events": 3, "last": moment(), **sent.get("end", {})}
+
+    def status(self):
+        yield {"kind": "entity", "id": 1, "version": "0.1", "started": moment(self.begun), "now": moment(), "workers": 4,
+               "clients": len(self.clients), "events": self.number,
+               "counters": {"datagrams_in": 12, "octets_in": 9000, "datagrams_out": 3, "octets_out": 90, "failed_sends": 0,
+                            "failed_reads": 0, "foreign_datagrams": 0, "decode_faults": 1, "refused": 1, "stored": 1,
+                            "failed_stores": 0, "dropped_clients": 0}}
+        yield {"kind": "log", "failing": False, "written": self.number, "lost": 0}
+        for name in self.options.users:
+            yield {"kind": "user", "name": name, "waiting": 3, "capacity": 1024}
+        yield from self.transactions()
+        for number in (5, 7):
+            yield {"kind": "remote", "id": number, "address": f"192.0.2.{number}:4556", "held": False, "datagrams_in": 1,
+                   "octets_in": 9, "datagrams_out": 1, "octets_out": 9, "failed_sends": 0}
+        yield {"kind": "refusal", "number": 20, "name": "DecodeFault", "fault": 3, "count": 3, "last": moment(),
+               "from": "192.0.2.1:4556", "octets": "24000a"}
+
+    def lines(self, objects):
+        return "".join(json.dumps(one, ensure_ascii=False) + "\n" for one in objects)
+
+    def answer(self, client, line):
+        """The answer to a command."""
+        words = line.split(b" ")
+        name = words[0].decode("latin-1")
+        if name in ("status", "follow") and self.options.old:
+            return "bad command\n"
+        if name == "status" and len(words) == 1:
+            return self.lines(self.status())
+        if name == "follow" and len(words) <= 2:
+            with self.lock:
+                count = int(words[1]) if len(words) == 2 else 0
+                client.first = self.kept[len(self.kept) - count:] if count else []
+            return "ok\n"
+        if name == "put":
+            return self.put_file(words)
+        if name == "take":
+            return "refused TakenByEvents\n"
+        if name == "cancel":
+            return "refused 1 NoTransaction\n"
+        if name in ("suspend", "quit"):
+            return "ok\n"
+        return "bad command\n"
+
+
+class Client:
+    def __init__(self, station, stream):
+        self.station = station
+        self.stream = stream
+        self.first = None
+
+    def send(self, text):
+        try:
+            self.stream.sendall(text.encode())
+        except OSError:
+            self.station.followers.discard(self)
+
+    def serve(self):
+        if self.station.options.busy:
+            self.send("busy\n")
+            self.stream.close()
+            return
+        self.station.clients.add(self)
+        try:
+            for line in self.stream.makefile("rb"):
+                self.take(line.rstrip(b"\n"))
+        except OSError:
+            pass
+        self.station.clients.discard(self)
+        self.station.followers.discard(self)
+        self.stream.close()
+
+    def take(self, line):
+        if self.station.options.half and line == b"status":
+            self.send('{"kind":"entity","id":1,')
+            return
+        with self.station.lock:
+            answer = self.station.answer(self, line)
+            self.send(answer + ".\n")
+            if self.first is not None:
+                for event in self.first:
+                    self.send("event " + json.dumps(event, ensure_ascii=False) + "\n")
+                self.station.followers.add(self)
+                self.first = None
+        if line == b"quit":
+            os._exit(0)
+
+
+def main():
+    parser = argparse.ArgumentParser()
+    parser.add_argument("socket")
+    parser.add_argument("--transactions", type=int, default=3)
+    parser.add_argument("--users", type=lambda text: text.split(","), default=["ops"])
+    parser.add_argument("--step", type=float, default=0.3)
+    parser.add_argument("--odd", action="store_true")
+    parser.add_argument("--half", action="store_true")
+    parser.add_argument("--busy", action="store_true")
+    parser.add_argument("--old", action="store_true")
+    parser.add_argument("--lose")
+    options = parser.parse_args()
+    if os.path.exists(options.socket):
+        os.unlink(options.socket)
+    listener = socket.socket(socket.AF_UNIX)
+    listener.bind(options.socket)
+    os.chmod(options.socket, 0o600)
+    listener.listen(16)
+    station = Station(options)
+    station.tell(kind="start", id=1, version="0.1")
+    while True:
+        stream, _ = listener.accept()
+        threading.Thread(target=Client(station, stream).serve, daemon=True).start()
+
+
+main()
