@@ -1,12 +1,13 @@
 SHELL := /bin/bash
 .SHELLFLAGS := -o pipefail -c
-.PHONY: demo try build programs programs-at-once transfer install memory test bench soak
+.PHONY: demo try build programs programs-at-once web transfer install install-web browser memory test bench soak
 
 program := crates/cfdp_replay/out/cfdp_replay
 server := crates/cfdp_server/out/cfdp_server
 put := crates/cfdp_put/out/cfdp_put
 ctl := crates/cfdp_ctl/out/cfdp_ctl
 hostile := crates/hostile_runs/out/hostile_runs
+web := crates/cfdp_web/out/cfdp_web
 PREFIX ?= /usr/local
 
 # a first look: a file is received whose parts were lost and asked for again; nothing is proved
@@ -41,6 +42,15 @@ programs:
 programs-at-once:
 	@tools/build.py cfdp_server cfdp_put cfdp_ctl
 
+# the console in the browser, proved and built: it stands on none of the server's crates, so this takes minutes
+web:
+	@echo "Proving the console and all that it stands on, and building it: some minutes the first time."
+	@cd crates/cfdp_web && rt run -- --version < /dev/null 2>&1 | tee build.log \
+	    | sed -un 's/^rt: chose --jobs [0-9]* for \(.*\)/    \1 .../p; s/^crate \([a-z_]*\): .*/    \1 is proved/p' \
+	    || { cat build.log; exit 1; }
+	@rm -f crates/cfdp_web/build.log
+	@echo "The console: $(web)"
+
 # a file of 4 MiB crosses loopback, through a relay that loses and doubles datagrams
 transfer: programs
 	@examples/transfer.sh $(server) $(put) 2 4194304 7 11
@@ -50,6 +60,16 @@ install: programs
 	install -d $(DESTDIR)$(PREFIX)/bin $(DESTDIR)$(PREFIX)/share/man/man1
 	install -m 755 $(server) $(put) $(ctl) $(DESTDIR)$(PREFIX)/bin
 	install -m 644 docs/man/cfdp_server.1 docs/man/cfdp_put.1 docs/man/cfdp_ctl.1 $(DESTDIR)$(PREFIX)/share/man/man1
+
+# the console, in place, with its page of the manual
+install-web: web
+	install -d $(DESTDIR)$(PREFIX)/bin $(DESTDIR)$(PREFIX)/share/man/man1
+	install -m 755 $(web) $(DESTDIR)$(PREFIX)/bin
+	install -m 644 docs/man/cfdp_web.1 $(DESTDIR)$(PREFIX)/share/man/man1
+
+# the console as a person sees it, in Chromium, with the picture of the README made anew; no part of the gate
+browser: web
+	@tests/browser.py $(web) docs/pictures/console.png
 
 # each allocation refused in turn, and changed datagrams: the program for both is proved and built
 memory:
@@ -75,7 +95,8 @@ test:
 	@tests/control.py $(server)
 	@tests/numbers.py $(server) $(put)
 	@tests/ctl.py $(ctl)
-	@tests/manual.sh $(server) $(put) $(ctl)
+	@tests/web.py $(web)
+	@tests/manual.sh $(server) $(put) $(ctl) $(web)
 
 # how fast and how large a run is; no part of the gate
 bench: build programs

@@ -5,12 +5,15 @@ usage: tests/fake_station.py SOCKET [OPTION..]
 
   --transactions N   transactions that are under way (3)
   --users A,B        users (ops)
-  --step SECONDS     how long a file that is put takes from its start to its end (0.3)
+  --step SECONDS     how long a file takes from its start to its end (0.3)
   --odd              names with quotes, control characters and octets that are no text
+  --vanish SECONDS   ends without a word, so long after the first send
   --half             answers a status with the front of a line, and no more
   --busy             has no seat for anybody
   --old              knows no status and no follow
+  --refuse           refuses each send: the outbox is full
   --lose NAME        the file that ends incomplete
+  --unreadable NAME  the file that can't be read when its turn comes
 """
 import argparse
 import json
@@ -24,6 +27,33 @@ def moment(seconds=None):
     """A moment as the station writes it."""
     seconds = time.time() if seconds is None else seconds
     return time.strftime("%Y-%m-%dT%H:%M:%S", time.gmtime(seconds)) + f".{int(seconds * 1000) % 1000:03d}Z"
+
+
+def words_of(line):
+    """The words of a command: plain, or in double quotes with backslashes. None where the line is no list of words."""
+    words, at = [], 0
+    while at < len(line):
+        if line[at:at + 1] == b" ":
+            at += 1
+        elif line[at:at + 1] == b'"':
+            word, at = b"", at + 1
+            while line[at:at + 1] not in (b'"', b""):
+                if line[at:at + 2] in (b'\\"', b"\\\\"):
+                    word, at = word + line[at + 1:at + 2], at + 2
+                elif line[at:at + 2] == b"\\x":
+                    word, at = word + bytes.fromhex(line[at + 2:at + 4].decode()), at + 4
+                elif line[at:at + 1] == b"\\":
+                    return None
+                else:
+                    word, at = word + line[at:at + 1], at + 1
+            if line[at:at + 1] != b'"':
+                return None
+            words, at = words + [word], at + 1
+        else:
+            end = line.find(b" ", at)
+            end = len(line) if end < 0 else end
+            words, at = words + [line[at:end]], end
+    return words
 
 
 def named(member, octets):
@@ -44,6 +74,7 @@ class Station:
         self.clients = set()
         self.followers = set()
         self.sent = []
+        self.held = {}
 
     def tell(self, **members):
         with self.lock:
@@ -56,10 +87,20 @@ class Station:
     def indicate(self, sent, name, **members):
         self.tell(kind="indication", user=sent["user"], source=1, seq=sent["seq"], name=name, **members)
 
-    def run_file(self, sent):
-        """A file that was put: its start, its progress, its end."""
+    def run_queued(self, sent):
+        """A file of the outbox: it is read when its turn comes."""
+        time.sleep(0.05)
+        if self.options.unreadable and sent["file"].endswith(self.options.unreadable.encode()):
+            sent["state"] = "gone"
+            self.tell(kind="unreadable", queued=sent["queued"], **named("file", sent["file"]))
+            return
+        sent["state"] = "active"
+        self.run_file(sent, queued=sent["queued"])
+
+    def run_file(self, sent, **queued):
+        """A file that is sent: its start, its progress, its end."""
         self.tell(kind="put", user=sent["user"], source=1, seq=sent["seq"], peer=sent["peer"], **{"class": sent["class"]},
-                  **named("file", sent["file"]), **named("to", sent["to"]), size=sent["size"])
+                  **named("file", sent["file"]), **named("to", sent["to"]), size=sent["size"], **queued)
         for step in range(10):
             time.sleep(self.options.step / 10)
             sent["octets"] = sent["size"] * (step + 1) // 10
@@ -70,18 +111,38 @@ class Station:
         sent["state"] = "ended"
         self.indicate(sent, "Transaction-Finished", **sent["end"])
 
+    def add(self, user, number, peer, file, to, state):
+        """One more file that is sent, or waits for that."""
+        with self.lock:
+            place = len(self.sent)
+            sent = {"queued": place + 1, "seq": 100 + place, "user": user.decode(), "class": int(number), "peer": int(peer),
+                    "file": file, "to": to, "size": os.path.getsize(file), "octets": 0, "state": state}
+            self.sent.append(sent)
+        return sent
+
     def put_file(self, words):
         """The answer to `put USER LANE CLASS DEST SRC DST`."""
         if len(words) not in (7, 8) or not all(word.isdigit() for word in words[2:5]):
             return "bad command\n"
         if not os.path.isfile(words[5]):
             return "read fault\n"
-        with self.lock:
-            sent = {"seq": 100 + len(self.sent), "user": words[1].decode(), "class": int(words[3]), "peer": int(words[4]),
-                    "file": words[5], "to": words[6], "size": os.path.getsize(words[5]), "octets": 0, "state": "active"}
-            self.sent.append(sent)
+        sent = self.add(words[1], *words[3:7], "active")
         threading.Thread(target=self.run_file, args=(sent,), daemon=True).start()
         return f"ok\ntxn 1 {sent['seq']}\n"
+
+    def send_file(self, words):
+        """The answer to `send`."""
+        if len(words) not in (6, 7) or not all(word.isdigit() for word in words[2:4]):
+            return "bad command\n"
+        if self.options.refuse:
+            return "refused OutboxFull\n"
+        if not os.path.isfile(words[4]):
+            return "read fault\n"
+        sent = self.add(*words[1:6], "queued")
+        if sent["queued"] == 1 and self.options.vanish is not None:
+            threading.Timer(self.options.vanish, os._exit, [0]).start()
+        threading.Thread(target=self.run_queued, args=(sent,), daemon=True).start()
+        return f"queued {sent['queued']}\n"
 
     def transactions(self):
         age = time.time() - self.begun
@@ -95,11 +156,19 @@ class Station:
                    "lane": n, "role": "receiver", "peer": 7, "class": 2, "state": "ended" if end else "active",
                    **named("file", name), "to": f"b{n}.bin", "size": size, "octets": octets, "events": n,
                    "last": moment(time.time() - 1.5), **end}
-        for place, sent in enumerate(list(self.sent)):
-            yield {"kind": "transaction", "source": 1, "seq": sent["seq"], "user": sent["user"], "lane": 100 + place,
-                   "role": "sender", "peer": sent["peer"], "class": sent["class"], "state": sent["state"],
-                   **named("file", sent["file"]), **named("to", sent["to"]), "size": sent["size"],
-                   "octets": sent["octets"], "events": 3, "last": moment(), **sent.get("end", {})}
+        for sent in list(self.sent):
+            if sent["state"] in ("active", "ended"):
+                yield {"kind": "transaction", "source": 1, "seq": sent["seq"], "user": sent["user"],
+                       "lane": 100 + sent["queued"], "role": "sender", "peer": sent["peer"], "class": sent["class"],
+                       "state": sent["state"], **named("file", sent["file"]), **named("to", sent["to"]),
+                       "size": sent["size"], "octets": sent["octets"], "events": 3, "last": moment(), **sent.get("end", {})}
+
+    def queued(self):
+        for sent in list(self.sent):
+            if sent["state"] == "queued":
+                yield {"kind": "queued", "number": sent["queued"], "user": sent["user"], "class": sent["class"],
+                       "destination": sent["peer"], **named("file", sent["file"]), **named("to", sent["to"]),
+                       "since": moment()}
 
     def status(self):
         yield {"kind": "entity", "id": 1, "version": "0.1", "started": moment(self.begun), "now": moment(), "workers": 4,
@@ -111,9 +180,12 @@ class Station:
         for name in self.options.users:
             yield {"kind": "user", "name": name, "waiting": 3, "capacity": 1024}
         yield from self.transactions()
+        yield from self.queued()
         for number in (5, 7):
-            yield {"kind": "remote", "id": number, "address": f"192.0.2.{number}:4556", "held": False, "datagrams_in": 1,
-                   "octets_in": 9, "datagrams_out": 1, "octets_out": 9, "failed_sends": 0}
+            held = self.held.get(number)
+            yield {"kind": "remote", "id": number, "address": f"192.0.2.{number}:4556", "held": held is not None,
+                   **({"held_since": held} if held else {}), "datagrams_in": 1, "octets_in": 9, "datagrams_out": 1,
+                   "octets_out": 9, "failed_sends": 0}
         yield {"kind": "refusal", "number": 20, "name": "DecodeFault", "fault": 3, "count": 3, "last": moment(),
                "from": "192.0.2.1:4556", "octets": "24000a"}
 
@@ -122,7 +194,9 @@ class Station:
 
     def answer(self, client, line):
         """The answer to a command."""
-        words = line.split(b" ")
+        words = words_of(line)
+        if not words:
+            return "bad command\n"
         name = words[0].decode("latin-1")
         if name in ("status", "follow") and self.options.old:
             return "bad command\n"
@@ -133,12 +207,22 @@ class Station:
                 count = int(words[1]) if len(words) == 2 else 0
                 client.first = self.kept[len(self.kept) - count:] if count else []
             return "ok\n"
-        if name == "put":
-            return self.put_file(words)
+        if name == "send":
+            return self.send_file(words)
+        if name == "outbox":
+            return self.lines(self.queued())
+        if name in ("hold", "release") and len(words) == 2:
+            if words[1] not in (b"5", b"7"):
+                return "refused NoRemote\n"
+            self.held[int(words[1])] = moment() if name == "hold" else None
+            self.tell(kind=name, id=int(words[1]))
+            return "ok\n"
         if name == "take":
             return "refused TakenByEvents\n"
         if name == "cancel":
             return "refused 1 NoTransaction\n"
+        if name == "put":
+            return self.put_file(words)
         if name in ("suspend", "quit"):
             return "ok\n"
         return "bad command\n"
@@ -194,10 +278,13 @@ def main():
     parser.add_argument("--users", type=lambda text: text.split(","), default=["ops"])
     parser.add_argument("--step", type=float, default=0.3)
     parser.add_argument("--odd", action="store_true")
+    parser.add_argument("--vanish", type=float)
     parser.add_argument("--half", action="store_true")
     parser.add_argument("--busy", action="store_true")
     parser.add_argument("--old", action="store_true")
+    parser.add_argument("--refuse", action="store_true")
     parser.add_argument("--lose")
+    parser.add_argument("--unreadable")
     options = parser.parse_args()
     if os.path.exists(options.socket):
         os.unlink(options.socket)

@@ -17,7 +17,7 @@ MEANING, CODE, ROWS = "Meaning", "Of the code", "Rows"
 
 # The crates whose public calls carry the promises of the README, as its table names them.
 PROMISING = """entity_routing user_queues world_table world_core world_laws shared_lanes shared_entity entity_workers
-ends_schedules pdu_codec entity_config script_replay server_lines""".split()
+ends_schedules pdu_codec entity_config script_replay server_lines web_lines web_pages""".split()
 
 INTRO = """# What has to be believed
 

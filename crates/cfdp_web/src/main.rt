@@ -1,0 +1,117 @@
+//! A console in the browser: what a server's control socket says, over HTTP.
+#![tactic(auto)]
+
+mod names;
+mod token;
+mod words;
+
+use crate::names::names_of;
+use crate::token::token_for;
+use crate::words::{HELP, USAGE_LINE, VERSION, Words, WordsFault, line_of, words_of};
+use std::hash::RandomState;
+use std::io;
+use std::io::Write;
+use std::net::{Net, TcpListener, TcpStream};
+use std::process::ExitCode;
+use std::random::RandomSource;
+use std::rt::Files;
+use std::sync::Wait;
+use std::thread::Threads;
+use std::time::Clock;
+use web_console::{Watch, run_console};
+use web_pages::Settings;
+
+// The status of a fault of the program.
+const FAULT: u8 = 1;
+
+// The status of a command line that is none of the program's.
+const USAGE: u8 = 2;
+
+// Serves by the words of the command line.
+fn main(rt: HostRuntime) -> ExitCode {
+    let mut output = io::writer(&rt);
+    let mut errors = rt.stderr();
+    let status = match line_of(&rt) {
+        Ok(line) => match words_of(rt.alloc(), line.as_slice()) {
+            Ok(words) => serve(&rt, &words, &mut output, &mut errors),
+            Err(fault) => say_instead(fault, &mut output, &mut errors),
+        },
+        Err(fault) => say_instead(fault, &mut output, &mut errors),
+    };
+    ExitCode::from(status)
+}
+
+// Serves until the program is ended.
+fn serve<
+    R: Threads
+        + Wait
+        + Clock
+        + Net<Listener = TcpListener, Stream = TcpStream>
+        + Files
+        + RandomSource
+        + AllocGlobal
+        + Sync,
+    W: Write,
+    E: Write,
+>(rt: &R, words: &Words<'_>, output: &mut W, errors: &mut E) -> u8 {
+    let Ok(listener) = TcpListener::bind(rt, words.listen) else {
+        return fail(errors, "bind fault");
+    };
+    let Ok(token) = token_for(rt, words) else {
+        return fail(
+            errors,
+            "there is no token: its file can't be read, or has none",
+        );
+    };
+    let Ok(names) = names_of(rt.alloc(), words) else {
+        return fail(errors, "no memory");
+    };
+    let Ok(keys) = RandomState::new(rt) else {
+        return fail(errors, "the system gives no random numbers");
+    };
+    let _said = greet(output, words, &token);
+    let settings = Settings { names, token };
+    let watch = Watch::new(rt, rt.alloc(), words.control);
+    run_console(rt, rt.alloc(), keys, &listener, &settings, &watch);
+    fail(errors, "start fault")
+}
+
+// Prints where the console is, and the token if it was made up.
+fn greet<W: Write>(output: &mut W, words: &Words<'_>, token: &Option<Vec<u8>>) -> io::Result<()> {
+    writeln!(output, "cfdp_web: http://{}/", words.listen)?;
+    if words.token_file.is_none()
+        && let Some(token) = token
+    {
+        output.write_all(b"cfdp_web: token ".as_slice())?;
+        output.write_all(token.as_slice())?;
+        output.write_all(b"\n".as_slice())?;
+    }
+    output.flush()
+}
+
+// Prints why the program ends.
+fn fail<E: Write>(errors: &mut E, why: &str) -> u8 {
+    let _said = writeln!(errors, "cfdp_web: {why}");
+    FAULT
+}
+
+// Prints what is asked for, or why nothing is served.
+fn say_instead<W: Write, E: Write>(fault: WordsFault, output: &mut W, errors: &mut E) -> u8 {
+    match fault {
+        WordsFault::Help => {
+            let _said = output.write_all(HELP.as_bytes());
+            let _flushed = output.flush();
+            0
+        }
+        WordsFault::Version => {
+            let _said = output.write_all(VERSION.as_bytes());
+            let _flushed = output.flush();
+            0
+        }
+        WordsFault::Usage => {
+            let _said = errors.write_all(USAGE_LINE.as_bytes());
+            USAGE
+        }
+        WordsFault::NoMemory => fail(errors, "no memory"),
+    }
+}

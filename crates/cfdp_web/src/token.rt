@@ -1,0 +1,63 @@
+//! The token that commands have to bring.
+use crate::words::Words;
+use std::alloc::Global;
+use std::fs::File;
+use std::io;
+use std::io::{ErrorKind, Read};
+use std::random::RandomSource;
+use std::rt::Files;
+
+// How many random octets a token has.
+const RANDOM_OCTETS: usize = 16;
+
+// The most octets of a token's file.
+const FILE_OCTETS: u64 = 4096;
+
+// The digits of a token.
+const DIGITS: [u8; 16] = *b"0123456789abcdef";
+
+/// The token: none where no commands are taken, the first line of its file where one is given, and else a new one.
+pub(crate) fn token_for<R: Files + RandomSource + AllocGlobal>(
+    rt: &R,
+    words: &Words<'_>,
+) -> io::Result<Option<Vec<u8>>> {
+    if !words.commands {
+        return Ok(None);
+    }
+    match words.token_file {
+        Some(path) => Ok(Some(read_token(rt, rt.alloc(), path)?)),
+        None => Ok(Some(new_token(rt, rt.alloc())?)),
+    }
+}
+
+// The first line of a file: an empty one is none.
+fn read_token<R: Files>(rt: &R, alloc: Global, path: &str) -> io::Result<Vec<u8>> {
+    let mut text = Vec::new(alloc);
+    File::open(rt, path)?
+        .take(FILE_OCTETS)
+        .read_to_end(&mut text)?;
+    let end = text
+        .iter()
+        .position(|octet| *octet == b'\n')
+        .unwrap_or(text.len());
+    text.truncate(end);
+    if text.is_empty() {
+        return Err(ErrorKind::InvalidData.into());
+    }
+    Ok(text)
+}
+
+// A token of random digits.
+fn new_token<R: RandomSource>(rt: &R, alloc: Global) -> io::Result<Vec<u8>> {
+    let mut random = [0u8; RANDOM_OCTETS];
+    rt.fill_bytes(random.as_mut_slice())?;
+    let mut token = Vec::new(alloc);
+    for octet in random {
+        let digits = [
+            DIGITS[usize::from(octet >> 4)],
+            DIGITS[usize::from(octet & 15)],
+        ];
+        token.extend_from_slice(digits.as_slice())?;
+    }
+    Ok(token)
+}

@@ -1,0 +1,131 @@
+//! The command line.
+use clap::error::ErrorKind;
+use clap::{Arg, ArgAction, ArgMatches, Command, Error};
+use std::alloc::{AllocError, Global};
+use std::env::Env;
+use std::{env, io};
+
+/// Where the console listens unless the command line says otherwise.
+const LISTEN: &str = "127.0.0.1:4580";
+
+/// What the console is started with.
+#[derive(Clone, Copy, Debug)]
+pub(crate) struct Words<'a> {
+    /// The path of the station's control socket.
+    pub(crate) control: &'a str,
+    /// The address that the console listens at: `A.B.C.D:PORT`.
+    pub(crate) listen: &'a str,
+    /// A second name with the port by which browsers reach it.
+    pub(crate) name: Option<&'a str>,
+    /// Whether commands are taken.
+    pub(crate) commands: bool,
+    /// The file that has the token.
+    pub(crate) token_file: Option<&'a str>,
+}
+
+/// Why there is nothing to start with.
+#[derive(Clone, Copy, Debug, PartialEq, Eq)]
+pub(crate) enum WordsFault {
+    Usage,
+    Help,
+    Version,
+    NoMemory,
+}
+
+/// What `--help` prints.
+pub(crate) const HELP: &str = "Shows a CFDP server in the browser, by its control socket.
+
+Usage: cfdp_web --control PATH [--listen ADDR] [--name HOST:PORT] [--commands] [--token-file FILE]
+
+  --control PATH     the server's control socket
+  --listen ADDR      where the console listens: A.B.C.D:PORT (127.0.0.1:4580 where it is left out)
+  --name HOST:PORT   another name by which browsers reach it (localhost and its port where it is left out)
+  --commands         takes commands, too, from who has the token
+  --token-file FILE  the token, the first line of a file (one is made up and printed where it is left out)
+  --help             prints this, and ends
+  --version          prints the version, and ends
+
+The page is at http://ADDR/. Programs find /status.json, /events, /metrics and /healthz there. It listens until it is
+ended. Status 1: a fault of the program. 2: the command line is wrong.
+";
+
+/// What is printed where the command line is wrong.
+pub(crate) const USAGE_LINE: &str =
+    "cfdp_web: usage: cfdp_web --control PATH [--listen ADDR] [--name HOST:PORT] [--commands] [--token-file FILE]\n";
+
+/// What `--version` prints.
+pub(crate) const VERSION: &str = "cfdp_web 0.1\n";
+
+/// The words of the command line, of which the first is the program's own name.
+pub(crate) fn line_of<R: Env + AllocGlobal>(rt: &R) -> Result<Vec<String>, WordsFault> {
+    let mut words = Vec::new(rt.alloc());
+    match env::args(rt) {
+        Ok(given) => {
+            for word in given {
+                if words.push(word).is_err() {
+                    return Err(WordsFault::NoMemory);
+                }
+            }
+            Ok(words)
+        }
+        Err(error) if error.kind() == io::ErrorKind::OutOfMemory => Err(WordsFault::NoMemory),
+        Err(_) => Err(WordsFault::Usage),
+    }
+}
+
+/// What a command line says; its first word is the program's own name.
+pub(crate) fn words_of<'a>(alloc: Global, line: &'a [String]) -> Result<Words<'a>, WordsFault> {
+    match command(alloc) {
+        Ok(command) => match command.try_get_matches_from(line) {
+            Ok(matches) => words_in(&matches).ok_or(WordsFault::Usage),
+            Err(error) => Err(fault_of(&error)),
+        },
+        Err(AllocError) => Err(WordsFault::NoMemory),
+    }
+}
+
+// The options of the program.
+fn command<'a>(alloc: Global) -> Result<Command<'a>, AllocError> {
+    let command = Command::new(alloc, "cfdp_web")
+        .version("0.1")
+        .arg(valued(alloc, "control").required(true))?
+        .arg(valued(alloc, "listen"))?
+        .arg(valued(alloc, "name"))?
+        .arg(
+            Arg::new(alloc, "commands")
+                .long("commands")
+                .action(ArgAction::SetTrue),
+        )?
+        .arg(valued(alloc, "token-file"))?;
+    Ok(command)
+}
+
+// An option with a value.
+fn valued<'a>(alloc: Global, name: &'static str) -> Arg<'a> {
+    Arg::new(alloc, name).long(name).action(ArgAction::Set)
+}
+
+// What the matches of a command line say.
+fn words_in<'a>(matches: &ArgMatches<'a>) -> Option<Words<'a>> {
+    let words = Words {
+        control: matches.get_str("control")?,
+        listen: matches.get_str("listen").unwrap_or(LISTEN),
+        name: matches.get_str("name"),
+        commands: matches.get_flag("commands"),
+        token_file: matches.get_str("token-file"),
+    };
+    if words.control.is_empty() || (words.token_file.is_some() && !words.commands) {
+        return None;
+    }
+    Some(words)
+}
+
+// Why a command line is not taken.
+fn fault_of(error: &Error) -> WordsFault {
+    match error.kind() {
+        ErrorKind::OutOfMemory => WordsFault::NoMemory,
+        ErrorKind::DisplayHelp => WordsFault::Help,
+        ErrorKind::DisplayVersion => WordsFault::Version,
+        _ => WordsFault::Usage,
+    }
+}

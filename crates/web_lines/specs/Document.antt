@@ -1,0 +1,69 @@
+-- Meaning. Lines of a status, and the document that they make.
+use Rattle.std.specs.Prelude.{◌≡◌, ◌==◌, ℕ, if◌then◌else◌, List, [], ◌∷◌, ◌++◌, All, Option, Some, None, drop, flat_map, option_and_then, codes}
+use Rattle.std.specs.Str.{bytes_eq}
+use Rattle.json.specs.Json.{Json, document}
+use Rattle.json.specs.Find.{get, as_str}
+use Rattle.web_lines.specs.declared.kind.Kind.{Kind}
+use Rattle.web_lines.specs.declared.kind.Kind.TheVariants.{Entity, Log, User, Transaction, Remote, Refusal, Queued}
+use Rattle.web_lines.specs.declared.lines.Line.{Line}
+
+-- the kind of this name
+abbrev pub named : List ℕ → Option Kind
+named name =
+    if bytes_eq name (codes "entity") then Some Entity
+    else (if bytes_eq name (codes "log") then Some Log
+    else (if bytes_eq name (codes "user") then Some User
+    else (if bytes_eq name (codes "transaction") then Some Transaction
+    else (if bytes_eq name (codes "remote") then Some Remote
+    else (if bytes_eq name (codes "refusal") then Some Refusal
+    else (if bytes_eq name (codes "queued") then Some Queued else None))))))
+
+-- the text of a value's member `kind`
+abbrev pub kind_name : Json → Option (List ℕ)
+kind_name value = option_and_then as_str (get (codes "kind") value)
+
+-- the kind of a value: its member `kind` names it
+abbrev pub kind_of_value : Json → Option Kind
+kind_of_value value = option_and_then named (kind_name value)
+
+-- the kind of a text that is one JSON value
+abbrev pub kind_of_text : List ℕ → Option Kind
+kind_of_text text = option_and_then kind_of_value (document text)
+
+-- a line is whole JSON of its kind
+abbrev pub IsKnown : Line → Type 0
+IsKnown line = kind_of_text line.text.now ≡ Some line.kind
+
+-- the place of a kind's list in the document
+abbrev pub place_of : Kind → ℕ
+place_of Entity = 0
+place_of Log = 1
+place_of User = 2
+place_of Transaction = 3
+place_of Remote = 4
+place_of Refusal = 5
+place_of Queued = 6
+
+-- what a line adds to the list of a kind: a comma and its text, if it is of the kind
+abbrev pub listed : Kind → Line → List ℕ
+listed kind line = if place_of line.kind == place_of kind then 44 ∷ line.text.now else []
+
+-- the lines of a kind, as they came and in order, with commas between them
+abbrev pub list_text : Kind → List Line → List ℕ
+list_text kind lines = drop 1 (flat_map (listed kind) lines)
+
+-- the document of lines: one object with a list for each kind
+unfoldable pub document_text : List Line → List ℕ
+document_text lines =
+    codes "{\"entities\":[" ++ list_text Entity lines
+    ++ codes "],\"logs\":[" ++ list_text Log lines
+    ++ codes "],\"users\":[" ++ list_text User lines
+    ++ codes "],\"transactions\":[" ++ list_text Transaction lines
+    ++ codes "],\"remotes\":[" ++ list_text Remote lines
+    ++ codes "],\"refusals\":[" ++ list_text Refusal lines
+    ++ codes "],\"outbox\":[" ++ list_text Queued lines
+    ++ codes "]}\n"
+
+-- a document of lines that are whole JSON of their kinds
+abbrev pub IsDocument : List ℕ → Type 0
+IsDocument text = (lines : List Line) × All IsKnown lines × (text ≡ document_text lines)

@@ -1,0 +1,72 @@
+//! What a line of status is about.
+ghost use Rattle.std.specs.Prelude.{◌≡◌, option_map};
+ghost use Rattle.json.specs.Value.{value_view};
+ghost use Rattle.web_lines.specs.Document.{named, kind_name, kind_of_value, place_of};
+
+use json::Value;
+
+/// What a line of status is about.
+#[derive(Clone, Copy, Debug, PartialEq, Eq)]
+pub enum Kind {
+    Entity,
+    Log,
+    User,
+    Transaction,
+    Remote,
+    Refusal,
+    /// A file that waits in the outbox.
+    Queued,
+}
+
+impl Kind {
+    // The kind of this name.
+    fn named(name: &str) -> Option<Kind>
+        ensures { result ≡ named name.now }
+    {
+        match name {
+            "entity" => Some(Kind::Entity),
+            "log" => Some(Kind::Log),
+            "user" => Some(Kind::User),
+            "transaction" => Some(Kind::Transaction),
+            "remote" => Some(Kind::Remote),
+            "refusal" => Some(Kind::Refusal),
+            "queued" => Some(Kind::Queued),
+            _ => None,
+        }
+    }
+
+    /// The place of its list in the document.
+    pub(crate) fn place(self) -> u8
+        ensures { result ≡ place_of self }
+    {
+        match self {
+            Kind::Entity => 0,
+            Kind::Log => 1,
+            Kind::User => 2,
+            Kind::Transaction => 3,
+            Kind::Remote => 4,
+            Kind::Refusal => 5,
+            Kind::Queued => 6,
+        }
+    }
+
+    /// The kind of a line that was read; none where it is no object of a kind that is known here.
+    pub(crate) fn of(value: &Value<'_>) -> Option<Kind>
+        ensures { result ≡ kind_of_value (value_view value.now) }
+    {
+        match kind_name(value) {
+            Some(name) => Kind::named(name),
+            None => None,
+        }
+    }
+}
+
+// The text of the member `kind`.
+fn kind_name<'a>(value: &Value<'a>) -> Option<&'a str>
+    ensures { option_map (λ s. s.now) result ≡ kind_name (value_view value.now) }
+{
+    match value.get("kind") {
+        Some(member) => member.as_str(),
+        None => None,
+    }
+}

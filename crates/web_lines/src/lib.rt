@@ -1,0 +1,23 @@
+//! Lines of a station's status, one JSON object each: as one JSON document, and as numbers for Prometheus.
+#![tactic(auto)]
+
+mod counted;
+mod document;
+mod families;
+mod kind;
+mod labels;
+mod lines;
+mod metrics;
+mod named;
+mod numbers;
+mod report;
+mod sheet;
+#[cfg(test)]
+mod tests;
+mod text;
+mod told;
+
+pub use document::to_document;
+pub use kind::Kind;
+pub use metrics::{no_metrics, to_metrics};
+pub use numbers::event_number;

@@ -1,0 +1,63 @@
+-- Meaning. Whom a request is meant for, and which requests are taken.
+use Rattle.std.specs.Prelude.{◌≡◌, ◌≢◌, ◌⊎◌, ◌≤◌, ℕ, List, [], Option, Some, None, option_map, length, codes}
+use Rattle.http.specs.declared.request.Request.{Request}
+use Rattle.http.specs.Request.{head_of}
+use Rattle.http_header.specs.HeaderMap.{get, get_all}
+use Rattle.http_uri.specs.Uri.{uri_scheme, uri_authority}
+use Rattle.http_server.specs.declared.response.Response.{Response}
+use Rattle.web_pages.specs.declared.guard.Verdict.{Verdict}
+use Rattle.web_pages.specs.declared.guard.Verdict.TheVariants.{Read, Command, OtherSite, NotAllowed, BadTarget}
+
+-- the first value of a header
+abbrev pub value_of : List ℕ → Request (List ℕ) → Option (List ℕ)
+value_of name request = option_map (λ value. value.bytes) (get (head_of request).headers name)
+
+-- the request's Host, the first of them, is one of these two names
+abbrev pub IsFor : List ℕ → List ℕ → Request (List ℕ) → Type 0
+IsFor first second request =
+    (value_of (codes "host") request ≡ Some first) ⊎ (value_of (codes "host") request ≡ Some second)
+
+-- a browser says that a page of another site asks
+abbrev pub IsFromOtherSite : Request (List ℕ) → Type 0
+IsFromOtherSite request =
+    (value_of (codes "sec-fetch-site") request ≡ Some (codes "cross-site"))
+    ⊎ (value_of (codes "sec-fetch-site") request ≡ Some (codes "same-site"))
+
+-- the target is a path and names no host, and there is one Host
+pub record HasPlainTarget (request : Request (List ℕ)) : Type 0 where
+  pub scheme : uri_scheme (head_of request).uri ≡ None
+  pub authority : uri_authority (head_of request).uri ≡ None
+  pub host : length (get_all (head_of request).headers (codes "host")) ≡ 1
+
+-- the method is this one
+abbrev pub HasMethod : List ℕ → Request (List ℕ) → Type 0
+HasMethod name request = (head_of request).method ≡ name
+
+-- the request reads
+abbrev pub IsReading : Request (List ℕ) → Type 0
+IsReading request = HasMethod (codes "GET") request ⊎ HasMethod (codes "HEAD") request
+
+-- the request is of no page of another site, and has a plain target
+abbrev pub IsOwn : Request (List ℕ) → Type 0
+IsOwn request = (¬ IsFromOtherSite request) × HasPlainTarget request
+
+-- what is to be done with a request
+abbrev pub IsJudged : Verdict → Request (List ℕ) → Type 0
+IsJudged Read request = IsOwn request × IsReading request
+IsJudged Command request = IsOwn request × HasMethod (codes "POST") request
+IsJudged NotAllowed request = IsOwn request × (¬ IsReading request) × ¬ HasMethod (codes "POST") request
+IsJudged OtherSite request = IsFromOtherSite request
+IsJudged BadTarget request = ¬ HasPlainTarget request
+
+-- commands are taken with a token, which the request has in its header
+abbrev pub HasToken : Option (List ℕ) → Request (List ℕ) → Type 0
+HasToken token request = (value_of (codes "x-console-token") request ≡ token) × (token ≢ None) × (token ≢ Some [])
+
+-- a request that is answered with more than a status: one that reads, or a command with the token
+abbrev pub IsTaken : Option (List ℕ) → Request (List ℕ) → Type 0
+IsTaken token request =
+    IsOwn request × (IsReading request ⊎ (HasMethod (codes "POST") request × HasToken token request))
+
+-- a refusal has a status from 400 on, and no body
+abbrev pub IsRefusal : Response → Type 0
+IsRefusal response = (400 ≤ response.status) × (response.body.items ≡ [])

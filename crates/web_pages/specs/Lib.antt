@@ -1,0 +1,5 @@
+pub mod Commands
+pub mod Guard
+pub mod Headers
+pub mod Routes
+pub mod Settings

@@ -1,0 +1,18 @@
+//! What the console answers: which requests it takes, its page, its headers. Where the rest comes from is a `Source`.
+#![tactic(auto)]
+
+mod command;
+mod console;
+mod guard;
+mod headers;
+mod page;
+mod route;
+mod source;
+#[cfg(test)]
+mod tests;
+
+pub use command::is_command;
+pub use console::{Console, Settings};
+pub use guard::Names;
+pub use route::Route;
+pub use source::{Found, Source};

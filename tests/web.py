@@ -1,0 +1,305 @@
+#!/usr/bin/env python3
+"""Tries the console over HTTP: tests/web.py CFDP_WEB. A station with invented transactions stands behind it."""
+import base64
+import hashlib
+import http.client
+import json
+import os
+import re
+import socket
+import subprocess
+import sys
+import tempfile
+import threading
+import time
+
+web = sys.argv[1]
+here = os.path.dirname(os.path.abspath(__file__))
+folder = tempfile.TemporaryDirectory()
+control = os.path.join(folder.name, "control")
+TOKEN = "a-token-of-the-test"
+started = []
+bad = []
+
+
+def check(what, holds):
+    print(("ok   " if holds else "FAIL ") + what, flush=True)
+    if not holds:
+        bad.append(what)
+
+
+def free_port():
+    with socket.socket() as probe:
+        probe.bind(("127.0.0.1", 0))
+        return probe.getsockname()[1]
+
+
+def start(*words):
+    process = subprocess.Popen(words, stdout=subprocess.PIPE, stderr=subprocess.PIPE)
+    started.append(process)
+    return process
+
+
+def stop(process):
+    process.kill()
+    process.wait()
+    started.remove(process)
+
+
+def wait_for(test, seconds=10):
+    until = time.time() + seconds
+    while time.time() < until:
+        if test():
+            return True
+        time.sleep(0.05)
+    return False
+
+
+def start_station(*words):
+    if os.path.exists(control):
+        os.unlink(control)
+    station = start(sys.executable, os.path.join(here, "fake_station.py"), control, *words)
+    wait_for(lambda: os.path.exists(control))
+    return station
+
+
+def start_console(*words):
+    port = free_port()
+    console = start(web, "--control", control, "--listen", f"127.0.0.1:{port}", *words)
+
+    def answers():
+        try:
+            socket.create_connection(("127.0.0.1", port)).close()
+            return True
+        except OSError:
+            return False
+    check("the console listens", wait_for(answers))
+    return console, port
+
+
+def ask(port, target, method="GET", host="", more=(), body=None):
+    """Status, headers by small letters, and body. An empty host is the console's own; None leaves the header out."""
+    connection = http.client.HTTPConnection("127.0.0.1", port, timeout=15)
+    connection.putrequest(method, target, skip_host=True, skip_accept_encoding=True)
+    if host is not None:
+        connection.putheader("Host", host or f"127.0.0.1:{port}")
+    for name, value in more:
+        connection.putheader(name, value)
+    if body is not None:
+        connection.putheader("Content-Length", str(len(body)))
+    connection.endheaders(body)
+    answer = connection.getresponse()
+    found = answer.status, {name.lower(): value for name, value in answer.getheaders()}, answer.read()
+    connection.close()
+    return found
+
+
+def routes(port):
+    status, headers, page = ask(port, "/")
+    policy = headers.get("content-security-policy", "")
+    check("/: the page", status == 200 and page.startswith(b"<!doctype html>") and headers["content-type"].startswith("text/html"))
+    check("/: headers", headers.get("x-content-type-options") == "nosniff" and headers.get("referrer-policy") == "no-referrer"
+          and headers.get("x-frame-options") == "DENY" and "default-src 'none'" in policy and "unsafe-inline" not in policy)
+    for tag in ("style", "script"):
+        parts = re.findall(rb"<%s>(.*?)</%s>" % (tag.encode(), tag.encode()), page, re.S)
+        hashes = ["'sha256-" + base64.b64encode(hashlib.sha256(part).digest()).decode() + "'" for part in parts]
+        check(f"/: the policy has the hash of its {tag}", len(hashes) == 1 and f"{tag}-src {hashes[0]};" in policy)
+    check("/: no other host, no inline handlers", not re.search(rb"(https?:)?//[a-z]|<[^>]* (on[a-z]+|style|src|href)=", page.split(b"<script>")[0]))
+    status, headers, body = ask(port, "/status.json")
+    document = json.loads(body)
+    check("/status.json: the lists", status == 200 and headers["content-type"] == "application/json"
+          and [len(document[name]) for name in ("entities", "logs", "users", "transactions", "remotes", "refusals", "outbox")] == [1, 1, 1, 4, 2, 1, 0])
+    check("/status.json: names are text or hex", document["transactions"][0]["file_hex"].endswith("ff") is True
+          and document["transactions"][0]["to"] == "b0.bin")
+    status, headers, body = ask(port, "/metrics")
+    text = body.decode()
+    check("/metrics: numbers", status == 200 and headers["content-type"].startswith("text/plain; version=0.0.4")
+          and all(line in text for line in (
+              "# TYPE cfdp_datagrams_received_total counter\ncfdp_datagrams_received_total 12\n", "cfdp_up 1\n",
+              'cfdp_queue_bundles{user="ops"} 3\n', 'cfdp_refused_datagrams_total{reason="DecodeFault",fault="3"} 3\n',
+              'cfdp_remote_held{remote="5"} 0\n', 'cfdp_transactions{state="active"} ')))
+    heads = re.findall(r"^# TYPE (\S+)", text, re.M)
+    check("/metrics: each family once, with help", len(heads) == len(set(heads)) and all(f"# HELP {head} " in text for head in heads))
+    check("/healthz: 200", ask(port, "/healthz")[0] == 200)
+    found = wait_for(lambda: b"data: " in ask(port, "/events")[2])
+    status, headers, body = ask(port, "/events")
+    check("/events: server-sent events", found and status == 200 and headers["content-type"] == "text/event-stream"
+          and body.startswith(b"retry: 1000\n\nid: 1\ndata: {"))
+    check("/events: none behind the last", b"data:" not in ask(port, "/events", more=[("Last-Event-ID", "1")])[2])
+    check("/events: all, for the events of another run", b"id: 1\n" in ask(port, "/events", more=[("Last-Event-ID", "999")])[2])
+    status, headers, body = ask(port, "/", method="HEAD")
+    check("HEAD: no body", status == 200 and body == b"")
+
+
+def refusals(port):
+    own = f"127.0.0.1:{port}"
+    check("localhost is its name", ask(port, "/", host=f"localhost:{port}")[0] == 200)
+    for host in ("evil.example", "127.0.0.1", f"evil.example:{port}", f"127.0.0.1.evil.example:{port}"):
+        status, headers, body = ask(port, "/status.json", host=host)
+        check(f"Host {host}: 403 and nothing more", status == 403 and body == b"" and "content-type" not in headers)
+    check("no Host: refused", ask(port, "/", host=None)[0] in (400, 403))
+    check("two Hosts: refused", ask(port, "/", more=[("Host", own)])[0] == 400)
+    for site in ("cross-site", "same-site"):
+        check(f"{site}: 403", ask(port, "/status.json", more=[("Sec-Fetch-Site", site)])[0] == 403)
+    for site in ("same-origin", "none"):
+        check(f"{site}: 200", ask(port, "/status.json", more=[("Sec-Fetch-Site", site)])[0] == 200)
+    check("an absolute target: 400", ask(port, f"http://{own}/status.json")[0] == 400)
+    for method in ("PUT", "DELETE", "OPTIONS", "POST"):
+        status, headers, _ = ask(port, "/status.json", method=method, body=b"")
+        check(f"{method}: 405", status == 405 and headers.get("allow") == "GET, HEAD")
+    check("no such path: 404", ask(port, "/nothing")[0] == 404 and ask(port, "/../etc/passwd")[0] == 404)
+    check("a long head: 431", ask(port, "/", more=[("X-Long", "x" * 20000)])[0] == 431)
+    check("a long target: 414", ask(port, "/" + "x" * 20000)[0] == 414)
+    with socket.create_connection(("127.0.0.1", port)) as raw:
+        raw.settimeout(5)
+        raw.sendall(b"\x16\x03\x01 no HTTP\r\n\r\n")
+        check("no HTTP: 400", raw.recv(100).startswith(b"HTTP/1.1 400"))
+    status, _, body = ask(port, "/command", method="POST", body=b"cancel ops 1 1", more=[("X-Console-Token", TOKEN)])
+    check("without --commands no command is taken", status == 403 and body == b"")
+
+
+def commands(port):
+    def give(line, token=TOKEN, more=()):
+        return ask(port, "/command", method="POST", body=line, more=[("X-Console-Token", token), *more])
+    check("hold: ok", give(b"hold 5")[::2] == (200, b"ok\n"))
+    time.sleep(0.6)
+    check("the remote is held", json.loads(ask(port, "/status.json")[2])["remotes"][0]["held"] is True)
+    check("release: ok", give(b"release 5")[::2] == (200, b"ok\n"))
+    check("a refusal is shown", give(b"cancel ops 1 41")[2] == b"refused 1 NoTransaction\n")
+    check("a command that the station doesn't know is shown", give(b"drop 1")[2] == b"bad command\n")
+    for line in (b"quit", b"take ops", b"follow", b"", b"hold 5\nquit", b"hold 5\rquit", b"put ops 1 2 5 a b"):
+        check(f"{line!r}: 400", give(line)[0] == 400)
+    check("a wrong token: 403", give(b"hold 5", token="another")[0] == 403)
+    check("no token: 403", ask(port, "/command", method="POST", body=b"hold 5")[0] == 403)
+    check("another site: 403", give(b"hold 5", more=[("Sec-Fetch-Site", "cross-site")])[0] == 403)
+    check("GET: 405", ask(port, "/command")[0] == 405)
+    sent = os.path.join(folder.name, "a file")
+    with open(sent, "wb") as file:
+        file.write(b"x" * 1000)
+    status, _, body = give(f'send ops 2 5 "{sent}" "b file"'.encode())
+    check("send: queued", status == 200 and body == b"queued 1\n")
+
+
+def many(port):
+    wrong = []
+
+    def visit():
+        connection = http.client.HTTPConnection("127.0.0.1", port, timeout=30)
+        for _ in range(25):
+            connection.request("GET", "/status.json", headers={"Host": f"127.0.0.1:{port}"})
+            answer = connection.getresponse()
+            if answer.status != 200 or len(json.loads(answer.read())["transactions"]) < 4:
+                wrong.append(answer.status)
+        connection.close()
+    threads = [threading.Thread(target=visit) for _ in range(20)]
+    begun = time.time()
+    [thread.start() for thread in threads]
+    [thread.join() for thread in threads]
+    check(f"500 requests over 20 connections ({time.time() - begun:.2f} s)", not wrong)
+
+
+def slow(port):
+    drips = [socket.create_connection(("127.0.0.1", port)) for _ in range(16)]
+    begun = time.time()
+    closed = {}
+
+    def drip(number, raw):
+        raw.settimeout(20)
+        try:
+            for octet in b"GET / HTTP/1.1\r\nHost: 127.0.0.1\r\nX-Slow: " + b"x" * 100:
+                raw.sendall(bytes([octet]))
+                time.sleep(0.5)
+        except OSError:
+            closed[number] = time.time() - begun
+    threads = [threading.Thread(target=drip, args=pair) for pair in enumerate(drips)]
+    [thread.start() for thread in threads]
+    time.sleep(1)
+    asked = time.time()
+    check("beside 16 slow clients others are answered", ask(port, "/status.json")[0] == 200 and time.time() - asked < 2)
+    [thread.join() for thread in threads]
+    check("a client that drips its head is closed after ten seconds", len(closed) == 16 and all(9 < at < 14 for at in closed.values()))
+
+
+def memory_of(process):
+    with open(f"/proc/{process.pid}/status", encoding="utf-8") as lines:
+        return int(re.search(r"VmRSS:\s+(\d+) kB", lines.read()).group(1))
+
+
+def timed(port, target):
+    """The best of five, in milliseconds, and the body; the station is asked anew each time."""
+    best = None
+    for _ in range(5):
+        time.sleep(0.6)
+        begun = time.time()
+        status, _, body = ask(port, target)
+        took = 1000 * (time.time() - begun)
+        check(f"{target}: 200", status == 200)
+        best = took if best is None else min(best, took)
+    return best, body
+
+
+def thousand():
+    station = start_station("--transactions", "1000")
+    console, port = start_console()
+    time.sleep(1)
+    idle = memory_of(console)
+    for target in ("/", "/status.json", "/metrics"):
+        took, body = timed(port, target)
+        if target == "/status.json":
+            check("a thousand transactions", len(json.loads(body)["transactions"]) == 1000)
+        check(f"{target}: {len(body)} octets in {took:.0f} ms, at most 150", took <= 150)
+    more = memory_of(console) - idle
+    check(f"memory: {idle} kB idle, {more} kB more with a thousand transactions, at most 5,000", more <= 5000)
+    stop(station)
+    stop(console)
+
+
+def usage():
+    for words, status, text in (((), 2, b"usage"), (("--control", control, "--token-file", "x"), 2, b"usage"),
+                                (("--help",), 0, b"Usage: cfdp_web"), (("--version",), 0, b"cfdp_web 0.1\n"),
+                                (("--control", control, "--listen", "256.0.0.1:1"), 1, b"bind fault"),
+                                (("--control", control, "--listen", "127.0.0.1:0", "--commands", "--token-file", "/nowhere"), 1, b"token")):
+        ended = subprocess.run([web, *words], capture_output=True, timeout=20)
+        check(f"{' '.join(words) or 'no words'}: {status}", ended.returncode == status and text in ended.stdout + ended.stderr)
+
+
+def main():
+    usage()
+    console, port = start_console()
+    check("no station: 503", ask(port, "/status.json")[0] == 503 and ask(port, "/healthz")[0] == 503)
+    check("no station: /metrics says so", ask(port, "/metrics")[2].endswith(b"\ncfdp_up 0\n"))
+    check("no station: the page", ask(port, "/")[0] == 200)
+    station = start_station("--transactions", "4", "--odd")
+    check("the station comes", wait_for(lambda: ask(port, "/healthz")[0] == 200))
+    routes(port)
+    refusals(port)
+    many(port)
+    stop(station)
+    check("the station goes", wait_for(lambda: ask(port, "/healthz")[0] == 503))
+    station = start_station("--transactions", "4")
+    check("the station comes back", wait_for(lambda: ask(port, "/status.json")[0] == 200))
+    slow(port)
+    stop(console)
+    token_file = os.path.join(folder.name, "token")
+    with open(token_file, "w", encoding="utf-8") as file:
+        file.write(TOKEN + "\n")
+    console, port = start_console("--commands", "--token-file", token_file)
+    commands(port)
+    stop(console)
+    console, port = start_console("--commands")
+    console.stdout.readline()
+    made = console.stdout.readline().decode().split()[-1]
+    check("a token is made up and printed", len(made) == 32 and
+          ask(port, "/command", method="POST", body=b"hold 5", more=[("X-Console-Token", made)])[0] == 200)
+    stop(console)
+    stop(station)
+    thousand()
+
+
+try:
+    main()
+finally:
+    for process in list(started):
+        stop(process)
+print(f"web: {len(bad)} failed")
+sys.exit(1 if bad else 0)
