@@ -67,6 +67,11 @@ install-web: web
 	install -m 755 $(web) $(DESTDIR)$(PREFIX)/bin
 	install -m 644 docs/man/cfdp_web.1 $(DESTDIR)$(PREFIX)/share/man/man1
 
+# a Debian package of all programs, installed into a folder and tried
+.PHONY: deb
+deb: programs web
+	@tools/deb.sh $(server) $(put) $(ctl) $(web)
+
 # the console as a person sees it, in Chromium, with the picture of the README made anew; no part of the gate
 browser: web
 	@tests/browser.py $(web) docs/pictures/console.png
