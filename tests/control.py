@@ -112,7 +112,11 @@ class Client:
                 lines.append(line)
 
     def ask(self, command):
-        self.stream.sendall(command.encode() + b"\n")
+        """The answer to a command; None where the stream has ended."""
+        try:
+            self.stream.sendall(command.encode() + b"\n")
+        except (BrokenPipeError, ConnectionResetError):
+            return None
         return self.answer()
 
     def status(self):
@@ -141,11 +145,12 @@ class Server:
         self.port = port or free_port()
         os.makedirs("received", exist_ok=True)
         self.peer = free_port()
-        pathlib.Path("config").write_text(CONFIG.format(peer=self.peer))
+        config = f"config{self.port}"
+        pathlib.Path(config).write_text(CONFIG.format(peer=self.peer))
         self.socket = socket.socket(socket.AF_INET, socket.SOCK_DGRAM)
         self.path = path
         self.run = subprocess.Popen(
-            [SERVER, "--config", "config", "--bind", f"127.0.0.1:{self.port}", "--folder", "received", "--workers", "2",
+            [SERVER, "--config", config, "--bind", f"127.0.0.1:{self.port}", "--folder", "received", "--workers", "2",
              "--control", path, *options],
             stdin=subprocess.DEVNULL, stdout=subprocess.PIPE, stderr=subprocess.PIPE, start_new_session=True,
         )
@@ -159,6 +164,13 @@ class Server:
                 if self.run.poll() is not None or time.monotonic() > end:
                     raise Wrong(f"nobody answers at the socket: {self.run.poll()}") from None
                 time.sleep(0.02)
+
+    def clients_sit(self):
+        """How many clients have a seat, this one included; all seats where there is none for this one."""
+        client = self.client()
+        lines = client.ask("status")
+        client.close()
+        return json.loads(lines[0])["clients"] if lines else SEATS
 
     def send(self, *datagrams):
         for datagram in datagrams:
@@ -284,9 +296,17 @@ def many_clients():
     """Sixteen clients ask at once, each gets its own answers in order; one more hears that all seats are taken."""
     with server() as one:
         one.client().close()
-        clients = [one.client() for _ in range(SEATS)]
-        for number, client in enumerate(clients):
-            want(client.ask(f"trace 1 {number}"), ["refused 1 NoTransaction"])
+        clients = []
+        end = time.monotonic() + 20
+        while len(clients) < SEATS and time.monotonic() < end:
+            client = one.client()
+            answer = client.ask(f"trace 1 {len(clients)}")
+            if answer is None:
+                time.sleep(0.02)
+                continue
+            want(answer, ["refused 1 NoTransaction"])
+            clients.append(client)
+        want(len(clients), SEATS)
         late = Client()
         want((late.line(), late.line()), (b"busy", None))
         wrong = []
@@ -311,7 +331,7 @@ def many_clients():
         until(lambda: Client().ask("trace 1 1") is not None, "a free seat")
         for client in clients:
             client.close()
-        until(lambda: one.client().status()[0]["clients"] <= 2, "the end of the visits")
+        until(lambda: one.clients_sit() == 1, "the end of the visits")
         one.quits()
 
 
@@ -346,7 +366,7 @@ def broken_clients():
             gone = one.client()
             gone.stream.sendall(b"status\nfollow\nsta")
             gone.close()
-        until(lambda: one.client().status()[0]["clients"] <= 2, "the end of the visits")
+        until(lambda: one.clients_sit() == 1, "the end of the visits")
         one.quits()
 
 
@@ -439,9 +459,10 @@ def sources_that_are_not_known():
     with server(options=("--known-sources",)) as one:
         client = one.client()
         want(client.ask("follow"), ["ok"])
-        one.send(METADATA, b"\x24\0")
+        one.send(METADATA)
         refused = client.wait_event(lambda event: event["kind"] == "refused", "the refusal")
         want((refused["refusal"], refused["name"], refused["octets"]), (27, "ForeignSource", METADATA.hex()))
+        one.send(b"\x24\0")
         until(lambda: client.status()[0]["counters"]["foreign_datagrams"] == 2, "the count")
         want(client.status()[0]["counters"]["decode_faults"], 0)
         with socket.socket(socket.AF_INET, socket.SOCK_DGRAM) as peer:

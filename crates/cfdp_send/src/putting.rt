@@ -4,7 +4,7 @@ use crate::outputs::Outputs;
 use crate::threads::Wanted;
 use cfdp_types::{PutFault, PutRequest};
 use entity_config::{Config, Setting};
-use program_numbers::HeldNumbers;
+use program_numbers::{HeldNumbers, Puts};
 use program_start::{ProgramFault, load_config, load_file, open_socket, tell_fault};
 use program_station::Sources;
 use program_words::{PutWords, WordsFault, put_help, put_version, put_words};
@@ -61,7 +61,7 @@ fn start<
             let mut wanted = wanted_by(rt, alloc, &config, &words)?;
             let socket = open_socket(rt, words.bind)?;
             if let Some(path) = words.numbers {
-                wanted.numbers = Some(HeldNumbers::open(rt, alloc, path, &mut config)?);
+                wanted.numbers = Some(HeldNumbers::open(rt, alloc, path, Puts::One, &mut config)?);
             }
             put_named(rt, alloc, config, &socket, wanted, outputs)
         }

@@ -130,7 +130,7 @@ impl<
     // Does what any line may ask for.
     fn do_command(&mut self, command: Command, text: &mut String) -> Result<(), AllocError> {
         match command {
-            Command::Status => self.status(text),
+            Command::Status => self.answer_status(text),
             Command::Take(user) => self.take(user, text),
             Command::Trace(key) => self.trace(key, text),
             Command::Ask(user, request) => {

@@ -1,4 +1,5 @@
 //! What a server shows and reports beside its answers.
+use crate::answers::push_no_memory;
 use crate::commands::Server;
 use cfdp_types::TxnKey;
 use entity_workers::Filestore;
@@ -39,8 +40,9 @@ impl<
         }
     }
 
-    /// Reports that the server ends, and lets its last events leave.
+    /// Reports what was refused last and that the server ends, and lets its last events leave.
     pub(crate) fn report_end(&mut self, now: u64) -> Result<(), AllocError> {
+        self.report_refusals()?;
         let at = self.now();
         if let Some(events) = &mut self.events {
             events.end(at)?;
@@ -107,10 +109,7 @@ impl<
         };
         let total = self.tallies.ledger.total();
         if total != self.refusals_seen {
-            let unreported = self
-                .tallies
-                .ledger
-                .take_unreported(self.rt, self.alloc, at.0)?;
+            let unreported = self.tallies.ledger.take_unreported(self.rt, self.alloc)?;
             for case in &unreported {
                 events.refuse(at, case)?;
             }
@@ -124,16 +123,31 @@ impl<
         Ok(())
     }
 
-    /// Sends a client the last events, at most so many, and all that come from now on.
-    pub(crate) fn follow(&mut self, asker: Asker, most: u64) -> Result<(), AllocError> {
-        match &mut self.events {
+    /// Sends a client the last events, at most so many, and all that come from now on. Where there is no memory for that, the
+    /// client is cut off.
+    pub(crate) fn follow(&mut self, asker: Asker, most: u64) {
+        let followed = match &mut self.events {
             Some(events) => events.follow(self.rt, asker, most),
             None => Ok(()),
+        };
+        if followed.is_err()
+            && let Some(seats) = self.console.seats()
+        {
+            seats.cut(self.rt, asker);
         }
     }
 
-    /// Adds the lines of a status.
-    pub(crate) fn status(&mut self, text: &mut String) -> Result<(), AllocError> {
+    /// Answers with the lines of a status, or that there was no memory for them.
+    pub(crate) fn answer_status(&mut self, text: &mut String) -> Result<(), AllocError> {
+        if self.status(text).is_err() {
+            text.clear();
+            return push_no_memory(text);
+        }
+        Ok(())
+    }
+
+    // Adds the lines of a status.
+    fn status(&mut self, text: &mut String) -> Result<(), AllocError> {
         let now = self.now();
         let (events, log) = match &self.events {
             Some(events) => (events.number(), events.log_status()),

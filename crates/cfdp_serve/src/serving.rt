@@ -3,7 +3,7 @@ use crate::named::serve_named;
 use crate::threads::{Given, Sockets};
 use entity_config::Config;
 use program_control::ControlSocket;
-use program_numbers::HeldNumbers;
+use program_numbers::{HeldNumbers, Puts};
 use program_seats::Seats;
 use program_start::{ProgramFault, load_config, open_socket, print, tell_fault};
 use program_threads::Control;
@@ -61,7 +61,7 @@ fn start<
             let mut config = load_config(rt, alloc, words.config)?;
             let socket = open_socket(rt, words.bind)?;
             let numbers = match words.numbers {
-                Some(path) => Some(HeldNumbers::open(rt, alloc, path, &mut config)?),
+                Some(path) => Some(HeldNumbers::open(rt, alloc, path, Puts::Many, &mut config)?),
                 None => None,
             };
             let given = Given {

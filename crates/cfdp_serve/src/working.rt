@@ -36,6 +36,10 @@ impl<
         let mut server = self;
         server.report_start()?;
         work(&mut server)?;
+        if server.events.is_some() {
+            let mut text = String::new(server.alloc);
+            receive(&mut server, &mut text)?;
+        }
         let now = moment(server.rt);
         server.report_end(now)?;
         if let Some(numbers) = &server.numbers {
@@ -98,7 +102,7 @@ fn answer_next<
     let next = server.obey(&asked, text)?;
     server.console.answer(server.rt, asked.asker, text)?;
     if let Next::Follows(asker, most) = next {
-        server.follow(asker, most)?;
+        server.follow(asker, most);
     }
     text.clear();
     Ok((true, next))

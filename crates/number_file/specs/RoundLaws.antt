@@ -1,60 +1,72 @@
--- Meaning. What a file of numbers keeps of the rounds of a lane, over any run of starts and Puts.
-use Rattle.std.specs.Prelude.{◌≡◌, ℕ, ◌+◌, ◌<◌, ◌≤◌, All, List, [], ◌∷◌, nat_le, if◌then◌else◌}
+-- Meaning. What a file of numbers keeps of the numbers of a lane, over any run of starts and Puts.
+use Rattle.std.specs.Prelude.{ℕ, ◌+◌, ◌-◌, ◌<◌, min, max, All, List, [], ◌∷◌, nat_le, if◌then◌else◌}
 use Rattle.number_file.specs.declared.rounds.Cover.{Cover}
 use Rattle.number_file.specs.declared.rounds.Cover.TheVariants as cover
 use Rattle.number_file.specs.declared.rounds.Rounds.{Rounds}
-use Rattle.number_file.specs.Rounds.{begun, cover_of, written, given}
+use Rattle.number_file.specs.Rounds.{begun, cover_of, number_at, written, given}
 
--- what happens: a program starts with a first round, wherever the one before it stopped; the lane puts; another lane gives a round
+-- what happens: a program starts, wherever the one before it stopped, with a first round, with so many numbers in a round, of
+-- which the lane's stands at a place, and with a block; the lane puts; another lane gives a round
 pub data Happening : Type 0 where
-  starts : ℕ → Happening
+  starts : ℕ → ℕ → ℕ → ℕ → Happening
   puts : Happening
   other : ℕ → Happening
 
--- what the file says, what the program knows, the round that the lane gives next, and those that it gave, newest first
+-- what the file says, what the program knows, the round that the lane gives next, the place of its number in a round, and the
+-- numbers that it gave, newest first
 pub record Station : Type 0 where
   pub file : ℕ
   pub rounds : Rounds
   pub lane : ℕ
+  pub place : ℕ
   pub gave : List ℕ
 
 -- before a file is there
 abbrev pub at_first : Station
-at_first = record { file = 0; rounds = record { next = 0; covered = 0; block = 1 }; lane = 0; gave = [] }
+at_first = record { file = 0; rounds = record { next = 0; covered = 0; width = 1; block = 1 }; lane = 0; place = 0; gave = [] }
+
+-- the lane's next number
+abbrev pub next_number : Station → ℕ
+next_number station = number_at station.lane station.rounds + station.place
 
 -- the file is written where that is wanted
 abbrev pub covering : Cover → Station → Station
 covering cover.Covered station = station
-covering (cover.Write round) station = record station { file = round; rounds = written round station.rounds }
+covering (cover.Write round) station = record station { file = number_at round station.rounds; rounds = written round station.rounds }
 covering cover.Over station = station
 
--- a Put takes the lane's next round
+-- a Put takes the lane's next number
 abbrev pub putting : Cover → Station → Station
 putting cover.Over station = station
-putting _ station = record station { rounds = given station.lane station.rounds; lane = station.lane + 1; gave = station.lane ∷ station.gave }
+putting _ station = record station { rounds = given station.lane station.rounds; lane = station.lane + 1; gave = next_number station ∷ station.gave }
 
 -- another lane gives a round, none above what the program knows
 abbrev pub giving : Cover → ℕ → Station → Station
 giving cover.Over round station = station
 giving _ round station = if nat_le round station.rounds.next then record station { rounds = given round station.rounds } else station
 
--- what comes of it, with blocks of so many rounds
-abbrev pub after : ℕ → Happening → Station → Station
-after block (starts first) station =
-    record station { file = (begun first station.file block).covered; rounds = begun first station.file block; lane = (begun first station.file block).next }
-after block puts station = putting (cover_of station.rounds) (covering (cover_of station.rounds) station)
-after block (other round) station = giving (cover_of station.rounds) round (covering (cover_of station.rounds) station)
+-- a program starts: a place lies within a round
+abbrev pub started : Rounds → ℕ → Station → Station
+started rounds place station = record station
+    { file = number_at rounds.covered rounds; rounds = rounds; lane = rounds.next; place = min place (max rounds.width 1 - 1) }
+
+-- what comes of it
+abbrev pub after : Happening → Station → Station
+after (starts first width place block) station = started (begun first station.file width block) place station
+after puts station = putting (cover_of station.rounds) (covering (cover_of station.rounds) station)
+after (other round) station = giving (cover_of station.rounds) round (covering (cover_of station.rounds) station)
 
 -- the station after a run of happenings, newest first
-abbrev pub run_of : ℕ → List Happening → Station
-run_of block [] = at_first
-run_of block (happening ∷ earlier) = after block happening (run_of block earlier)
+abbrev pub run_of : List Happening → Station
+run_of [] = at_first
+run_of (happening ∷ earlier) = after happening (run_of earlier)
 
 -- each is above all that came before
 abbrev pub IsRising : List ℕ → Type 0
 IsRising [] = Unit {0}
-IsRising (round ∷ earlier) = All (λ one. one < round) earlier × IsRising earlier
+IsRising (number ∷ earlier) = All (λ one. one < number) earlier × IsRising earlier
 
--- over any run of starts, stops and Puts a lane gives no round twice: each is above all that it gave before
+-- over any run of starts, stops and Puts, also where lanes and users change between, each number that a lane gives is above all
+-- that were given at its place before, and above all of earlier runs
 abbrev pub NeverTwice : Type 0
-NeverTwice = (block : ℕ) (run : List Happening) → IsRising (run_of block run).gave
+NeverTwice = (run : List Happening) → IsRising (run_of run).gave

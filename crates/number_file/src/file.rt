@@ -1,9 +1,9 @@
 //! The file itself.
 ghost use Rattle.std.specs.Prelude.{◌≡◌, ◌≤◌, IfOk, OnErr, OnOk};
-ghost use Rattle.number_file.specs.Rounds.{cover_of, given};
+ghost use Rattle.number_file.specs.Rounds.{cover_of, given, number_at};
 ghost use Rattle.number_file.specs.declared.rounds.Cover.TheVariants as cover;
 
-use crate::rounds::{Cover, LAST_ROUND, Rounds};
+use crate::rounds::{Cover, LAST_NUMBER, Rounds};
 use std::alloc::Global;
 use std::fs::{File, OpenFile};
 use std::io::{ErrorKind, Read, Write};
@@ -16,46 +16,52 @@ const MOST_OCTETS: u64 = 32;
 /// Why numbers can't be had from a file.
 #[derive(Clone, Copy, Debug, PartialEq, Eq)]
 pub enum NumbersFault {
-    /// The file can't be read, or what it says is no round.
+    /// The file can't be read, or what it says is no number.
     Unreadable,
     /// It can't be written.
     Unwritable,
-    /// No round is left.
+    /// No number is left.
     Over,
 }
 
-/// A file that says where the rounds of the next run begin: a decimal number in a line.
+/// A file that says a number above all that were given: a decimal number in a line.
 #[derive(Drop)]
 pub struct NumberFile {
     alloc: Global,
     path: String,
     /// Which rounds it covers.
     pub rounds: Rounds,
+    /// What it says.
+    pub says: u64,
 }
 
 impl NumberFile {
-    /// Opens the file of a run, which begins at `first` or where the file says, and covers so many rounds at once. A file that
-    /// isn't there is made. It is written at once, so that a file which can't be is found before anything is put. After an
-    /// error it is as it was.
+    /// Opens the file of a run, which begins at the round `first`, or where all numbers are above what the file says. A round has
+    /// `width` numbers, and `block` rounds are covered at once. A file that isn't there is made. It is written at once, so that
+    /// a file which can't be is found before anything is put. A file that says no number stays as it is.
     pub fn open<R: Files>(
         rt: &R,
         alloc: Global,
         path: String,
         first: u64,
+        width: u64,
         block: u64,
     ) -> Result<NumberFile, NumbersFault>
-        ensures { IfOk result (λ file. first ≤ file.rounds.next) }
+        ensures first { IfOk result (λ file. first ≤ file.rounds.next) }
+        ensures width { IfOk result (λ file. file.rounds.width ≡ width) }
+        ensures says { IfOk result (λ file. file.says ≡ number_at file.rounds.covered file.rounds) }
     {
-        let file = read_round(rt, alloc, path.as_str())?;
-        let rounds = Rounds::begin(first, file, block);
-        if rounds.covered > LAST_ROUND {
+        let number = read_number(rt, alloc, path.as_str())?;
+        let rounds = Rounds::begin(first, number, width, block);
+        let Some(covered) = rounds.number_at(rounds.covered) else {
             return Err(NumbersFault::Over);
-        }
-        write_round(rt, alloc, path.as_str(), rounds.covered)?;
+        };
+        let says = write_number(rt, alloc, path.as_str(), covered)?;
         Ok(NumberFile {
             alloc,
             path,
             rounds,
+            says,
         })
     }
 
@@ -63,13 +69,18 @@ impl NumberFile {
     /// this answers.
     pub fn cover<R: Files>(&mut self, rt: &R) -> Result<(), NumbersFault>
         ensures covered { OnOk result (cover_of self.new.rounds ≡ cover.Covered) }
+        ensures says { self.old.says ≡ number_at self.old.rounds.covered self.old.rounds
+            → self.new.says ≡ number_at self.new.rounds.covered self.new.rounds }
         ensures next { self.new.rounds.next ≡ self.old.rounds.next }
         ensures same { OnErr result (self.new.rounds ≡ self.old.rounds) }
     {
         match self.rounds.cover() {
             Cover::Covered => Ok(()),
             Cover::Write(round) => {
-                write_round(rt, self.alloc, self.path.as_str(), round)?;
+                let Some(number) = self.rounds.number_at(round) else {
+                    return Err(NumbersFault::Over);
+                };
+                self.says = write_number(rt, self.alloc, self.path.as_str(), number)?;
                 self.rounds.note_written(round);
                 Ok(())
             }
@@ -85,10 +96,10 @@ impl NumberFile {
     }
 }
 
-// The round that the file says; 0 where there is none.
-fn read_round<R: Files>(rt: &R, alloc: Global, path: &str) -> Result<u64, NumbersFault> {
+// The number that the file says; 0 where there is none.
+fn read_number<R: Files>(rt: &R, alloc: Global, path: &str) -> Result<u64, NumbersFault> {
     match octets_of(rt, alloc, path) {
-        Ok(octets) => round_in(octets.as_slice()).ok_or(NumbersFault::Unreadable),
+        Ok(octets) => number_in(octets.as_slice()).ok_or(NumbersFault::Unreadable),
         Err(error) if error.kind() == ErrorKind::NotFound => Ok(0),
         Err(_) => Err(NumbersFault::Unreadable),
     }
@@ -102,35 +113,41 @@ fn octets_of<R: Files>(rt: &R, alloc: Global, path: &str) -> io::Result<Vec<u8>>
     Ok(octets)
 }
 
-// The round that a text says: decimal digits, and a line feed behind them or none.
-fn round_in(octets: &[u8]) -> Option<u64> {
+// The number that a text says: decimal digits, and a line feed behind them or none.
+fn number_in(octets: &[u8]) -> Option<u64> {
     let digits = octets.strip_suffix(b"\n").unwrap_or(octets);
-    if digits.is_empty() || !digits.iter().all(|octet| octet.is_ascii_digit()) {
+    let is_whole = octets.len() as u64 != MOST_OCTETS;
+    if !is_whole || digits.is_empty() || !digits.iter().all(|octet| octet.is_ascii_digit()) {
         return None;
     }
-    let round = str::from_utf8(digits).ok()?.parse::<u64>().ok()?;
-    if round > LAST_ROUND {
+    let number = str::from_utf8(digits).ok()?.parse::<u64>().ok()?;
+    if number > LAST_NUMBER {
         None
     } else {
-        Some(round)
+        Some(number)
     }
 }
 
-// Writes the file anew.
-fn write_round<R: Files>(
+// Writes the file anew; what it says then.
+fn write_number<R: Files>(
     rt: &R,
     alloc: Global,
     path: &str,
-    round: u64,
-) -> Result<(), NumbersFault> {
-    write_beside(rt, alloc, path, round).map_err(|_| NumbersFault::Unwritable)
+    number: u64,
+) -> Result<u64, NumbersFault>
+    ensures { IfOk result (λ says. says ≡ number) }
+{
+    match write_beside(rt, alloc, path, number) {
+        Ok(()) => Ok(number),
+        Err(_) => Err(NumbersFault::Unwritable),
+    }
 }
 
 // Writes beside the file, flushes that, renames it, and flushes the folder: at each moment the file has the number before or
 // this one.
-fn write_beside<R: Files>(rt: &R, alloc: Global, path: &str, round: u64) -> io::Result<()> {
+fn write_beside<R: Files>(rt: &R, alloc: Global, path: &str, number: u64) -> io::Result<()> {
     let beside = format!(in alloc; "{path}.new")?;
-    let text = format!(in alloc; "{round}\n")?;
+    let text = format!(in alloc; "{number}\n")?;
     let mut file = File::create(rt, beside.as_str())?;
     file.write_all(text.as_bytes())?;
     file.sync_all()?;

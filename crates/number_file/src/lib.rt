@@ -9,4 +9,4 @@ mod tests;
 
 pub use file::{NumberFile, NumbersFault};
 pub use laws::numbers;
-pub use rounds::{Cover, LAST_ROUND, Rounds};
+pub use rounds::{Cover, LAST_NUMBER, Rounds};

@@ -1,16 +1,16 @@
-//! Which rounds of numbers a file covers.
-ghost use Rattle.std.specs.Prelude.{◌≡◌};
-ghost use Rattle.number_file.specs.Rounds.{begun, cover_of, given, written};
+//! Which numbers a file covers.
+ghost use Rattle.std.specs.Prelude.{◌≡◌, ◌≤◌, ◌<◌, IfSome, None};
+ghost use Rattle.number_file.specs.Rounds.{begun, cover_of, given, last_number, number_at, written};
 
-/// The greatest round that a file may hold.
-pub const LAST_ROUND: u64 = 9_223_372_036_854_775_807;
+/// The greatest number that a file may hold.
+pub const LAST_NUMBER: u64 = 9_223_372_036_854_775_807;
 
-/// What has to be written before the next Put.
+/// What has to be covered before the next Put.
 #[derive(Clone, Copy, Debug, PartialEq, Eq)]
 pub enum Cover {
-    /// Nothing: its round is covered.
+    /// Nothing more: its round is covered.
     Covered,
-    /// Where the next run begins.
+    /// All rounds below this one.
     Write(u64),
     /// Nothing can be: there is no such round any more.
     Over,
@@ -21,26 +21,41 @@ pub enum Cover {
 pub struct Rounds {
     /// No lane's next round is above it.
     pub next: u64,
-    /// Where the file says that the next run begins.
+    /// All rounds below it are covered.
     pub covered: u64,
+    /// How many numbers a round has, at least one.
+    pub width: u64,
     /// How many rounds are covered at once, at least one.
     pub block: u64,
 }
 
 impl Rounds {
-    /// Those of a run that begins at its first round, or where a file says, whichever is higher.
-    pub fn begin(first: u64, file: u64, block: u64) -> Rounds
-        ensures { result ≡ begun first file block }
+    /// Those of a run that begins at its first round, or where all numbers are above what a file says, whichever is higher.
+    pub fn begin(first: u64, number: u64, width: u64, block: u64) -> Rounds
+        ensures { result ≡ begun first number width block }
     {
-        let next = first.max(file);
+        let next = first.max(number.div_ceil(width.max(1)));
         Rounds {
             next,
             covered: next,
+            width,
             block,
         }
     }
 
-    /// What has to be written before the next Put.
+    /// The number that a file says where all rounds below one are covered, unless it is greater than a file may hold.
+    pub fn number_at(&self, round: u64) -> Option<u64>
+        ensures number { IfSome result (λ number. number ≡ number_at round self.now) }
+        ensures held { IfSome result (λ number. number ≤ last_number) }
+        ensures none { result ≡ None → last_number < number_at round self.now }
+    {
+        match self.width.max(1).checked_mul(round) {
+            Some(number) if number <= LAST_NUMBER => Some(number),
+            _ => None,
+        }
+    }
+
+    /// What has to be covered before the next Put.
     pub fn cover(&self) -> Cover
         ensures { result ≡ cover_of self.now }
     {
@@ -48,12 +63,18 @@ impl Rounds {
             return Cover::Covered;
         }
         match self.next.checked_add(self.block.max(1)) {
-            Some(round) if round <= LAST_ROUND => Cover::Write(round),
+            Some(round) if round <= LAST_NUMBER => {
+                if self.number_at(round).is_some() {
+                    Cover::Write(round)
+                } else {
+                    Cover::Over
+                }
+            }
             _ => Cover::Over,
         }
     }
 
-    /// That was written.
+    /// All rounds below that one are covered now.
     pub fn note_written(&mut self, round: u64)
         ensures { self.new ≡ written round self.old }
     {

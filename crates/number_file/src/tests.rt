@@ -9,7 +9,7 @@ fn open(rt: &HostRuntime, first: u64) -> Result<NumberFile, NumbersFault> {
     let Ok(path) = String::from_str(rt.alloc(), FILE) else {
         return Err(NumbersFault::Unreadable);
     };
-    NumberFile::open(rt, rt.alloc(), path, first, 4)
+    NumberFile::open(rt, rt.alloc(), path, first, 10, 4)
 }
 
 // A run begins where the file of the one before says, and never below its own first round.
@@ -20,10 +20,10 @@ fn runs(rt: HostRuntime) -> Result<(), Fail> {
     };
     assert!(rt; file.cover(&rt).is_ok());
     file.note_given(7);
-    assert_eq!(rt; fs::read_to_string(&rt, FILE)?.as_str(), "11\n");
+    assert_eq!(rt; fs::read_to_string(&rt, FILE)?.as_str(), "110\n");
     file.note_given(10);
     assert!(rt; file.cover(&rt).is_ok());
-    assert_eq!(rt; fs::read_to_string(&rt, FILE)?.as_str(), "15\n");
+    assert_eq!(rt; fs::read_to_string(&rt, FILE)?.as_str(), "150\n");
     assert!(rt; open(&rt, 3).is_ok_and(|file| file.rounds.next == 15));
     assert!(rt; open(&rt, 20).is_ok_and(|file| file.rounds.next == 20));
     Ok(())
@@ -32,7 +32,15 @@ fn runs(rt: HostRuntime) -> Result<(), Fail> {
 // What is no number is a fault, and stays.
 #[test]
 fn no_numbers(rt: HostRuntime) -> Result<(), Fail> {
-    for text in ["", "\n", "5x\n", "-5\n", "9223372036854775808\n", "5\n\n"] {
+    for text in [
+        "",
+        "\n",
+        "5x\n",
+        "-5\n",
+        "9223372036854775808\n",
+        "5\n\n",
+        "00000000000000000000000000000000",
+    ] {
         fs::write(&rt, FILE, text)?;
         assert_eq!(rt; open(&rt, 3).err(), Some(NumbersFault::Unreadable));
         assert_eq!(rt; fs::read_to_string(&rt, FILE)?.as_str(), text);

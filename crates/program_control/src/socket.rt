@@ -1,5 +1,6 @@
 //! The socket itself: its file, who comes in, and its end.
 use crate::client::serve_client;
+use crate::probing::{Probed, probe};
 use program_desk::Desk;
 use program_seats::Seats;
 use script_io::write_whole;
@@ -124,11 +125,31 @@ impl ControlSocket {
     }
 }
 
-// Gives a socket that listens at a path of its own the path that is wanted.
+// Gives a socket that listens at a path of its own the path that is wanted. One server at a time replaces a stale file: the one
+// that has the guard's path meanwhile.
 fn place<R: Files + Net>(rt: &R, alloc: Global, own: &str, path: &str) -> Result<(), ControlFault> {
-    if let Some(stale) = stale_at(rt, path)? {
-        take_away(rt, alloc, own, path, stale)?;
+    if !is_stale(rt, path)? {
+        return link(rt, own, path);
     }
+    let Ok(guard) = format!(in alloc; "{path}.take") else {
+        return Err(ControlFault::System);
+    };
+    replace(rt, own, guard.as_str())?;
+    let placed = replace(rt, own, path);
+    let _gone = fs::remove_file(rt, guard.as_str());
+    placed
+}
+
+// Gives a socket a path, in place of a stale file if one lies there.
+fn replace<R: Files + Net>(rt: &R, own: &str, path: &str) -> Result<(), ControlFault> {
+    if is_stale(rt, path)? && fs::remove_file(rt, path).is_err() {
+        return Err(ControlFault::System);
+    }
+    link(rt, own, path)
+}
+
+// Gives a socket one path more, where no file is.
+fn link<R: Files>(rt: &R, own: &str, path: &str) -> Result<(), ControlFault> {
     match fs::hard_link(rt, own, path) {
         Ok(()) => Ok(()),
         Err(error) if error.kind() == ErrorKind::AlreadyExists => Err(ControlFault::Live),
@@ -136,53 +157,20 @@ fn place<R: Files + Net>(rt: &R, alloc: Global, own: &str, path: &str) -> Result
     }
 }
 
-// The device and the node of the file at a path, where it is a socket at which nobody listens; nothing where there is no file.
-fn stale_at<R: Files + Net>(rt: &R, path: &str) -> Result<Option<(u64, u64)>, ControlFault> {
+// Whether a socket is at a path at which nobody listens; not where no file is.
+fn is_stale<R: Files + Net>(rt: &R, path: &str) -> Result<bool, ControlFault> {
     let found = match fs::symlink_metadata(rt, path) {
         Ok(found) => found,
-        Err(error) if error.kind() == ErrorKind::NotFound => return Ok(None),
+        Err(error) if error.kind() == ErrorKind::NotFound => return Ok(false),
         Err(_) => return Err(ControlFault::System),
     };
     if !found.file_type().is_socket() {
         return Err(ControlFault::NotSocket);
     }
-    match UnixStream::connect(rt, path) {
-        Ok(_) => Err(ControlFault::Live),
-        Err(error) if error.kind() == ErrorKind::ConnectionRefused => {
-            Ok(Some((found.dev(), found.ino())))
-        }
-        Err(_) => Err(ControlFault::System),
-    }
-}
-
-// Takes a stale file away. Where another server was quicker, and its file lies there, that is put back.
-fn take_away<R: Files>(
-    rt: &R,
-    alloc: Global,
-    own: &str,
-    path: &str,
-    stale: (u64, u64),
-) -> Result<(), ControlFault> {
-    let Ok(aside) = format!(in alloc; "{own}.old") else {
-        return Err(ControlFault::System);
-    };
-    match fs::rename(rt, path, aside.as_str()) {
-        Ok(()) => {}
-        Err(error) if error.kind() == ErrorKind::NotFound => return Ok(()),
-        Err(_) => return Err(ControlFault::System),
-    }
-    let is_stale = match fs::symlink_metadata(rt, aside.as_str()) {
-        Ok(found) => (found.dev(), found.ino()) == stale,
-        Err(_) => false,
-    };
-    if !is_stale {
-        let _as_it_may = fs::hard_link(rt, aside.as_str(), path);
-    }
-    let _gone = fs::remove_file(rt, aside.as_str());
-    if is_stale {
-        Ok(())
-    } else {
-        Err(ControlFault::Live)
+    match probe(rt, path) {
+        Probed::Listens => Err(ControlFault::Live),
+        Probed::Nobody => Ok(true),
+        Probed::Unknown => Err(ControlFault::System),
     }
 }
 

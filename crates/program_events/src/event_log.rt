@@ -1,9 +1,10 @@
 //! The file to which events are appended.
 use std::alloc::Global;
 use std::fs::OpenOptions;
-use std::io;
 use std::io::Write;
+use std::os::unix::fs::FileTypeExt;
 use std::rt::Files;
+use std::{fs, io};
 
 /// How many octets wait at most while the file can't be written.
 pub const PENDING_OCTETS: usize = 1_024 * 1_024;
@@ -86,12 +87,7 @@ impl<R: Files> EventLog<R> {
     // Writes what waits as far as the file takes it: how many octets it took, and how that ended.
     fn write(&mut self, rt: &R) -> (usize, io::Result<()>) {
         if self.file.is_none() {
-            let mut options = OpenOptions::new();
-            match options
-                .append(true)
-                .create(true)
-                .open(rt, self.path.as_str())
-            {
+            match open_log(rt, self.path.as_str()) {
                 Ok(file) => self.file = Some(file),
                 Err(error) => return (0, Err(error)),
             }
@@ -101,6 +97,17 @@ impl<R: Files> EventLog<R> {
             None => (0, Ok(())),
         }
     }
+}
+
+// Opens the file at a path. A pipe is none: it could hold up the whole program.
+fn open_log<R: Files>(rt: &R, path: &str) -> io::Result<R::File> {
+    if let Ok(found) = fs::metadata(rt, path)
+        && found.file_type().is_fifo()
+    {
+        return Err(io::ErrorKind::InvalidInput.into());
+    }
+    let mut options = OpenOptions::new();
+    options.append(true).create(true).open(rt, path)
 }
 
 // Writes octets until all are written, or one write fails.

@@ -1,5 +1,7 @@
 //! Numbers that one program holds.
-ghost use Rattle.std.specs.Prelude.{◌≡◌, OnErr};
+ghost use Rattle.std.specs.Prelude.{◌≡◌, ◌/◌, max, OnErr, OnOk};
+ghost use Rattle.number_file.specs.Rounds.{cover_of, given};
+ghost use Rattle.number_file.specs.declared.rounds.Cover.TheVariants as cover;
 
 use cfdp_types::TxnKey;
 use entity_config::{Config, Setting};
@@ -10,7 +12,7 @@ use std::alloc::Global;
 use std::net::Net;
 use std::rt::Files;
 
-// How many rounds are covered at once: one where numbers are short, so that a restart uses up few of them.
+// How many rounds are covered at once: one where few Puts follow or numbers are short, so that a restart uses up few of them.
 const FEW_ROUNDS: u64 = 1;
 
 const MANY_ROUNDS: u64 = 64;
@@ -18,14 +20,20 @@ const MANY_ROUNDS: u64 = 64;
 // How many octets a short number has.
 const SHORT_NUMBER: u8 = 2;
 
+/// How many Puts a run has.
+#[derive(Clone, Copy, Debug, PartialEq, Eq)]
+pub enum Puts {
+    One,
+    Many,
+}
+
 /// The numbers of a run, which a file keeps and which no other program uses meanwhile.
 #[derive(Drop)]
 pub struct HeldNumbers {
-    file: NumberFile,
+    /// The file that keeps them.
+    pub file: NumberFile,
     hold: ControlSocket,
     hold_path: String,
-    /// How many numbers a round has: one of each sending lane of each user.
-    round_numbers: u64,
 }
 
 impl HeldNumbers {
@@ -36,6 +44,7 @@ impl HeldNumbers {
         rt: &R,
         alloc: Global,
         path: &str,
+        puts: Puts,
         config: &mut Config,
     ) -> Result<HeldNumbers, ProgramFault>
         ensures { OnErr result (config.new ≡ config.old) }
@@ -44,12 +53,11 @@ impl HeldNumbers {
         let Ok(hold) = ControlSocket::open(rt, alloc, hold_path.as_str()) else {
             return Err(ProgramFault::Numbers);
         };
-        match open_file(rt, alloc, path, config) {
+        match open_file(rt, alloc, path, puts, config) {
             Ok(file) => Ok(HeldNumbers {
                 file,
                 hold,
                 hold_path,
-                round_numbers: round_numbers(config),
             }),
             Err(fault) => {
                 hold.leave(rt, hold_path.as_str());
@@ -59,13 +67,18 @@ impl HeldNumbers {
     }
 
     /// Sees that the number of the next Put is covered.
-    pub fn cover<R: Files>(&mut self, rt: &R) -> Result<(), ProgramFault> {
+    pub fn cover<R: Files>(&mut self, rt: &R) -> Result<(), ProgramFault>
+        ensures { OnOk result (cover_of self.new.file.rounds ≡ cover.Covered) }
+    {
         self.file.cover(rt).map_err(|_| ProgramFault::Numbers)
     }
 
     /// A Put opened this transaction.
-    pub fn note_put(&mut self, key: TxnKey) {
-        self.file.note_given(key.seq / self.round_numbers.max(1));
+    pub fn note_put(&mut self, key: TxnKey)
+        ensures { self.new.file.rounds ≡ given (key.seq / max self.old.file.rounds.width 1) self.old.file.rounds }
+    {
+        let width = self.file.rounds.width.max(1);
+        self.file.note_given(key.seq / width);
     }
 
     /// Lets the file go.
@@ -74,28 +87,22 @@ impl HeldNumbers {
     }
 }
 
-// How many numbers a round has.
-fn round_numbers(config: &Config) -> u64 {
-    (config.users() as u64).saturating_mul(config.entity().put_lanes as u64)
-}
-
 // Opens the file, and has the configuration begin where it says.
 fn open_file<R: Files>(
     rt: &R,
     alloc: Global,
     path: &str,
+    puts: Puts,
     config: &mut Config,
 ) -> Result<NumberFile, ProgramFault>
     ensures { OnErr result (config.new ≡ config.old) }
 {
     let entity = config.entity();
-    let block = if entity.lengths.sequence_octets <= SHORT_NUMBER {
-        FEW_ROUNDS
-    } else {
-        MANY_ROUNDS
-    };
+    let is_few = puts == Puts::One || entity.lengths.sequence_octets <= SHORT_NUMBER;
+    let block = if is_few { FEW_ROUNDS } else { MANY_ROUNDS };
+    let width = (config.users() as u64).saturating_mul(entity.put_lanes as u64);
     let path = String::from_str(alloc, path)?;
-    let Ok(file) = NumberFile::open(rt, alloc, path, entity.first, block) else {
+    let Ok(file) = NumberFile::open(rt, alloc, path, entity.first, width, block) else {
         return Err(ProgramFault::Numbers);
     };
     if config.set(Setting::First(file.rounds.next)).is_err() {

@@ -3,4 +3,4 @@
 
 mod held;
 
-pub use held::HeldNumbers;
+pub use held::{HeldNumbers, Puts};

@@ -6,9 +6,9 @@ use cfdp_types::limits::FILE_OCTETS;
 use entity_config::{Config, ConfigFault, read_config};
 use std::alloc::Global;
 use std::fs::File;
-use std::io;
 use std::io::{ErrorKind, Read};
 use std::rt::Files;
+use std::{fs, io};
 
 // What a failed call says: memory ran out, or the file can't be read.
 fn fault_of(error: &io::Error) -> ProgramFault {
@@ -52,7 +52,11 @@ pub fn load_config<R: Files>(rt: &R, alloc: Global, path: &str) -> Result<Config
     }
 }
 
-/// The octets of a file that is to be sent: all of them, or one more than an entity sends, which it then refuses.
+/// The octets of a plain file that is to be sent: all of them, or one more than an entity sends, which it then refuses.
 pub fn load_file<R: Files>(rt: &R, alloc: Global, path: &str) -> Result<Vec<u8>, ProgramFault> {
-    read_up_to(rt, alloc, path, FILE_OCTETS as u64 + 1)
+    match fs::metadata(rt, path) {
+        Ok(found) if found.is_file() => read_up_to(rt, alloc, path, FILE_OCTETS as u64 + 1),
+        Ok(_) => Err(ProgramFault::Read),
+        Err(error) => Err(fault_of(&error)),
+    }
 }

@@ -290,23 +290,23 @@ impl<'a, N: Names, R: Wait + Copy + Clock, S: Filestore + Drop> Station<'a, N, R
             return false;
         }
         let (calls, failures) = (self.store.calls(), self.store.failures());
-        let answer = match self.agenda.next_deposit() {
+        let (key, answer) = match self.agenda.next_deposit() {
             None => return false,
-            Some(Waiting::New(deposit)) => {
-                deposit_one(self.rt, self.entity, &mut self.store, deposit)
-            }
-            Some(Waiting::Rest(rest)) => finish(self.rt, self.entity, &mut self.store, rest),
+            Some(Waiting::New(deposit)) => (
+                deposit.key,
+                deposit_one(self.rt, self.entity, &mut self.store, deposit),
+            ),
+            Some(Waiting::Rest(rest)) => (
+                rest.deposit.key,
+                finish(self.rt, self.entity, &mut self.store, rest),
+            ),
         };
-        let was_asked = self.store.calls() > calls;
-        let is_kept = self.store.failures() == failures;
+        if self.store.calls() > calls {
+            let is_kept = self.store.failures() == failures;
+            self.stored = Some(StoredNote { key, is_kept });
+        }
         match answer {
             Ok(done) => {
-                if was_asked {
-                    self.stored = Some(StoredNote {
-                        key: done.key,
-                        is_kept,
-                    });
-                }
                 self.settle_own(done);
                 true
             }

@@ -1,4 +1,5 @@
 //! What the server saw last of each lane.
+use cfdp_types::TxnKey;
 use indications::{Bundle, Indication};
 use station_lines::{Ending, Moment};
 use std::alloc::{AllocError, Global};
@@ -6,6 +7,8 @@ use std::alloc::{AllocError, Global};
 /// What the server saw last of a lane's transaction.
 #[derive(Clone, Copy, Debug)]
 pub struct LaneNote {
+    /// The transaction, where one was seen.
+    pub key: Option<TxnKey>,
     /// When its last indication came.
     pub last: Option<Moment>,
     /// How it ended, where it did.
@@ -14,6 +17,7 @@ pub struct LaneNote {
 
 impl LaneNote {
     const NOTHING: LaneNote = LaneNote {
+        key: None,
         last: None,
         ending: None,
     };
@@ -35,11 +39,11 @@ impl LaneNotes {
         Ok(LaneNotes { users: all })
     }
 
-    /// What was seen of a lane.
-    pub fn of(&self, user: usize, lane: usize) -> LaneNote {
+    /// What was seen of a lane's transaction.
+    pub fn of(&self, user: usize, lane: usize, key: TxnKey) -> LaneNote {
         match self.users.get(user).and_then(|lanes| lanes.get(lane)) {
-            Some(note) => *note,
-            None => LaneNote::NOTHING,
+            Some(note) if note.key == Some(key) => *note,
+            _ => LaneNote::NOTHING,
         }
     }
 
@@ -54,6 +58,7 @@ impl LaneNotes {
         }
         if let Some(note) = lanes.get_mut(bundle.lane) {
             *note = LaneNote {
+                key: Some(bundle.key),
                 last: Some(at),
                 ending: ending_in(bundle.inds.as_slice()),
             };

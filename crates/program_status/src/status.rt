@@ -1,7 +1,9 @@
 //! The lines of a status.
 use crate::notes::LaneNotes;
 use crate::refused::{origin_of, refused_case};
+use cfdp_types::TxnKey;
 use cfdp_types::limits::{JOURNAL_ENTRIES, JOURNAL_ENTRIES_KEPT};
+use entity_config::Config;
 use entity_routing::Place;
 use lane_table::Glance;
 use program_tallies::Tallies;
@@ -15,8 +17,10 @@ use std::alloc::{AllocError, Global};
 use std::sync::Wait;
 use user_queues::UserPort;
 
-// From which number on a lane has few left: a thousand rounds of as many lanes and users as there may be.
-const LAST_NUMBERS: u64 = u64::MAX - 512_000;
+// How many rounds are few, and how many numbers a round has at most.
+const FEW_ROUNDS: u64 = 1_000;
+
+const WIDEST_ROUND: u64 = 512;
 
 /// What a status shows beside the entity.
 #[derive(Clone, Copy)]
@@ -126,14 +130,14 @@ fn push_lanes<N: Names, R: Wait + Copy>(
     for lane in 0..LANES {
         match entity.glance(rt, Place { user, lane }) {
             Ok(Some(glance)) => {
-                let note = notes.of(user, lane);
+                let note = notes.of(user, lane, glance.key);
                 let transaction = TransactionStatus {
                     glance: &glance,
                     user: entity.config().name_of(user).unwrap_or(""),
                     lane,
                     last: note.last,
                     ending: if glance.has_ended { note.ending } else { None },
-                    notice: notice_of(&glance),
+                    notice: notice_of(&glance, few_numbers(entity.config(), glance.key)),
                 };
                 push_transaction(alloc, text, &transaction)?;
             }
@@ -148,11 +152,26 @@ fn push_lanes<N: Names, R: Wait + Copy>(
 // More lanes than a user may have.
 const LANES: usize = 1_024;
 
+// From which number on a lane has few left: a thousand rounds of all that its sequence numbers can tell apart, or the last
+// eighth where that is less.
+fn few_numbers(config: &Config, key: TxnKey) -> u64 {
+    let entity = config.entity();
+    if key.source != entity.local {
+        return u64::MAX - FEW_ROUNDS * WIDEST_ROUND;
+    }
+    let greatest = match 256u64.checked_pow(u32::from(entity.lengths.sequence_octets)) {
+        Some(numbers) => numbers.saturating_sub(1),
+        None => u64::MAX,
+    };
+    let width = (config.users() as u64).saturating_mul(entity.put_lanes as u64);
+    greatest - FEW_ROUNDS.saturating_mul(width).min(greatest / 8)
+}
+
 // What an operator should know of a lane.
-fn notice_of(glance: &Glance) -> Option<Notice> {
+fn notice_of(glance: &Glance, few_numbers: u64) -> Option<Notice> {
     if !glance.has_ended && glance.entries >= JOURNAL_ENTRIES - JOURNAL_ENTRIES_KEPT {
         Some(Notice::JournalFull)
-    } else if glance.key.seq >= LAST_NUMBERS {
+    } else if glance.key.seq >= few_numbers {
         Some(Notice::LastNumbers)
     } else {
         None

@@ -8,9 +8,6 @@ use std::sync::{Mutex, Wait};
 // How many kinds there is room for: more than there are numbers of refusals and of decode faults.
 const KINDS: usize = 64;
 
-// How long a kind of refusal rests between two events, in milliseconds.
-const REST_MS: u64 = 1_000;
-
 /// All kinds of refusals, which threads note. Its room is made when it is opened, so noting takes no memory.
 #[derive(Drop)]
 pub struct Ledger {
@@ -36,17 +33,9 @@ impl Ledger {
         from: Option<SocketAddr>,
         octets: &[u8],
     ) {
-        let _before = self.total.fetch_add(1, Ordering::Relaxed);
         let mut cases = self.cases.lock(rt);
-        for case in cases.iter_mut() {
-            if case.kind == kind {
-                case.note(at, from, octets);
-                return;
-            }
-        }
-        let mut case = RefusalCase::new(kind);
-        case.note(at, from, octets);
-        let _there_is_room = cases.push(case);
+        note_in(&mut cases, kind, at, from, octets);
+        let _before = self.total.fetch_add(1, Ordering::Relaxed);
     }
 
     /// How many refusals there were. It waits for no lock.
@@ -59,23 +48,39 @@ impl Ledger {
         Vec::from_slice(alloc, self.cases.lock(rt).as_slice())
     }
 
-    /// The kinds of which there were more since an event last reported them, a second ago or longer. They count as reported
-    /// from then on.
+    /// The kinds of which there were more since an event last reported them. They count as reported from then on.
     pub fn take_unreported<R: Wait>(
         &self,
         rt: &R,
         alloc: Global,
-        now: u64,
     ) -> Result<Vec<RefusalCase>, AllocError> {
         let mut cases = self.cases.lock(rt);
         let mut due = Vec::with_capacity(alloc, cases.len())?;
         for case in cases.iter_mut() {
-            if case.unreported() > 0 && now >= case.reported_at.saturating_add(REST_MS) {
+            if case.unreported() > 0 {
                 due.push(*case)?;
                 case.reported = case.count;
-                case.reported_at = now;
             }
         }
         Ok(due)
     }
+}
+
+// Notes a refusal among the kinds that came up. There is room for all kinds.
+fn note_in(
+    cases: &mut Vec<RefusalCase>,
+    kind: RefusalKind,
+    at: u64,
+    from: Option<SocketAddr>,
+    octets: &[u8],
+) {
+    for case in cases.iter_mut() {
+        if case.kind == kind {
+            case.note(at, from, octets);
+            return;
+        }
+    }
+    let mut case = RefusalCase::new(kind);
+    case.note(at, from, octets);
+    let _there_is_room = cases.push(case);
 }

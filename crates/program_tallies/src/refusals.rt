@@ -1,5 +1,5 @@
 //! Kinds of refusals, and the last case of each.
-ghost use Rattle.std.specs.Prelude.{◌≡◌, ◌≤◌, length};
+ghost use Rattle.std.specs.Prelude.{◌≡◌, ◌≤◌, ◌+◌, ◌-◌, min, length};
 ghost use Rattle.entity_parts.specs.Refusals.{name_of, number_of};
 ghost use Rattle.program_tallies.specs.Kinds.{fault_of, kind_of, name_of_kind, number_of_kind};
 
@@ -82,8 +82,6 @@ pub struct RefusalCase {
     pub count: u64,
     /// How many of them an event has reported.
     pub reported: u64,
-    /// When an event last did, in milliseconds since 1970.
-    pub reported_at: u64,
     /// The moment of the last one, in milliseconds since 1970.
     pub last: u64,
     /// Where the last one's datagram came from; nothing for a command.
@@ -99,7 +97,6 @@ impl RefusalCase {
             kind,
             count: 0,
             reported: 0,
-            reported_at: 0,
             last: 0,
             from: None,
             octets: [0; SHOWN_OCTETS],
@@ -110,6 +107,7 @@ impl RefusalCase {
     /// One refusal more, of a datagram with these octets, or of a command with none.
     pub(crate) fn note(&mut self, at: u64, from: Option<SocketAddr>, octets: &[u8])
         ensures kind { self.new.kind ≡ self.old.kind }
+        ensures count { self.new.count ≡ min (self.old.count + 1) 18446744073709551615 }
         ensures last { self.new.last ≡ at }
         ensures from { self.new.from ≡ from }
     {
@@ -129,7 +127,9 @@ impl RefusalCase {
     }
 
     /// How many of them no event has reported.
-    pub fn unreported(&self) -> u64 {
+    pub fn unreported(&self) -> u64
+        ensures { result ≡ self.now.count - self.now.reported }
+    {
         self.count.saturating_sub(self.reported)
     }
 }
