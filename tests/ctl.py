@@ -102,7 +102,13 @@ def answers():
         check("events between answers", run, 0)
         want("events between answers", run.stdout.startswith(b"ok\n") and run.stdout.count(b"\nevent {") == 1, run.stdout)
         check("quit", ctl("quit"), 0, b"ok\n")
-        check("nobody there", ctl("status"), 1, b"", b"no server")
+        run = ctl("status")
+        end = time.monotonic() + 10
+        while b"no server" not in run.stderr and time.monotonic() < end:
+            # the station is still ending
+            time.sleep(0.05)
+            run = ctl("status")
+        check("nobody there", run, 1, b"", b"no server")
 
 
 def no_answers():
