@@ -22,7 +22,7 @@ id = 2
 id_octets = 1
 seq_octets = {octets}
 first = {first}
-put_lanes = 2
+put_lanes = {lanes}
 recv_lanes = 1
 capacity = 1024
 segment = 256
@@ -65,9 +65,9 @@ class Peer:
         self.socket.setblocking(False)
         self.write_config(first)
 
-    def write_config(self, first):
+    def write_config(self, first, lanes=2):
         port = self.socket.getsockname()[1]
-        pathlib.Path("config").write_text(CONFIG.format(peer=port, octets=self.octets, first=first))
+        pathlib.Path("config").write_text(CONFIG.format(peer=port, octets=self.octets, first=first, lanes=lanes))
 
     def numbers(self):
         """The numbers of the transactions whose Metadata came since the last look."""
@@ -201,26 +201,41 @@ def faults(peer):
 
 
 def first_numbers(peer):
-    """The higher of the file's and the configuration's first round, and one round a start where numbers are short."""
-    for first, written, begins in ((1, None, 1), (1, b"40\n", 40), (50, b"40", 50)):
+    """The higher of the file's number and the configuration's first round: a round of two lanes and two users has four."""
+    for first, written, number in ((1, None, 4), (1, b"40\n", 40), (1, b"41\n", 44), (50, b"40", 200)):
         peer.write_config(first)
         if written is not None:
             pathlib.Path("begin").write_bytes(written)
-        with server("--numbers", "begin") as run:
-            client = connected(run)
-            want(ask(client, "put alice 0 1 1 file to")[1], f"txn 2 {begins * 4}")
-            client.close()
+        want(first_put("begin"), number)
         peer.numbers()
+
+
+def first_put(numbers):
+    """The number of the first Put of a server that is killed then."""
+    with server("--numbers", numbers) as run:
+        client = connected(run)
+        [_, txn] = ask(client, "put alice 0 1 1 file to")
+        client.close()
+    return int(txn.split()[2])
+
+
+def other_lanes(peer):
+    """Numbers go on where the lanes of a user change between two runs."""
+    last = 0
+    for lanes in (8, 1, 2, 32, 1):
+        peer.write_config(1, lanes)
+        number = first_put("lanes")
+        want(number > last, True)
+        last = number
+    peer.write_config(1)
+    peer.numbers()
 
 
 def short_numbers():
     """With numbers of one octet a restart uses up one round at most."""
     peer = Peer(octets=1)
     for round_here in (1, 2, 3):
-        with server("--numbers", "short") as run:
-            client = connected(run)
-            want(ask(client, "put alice 0 1 1 file to")[1], f"txn 2 {round_here * 4}")
-            client.close()
+        want(first_put("short"), round_here * 4)
     peer.socket.close()
 
 
@@ -235,6 +250,7 @@ def main():
         puts = killed_puts(peer, chance)
         faults(peer)
         first_numbers(peer)
+        other_lanes(peer)
         short_numbers()
     except (Wrong, OSError, subprocess.TimeoutExpired) as why:
         print(f"numbers: {type(why).__name__} {why}")
