@@ -113,6 +113,7 @@ bench: build programs
 	python3 bench/entity.py crates/benches/out/benches
 	python3 bench/programs.py $(server) $(put) crates/benches/out/benches
 	python3 bench/datagrams.py $(server) $(put)
+	python3 bench/control.py $(server)
 
 # ten minutes of files over a bad link, with an eye on memory; no part of the gate
 soak: programs
