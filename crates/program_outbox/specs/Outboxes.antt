@@ -1,0 +1,80 @@
+-- Meaning. Files that wait until a sending lane of their user is idle.
+use Rattle.std.specs.Prelude.{ℕ, ◌+◌, ◌==◌, ◌&&◌, Bool, false, List, [], ◌∷◌, ◌++◌, Option, Some, None, position, slice_get, option_to_list}
+use Rattle.std.specs.List.{remove, list_any}
+use Rattle.program_outbox.specs.declared.outbox.OutboxFile.{OutboxFile}
+use Rattle.program_outbox.specs.declared.outbox.Waiting.{Waiting}
+
+-- files in the order in which they came; users in the order of their turns; the number that the next file gets
+pub record OutboxValue : Type 0 where
+  pub waiting : List Waiting
+  pub turns : List ℕ
+  pub next : ℕ
+
+-- ---- places
+
+-- what stands at a place, and the list without it
+abbrev pub at_place : {A : Type 0} → Option ℕ → List A → Option A
+at_place None items = None
+at_place (Some place) items = slice_get items place
+
+abbrev pub without_place : {A : Type 0} → Option ℕ → List A → List A
+without_place None items = items
+without_place (Some place) items = remove items place
+
+-- a file is a user's, or has a number
+abbrev pub is_of : ℕ → Waiting → Bool
+is_of user file = file.user == user
+
+abbrev pub has_number : ℕ → Waiting → Bool
+has_number number file = file.number == number
+
+-- a user's lane is idle, by a list that has each user's word
+abbrev pub is_idle : List Bool → ℕ → Bool
+is_idle idle user = said (slice_get idle user)
+  where
+    said : Option Bool → Bool
+    said None = false
+    said (Some word) = word
+
+-- a user has a file that can go
+abbrev pub can_go : List Bool → List Waiting → ℕ → Bool
+can_go idle waiting user = is_idle idle user && list_any (is_of user) waiting
+
+-- whose turn it is: the place of the first user who has a file that can go
+abbrev pub turn_place : List Bool → OutboxValue → Option ℕ
+turn_place idle outbox = position (can_go idle outbox.waiting) outbox.turns
+
+-- ---- what comes of each call
+
+-- one more file waits, behind all others
+abbrev pub queued : ℕ → OutboxFile → OutboxValue → OutboxValue
+queued user file outbox = record outbox {
+  waiting = outbox.waiting ++ record { number = outbox.next; user = user; file = file } ∷ [];
+  next = outbox.next + 1;
+}
+
+-- the first file of a user, where it stands
+abbrev pub place_of_user : Option ℕ → List Waiting → Option ℕ
+place_of_user None waiting = None
+place_of_user (Some user) waiting = position (is_of user) waiting
+
+-- the place of the file that goes: the first one of the user whose turn it is
+abbrev pub going_place : List Bool → OutboxValue → Option ℕ
+going_place idle outbox = place_of_user (at_place (turn_place idle outbox) outbox.turns) outbox.waiting
+
+-- the file that goes; that user's next turn is behind all others
+abbrev pub going : List Bool → OutboxValue → Option Waiting
+going idle outbox = at_place (going_place idle outbox) outbox.waiting
+
+abbrev pub after_going : List Bool → OutboxValue → OutboxValue
+after_going idle outbox = record outbox {
+  waiting = without_place (going_place idle outbox) outbox.waiting;
+  turns = without_place (turn_place idle outbox) outbox.turns ++ option_to_list (at_place (turn_place idle outbox) outbox.turns);
+}
+
+-- a file with a number waits no more
+abbrev pub number_place : ℕ → OutboxValue → Option ℕ
+number_place number outbox = position (has_number number) outbox.waiting
+
+abbrev pub withdrawn : ℕ → OutboxValue → OutboxValue
+withdrawn number outbox = record outbox { waiting = without_place (number_place number outbox) outbox.waiting }

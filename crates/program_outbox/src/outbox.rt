@@ -1,0 +1,178 @@
+ghost use Rattle.std.specs.Prelude.{◌≡◌, ◌≤◌, ◌<◌, ◌↔◌, ◌⊎◌, [], IfOk, IfSome, IsSome, OnErr, Err, length, position, true};
+ghost use Rattle.std.specs.List.{list_any};
+ghost use Rattle.program_outbox.specs.Outboxes.{after_going, can_go, going, has_number, is_idle, is_of, number_place, queued, turn_place, withdrawn};
+
+use cfdp_types::{Class, EntityId};
+use std::alloc::{AllocError, Global};
+use std::marker::Model;
+
+/// How many files may wait.
+pub const MOST_FILES: usize = 1_024;
+
+/// A file that is to be sent: it is read when its turn comes.
+#[derive(Debug, Drop)]
+pub struct OutboxFile {
+    pub class: Class,
+    pub destination: EntityId,
+    /// Its path, which is its name at the sender.
+    pub source: Vec<u8>,
+    /// Its name at the receiver.
+    pub target: Vec<u8>,
+    pub closure: bool,
+}
+
+/// A file that waits.
+#[derive(Debug, Drop)]
+pub struct Waiting {
+    /// Its number in the outbox.
+    pub number: u64,
+    /// Whose it is, by the place in the configuration.
+    pub user: usize,
+    pub file: OutboxFile,
+}
+
+/// Why a file can't wait.
+#[derive(Clone, Copy, Debug, PartialEq, Eq)]
+pub enum OutboxFault {
+    /// `MOST_FILES` wait, or no number is left.
+    Full,
+    NoMemory,
+}
+
+/// Files that wait until a sending lane of their user is idle, and whose turn it is. Contracts see the files in the order in
+/// which they came, and the users in the order of their turns.
+#[derive(Drop)]
+pub struct Outbox {
+    waiting: Vec<Waiting>,
+    turns: Vec<usize>,
+    next: u64,
+}
+
+impl Model for Outbox {
+    ghost use Rattle.program_outbox.specs.Outboxes.{OutboxValue};
+
+    ghost Value = { OutboxValue };
+
+    ghost view = { λ o. record { waiting = o.waiting.items; turns = o.turns.items; next = o.next } };
+}
+
+impl Outbox {
+    /// No file waits.
+    pub fn new(alloc: Global, users: usize) -> Result<Outbox, AllocError>
+        ensures waiting { IfOk result (λ outbox. outbox.waiting ≡ []) }
+        ensures turns { IfOk result (λ outbox. length outbox.turns ≡ users) }
+        ensures next { IfOk result (λ outbox. outbox.next ≡ 1) }
+    {
+        let mut turns = Vec::with_capacity(alloc, users)?;
+        for user in 0..users {
+            turns.push(user)?;
+        }
+        Ok(Outbox {
+            waiting: Vec::new(alloc),
+            turns,
+            next: 1,
+        })
+    }
+
+    /// Takes a file of a user, behind all others; its number.
+    pub fn push(&mut self, user: usize, file: OutboxFile) -> Result<u64, OutboxFault>
+        ensures ok { IfOk result (λ number. (number ≡ self.old.next) × (self.new ≡ queued user file self.old)) }
+        ensures err { OnErr result (self.new ≡ self.old) }
+        ensures full { (result ≡ Err OutboxFault.Full)
+            ↔ ((1024 ≤ length self.old.waiting) ⊎ (self.old.next ≡ 18446744073709551615)) }
+    {
+        let number = self.next;
+        if self.waiting.len() >= MOST_FILES || number == u64::MAX {
+            return Err(OutboxFault::Full);
+        }
+        match self.waiting.push(Waiting { number, user, file }) {
+            Ok(()) => {
+                self.next = number + 1;
+                Ok(number)
+            }
+            Err(_) => Err(OutboxFault::NoMemory),
+        }
+    }
+
+    /// The file that goes, where each user's word in `idle` says whether a lane is idle: the first file of the user whose turn
+    /// it is, who then waits behind all others.
+    pub fn take(&mut self, idle: &[bool]) -> Option<Waiting>
+        ensures file { result ≡ going idle.now self.old }
+        ensures rest { self.new ≡ after_going idle.now self.old }
+    {
+        let turn = turn_place(&self.turns, &self.waiting, idle)?;
+        let user = self.turns.remove(turn);
+        self.turns.push_reserved(user);
+        let place = place_of(&self.waiting, user)?;
+        Some(self.waiting.remove(place))
+    }
+
+    /// The file with a number waits no more; whether it did.
+    pub fn withdraw(&mut self, number: u64) -> bool
+        ensures found { (result ≡ true) ↔ IsSome (number_place number self.old) }
+        ensures rest { self.new ≡ withdrawn number self.old }
+    {
+        match number_place(&self.waiting, number) {
+            Some(place) => {
+                self.waiting.remove(place);
+                true
+            }
+            None => false,
+        }
+    }
+
+    /// The files that wait, in the order in which they came.
+    pub fn waiting(&self) -> &[Waiting]
+        ensures { result.now ≡ self.now.waiting }
+    {
+        self.waiting.as_slice()
+    }
+}
+
+// Whether a user's word says that a lane is idle.
+fn is_idle(idle: &[bool], user: usize) -> bool
+    ensures { result ≡ is_idle idle.now user }
+{
+    match idle.get(user) {
+        Some(word) => *word,
+        None => false,
+    }
+}
+
+// Whether a user has a file that can go.
+fn can_go(idle: &[bool], waiting: &[Waiting], user: usize) -> bool
+    ensures { result ≡ can_go idle.now waiting.now user }
+{
+    is_idle(idle, user) && has_file(waiting, user)
+}
+
+// Whether a file of a user waits.
+fn has_file(waiting: &[Waiting], user: usize) -> bool
+    ensures { result ≡ list_any (is_of user) waiting.now }
+{
+    waiting.iter().any(|one| one.user == user)
+}
+
+// The place of the first user who has a file that can go.
+fn turn_place(turns: &[usize], waiting: &[Waiting], idle: &[bool]) -> Option<usize>
+    ensures place { result ≡ position (can_go idle.now waiting.now) turns.now }
+    ensures range { IfSome result (λ place. place < length turns.now) }
+{
+    turns.iter().position(|user| can_go(idle, waiting, *user))
+}
+
+// Where the first file of a user stands.
+fn place_of(waiting: &[Waiting], user: usize) -> Option<usize>
+    ensures place { result ≡ position (is_of user) waiting.now }
+    ensures range { IfSome result (λ place. place < length waiting.now) }
+{
+    waiting.iter().position(|one| one.user == user)
+}
+
+// Where the file with a number stands.
+fn number_place(waiting: &[Waiting], number: u64) -> Option<usize>
+    ensures place { result ≡ position (has_number number) waiting.now }
+    ensures range { IfSome result (λ place. place < length waiting.now) }
+{
+    waiting.iter().position(|one| one.number == number)
+}
