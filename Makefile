@@ -10,9 +10,12 @@ hostile := crates/hostile_runs/out/hostile_runs
 web := crates/cfdp_web/out/cfdp_web
 PREFIX ?= /usr/local
 
-# a first look: a file is received whose parts were lost and asked for again; nothing is proved
+# a first look: a file is received whose parts were lost and asked for again, and a file crosses loopback between both
+# programs; nothing is proved
 demo:
 	@examples/demo.sh examples/lost-segments.script
+	@echo
+	@examples/demo-transfer.sh 2000000
 
 # all tests of crates, unproved, side by side: minutes in place of hours for who changes something; no gate
 try:
