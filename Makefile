@@ -101,6 +101,8 @@ test:
 	@examples/transfer.sh $(server) $(put) 1 4096 0 0 --closure
 	@tests/server.py $(server)
 	@tests/control.py $(server)
+	@tests/station.py $(server) $(ctl)
+	@tests/stores.py $(server)
 	@tests/numbers.py $(server) $(put)
 	@tests/ctl.py $(ctl)
 	@tests/web.py $(web)

@@ -9,14 +9,14 @@ import contextlib
 import json
 import os
 import pathlib
-import shutil
 import socket
 import stat
 import subprocess
 import sys
-import tempfile
 import threading
 import time
+
+from support import Client, Wrong, free_port, run_cases, until, want
 
 SERVER = os.path.abspath(sys.argv[1])
 CONFIG = """[entity]
@@ -48,96 +48,6 @@ METADATA = bytes.fromhex("24000a0001050207000000000301610162")
 FILE_DATA = bytes.fromhex("3400070001050200000000616263")
 EOF = bytes.fromhex("24000a0001050204006162630000000003")
 SEATS = 16
-
-
-class Wrong(Exception):
-    """What a server did that it should not."""
-
-
-def want(found, wanted):
-    if found != wanted:
-        raise Wrong(f"{found!r} in place of {wanted!r}")
-
-
-def free_port():
-    with socket.socket(socket.AF_INET, socket.SOCK_DGRAM) as one:
-        one.bind(("127.0.0.1", 0))
-        return one.getsockname()[1]
-
-
-def until(holds, what, seconds=20):
-    end = time.monotonic() + seconds
-    while not holds():
-        if time.monotonic() > end:
-            raise Wrong(f"{what} did not come within {seconds} seconds")
-        time.sleep(0.02)
-
-
-class Client:
-    """A client of the socket, with its answers and its events."""
-
-    def __init__(self, path="control", timeout=20):
-        self.stream = socket.socket(socket.AF_UNIX)
-        self.stream.settimeout(timeout)
-        self.stream.connect(path)
-        self.held = b""
-        self.events = []
-
-    def line(self):
-        while b"\n" not in self.held:
-            try:
-                octets = self.stream.recv(65_536)
-            except ConnectionResetError:
-                octets = b""
-            if not octets:
-                return None
-            self.held += octets
-        line, self.held = self.held.split(b"\n", 1)
-        return line
-
-    def answer(self):
-        """The lines of the next answer, without events; None where the stream has ended."""
-        lines = []
-        while True:
-            line = self.line()
-            if line is None:
-                return None
-            if line == b".":
-                return [one.decode() for one in lines]
-            if line.startswith(b"event "):
-                if lines:
-                    raise Wrong("an event stands inside an answer")
-                self.events.append(json.loads(line[6:]))
-            else:
-                lines.append(line)
-
-    def ask(self, command):
-        """The answer to a command; None where the stream has ended."""
-        try:
-            self.stream.sendall(command.encode() + b"\n")
-        except (BrokenPipeError, ConnectionResetError):
-            return None
-        return self.answer()
-
-    def status(self):
-        return [json.loads(line) for line in self.ask("status")]
-
-    def wait_event(self, holds, what):
-        """Reads until an event comes of which that holds."""
-        for event in self.events:
-            if holds(event):
-                return event
-        while True:
-            line = self.line()
-            if line is None:
-                raise Wrong(f"the stream ended before {what}")
-            event = json.loads(line[6:])
-            self.events.append(event)
-            if holds(event):
-                return event
-
-    def close(self):
-        self.stream.close()
 
 
 class Server:
@@ -570,25 +480,4 @@ def a_status_of_standard_input():
          [("alice", 0, 64), ("bob", 0, 64)])
 
 
-def main():
-    failed = 0
-    for body in CASES:
-        name = body.__name__.replace("_", " ")
-        home = tempfile.mkdtemp()
-        os.chdir(home)
-        try:
-            skipped = body()
-            if skipped:
-                print(f"a control socket, {name}: skipped, since {skipped}")
-        except (Wrong, OSError, ValueError, KeyError, TypeError) as why:
-            failed += 1
-            print(f"a control socket, {name}: {type(why).__name__} {why}")
-        finally:
-            os.chdir("/")
-            shutil.rmtree(home, ignore_errors=True)
-    if failed:
-        sys.exit(1)
-    print(f"a control socket: {len(CASES)} cases")
-
-
-main()
+run_cases("a control socket", CASES)

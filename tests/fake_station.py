@@ -14,10 +14,14 @@ usage: tests/fake_station.py SOCKET [OPTION..]
   --refuse           refuses each send: the outbox is full
   --lose NAME        the file that ends incomplete
   --unreadable NAME  the file that can't be read when its turn comes
+  --ended-reads N    workers that read no more (0)
+  --stop SECONDS     answers nothing more, so long after the first send, and stays connected
+  --say FILE         what a status says, and which events a follower receives: JSON with lists `status` and `events`
 """
 import argparse
 import json
 import os
+import signal
 import socket
 import threading
 import time
@@ -92,10 +96,18 @@ class Station:
         time.sleep(0.05)
         if self.options.unreadable and sent["file"].endswith(self.options.unreadable.encode()):
             sent["state"] = "gone"
-            self.tell(kind="unreadable", queued=sent["queued"], **named("file", sent["file"]))
+            self.unsend(sent, "read fault")
             return
-        sent["state"] = "active"
-        self.run_file(sent, queued=sent["queued"])
+        while sent["peer"] in self.held and sent["state"] == "queued":
+            time.sleep(0.02)
+        if sent["state"] == "queued":
+            sent["state"] = "active"
+            self.run_file(sent, queued=sent["queued"])
+
+    def unsend(self, sent, why):
+        sent["state"] = "gone"
+        self.tell(kind="unsent", queued=sent["queued"], user=sent["user"], destination=sent["peer"],
+                  **named("file", sent["file"]), why=why)
 
     def run_file(self, sent, **queued):
         """A file that is sent: its start, its progress, its end."""
@@ -107,16 +119,18 @@ class Station:
         self.indicate(sent, "EOF-Sent")
         lost = self.options.lose and sent["file"].endswith(self.options.lose.encode())
         sent["end"] = {"condition": 8, "delivery": "incomplete", "status": "discarded"} if lost else \
+            {"condition": 0, "delivery": "incomplete", "status": "unreported"} if sent["unreported"] else \
             {"condition": 0, "delivery": "complete", "status": "retained"}
         sent["state"] = "ended"
         self.indicate(sent, "Transaction-Finished", **sent["end"])
 
-    def add(self, user, number, peer, file, to, state):
+    def add(self, user, number, peer, file, to, state, unreported=False):
         """One more file that is sent, or waits for that."""
         with self.lock:
             place = len(self.sent)
             sent = {"queued": place + 1, "seq": 100 + place, "user": user.decode(), "class": int(number), "peer": int(peer),
-                    "file": file, "to": to, "size": os.path.getsize(file), "octets": 0, "state": state}
+                    "file": file, "to": to, "size": os.path.getsize(file), "octets": 0, "state": state,
+                    "unreported": unreported, "since": moment()}
             self.sent.append(sent)
         return sent
 
@@ -124,6 +138,8 @@ class Station:
         """The answer to `put USER LANE CLASS DEST SRC DST`."""
         if len(words) not in (7, 8) or not all(word.isdigit() for word in words[2:5]):
             return "bad command\n"
+        if words[5] == b"unnumbered":
+            return "numbers fault\n"
         if not os.path.isfile(words[5]):
             return "read fault\n"
         sent = self.add(words[1], *words[3:7], "active")
@@ -138,9 +154,11 @@ class Station:
             return "refused OutboxFull\n"
         if not os.path.isfile(words[4]):
             return "read fault\n"
-        sent = self.add(*words[1:6], "queued")
+        sent = self.add(*words[1:6], "queued", unreported=words[2] == b"1" and len(words) == 6)
         if sent["queued"] == 1 and self.options.vanish is not None:
             threading.Timer(self.options.vanish, os._exit, [0]).start()
+        if sent["queued"] == 1 and self.options.stop is not None:
+            threading.Timer(self.options.stop, os.kill, [os.getpid(), signal.SIGSTOP]).start()
         threading.Thread(target=self.run_queued, args=(sent,), daemon=True).start()
         return f"queued {sent['queued']}\n"
 
@@ -168,14 +186,17 @@ class Station:
             if sent["state"] == "queued":
                 yield {"kind": "queued", "number": sent["queued"], "user": sent["user"], "class": sent["class"],
                        "destination": sent["peer"], **named("file", sent["file"]), **named("to", sent["to"]),
-                       "since": moment()}
+                       "since": sent["since"]}
 
     def status(self):
+        if self.options.say:
+            yield from self.options.say["status"]
+            return
         yield {"kind": "entity", "id": 1, "version": "0.1", "started": moment(self.begun), "now": moment(), "workers": 4,
                "clients": len(self.clients), "events": self.number,
                "counters": {"datagrams_in": 12, "octets_in": 9000, "datagrams_out": 3, "octets_out": 90, "failed_sends": 0,
-                            "failed_reads": 0, "foreign_datagrams": 0, "decode_faults": 1, "refused": 1, "stored": 1,
-                            "failed_stores": 0, "dropped_clients": 0}}
+                            "failed_reads": 0, "ended_reads": self.options.ended_reads, "foreign_datagrams": 0,
+                            "decode_faults": 1, "refused": 1, "stored": 1, "failed_stores": 0, "dropped_clients": 0}}
         yield {"kind": "log", "failing": False, "written": self.number, "lost": 0}
         for name in self.options.users:
             yield {"kind": "user", "name": name, "waiting": 3, "capacity": 1024}
@@ -206,6 +227,8 @@ class Station:
             with self.lock:
                 count = int(words[1]) if len(words) == 2 else 0
                 client.first = self.kept[len(self.kept) - count:] if count else []
+                if self.options.say:
+                    client.first = self.options.say["events"]
             return "ok\n"
         if name == "send":
             return self.send_file(words)
@@ -213,10 +236,19 @@ class Station:
             return self.lines(self.queued())
         if name in ("hold", "release") and len(words) == 2:
             if words[1] not in (b"5", b"7"):
-                return "refused NoRemote\n"
-            self.held[int(words[1])] = moment() if name == "hold" else None
+                return "refused UnknownRemote\n"
+            if name == "hold":
+                self.held.setdefault(int(words[1]), moment())
+            else:
+                self.held.pop(int(words[1]), None)
             self.tell(kind=name, id=int(words[1]))
             return "ok\n"
+        if name == "drop" and len(words) == 2 and words[1].isdigit():
+            for sent in self.sent:
+                if sent["state"] == "queued" and sent["queued"] == int(words[1]):
+                    self.unsend(sent, "dropped")
+                    return "ok\n"
+            return "refused NotQueued\n"
         if name == "take":
             return "refused TakenByEvents\n"
         if name == "cancel":
@@ -285,6 +317,9 @@ def main():
     parser.add_argument("--refuse", action="store_true")
     parser.add_argument("--lose")
     parser.add_argument("--unreadable")
+    parser.add_argument("--ended-reads", type=int, default=0)
+    parser.add_argument("--stop", type=float)
+    parser.add_argument("--say", type=lambda path: json.load(open(path)))
     options = parser.parse_args()
     if os.path.exists(options.socket):
         os.unlink(options.socket)

@@ -16,6 +16,8 @@ import sys
 import tempfile
 import time
 
+from support import Wrong, want
+
 SERVER, PUT = (os.path.abspath(path) for path in sys.argv[1:3])
 CONFIG = """[entity]
 id = 2
@@ -43,15 +45,6 @@ nak_limit = 2
 check_limit = 2
 """
 KILLS = 100
-
-
-class Wrong(Exception):
-    """What a program did that it should not."""
-
-
-def want(found, wanted):
-    if found != wanted:
-        raise Wrong(f"{found!r} in place of {wanted!r}")
 
 
 class Peer:

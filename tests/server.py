@@ -14,8 +14,9 @@ import shutil
 import socket
 import subprocess
 import sys
-import tempfile
 import time
+
+from support import Wrong, free_port, run_cases, want
 
 SERVER = os.path.abspath(sys.argv[1])
 CONFIG = """[entity]
@@ -45,16 +46,6 @@ METADATA = bytes.fromhex("24000a0001050207000000000301610162")
 FILE_DATA = bytes.fromhex("3400070001050200000000616263")
 EOF = bytes.fromhex("24000a0001050204006162630000000003")
 FINISHED = "alice 1 5 Transaction-Finished "
-
-
-class Wrong(Exception):
-    """What a server did that it should not."""
-
-
-def free_port():
-    with socket.socket(socket.AF_INET, socket.SOCK_DGRAM) as one:
-        one.bind(("127.0.0.1", 0))
-        return one.getsockname()[1]
 
 
 class Server:
@@ -119,11 +110,6 @@ class Server:
     def quits(self):
         self.say(b"quit\n")
         want(self.ended(), (0, ""))
-
-
-def want(found, wanted):
-    if found != wanted:
-        raise Wrong(f"{found!r} in place of {wanted!r}")
 
 
 CASES = []
@@ -336,25 +322,4 @@ def many_bad_commands():
         one.quits()
 
 
-def main():
-    failed = 0
-    for body in CASES:
-        name = body.__name__.replace("_", " ")
-        home = tempfile.mkdtemp()
-        os.chdir(home)
-        try:
-            skipped = body()
-            if skipped:
-                print(f"a running server, {name}: skipped, since {skipped}")
-        except (Wrong, OSError) as why:
-            failed += 1
-            print(f"a running server, {name}: {why}")
-        finally:
-            os.chdir("/")
-            shutil.rmtree(home, ignore_errors=True)
-    if failed:
-        sys.exit(1)
-    print(f"a running server: {len(CASES)} cases")
-
-
-main()
+run_cases("a running server", CASES)

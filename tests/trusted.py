@@ -111,6 +111,7 @@ what lies behind a lane's lock, and a step of it: shared_lanes/Held
 what `Entity` may answer; what it is opened with: shared_entity/Answering Opening
 workers: what waits, faults, which answers a carrier accepts; deposits: entity_workers/Messages Faults Carrying Depositing
 words of a line, and operands that scripts and commands share: line_words/Words Operands
+words of a line with quotes: quoted_words/Quoted
 printed lines: indications; answers and refusals: answer_texts/ToldTexts AnswerTexts
 what a line of a script says: script_lines/Commands
 a reader's lines, what a writer gains, how the end of a run is reported: script_io/Lines Output Ending

@@ -166,7 +166,8 @@ def commands(port):
     check("the remote is held", json.loads(ask(port, "/status.json")[2])["remotes"][0]["held"] is True)
     check("release: ok", give(b"release 5")[::2] == (200, b"ok\n"))
     check("a refusal is shown", give(b"cancel ops 1 41")[2] == b"refused 1 NoTransaction\n")
-    check("a command that the station doesn't know is shown", give(b"drop 1")[2] == b"bad command\n")
+    check("another refusal is shown", give(b"drop 1")[2] == b"refused NotQueued\n")
+    check("a command that the station doesn't know is shown", give(b"drop x")[2] == b"bad command\n")
     for line in (b"quit", b"take ops", b"follow", b"", b"hold 5\nquit", b"hold 5\rquit", b"put ops 1 2 5 a b"):
         check(f"{line!r}: 400", give(line)[0] == 400)
     check("a wrong token: 403", give(b"hold 5", token="another")[0] == 403)

@@ -5,7 +5,7 @@ use station_client::StationFault;
 use std::alloc::AllocError;
 
 /// Why the program ends.
-#[derive(Clone, Copy, Debug)]
+#[derive(Clone, Copy)]
 pub(crate) enum CtlFault {
     /// The server doesn't answer.
     Station(StationFault),
@@ -13,6 +13,8 @@ pub(crate) enum CtlFault {
     Words,
     /// Neither the command line nor the environment has the path of the control socket.
     NoPath,
+    /// The folder in which the program runs has no name that is text.
+    NoFolder,
     /// Nobody reads what is printed.
     Output,
     /// The standard input can't be read.
@@ -28,6 +30,9 @@ impl CtlFault {
             CtlFault::Station(fault) => Some(fault.text()),
             CtlFault::Words => Some("the words of the command line aren't text"),
             CtlFault::NoPath => Some("--control PATH is missing, and CFDP_CONTROL isn't set"),
+            CtlFault::NoFolder => Some(
+                "this folder's path isn't known or isn't text: give absolute paths",
+            ),
             CtlFault::Output => None,
             CtlFault::Input => Some("the standard input can't be read"),
             CtlFault::NoMemory => Some("no memory"),
@@ -39,7 +44,7 @@ impl CtlFault {
         ensures { result ≡ status_of self }
     {
         match self {
-            CtlFault::Words | CtlFault::NoPath => 2,
+            CtlFault::Words | CtlFault::NoPath | CtlFault::NoFolder => 2,
             _ => 1,
         }
     }

@@ -25,10 +25,8 @@ where
     W: Write + Drop,
     E: Write + Drop,
 {
-    let answer = line.ask(rt, b"follow")?;
-    let status = exit_status(outcome_of(first_line(answer.as_slice())));
+    let status = ask_for_events(rt, alloc, screen, line)?;
     if status != 0 {
-        screen.print_lines(alloc, answer.as_slice())?;
         return Ok(status);
     }
     for _ in rt.forever() {
@@ -37,6 +35,26 @@ where
         }
     }
     Ok(0)
+}
+
+/// Asks the server to tell its events. Where it doesn't, its answer is printed. The exit status for the answer.
+pub(crate) fn ask_for_events<R, W, E>(
+    rt: &R,
+    alloc: Global,
+    screen: &mut Screen<W, E>,
+    line: &mut Line,
+) -> Result<u8, CtlFault>
+where
+    R: Clock + Wait,
+    W: Write + Drop,
+    E: Write + Drop,
+{
+    let answer = line.ask(rt, b"follow")?;
+    let status = exit_status(outcome_of(first_line(answer.as_slice())));
+    if status != 0 {
+        screen.print_lines(alloc, answer.as_slice())?;
+    }
+    Ok(status)
 }
 
 // Prints an event by its JSON, if it is asked for.

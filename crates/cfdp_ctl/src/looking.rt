@@ -1,9 +1,9 @@
-//! Looks at the status.
+//! Looks at the status and at the outbox.
 use crate::asking::{Line, first_line};
 use crate::fault::CtlFault;
 use crate::screen::Screen;
 use ctl_views::{StatusView, exit_status, outcome_of};
-use ctl_words::StatusWords;
+use ctl_words::{OutboxWords, StatusWords};
 use std::alloc::Global;
 use std::io::Write;
 use std::sync::Wait;
@@ -72,4 +72,29 @@ fn print_status<W: Write + Drop, E: Write + Drop>(
     } else {
         screen.print_page(alloc, &page)
     }
+}
+
+/// Prints the files that wait in the outbox, and gives the exit status.
+pub(crate) fn look_at_outbox<R, W, E>(
+    rt: &R,
+    alloc: Global,
+    screen: &mut Screen<W, E>,
+    line: &mut Line,
+    words: OutboxWords,
+) -> Result<u8, CtlFault>
+where
+    R: Clock + Wait,
+    W: Write + Drop,
+    E: Write + Drop,
+{
+    let answer = line.ask(rt, b"outbox")?;
+    let status = exit_status(outcome_of(first_line(answer.as_slice())));
+    if words.json || status != 0 {
+        screen.print_lines(alloc, answer.as_slice())?;
+    } else {
+        let lines = String::from_utf8_lossy(alloc, answer.as_slice())?;
+        let page = StatusView::new(alloc).look(lines.as_str(), screen.width)?;
+        screen.print_page(alloc, &page)?;
+    }
+    Ok(status)
 }

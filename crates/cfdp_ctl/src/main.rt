@@ -5,9 +5,13 @@ mod asking;
 mod fault;
 mod following;
 mod looking;
+mod paths;
 mod running;
 mod screen;
+mod sending;
+mod sent;
 mod tasks;
+mod waiting;
 
 use running::run;
 use screen::Screen;
@@ -18,6 +22,7 @@ use std::process::ExitCode;
 // Does what the words of the command line say.
 fn main(rt: HostRuntime) -> ExitCode {
     let is_terminal = rt.stdout().is_terminal();
-    let mut screen = Screen::new(io::writer(&rt), rt.stderr(), is_terminal);
+    let shows_progress = rt.stderr().is_terminal();
+    let mut screen = Screen::new(io::writer(&rt), rt.stderr(), is_terminal, shows_progress);
     ExitCode::from(run(&rt, rt.alloc(), &mut screen))
 }

@@ -2,8 +2,9 @@
 use crate::asking::Line;
 use crate::fault::CtlFault;
 use crate::following::follow;
-use crate::looking::look;
+use crate::looking::{look, look_at_outbox};
 use crate::screen::Screen;
+use crate::sending::{are_files, send};
 use crate::tasks::{run_command, run_input};
 use ctl_words::{Colour, CtlWords, Task, WordsFault, ctl_help, ctl_version, ctl_words};
 use std::alloc::Global;
@@ -11,13 +12,14 @@ use std::env;
 use std::env::Env;
 use std::io::{ErrorKind, Write};
 use std::net::Net;
+use std::rt::Files;
 use std::sync::Wait;
 use std::time::Clock;
 
 /// Does what the words of the command line say, and gives the exit status.
 pub(crate) fn run<R, W, E>(rt: &R, alloc: Global, screen: &mut Screen<W, E>) -> u8
 where
-    R: Net + Clock + Wait + Env + Input + AllocGlobal,
+    R: Net + Clock + Wait + Env + Files + Input + AllocGlobal,
     W: Write + Drop,
     E: Write + Drop,
 {
@@ -46,7 +48,7 @@ fn words_given<R: Env + AllocGlobal>(rt: &R) -> Result<Vec<String>, CtlFault> {
 
 fn run_line<R, W, E>(rt: &R, alloc: Global, screen: &mut Screen<W, E>, line: &[String]) -> u8
 where
-    R: Net + Clock + Wait + Env + Input + AllocGlobal,
+    R: Net + Clock + Wait + Env + Files + Input + AllocGlobal,
     W: Write + Drop,
     E: Write + Drop,
 {
@@ -128,7 +130,7 @@ fn run_words<R, W, E>(
     words: &CtlWords<'_>,
 ) -> Result<u8, CtlFault>
 where
-    R: Net + Clock + Wait + Env + Input + AllocGlobal,
+    R: Net + Clock + Wait + Env + Files + Input + AllocGlobal,
     W: Write + Drop,
     E: Write + Drop,
 {
@@ -169,14 +171,21 @@ fn run_at<R, W, E>(
     path: &str,
 ) -> Result<u8, CtlFault>
 where
-    R: Net + Clock + Wait + Input,
+    R: Net + Clock + Wait + Env + Files + Input + AllocGlobal,
     W: Write + Drop,
     E: Write + Drop,
 {
+    if let Task::Send(task) = &words.task
+        && !are_files(rt, alloc, screen, task.files.as_slice())?
+    {
+        return Ok(3);
+    }
     let mut line = Line::open(rt, alloc, path, words.patience)?;
     match &words.task {
         Task::Status(task) => look(rt, alloc, screen, &mut line, *task),
         Task::Follow(task) => follow(rt, alloc, screen, &mut line, *task),
+        Task::Outbox(task) => look_at_outbox(rt, alloc, screen, &mut line, *task),
+        Task::Send(task) => send(rt, alloc, screen, &mut line, task),
         Task::Command(text) => run_command(rt, alloc, screen, &mut line, text.as_bytes()),
         Task::Input => run_input(rt, alloc, screen, &mut line),
     }

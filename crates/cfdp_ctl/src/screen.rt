@@ -14,6 +14,10 @@ pub(crate) struct Screen<W: Drop, E: Drop> {
     errors: E,
     /// Whether the output is a terminal.
     pub(crate) is_terminal: bool,
+    /// Whether the standard error is a terminal, so that progress is shown there.
+    pub(crate) shows_progress: bool,
+    // How many lines of progress stand there.
+    standing: usize,
     /// Whether colours are printed.
     pub(crate) is_coloured: bool,
     /// How many columns a table has.
@@ -22,11 +26,18 @@ pub(crate) struct Screen<W: Drop, E: Drop> {
 
 impl<W: Write + Drop, E: Write + Drop> Screen<W, E> {
     /// Outputs that nothing was printed on.
-    pub(crate) fn new(writer: W, errors: E, is_terminal: bool) -> Screen<W, E> {
+    pub(crate) fn new(
+        writer: W,
+        errors: E,
+        is_terminal: bool,
+        shows_progress: bool,
+    ) -> Screen<W, E> {
         Screen {
             writer,
             errors,
             is_terminal,
+            shows_progress,
+            standing: 0,
             is_coloured: false,
             width: COLUMNS,
         }
@@ -83,8 +94,42 @@ impl<W: Write + Drop, E: Write + Drop> Screen<W, E> {
         self.print(octets.as_slice())
     }
 
+    /// Shows lines of progress on the standard error, in place of those that stand there.
+    pub(crate) fn show_progress(
+        &mut self,
+        alloc: Global,
+        page: &Page,
+        count: usize,
+    ) -> Result<(), CtlFault> {
+        let mut octets = Vec::new(alloc);
+        octets.extend_from_slice(b"\x1b[?7l")?;
+        page.push_to(&mut octets, false)?;
+        octets.extend_from_slice(b"\x1b[?7h")?;
+        self.clear_progress();
+        if self.errors.write_all(octets.as_slice()).is_ok() {
+            self.standing = count;
+        }
+        Ok(())
+    }
+
+    /// Takes away the lines of progress that stand on the standard error.
+    pub(crate) fn clear_progress(&mut self) {
+        for _ in 0..self.standing {
+            let _said = self.errors.write_all(b"\x1b[1A\x1b[2K");
+        }
+        self.standing = 0;
+    }
+
+    /// Says one line on the standard error, whatever is in it. Where it can't be said, it is lost.
+    pub(crate) fn complain_line(&mut self, alloc: Global, line: &str) {
+        if let Ok(octets) = one_line(alloc, line) {
+            let _said = self.errors.write_all(octets.as_slice());
+        }
+    }
+
     /// Says lines on the standard error. Where they can't be said, they are lost.
     pub(crate) fn complain(&mut self, alloc: Global, lines: &str) {
+        self.clear_progress();
         if let Ok(octets) = complaint(alloc, lines) {
             let _said = self.errors.write_all(octets.as_slice());
         }
@@ -107,6 +152,15 @@ fn page_of(alloc: Global, text: &str) -> Result<Page, AllocError> {
 fn complaint(alloc: Global, lines: &str) -> Result<Vec<u8>, AllocError> {
     let mut octets = Vec::new(alloc);
     let page = page_of(alloc, lines)?;
+    page.push_to(&mut octets, false)?;
+    Ok(octets)
+}
+
+// One line that is said on the standard error.
+fn one_line(alloc: Global, line: &str) -> Result<Vec<u8>, AllocError> {
+    let mut octets = Vec::new(alloc);
+    let mut page = Page::new(alloc);
+    page.push_line(Tone::Plain, line)?;
     page.push_to(&mut octets, false)?;
     Ok(octets)
 }

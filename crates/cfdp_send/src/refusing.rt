@@ -1,4 +1,5 @@
 use entity_workers::{Filestore, StoreFault};
+use program_station::Preparing;
 
 /// A store that keeps nothing: who sends a file here hears that it was rejected.
 #[derive(Debug, Drop)]
@@ -27,5 +28,11 @@ impl Filestore for RefusingStore {
 
     fn failures(&self) -> u64 {
         self.refused
+    }
+}
+
+impl Preparing for RefusingStore {
+    fn prepare(&mut self, _name: &[u8], _octets: &[u8]) -> bool {
+        true
     }
 }

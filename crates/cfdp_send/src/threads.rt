@@ -130,7 +130,7 @@ fn putter_over<'x, N: Names, R: Wait + Clock + Copy, W: Drop, P: Drop>(
     wanted: Wanted,
     outputs: Outputs<W, P>,
 ) -> Result<Putter<'x, N, R, W, P>, AllocError> {
-    let sender = PduSender::new(alloc, socket, entity.config(), &tallies.own)?;
+    let sender = PduSender::new(alloc, socket, entity.config(), &tallies.own, &tallies.links)?;
     let steps = Vec::with_capacity(alloc, desk.step_room())?;
     let Wanted {
         user,
@@ -146,7 +146,7 @@ fn putter_over<'x, N: Names, R: Wait + Clock + Copy, W: Drop, P: Drop>(
         alloc,
         desk,
         steps,
-        station: Station::new(rt, alloc, entity, sender, store, octets_a_second),
+        station: Station::new(rt, alloc, entity, sender, store, tallies, octets_a_second)?,
         numbers,
         ports,
         user,
@@ -209,6 +209,7 @@ impl<'a, N: Names, R: Wait + Clock + Files + Copy, W: Drop, P: Drop> Putter<'a, 
         let Some(put) = self.put.take() else {
             return Err(ProgramFault::Usage);
         };
+        let destination = put.destination();
         let request = Request::Put(0, put);
         if !entity.may_request(self.user, &request) {
             return Err(ProgramFault::Usage);
@@ -219,7 +220,7 @@ impl<'a, N: Names, R: Wait + Clock + Files + Copy, W: Drop, P: Drop> Putter<'a, 
         match flat(entity.request(self.rt, &NoGate, self.user, request)) {
             Ok(done) => {
                 let key = done.key;
-                self.station.begin(key);
+                self.station.begin(key, destination);
                 self.station.settle_own(done);
                 Ok(key)
             }

@@ -63,3 +63,8 @@ pub(crate) fn push_traced(text: &mut String, traced: Traced) -> Result<(), Alloc
         writeln!(text, "trace {entries} open")
     }
 }
+
+/// Adds the answer to a line that is no command.
+pub(crate) fn push_bad_command(text: &mut String) -> Result<(), AllocError> {
+    text.push_str("bad command\n")
+}

@@ -1,19 +1,24 @@
 //! What the server does at a command.
-use crate::answers::{push_entity_refusal, push_no_memory, push_taken, push_traced};
+use crate::answers::{
+    push_bad_command, push_entity_refusal, push_no_memory, push_taken, push_traced,
+};
 use crate::console::Console;
+use crate::places::Places;
 use answer_texts::push_bundle;
-use cfdp_types::{PutFault, PutRequest, TxnKey};
+use cfdp_types::{EntityId, PutFault, PutRequest, TxnKey};
 use entity_routing::Request;
 use entity_workers::Filestore;
 use indications::Bundle;
 use program_desk::{AskedLine, Desk, Line, Step};
 use program_numbers::HeldNumbers;
+use program_outbox::{Outbox, Waiting};
 use program_seats::Asker;
 use program_start::{ProgramFault, load_file};
-use program_station::{Station, flat, wall_moment};
+use program_station::{Preparing, Station, flat, wall_moment};
 use program_status::{Events, LaneNotes};
 use program_tallies::{RefusalKind, Tallies};
 use server_lines::{Command, PutCommand, command_of};
+use shared_entity::EntityRefusal;
 use shared_lanes::{Names, NoGate};
 use station_lines::Moment;
 use std::alloc::{AllocError, Global};
@@ -21,6 +26,7 @@ use std::io::Write;
 use std::rt::Files;
 use std::sync::Wait;
 use std::time::Clock;
+use txn_events::Refusal;
 use user_queues::UserPort;
 
 /// What the main thread of a server has: its station, the ports of its users, and where answers are printed.
@@ -38,10 +44,24 @@ pub(crate) struct Server<'a, N: Names, R: Files + Copy, S: Drop, W: Drop> {
     /// Whether each user's indications are printed as they come.
     pub(crate) follows: bool,
     pub(crate) console: Console<'a, W>,
+    /// Whether events say where the store kept a file: names may be others than the senders'.
+    pub(crate) shows_places: bool,
     /// What is reported, where clients or a log may read it.
     pub(crate) events: Option<Events<'a, R>>,
     pub(crate) tallies: &'a Tallies,
     pub(crate) notes: LaneNotes,
+    /// The files that wait until a lane of their user is idle.
+    pub(crate) outbox: Outbox,
+    /// Files of the outbox whose turn came, and which couldn't be put yet: there is room for all.
+    pub(crate) returned: Vec<Waiting>,
+    /// Before these moments of the runtime's clock no file of the outbox is tried, and none that returned.
+    pub(crate) outbox_due: u64,
+    pub(crate) returned_due: u64,
+    /// Whether each user has an idle lane, and which remote entities are held: room for the outbox's questions.
+    pub(crate) idle: Vec<bool>,
+    pub(crate) held: Vec<EntityId>,
+    /// The moment of a turn by the wall clock, once it was looked at.
+    pub(crate) turn_moment: Option<Moment>,
     pub(crate) started: Moment,
     /// When refusals are reported next, by the runtime's clock.
     pub(crate) refusals_due: u64,
@@ -60,16 +80,41 @@ pub(crate) enum Next {
     Quits,
 }
 
-/// Adds the answer to a line that is no command.
-pub(crate) fn push_bad_command(text: &mut String) -> Result<(), AllocError> {
-    text.push_str("bad command\n")
+/// What became of a file that was to be put.
+#[derive(Clone, Copy, Debug, PartialEq, Eq)]
+pub(crate) enum PutEnd {
+    /// It opened a transaction.
+    Opened,
+    /// It can be tried again: memory ran out, or the user's queue was full.
+    Passing,
+    /// The lane has no number left.
+    Exhausted,
+    Refused,
+}
+
+// What became of what was asked for.
+#[derive(Clone, Copy, Debug, PartialEq, Eq)]
+enum Asked {
+    Taken(TxnKey),
+    Refused(PutEnd),
+}
+
+// What becomes of a Put that the entity refused.
+fn end_of(refusal: &EntityRefusal) -> PutEnd {
+    if refusal.is_passing() {
+        return PutEnd::Passing;
+    }
+    match refusal {
+        EntityRefusal::Lane(refused) if refused.why == Refusal::SeqExhausted => PutEnd::Exhausted,
+        _ => PutEnd::Refused,
+    }
 }
 
 impl<
     'a,
     N: Names,
     R: Wait + Clock + Files + AllocGlobal + Copy + Drop,
-    S: Filestore + Drop,
+    S: Filestore + Preparing + Places + Drop,
     W: Write + Drop,
 > Server<'a, N, R, S, W> {
     /// Does what a line says, and adds its answer.
@@ -83,9 +128,16 @@ impl<
             return Ok(Next::GoesOn);
         };
         let config = self.station.entity().config();
-        let Some(command) = command_of(self.alloc, config, line.as_slice())? else {
-            push_bad_command(text)?;
-            return Ok(Next::GoesOn);
+        let command = match command_of(self.alloc, config, line.as_slice()) {
+            Ok(Some(command)) => command,
+            Ok(None) => {
+                push_bad_command(text)?;
+                return Ok(Next::GoesOn);
+            }
+            Err(AllocError) => {
+                push_no_memory(text)?;
+                return Ok(Next::GoesOn);
+            }
         };
         match asked.asker {
             None => self.obey_reader(command, text),
@@ -134,10 +186,18 @@ impl<
             Command::Take(user) => self.take(user, text),
             Command::Trace(key) => self.trace(key, text),
             Command::Ask(user, request) => {
-                let _key = self.ask(user, request, text)?;
+                let _end = self.ask(user, request, text)?;
                 Ok(())
             }
-            Command::Put(put) => self.put(&put, text),
+            Command::Put(put) => {
+                let _end = self.put(&put, None, text)?;
+                Ok(())
+            }
+            Command::Send(send) => self.queue(send, text),
+            Command::Outbox => self.answer_outbox(text),
+            Command::Drop(number) => self.withdraw(number, text),
+            Command::Hold(remote) => self.hold(remote, text),
+            Command::Release(remote) => self.release(remote, text),
             Command::Follow(_) | Command::Quit => push_bad_command(text),
         }
     }
@@ -150,16 +210,44 @@ impl<
         }
     }
 
-    // Reads a file, and puts it.
-    fn put(&mut self, put: &PutCommand, text: &mut String) -> Result<(), AllocError> {
-        let Ok(path) = str::from_utf8(put.source.as_slice()) else {
-            return push_bad_command(text);
+    /// Reads a file, and puts it; `queued` is its number in the outbox, where it comes from there.
+    pub(crate) fn put(
+        &mut self,
+        put: &PutCommand,
+        queued: Option<u64>,
+        text: &mut String,
+    ) -> Result<PutEnd, AllocError> {
+        let loaded = match str::from_utf8(put.source.as_slice()) {
+            Ok(path) => load_file(self.rt, self.alloc, path),
+            Err(_) => Err(ProgramFault::Usage),
         };
-        let file = match load_file(self.rt, self.alloc, path) {
+        let file = match loaded {
             Ok(file) => file,
-            Err(ProgramFault::NoMemory) => return push_no_memory(text),
-            Err(_) => return text.push_str("read fault\n"),
+            Err(ProgramFault::NoMemory) => {
+                push_no_memory(text)?;
+                return Ok(PutEnd::Passing);
+            }
+            Err(_) => {
+                text.push_str("read fault\n")?;
+                return Ok(PutEnd::Refused);
+            }
         };
+        let size = file.as_slice().len() as u64;
+        match self.request_for(put, file.as_slice()) {
+            Ok(request) => self.put_covered(put, size, queued, request, text),
+            Err(PutFault::NoMemory) => {
+                push_no_memory(text)?;
+                Ok(PutEnd::Passing)
+            }
+            Err(_) => {
+                push_bad_command(text)?;
+                Ok(PutEnd::Refused)
+            }
+        }
+    }
+
+    // What the entity is asked for a Put, with room for its file.
+    fn request_for(&mut self, put: &PutCommand, file: &[u8]) -> Result<Request, PutFault> {
         let request = PutRequest::new(
             self.alloc,
             put.destination,
@@ -167,16 +255,11 @@ impl<
             put.source.as_slice(),
             put.target.as_slice(),
             &[],
-            file.as_slice(),
-        );
-        let size = file.as_slice().len() as u64;
-        match request {
-            Ok(request) if self.station.reserve().is_ok() => {
-                let request = Request::Put(put.lane, request.with_closure(put.closure));
-                self.put_covered(put, size, request, text)
-            }
-            Ok(_) | Err(PutFault::NoMemory) => push_no_memory(text),
-            Err(_) => push_bad_command(text),
+            file,
+        )?;
+        match self.station.reserve() {
+            Ok(()) => Ok(Request::Put(put.lane, request.with_closure(put.closure))),
+            Err(AllocError) => Err(PutFault::NoMemory),
         }
     }
 
@@ -185,57 +268,75 @@ impl<
         &mut self,
         put: &PutCommand,
         size: u64,
+        queued: Option<u64>,
         request: Request,
         text: &mut String,
-    ) -> Result<(), AllocError> {
+    ) -> Result<PutEnd, AllocError> {
         if let Some(numbers) = &mut self.numbers
             && numbers.cover(self.rt).is_err()
         {
-            return text.push_str("numbers fault\n");
+            text.push_str("numbers fault\n")?;
+            return Ok(PutEnd::Refused);
         }
-        let Some(key) = self.ask(put.user, request, text)? else {
-            return Ok(());
-        };
+        match self.ask(put.user, request, text)? {
+            Asked::Taken(key) => {
+                self.note_put(put, size, queued, key);
+                Ok(PutEnd::Opened)
+            }
+            Asked::Refused(end) => Ok(end),
+        }
+    }
+
+    // A Put has opened a transaction.
+    fn note_put(&mut self, put: &PutCommand, size: u64, queued: Option<u64>, key: TxnKey) {
         if let Some(numbers) = &mut self.numbers {
             numbers.note_put(key);
         }
-        self.report_put(put, size, key)
+        self.report_put(put, size, queued, key);
     }
 
-    // Asks the entity for something, in a user's name; the transaction, where it was taken.
+    // Asks the entity for something, in a user's name.
     fn ask(
         &mut self,
         user: usize,
         request: Request,
         text: &mut String,
-    ) -> Result<Option<TxnKey>, AllocError> {
+    ) -> Result<Asked, AllocError> {
         let entity = self.station.entity();
         if !entity.may_request(user, &request) {
             push_bad_command(text)?;
-            return Ok(None);
+            return Ok(Asked::Refused(PutEnd::Refused));
         }
-        let is_put = matches!(&request, Request::Put(_, _));
+        let destination = match &request {
+            Request::Put(_, put) => Some(put.destination()),
+            _ => None,
+        };
         match flat(entity.request(self.rt, &NoGate, user, request)) {
             Ok(done) => {
                 let key = done.key;
-                if is_put {
-                    self.station.begin(key);
+                if let Some(destination) = destination {
+                    self.station.begin(key, destination);
                 }
-                let pushed = push_taken(text, is_put, &done);
+                let pushed = push_taken(text, destination.is_some(), &done);
                 self.station.settle_own(done);
                 pushed?;
-                Ok(Some(key))
+                Ok(Asked::Taken(key))
             }
             Err(refusal) => {
-                let at = wall_moment(self.rt);
-                self.tallies
-                    .ledger
-                    .note(self.rt, RefusalKind::of(&refusal), at, None, &[]);
-                self.station.send_echo(&refusal);
-                push_entity_refusal(self.alloc, text, &refusal)?;
-                Ok(None)
+                self.refuse(&refusal, text)?;
+                Ok(Asked::Refused(end_of(&refusal)))
             }
         }
+    }
+
+    // Notes and answers what the entity refused.
+    fn refuse(&mut self, refusal: &EntityRefusal, text: &mut String) -> Result<(), AllocError> {
+        let at = wall_moment(self.rt);
+        self.tallies
+            .ledger
+            .note(self.rt, RefusalKind::of(refusal), at, None, &[]);
+        self.station.send_echo(refusal);
+        push_entity_refusal(self.alloc, text, refusal)
     }
 
     // Takes the bundle at the front of a user's queue, unless events report it.
@@ -243,23 +344,40 @@ impl<
         if self.events.is_some() {
             return text.push_str("refused TakenByEvents\n");
         }
-        match self.next_bundle(user)? {
+        match self.receive(user) {
             Some(bundle) => self.print_bundle(&bundle, text),
             None => text.push_str("none\n"),
         }
     }
 
     // Takes the bundle at the front of a user's queue, if there is one.
-    fn next_bundle(&mut self, user: usize) -> Result<Option<Bundle>, AllocError> {
+    fn next_bundle(&mut self, user: usize) -> Option<Bundle> {
         for port in self.ports.iter_mut() {
             if port.user() == user {
-                if let Some(bundle) = port.take(self.rt) {
-                    self.notes.note(&bundle, Moment(wall_moment(self.rt)))?;
-                    return Ok(Some(bundle));
-                }
+                return port.take(self.rt);
             }
         }
-        Ok(None)
+        None
+    }
+
+    // The moment of this turn by the wall clock, which is looked at once a turn.
+    fn now_of_turn(&mut self) -> Moment {
+        match self.turn_moment {
+            Some(moment) => moment,
+            None => {
+                let moment = Moment(wall_moment(self.rt));
+                self.turn_moment = Some(moment);
+                moment
+            }
+        }
+    }
+
+    // Takes the bundle at the front of a user's queue, if there is one, and notes it.
+    fn receive(&mut self, user: usize) -> Option<Bundle> {
+        let bundle = self.next_bundle(user)?;
+        let at = self.now_of_turn();
+        self.notes.note(&bundle, at);
+        Some(bundle)
     }
 
     // Adds the lines of a bundle.
@@ -278,12 +396,12 @@ impl<
     pub(crate) fn receive_each(&mut self, text: &mut String) -> Result<bool, AllocError> {
         let mut has_received = false;
         for user in 0..self.station.entity().users() {
-            if let Some(bundle) = self.next_bundle(user)? {
+            if let Some(bundle) = self.receive(user) {
                 has_received = true;
                 if self.follows {
                     self.print_bundle(&bundle, text)?;
                 }
-                self.report_bundle(&bundle)?;
+                self.report_bundle(&bundle);
             }
         }
         Ok(has_received)

@@ -6,6 +6,8 @@ mod answers;
 mod commands;
 mod console;
 mod named;
+mod outbox;
+mod places;
 mod reports;
 mod serving;
 mod threads;

@@ -1,14 +1,16 @@
 //! The threads of the server: one reads commands, beside those of each program.
 use crate::commands::Server;
 use crate::console::Console;
-use entity_workers::FolderStore;
-use program_desk::{Desk, Urgency};
+use cfdp_types::EntityId;
+use entity_workers::Filestore;
+use program_desk::{Desk, Step, Urgency};
 use program_events::EventLog;
 use program_link::PduSender;
 use program_numbers::HeldNumbers;
+use program_outbox::{MOST_FILES, Outbox, Waiting};
 use program_seats::Seats;
 use program_start::ProgramFault;
-use program_station::{Sources, Station, wall_moment};
+use program_station::{Preparing, Sources, Station, wall_moment};
 use program_status::{Events, LaneNotes};
 use program_tallies::Tallies;
 use program_threads::{Control, WayIn, run_commanded, run_controlled};
@@ -17,6 +19,7 @@ use script_io::in_blocks;
 use shared_entity::Entity;
 use shared_lanes::Names;
 use station_lines::Moment;
+use station_store::{Clash, Layout, StationStore};
 use std::alloc::{AllocError, Global};
 use std::io::{Read, Write};
 use std::net::UdpSocket;
@@ -190,39 +193,143 @@ fn server_over<'x, N: Names, R: Wait + Clock + Files + AllocGlobal + Copy + Drop
     ports: Vec<UserPort>,
     numbers: Option<HeldNumbers>,
     console: Console<'x, W>,
-) -> Result<Server<'x, N, R, FolderStore<R>, W>, ProgramFault> {
+) -> Result<Server<'x, N, R, StationStore<R>, W>, ProgramFault> {
+    let words = opened.words;
+    let station = station_over(opened)?;
+    let rooms = rooms_of(opened)?;
+    let events = events_of::<R>(opened.alloc, words, console.seats())?;
+    Ok(Server {
+        rt: opened.rt,
+        alloc: opened.alloc,
+        desk: opened.desk,
+        steps: rooms.steps,
+        station,
+        numbers,
+        ports,
+        follows: words.follow && console.seats().is_none(),
+        console,
+        shows_places: words.tree || words.keep,
+        events,
+        tallies: opened.tallies,
+        notes: rooms.notes,
+        outbox: rooms.outbox,
+        returned: rooms.returned,
+        outbox_due: 0,
+        returned_due: 0,
+        idle: rooms.idle,
+        held: rooms.held,
+        turn_moment: None,
+        started: Moment(wall_moment(opened.rt)),
+        refusals_due: 0,
+        refusals_seen: 0,
+        ended_reads_seen: 0,
+    })
+}
+
+// The room that the main thread of a server makes at its start.
+#[derive(Drop)]
+struct Rooms {
+    steps: Vec<Step>,
+    notes: LaneNotes,
+    outbox: Outbox,
+    returned: Vec<Waiting>,
+    idle: Vec<bool>,
+    held: Vec<EntityId>,
+}
+
+fn rooms_of<N: Names, R: Copy>(opened: &Opened<'_, N, R>) -> Result<Rooms, AllocError> {
+    let (alloc, config) = (opened.alloc, opened.entity.config());
+    Ok(Rooms {
+        steps: Vec::with_capacity(alloc, opened.desk.step_room())?,
+        notes: LaneNotes::new(alloc, config)?,
+        outbox: Outbox::new(alloc, config.users())?,
+        returned: Vec::with_capacity(alloc, MOST_FILES)?,
+        idle: Vec::from_elem(alloc, false, config.users())?,
+        held: Vec::with_capacity(alloc, config.remotes())?,
+    })
+}
+
+// The station of a server, with its store, and its links as the words say.
+fn station_over<'x, N: Names, R: Wait + Clock + Files + AllocGlobal + Copy + Drop>(
+    opened: &Opened<'x, N, R>,
+) -> Result<Station<'x, N, R, StationStore<R>>, ProgramFault> {
     let Opened {
         rt,
         alloc,
         entity,
         socket,
-        desk,
         tallies,
         words,
+        ..
     } = *opened;
     let folder = String::from_str(alloc, words.folder)?;
-    let sender = PduSender::new(alloc, socket, entity.config(), &tallies.own)?;
-    let steps = Vec::with_capacity(alloc, desk.step_room())?;
-    let store = FolderStore::new(*rt, folder);
-    let events = events_of::<R>(alloc, words, console.seats())?;
-    Ok(Server {
-        rt,
-        alloc,
-        desk,
-        steps,
-        station: Station::new(rt, alloc, entity, sender, store, words.rate),
-        numbers,
-        ports,
-        follows: words.follow && console.seats().is_none(),
-        console,
-        events,
-        tallies,
-        notes: LaneNotes::new(alloc, entity.users())?,
-        started: Moment(wall_moment(rt)),
-        refusals_due: 0,
-        refusals_seen: 0,
-        ended_reads_seen: 0,
-    })
+    let sender = PduSender::new(alloc, socket, entity.config(), &tallies.own, &tallies.links)?;
+    let store = store_of(*rt, folder, words);
+    let mut station = Station::new(rt, alloc, entity, sender, store, tallies, rest_of(words))?;
+    set_links(rt, &mut station, words)?;
+    Ok(station)
+}
+
+// The store for received files.
+fn store_of<R: Files + AllocGlobal + Drop>(
+    rt: R,
+    folder: String,
+    words: &ServerWords<'_>,
+) -> StationStore<R> {
+    let layout = if words.tree {
+        Layout::Tree
+    } else {
+        Layout::Flat
+    };
+    let clash = if words.keep {
+        Clash::Keep
+    } else {
+        Clash::Replace
+    };
+    StationStore::new(rt, folder, layout, clash)
+}
+
+// How many octets a second may leave for the files to all remote entities without a limit of their own.
+fn rest_of(words: &ServerWords<'_>) -> Option<u64> {
+    for rate in &words.rates {
+        if rate.remote.is_none() {
+            return Some(rate.octets);
+        }
+    }
+    None
+}
+
+// Sets the limits of single remote entities, which the configuration has to have; and holds all links where that is wanted.
+fn set_links<N: Names, R: Wait + Clock + Copy, S: Filestore + Preparing + Drop>(
+    rt: &R,
+    station: &mut Station<'_, N, R, S>,
+    words: &ServerWords<'_>,
+) -> Result<(), ProgramFault> {
+    station.try_for(words.retry.unwrap_or(0).saturating_mul(1_000));
+    for rate in &words.rates {
+        if let Some(remote) = rate.remote
+            && !station.limit(remote, rate.octets)
+        {
+            return Err(ProgramFault::Usage);
+        }
+    }
+    if words.hold {
+        hold_all(rt, station);
+    }
+    Ok(())
+}
+
+// Nothing leaves for any remote entity until it is released.
+fn hold_all<N: Names, R: Wait + Clock + Copy, S: Filestore + Preparing + Drop>(
+    rt: &R,
+    station: &mut Station<'_, N, R, S>,
+) {
+    let config = station.entity().config();
+    for place in 0..config.remotes() {
+        if let Some(remote) = config.remote_at(place) {
+            let _is_held = station.hold(remote.id, wall_moment(rt));
+        }
+    }
 }
 
 // The events of a server, where clients or a log may read them.

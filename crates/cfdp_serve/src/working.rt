@@ -1,9 +1,10 @@
 //! The main thread of the server, which works in turns.
 use crate::commands::{Next, Server};
+use crate::places::Places;
 use entity_workers::Filestore;
 use program_desk::NextLine;
 use program_start::ProgramFault;
-use program_station::{REST_MS, moment};
+use program_station::{Preparing, REST_MS, moment};
 use program_threads::MainThread;
 use shared_lanes::Names;
 use std::io::Write;
@@ -27,21 +28,21 @@ impl<
     'a,
     N: Names,
     R: Wait + Clock + Files + AllocGlobal + Copy + Drop,
-    S: Filestore + Drop,
+    S: Filestore + Preparing + Places + Drop,
     W: Write + Drop,
 > MainThread for Server<'a, N, R, S, W> {
     /// Works in turns until `quit` or the end of the commands: each has at most one command, one timer that has expired, a
     /// few PDUs of files under way and one deposit.
     fn work(self) -> Result<u8, ProgramFault> {
         let mut server = self;
-        server.report_start()?;
+        server.report_start();
         work(&mut server)?;
         if server.events.is_some() {
             let mut text = String::new(server.alloc);
             receive(&mut server, &mut text)?;
         }
         let now = moment(server.rt);
-        server.report_end(now)?;
+        server.report_end(now);
         if let Some(numbers) = &server.numbers {
             numbers.leave(server.rt);
         }
@@ -52,7 +53,7 @@ impl<
 fn work<
     N: Names,
     R: Wait + Clock + Files + AllocGlobal + Copy + Drop,
-    S: Filestore + Drop,
+    S: Filestore + Preparing + Places + Drop,
     W: Write + Drop,
 >(server: &mut Server<'_, N, R, S, W>) -> Result<(), ProgramFault> {
     let (rt, desk) = (server.rt, server.desk);
@@ -75,21 +76,37 @@ fn work<
         }
         let now = moment(rt);
         let has_received = receive(server, &mut text)?;
+        let has_started = server.start_queued(now)?;
         let has_worked = server.station.turn(now);
-        report(server, now)?;
-        if !has_settled && !has_answered && !has_received && !has_worked {
-            let until = server.station.next_moment(now);
+        report(server, now);
+        if !has_settled && !has_answered && !has_received && !has_started && !has_worked {
+            let until = next_moment(server, now);
             desk.wait(rt, now, until.min(now.saturating_add(longest)));
         }
     }
     Ok(())
 }
 
+// The moment until which nothing has to be done unless something comes.
+fn next_moment<
+    N: Names,
+    R: Wait + Clock + Files + AllocGlobal + Copy + Drop,
+    S: Filestore + Preparing + Places + Drop,
+    W: Write + Drop,
+>(server: &Server<'_, N, R, S, W>, now: u64) -> u64 {
+    let until = server.station.next_moment(now);
+    if server.has_queued() {
+        until.min(server.outbox_due)
+    } else {
+        until
+    }
+}
+
 // Answers the next command, if there is one; whether there was one, and whether the server goes on.
 fn answer_next<
     N: Names,
     R: Wait + Clock + Files + AllocGlobal + Copy + Drop,
-    S: Filestore + Drop,
+    S: Filestore + Preparing + Places + Drop,
     W: Write + Drop,
 >(server: &mut Server<'_, N, R, S, W>, text: &mut String) -> Result<(bool, Next), ProgramFault> {
     let asked = match server.desk.take_line(server.rt) {
@@ -113,7 +130,7 @@ fn answer_next<
 fn receive<
     N: Names,
     R: Wait + Clock + Files + AllocGlobal + Copy + Drop,
-    S: Filestore + Drop,
+    S: Filestore + Preparing + Places + Drop,
     W: Write + Drop,
 >(server: &mut Server<'_, N, R, S, W>, text: &mut String) -> Result<bool, ProgramFault> {
     if !server.receives() {
@@ -122,6 +139,7 @@ fn receive<
     if let Some(events) = &mut server.events {
         events.begin_turn(server.rt);
     }
+    server.turn_moment = None;
     let mut has_received = false;
     for _ in 0..ROUNDS {
         let reported = match &server.events {
@@ -144,12 +162,11 @@ fn receive<
 fn report<
     N: Names,
     R: Wait + Clock + Files + AllocGlobal + Copy + Drop,
-    S: Filestore + Drop,
+    S: Filestore + Preparing + Places + Drop,
     W: Write + Drop,
->(server: &mut Server<'_, N, R, S, W>, now: u64) -> Result<(), ProgramFault> {
-    server.report_turn(now)?;
+>(server: &mut Server<'_, N, R, S, W>, now: u64) {
+    server.report_turn(now);
     if let Some(events) = &mut server.events {
         events.end_turn(server.rt, now);
     }
-    Ok(())
 }

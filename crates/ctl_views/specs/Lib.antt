@@ -1,4 +1,5 @@
 pub mod Amounts
+pub mod Ends
 pub mod Outcomes
 pub mod Pages
 pub mod Shown

@@ -11,8 +11,10 @@ SaysRefused line = take 8 line ≡ codes "refused "
 abbrev pub IsOutcome : Outcome → List ℕ → Type 0
 IsOutcome outcomes.BadCommand line = line ≡ codes "bad command"
 IsOutcome outcomes.ReadFault line = line ≡ codes "read fault"
+IsOutcome outcomes.NumbersFault line = line ≡ codes "numbers fault"
 IsOutcome outcomes.Refused line = SaysRefused line
-IsOutcome outcomes.Taken line = (line ≢ codes "bad command") × (line ≢ codes "read fault") × ¬ SaysRefused line
+IsOutcome outcomes.Taken line =
+    (line ≢ codes "bad command") × (line ≢ codes "read fault") × (line ≢ codes "numbers fault") × ¬ SaysRefused line
 
 -- 0 where a command was taken, and else 3
 abbrev pub exit_status : Outcome → ℕ
@@ -20,3 +22,4 @@ exit_status outcomes.Taken = 0
 exit_status outcomes.Refused = 3
 exit_status outcomes.BadCommand = 3
 exit_status outcomes.ReadFault = 3
+exit_status outcomes.NumbersFault = 3

@@ -6,9 +6,24 @@ use Rattle.std.specs.Char.{is_control}
 abbrev pub is_between : ℕ → ℕ → ℕ → Bool
 is_between least most number = nat_le least number && nat_le number most
 
--- a mark that a terminal hides, or that turns the direction of the text round it
+-- a mark of Unicode's general punctuation: it has no width, or turns the direction of the text round it, or ends a line
+abbrev pub is_punctuation_mark : ℕ → Bool
+is_punctuation_mark code = is_between 0x200b 0x200f code || is_between 0x2028 0x202e code || is_between 0x2060 0x206f code
+
+-- a mark of a script: a soft hyphen, a joiner, a direction, a filler, a selector
+abbrev pub is_script_mark : ℕ → Bool
+is_script_mark code = code == 0xad || code == 0x34f || code == 0x61c || is_between 0x115f 0x1160 code
+    || is_between 0x17b4 0x17b5 code || is_between 0x180b 0x180f code || code == 0x3164
+
+-- a mark among the compatibility forms and above: selectors, a filler, annotations, tags
+abbrev pub is_high_mark : ℕ → Bool
+is_high_mark code = is_between 0xfe00 0xfe0f code || code == 0xfeff || code == 0xffa0 || is_between 0xfff0 0xfffb code
+    || is_between 0x1bca0 0x1bca3 code || is_between 0x1d173 0x1d17a code || is_between 0xe0000 0xe0fff code
+
+-- a mark that a terminal hides, or that turns the direction of the text round it: what Unicode lets a display ignore, and
+-- the separators of lines
 abbrev pub is_mark : ℕ → Bool
-is_mark code = is_between 0x200b 0x200f code || is_between 0x2028 0x202e code || is_between 0x2060 0x206f code || code == 0xfeff
+is_mark code = is_punctuation_mark code || is_script_mark code || is_high_mark code
 
 -- a character that a terminal obeys or hides: a control character or a mark
 abbrev pub is_hidden : ℕ → Bool

@@ -50,6 +50,16 @@ pub(crate) fn push_age(text: &mut String, milliseconds: u64) -> Result<(), Alloc
     }
 }
 
+/// Adds how far a file is: a bar, the whole percents, and the octets.
+pub fn push_progress(text: &mut String, octets: u64, size: u64) -> Result<(), AllocError> {
+    let percent = percent_of(octets, size);
+    push_bar(text, percent)?;
+    write!(text, " {percent:>3}% ")?;
+    push_octets(text, octets)?;
+    text.push_str(" of ")?;
+    push_octets(text, size)
+}
+
 /// The whole percents of a file that are there: 100 of an empty one, and never more.
 pub(crate) fn percent_of(octets: u64, size: u64) -> u64
     ensures { result ≡ percent octets size }

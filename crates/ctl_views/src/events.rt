@@ -1,17 +1,33 @@
-//! Events, as they matter to who reads them.
+//! Events, as they matter to who reads or awaits them.
+use crate::ends::{End, end_in};
 use crate::fields::{number_in, text_in};
 use crate::page::Tone;
 use crate::telling::{push_head, push_words, tone_of};
 use json::{Error, Scratch, Value};
 use std::alloc::{AllocError, Global};
 
+/// What an event says of a file of the outbox.
+#[derive(Clone, Copy)]
+pub enum Step {
+    /// The file with this number is under way, as the transaction of the event.
+    Started(u64),
+    /// The file with this number is not sent.
+    Unsent(u64),
+    /// The transaction of the event has ended.
+    Ended(End),
+    /// Anything else.
+    Other,
+}
+
 /// An event.
-#[derive(Debug, Drop)]
+#[derive(Drop)]
 pub struct Event {
     /// The user that it is about, where it is about one.
     pub user: Option<String>,
     /// The transaction that it is about, where it is about one.
     pub transaction: Option<Transaction>,
+    /// What it says of a file of the outbox.
+    pub step: Step,
     /// How it is coloured.
     pub tone: Tone,
     /// Its moment, and its user and its transaction where it has them.
@@ -21,7 +37,7 @@ pub struct Event {
 }
 
 /// The name of a transaction.
-#[derive(Clone, Copy, Debug, PartialEq, Eq)]
+#[derive(Clone, Copy)]
 pub struct Transaction {
     pub source: u64,
     pub seq: u64,
@@ -53,7 +69,8 @@ fn event_of(alloc: Global, value: &Value<'_>) -> Result<Event, AllocError> {
     push_words(alloc, &mut words, value)?;
     Ok(Event {
         user,
-        transaction: transaction_of(value),
+        transaction: transaction_in(value),
+        step: step_of(value),
         tone: tone_of(value),
         head,
         words,
@@ -67,15 +84,30 @@ fn user_of(alloc: Global, value: &Value<'_>) -> Result<Option<String>, AllocErro
     }
 }
 
-fn transaction_of(value: &Value<'_>) -> Option<Transaction> {
+/// The transaction that an event is about.
+pub(crate) fn transaction_in(value: &Value<'_>) -> Option<Transaction> {
     let source = number_in(value, "source")?;
     let seq = number_in(value, "seq")?;
     Some(Transaction { source, seq })
 }
 
-/// Whether an end says that the whole file is there and kept.
-pub(crate) fn is_kept(value: &Value<'_>) -> bool {
-    number_in(value, "condition") == Some(0)
-        && text_in(value, "delivery") == Some("complete")
-        && text_in(value, "status") == Some("retained")
+fn step_of(value: &Value<'_>) -> Step {
+    match text_in(value, "kind") {
+        Some("put") => queued_in(value).map_or(Step::Other, |number| Step::Started(number)),
+        Some("unsent") => queued_in(value).map_or(Step::Other, |number| Step::Unsent(number)),
+        Some("indication") if is_end(value) => Step::Ended(end_in(value)),
+        _ => Step::Other,
+    }
+}
+
+fn queued_in(value: &Value<'_>) -> Option<u64> {
+    number_in(value, "queued")
+}
+
+// Whether an indication is the last of its transaction.
+fn is_end(value: &Value<'_>) -> bool {
+    matches!(
+        text_in(value, "name"),
+        Some("Transaction-Finished" | "Abandoned")
+    )
 }

@@ -1,4 +1,5 @@
 //! Members of a JSON object.
+use crate::shown::hex_digit;
 use json::Value;
 use std::alloc::{AllocError, Global};
 
@@ -53,10 +54,11 @@ fn push_decoded(alloc: Global, text: &mut String, digits: &str) -> Result<(), Al
 
 fn push_octet(text: &mut String, octet: u8) -> Result<(), AllocError> {
     if octet.is_ascii_graphic() {
-        text.push(char::from(octet))
-    } else {
-        write!(text, "\\x{octet:02x}")
+        return text.push(char::from(octet));
     }
+    text.push_str("\\x")?;
+    text.push(hex_digit(octet / 16))?;
+    text.push(hex_digit(octet % 16))
 }
 
 /// Adds a text or a question mark.

@@ -3,8 +3,10 @@
 
 mod amounts;
 mod conditions;
+mod ends;
 mod events;
 mod fields;
+mod lines;
 mod moments;
 mod outcomes;
 mod page;
@@ -13,11 +15,12 @@ mod shown;
 mod status;
 mod table;
 mod telling;
-#[cfg(test)]
-mod tests;
 mod transactions;
 
-pub use events::{Event, Transaction, read_event};
+pub use amounts::push_progress;
+pub use ends::End;
+pub use events::{Event, Step, Transaction, read_event};
+pub use lines::{Progress, StatusLine, read_status_line};
 pub use outcomes::{Outcome, exit_status, outcome_of};
 pub use page::{Page, Piece, Tone};
 pub use shown::Shown;

@@ -3,7 +3,7 @@ ghost use Rattle.std.specs.Prelude.{◌≡◌, ◌↔◌, IsTrue};
 ghost use Rattle.ctl_views.specs.Outcomes.{IsOutcome, SaysRefused, exit_status};
 
 /// What became of a command.
-#[derive(Clone, Copy, Debug, PartialEq, Eq)]
+#[derive(Clone, Copy)]
 pub enum Outcome {
     /// The server took it.
     Taken,
@@ -13,6 +13,8 @@ pub enum Outcome {
     BadCommand,
     /// Its file couldn't be read.
     ReadFault,
+    /// The number of its Put couldn't be kept.
+    NumbersFault,
 }
 
 /// What became of a command, by the first line of its answer, without the line feed.
@@ -23,6 +25,8 @@ pub fn outcome_of(line: &[u8]) -> Outcome
         Outcome::BadCommand
     } else if line == b"read fault".as_slice() {
         Outcome::ReadFault
+    } else if line == b"numbers fault".as_slice() {
+        Outcome::NumbersFault
     } else if says_refused(line) {
         Outcome::Refused
     } else {
@@ -43,6 +47,6 @@ pub fn exit_status(outcome: Outcome) -> u8
 {
     match outcome {
         Outcome::Taken => 0,
-        Outcome::Refused | Outcome::BadCommand | Outcome::ReadFault => 3,
+        Outcome::Refused | Outcome::BadCommand | Outcome::ReadFault | Outcome::NumbersFault => 3,
     }
 }

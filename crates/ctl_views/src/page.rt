@@ -8,7 +8,7 @@ use std::alloc::{AllocError, Global};
 use std::marker::Model;
 
 /// What a piece of text is, for who colours it.
-#[derive(Clone, Copy, Debug, PartialEq, Eq)]
+#[derive(Clone, Copy)]
 pub enum Tone {
     Plain,
     /// The head of a table.
@@ -22,14 +22,14 @@ pub enum Tone {
 }
 
 /// A piece of text with its tone.
-#[derive(Debug, Drop)]
+#[derive(Drop)]
 pub struct Piece {
     pub tone: Tone,
     pub text: Shown,
 }
 
 /// Shown text in pieces. Contracts see the list of them.
-#[derive(Debug, Drop)]
+#[derive(Drop)]
 pub struct Page {
     alloc: Global,
     pieces: Vec<Piece>,

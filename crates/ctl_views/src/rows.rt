@@ -8,18 +8,19 @@ use json::Value;
 use std::alloc::{AllocError, Global};
 
 /// A transaction that has ended, with the milliseconds of its last event.
-#[derive(Debug, Drop)]
+#[derive(Drop)]
 pub(crate) struct Ended {
     pub(crate) last: u64,
     pub(crate) row: Row,
 }
 
 /// The rows of all tables.
-#[derive(Debug, Drop)]
+#[derive(Drop)]
 pub(crate) struct Tables {
     pub(crate) heads: Vec<String>,
     pub(crate) users: Vec<Row>,
     pub(crate) under_way: Vec<Row>,
+    pub(crate) queued: Vec<Row>,
     pub(crate) ended: Vec<Ended>,
     pub(crate) remotes: Vec<Row>,
     pub(crate) refusals: Vec<Row>,
@@ -32,6 +33,7 @@ impl Tables {
             heads: Vec::new(alloc),
             users: Vec::new(alloc),
             under_way: Vec::new(alloc),
+            queued: Vec::new(alloc),
             ended: Vec::new(alloc),
             remotes: Vec::new(alloc),
             refusals: Vec::new(alloc),
@@ -48,7 +50,7 @@ pub(crate) fn push_record(
     next: &mut Seen,
 ) -> Result<(), AllocError> {
     match text_in(value, "kind") {
-        Some("entity") => push_head(&mut tables.heads, entity_line(alloc, value)?),
+        Some("entity") => push_entity(alloc, &mut tables.heads, value),
         Some("log") if is_set(value, "failing") => {
             push_head(&mut tables.heads, log_line(alloc, value)?)
         }
@@ -60,6 +62,7 @@ pub(crate) fn push_record(
             let row = push_under_way(alloc, value, seen, next)?;
             push_row(&mut tables.under_way, row)
         }
+        Some("queued") => push_row(&mut tables.queued, queued_row(alloc, value)?),
         Some("remote") => push_row(&mut tables.remotes, remote_row(alloc, value)?),
         Some("refusal") => push_row(&mut tables.refusals, refusal_row(alloc, value)?),
         _ => Ok(()),
@@ -78,6 +81,28 @@ pub(crate) fn push_row(rows: &mut Vec<Row>, row: Row) -> Result<(), AllocError> 
         Ok(()) => Ok(()),
         Err(_) => Err(AllocError),
     }
+}
+
+// Adds the lines of the entity.
+fn push_entity(
+    alloc: Global,
+    heads: &mut Vec<String>,
+    value: &Value<'_>,
+) -> Result<(), AllocError> {
+    push_head(heads, entity_line(alloc, value)?)?;
+    match ended_reads(value) {
+        Some(count) if count > 0 => push_head(heads, ended_line(alloc, count)?),
+        _ => Ok(()),
+    }
+}
+
+// How many workers read no more.
+fn ended_reads(value: &Value<'_>) -> Option<u64> {
+    number_in(value.get("counters")?, "ended_reads")
+}
+
+fn ended_line(alloc: Global, count: u64) -> Result<String, AllocError> {
+    format!(in alloc; "Workers that read no more, since the socket failed: {count}")
 }
 
 fn entity_line(alloc: Global, value: &Value<'_>) -> Result<String, AllocError> {
@@ -106,6 +131,17 @@ fn user_row(alloc: Global, value: &Value<'_>) -> Result<Row, AllocError> {
     Ok(row)
 }
 
+fn queued_row(alloc: Global, value: &Value<'_>) -> Result<Row, AllocError> {
+    let mut row = Row::new(alloc, Tone::Plain);
+    row.push_number(alloc, number_in(value, "number"))?;
+    row.push_text(alloc, text_in(value, "user").unwrap_or("?"))?;
+    row.push_number(alloc, number_in(value, "destination"))?;
+    row.push_number(alloc, number_in(value, "class"))?;
+    row.push_text(alloc, text_in(value, "since").unwrap_or("?"))?;
+    row.push(names_of(alloc, value)?)?;
+    Ok(row)
+}
+
 /// The names of a file at both ends.
 pub(crate) fn names_of(alloc: Global, value: &Value<'_>) -> Result<String, AllocError> {
     let mut names = String::new(alloc);
@@ -127,7 +163,8 @@ fn remote_row(alloc: Global, value: &Value<'_>) -> Result<Row, AllocError> {
     row.push_number(alloc, number_in(value, "failed_sends"))?;
     let mut link = String::from_str(alloc, text_in(value, "address").unwrap_or("no address"))?;
     if is_held {
-        link.push_str(", held")?;
+        link.push_str(", held since ")?;
+        push_or_unknown(&mut link, text_in(value, "held_since"))?;
     }
     row.push(link)?;
     Ok(row)

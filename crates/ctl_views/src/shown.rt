@@ -2,14 +2,14 @@
 ghost use Rattle.std.specs.Prelude.{◌≡◌, ◌++◌, ◌∷◌, ◌<◌, [], OnOk, chars, flat_map, true};
 ghost use Rattle.std.specs.Char.{encode_utf8};
 ghost use Rattle.std.specs.List.{list_all};
-ghost use Rattle.ctl_views.specs.Shown.{escape, hex_digit, hex_pair, is_hidden, is_mark, is_visible, shown};
+ghost use Rattle.ctl_views.specs.Shown.{escape, hex_digit, hex_pair, is_hidden, is_high_mark, is_mark, is_punctuation_mark, is_script_mark, is_visible, shown};
 
 use std::alloc::{AllocError, Global};
 use std::marker::Model;
 use unicode_width::UnicodeWidthChar;
 
 /// Text for a terminal. Contracts see its characters, none of which a terminal obeys or hides, but for line feeds.
-#[derive(Debug, Drop)]
+#[derive(Drop)]
 pub struct Shown {
     letters: Vec<char>,
 }
@@ -127,8 +127,8 @@ impl Shown {
     }
 }
 
-// A digit of a number below sixteen.
-fn hex_digit(number: u8) -> char
+/// A digit of a number below sixteen.
+pub(crate) fn hex_digit(number: u8) -> char
     requires { number < 16 }
     ensures digit { result ≡ hex_digit number }
     ensures visible { is_visible result ≡ true }
@@ -151,7 +151,27 @@ fn is_hidden(letter: char) -> bool
 fn is_mark(letter: char) -> bool
     ensures { result ≡ is_mark letter }
 {
-    matches!(letter, '\u{200b}'..='\u{200f}' | '\u{2028}'..='\u{202e}' | '\u{2060}'..='\u{206f}' | '\u{feff}')
+    is_punctuation_mark(letter) || is_script_mark(letter) || is_high_mark(letter)
+}
+
+fn is_punctuation_mark(letter: char) -> bool
+    ensures { result ≡ is_punctuation_mark letter }
+{
+    matches!(letter, '\u{200b}'..='\u{200f}' | '\u{2028}'..='\u{202e}' | '\u{2060}'..='\u{206f}')
+}
+
+fn is_script_mark(letter: char) -> bool
+    ensures { result ≡ is_script_mark letter }
+{
+    matches!(letter, '\u{ad}' | '\u{34f}' | '\u{61c}' | '\u{115f}'..='\u{1160}'
+        | '\u{17b4}'..='\u{17b5}' | '\u{180b}'..='\u{180f}' | '\u{3164}')
+}
+
+fn is_high_mark(letter: char) -> bool
+    ensures { result ≡ is_high_mark letter }
+{
+    matches!(letter, '\u{fe00}'..='\u{fe0f}' | '\u{feff}' | '\u{ffa0}' | '\u{fff0}'..='\u{fffb}'
+        | '\u{1bca0}'..='\u{1bca3}' | '\u{1d173}'..='\u{1d17a}' | '\u{e0000}'..='\u{e0fff}')
 }
 
 /// How many columns a text takes where it is shown.

@@ -2,9 +2,9 @@
 use crate::fields::text_in;
 use crate::moments::milliseconds_of;
 use crate::page::{Page, Tone};
-use crate::rows::{Tables, push_record};
+use crate::rows::{Tables, push_record, push_row};
 use crate::table::Column::{Left, Right};
-use crate::table::{Column, push_table};
+use crate::table::{Column, Row, push_table};
 use crate::transactions::Seen;
 use json::{Error, Scratch, Value};
 use std::alloc::{AllocError, Global};
@@ -13,7 +13,7 @@ use std::alloc::{AllocError, Global};
 const ENDED: usize = 20;
 
 /// What is remembered between two looks at a station's status.
-#[derive(Debug, Drop)]
+#[derive(Drop)]
 pub struct StatusView {
     alloc: Global,
     seen: Seen,
@@ -86,6 +86,15 @@ const UNDER_WAY: [Column; 10] = [
     Left("file"),
 ];
 
+const QUEUED: [Column; 6] = [
+    Right("number"),
+    Left("user"),
+    Right("to"),
+    Right("class"),
+    Left("since"),
+    Left("file"),
+];
+
 const ENDED_COLUMNS: [Column; 6] = [
     Left("transaction"),
     Left("user"),
@@ -110,18 +119,8 @@ const REFUSALS: [Column; 4] = [Right("count"), Left("refusal"), Left("last"), Le
 // Lays out all tables.
 fn lay_out(alloc: Global, tables: &mut Tables, width: usize) -> Result<Page, AllocError> {
     let mut page = Page::new(alloc);
-    for line in tables.heads.as_slice() {
-        page.push_line(Tone::Plain, line.as_str())?;
-    }
-    page.end_line()?;
-    tables.ended.sort_by_key(|ended| u64::MAX - ended.last)?;
-    tables.ended.truncate(ENDED);
-    let mut ended = Vec::new(alloc);
-    for one in tables.ended.drain(..) {
-        if ended.push(one.row).is_err() {
-            return Err(AllocError);
-        }
-    }
+    push_heads(&mut page, tables.heads.as_slice())?;
+    let ended = last_ended(alloc, tables)?;
     push_table(
         alloc,
         &mut page,
@@ -136,6 +135,14 @@ fn lay_out(alloc: Global, tables: &mut Tables, width: usize) -> Result<Page, All
         "Under way",
         &UNDER_WAY,
         tables.under_way.as_slice(),
+        width,
+    )?;
+    push_table(
+        alloc,
+        &mut page,
+        "Outbox",
+        &QUEUED,
+        tables.queued.as_slice(),
         width,
     )?;
     push_table(
@@ -163,4 +170,26 @@ fn lay_out(alloc: Global, tables: &mut Tables, width: usize) -> Result<Page, All
         width,
     )?;
     Ok(page)
+}
+
+// Adds the lines above the tables, and an empty one.
+fn push_heads(page: &mut Page, heads: &[String]) -> Result<(), AllocError> {
+    if heads.is_empty() {
+        return Ok(());
+    }
+    for line in heads {
+        page.push_line(Tone::Plain, line.as_str())?;
+    }
+    page.end_line()
+}
+
+// The rows of the transactions that ended last, the last first.
+fn last_ended(alloc: Global, tables: &mut Tables) -> Result<Vec<Row>, AllocError> {
+    tables.ended.sort_by_key(|ended| u64::MAX - ended.last)?;
+    tables.ended.truncate(ENDED);
+    let mut rows = Vec::new(alloc);
+    for one in tables.ended.drain(..) {
+        push_row(&mut rows, one.row)?;
+    }
+    Ok(rows)
 }

@@ -9,7 +9,7 @@ const GAP: usize = 2;
 const LEAST: usize = 12;
 
 /// A column of a table, by its head.
-#[derive(Clone, Copy, Debug)]
+#[derive(Clone, Copy)]
 pub(crate) enum Column {
     /// Words, at the left.
     Left(&'static str),
@@ -30,7 +30,7 @@ impl Column {
 }
 
 /// A row of a table.
-#[derive(Debug, Drop)]
+#[derive(Drop)]
 pub(crate) struct Row {
     pub(crate) tone: Tone,
     pub(crate) cells: Vec<String>,

@@ -1,7 +1,8 @@
 //! Events in words.
 use crate::amounts::push_octets;
 use crate::conditions::condition_words;
-use crate::events::is_kept;
+use crate::ends::{End, end_in};
+use crate::events::{Transaction, transaction_in};
 use crate::fields::{number_in, push_name, push_number, push_or_unknown, text_in};
 use crate::page::Tone;
 use json::Value;
@@ -14,10 +15,10 @@ pub(crate) fn push_head(line: &mut String, value: &Value<'_>) -> Result<(), Allo
         line.push(' ')?;
         line.push_str(user)?;
     }
-    if let (Some(source), Some(seq)) = (number_in(value, "source"), number_in(value, "seq")) {
-        write!(line, " {source}.{seq}")?;
+    match transaction_in(value) {
+        Some(Transaction { source, seq }) => write!(line, " {source}.{seq}"),
+        None => Ok(()),
     }
-    Ok(())
 }
 
 /// Adds what happened.
@@ -39,14 +40,14 @@ pub(crate) fn tone_of(value: &Value<'_>) -> Tone {
         (Some("indication"), Some("Transaction-Finished")) => end_tone(value),
         (Some("indication"), Some("Abandoned" | "Fault")) => Tone::Bad,
         (Some("indication"), Some("File-Segment-Recv")) => Tone::Faint,
-        (Some("refused" | "reads-ended"), _) => Tone::Bad,
+        (Some("refused" | "reads-ended" | "unsent"), _) => Tone::Bad,
         (Some("stored"), _) if text_in(value, "status") != Some("retained") => Tone::Bad,
         _ => Tone::Plain,
     }
 }
 
 fn end_tone(value: &Value<'_>) -> Tone {
-    if is_kept(value) {
+    if matches!(end_in(value), End::Kept) {
         Tone::Good
     } else {
         Tone::Bad
@@ -154,17 +155,45 @@ fn push_kind(
             line.push_str("file ")?;
             push_or_unknown(line, text_in(value, "status"))
         }
+        "unsent" => push_unsent(alloc, line, value),
+        "hold" => push_link(line, value, " is held"),
+        "release" => push_link(line, value, " is released"),
         "refused" => push_refused(line, value),
         "reads-ended" => line.push_str("a worker reads no more: its socket failed"),
         _ => line.push_str(kind),
     }
 }
 
+// Adds what becomes of the link to an entity.
+fn push_link(line: &mut String, value: &Value<'_>, words: &str) -> Result<(), AllocError> {
+    push_counted(line, "the link to entity ", number_in(value, "id"))?;
+    line.push_str(words)
+}
+
 fn push_put(alloc: Global, line: &mut String, value: &Value<'_>) -> Result<(), AllocError> {
     line.push_str("put: ")?;
     push_file(alloc, line, value)?;
     push_counted(line, ", for entity ", number_in(value, "peer"))?;
-    push_counted(line, " in class ", number_in(value, "class"))
+    push_counted(line, " in class ", number_in(value, "class"))?;
+    push_queued(line, number_in(value, "queued"))
+}
+
+// Adds which file of the outbox it is, where it is one.
+fn push_queued(line: &mut String, number: Option<u64>) -> Result<(), AllocError> {
+    match number {
+        Some(number) => write!(line, ", file {number} of the outbox"),
+        None => Ok(()),
+    }
+}
+
+// Adds a file of the outbox that is not sent, and why.
+fn push_unsent(alloc: Global, line: &mut String, value: &Value<'_>) -> Result<(), AllocError> {
+    push_counted(line, "file ", number_in(value, "queued"))?;
+    line.push_str(" of the outbox is not sent: ")?;
+    push_name(alloc, line, value, "file", "file_hex")?;
+    push_counted(line, ", for entity ", number_in(value, "destination"))?;
+    line.push_str(": ")?;
+    push_or_unknown(line, text_in(value, "why"))
 }
 
 fn push_refused(line: &mut String, value: &Value<'_>) -> Result<(), AllocError> {

@@ -1,6 +1,6 @@
 //! Transactions as rows.
 use crate::amounts::{percent_of, push_age, push_bar, push_octets};
-use crate::events::is_kept;
+use crate::ends::{End, end_in};
 use crate::fields::{number_in, push_number, push_or_unknown, text_in};
 use crate::moments::milliseconds_of;
 use crate::page::Tone;
@@ -12,7 +12,7 @@ use std::alloc::{AllocError, Global};
 use std::collections::BTreeMap;
 
 /// The name of a transaction, and the lane that runs it.
-#[derive(Clone, Copy, Debug, PartialEq, Eq, PartialOrd, Ord)]
+#[derive(Clone, Copy, PartialEq, Eq, PartialOrd, Ord)]
 pub(crate) struct Place {
     source: u64,
     seq: u64,
@@ -20,7 +20,7 @@ pub(crate) struct Place {
 }
 
 /// What a look saw of transactions under way, and its moment in milliseconds.
-#[derive(Debug, Drop)]
+#[derive(Drop)]
 pub(crate) struct Seen {
     pub(crate) now: Option<u64>,
     octets: BTreeMap<Place, u64>,
@@ -70,7 +70,7 @@ pub(crate) fn push_ended(
     ended: &mut Vec<Ended>,
     value: &Value<'_>,
 ) -> Result<(), AllocError> {
-    let tone = if is_kept(value) {
+    let tone = if matches!(end_in(value), End::Kept) {
         Tone::Good
     } else {
         Tone::Bad
@@ -117,20 +117,33 @@ fn rate_since(seen: &Seen, now: Option<u64>, place: &Place, octets: u64) -> Opti
 }
 
 fn push_named(alloc: Global, row: &mut Row, value: &Value<'_>) -> Result<(), AllocError> {
+    row.push(key_cell(alloc, value)?)?;
+    row.push_text(alloc, text_in(value, "user").unwrap_or("?"))?;
+    row.push(peer_cell(alloc, value)?)
+}
+
+// The name of the transaction.
+fn key_cell(alloc: Global, value: &Value<'_>) -> Result<String, AllocError> {
     let mut name = String::new(alloc);
     push_number(&mut name, number_in(value, "source"))?;
     name.push('.')?;
     push_number(&mut name, number_in(value, "seq"))?;
-    row.push(name)?;
-    row.push_text(alloc, text_in(value, "user").unwrap_or("?"))?;
-    let mut peer = String::new(alloc);
-    peer.push_str(match text_in(value, "role") {
+    Ok(name)
+}
+
+// The entity at the other end.
+fn peer_cell(alloc: Global, value: &Value<'_>) -> Result<String, AllocError> {
+    let mut peer = String::from_str(alloc, direction_of(text_in(value, "role")))?;
+    push_number(&mut peer, number_in(value, "peer"))?;
+    Ok(peer)
+}
+
+fn direction_of(role: Option<&str>) -> &'static str {
+    match role {
         Some("sender") => "to ",
         Some("receiver") => "from ",
         _ => "",
-    })?;
-    push_number(&mut peer, number_in(value, "peer"))?;
-    row.push(peer)
+    }
 }
 
 // The bar, the percent and the octets.

@@ -15,14 +15,14 @@ fn flag<'a>(alloc: Global, name: &'static str) -> Arg<'a> {
 /// The options and words of the program.
 pub(crate) fn command<'a>(alloc: Global) -> Result<Command<'a>, AllocError> {
     let command = with_options(alloc, Command::new(alloc, "cfdp_ctl").version("0.1"))?;
-    command.arg(
+    with_send(alloc, command)?.arg(
         Arg::new(alloc, "words")
             .action(ArgAction::Append)
             .num_args(0..),
     )
 }
 
-// The options of the program, and those of `status` and `follow`.
+// The options of the program, and those of `status`, `follow` and `outbox`.
 fn with_options<'a>(alloc: Global, command: Command<'a>) -> Result<Command<'a>, AllocError> {
     command
         .override_usage("cfdp_ctl --control PATH [OPTIONS] [COMMAND [WORD..]]")
@@ -34,4 +34,14 @@ fn with_options<'a>(alloc: Global, command: Command<'a>) -> Result<Command<'a>, 
         .arg(flag(alloc, "watch"))?
         .arg(valued(alloc, "user"))?
         .arg(valued(alloc, "transaction"))
+}
+
+// The options of `send`, but for its user.
+fn with_send<'a>(alloc: Global, command: Command<'a>) -> Result<Command<'a>, AllocError> {
+    command
+        .arg(valued(alloc, "to"))?
+        .arg(valued(alloc, "class"))?
+        .arg(flag(alloc, "closure"))?
+        .arg(valued(alloc, "into"))?
+        .arg(flag(alloc, "wait"))
 }

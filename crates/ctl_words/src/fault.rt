@@ -1,7 +1,7 @@
 use std::alloc::AllocError;
 
 /// Why there is nothing to do.
-#[derive(Debug, Drop)]
+#[derive(Drop)]
 pub enum WordsFault {
     /// A word is missing, unknown, given twice or out of range: the lines say which.
     Usage(String),

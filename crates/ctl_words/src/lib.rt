@@ -5,13 +5,15 @@ mod command;
 mod fault;
 mod help;
 mod reading;
-#[cfg(test)]
-mod tests;
+mod sending;
 mod text;
 mod words;
 
 pub use fault::WordsFault;
 pub use help::{ctl_help, ctl_version};
 pub use reading::ctl_words;
+pub use sending::{SendCommand, send_command};
 pub use text::command_text;
-pub use words::{Colour, CtlWords, FollowWords, StatusWords, Task, TransactionWord};
+pub use words::{
+    Colour, CtlWords, FollowWords, OutboxWords, SendWords, StatusWords, Task, TransactionWord,
+};

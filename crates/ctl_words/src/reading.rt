@@ -5,7 +5,9 @@ ghost use Rattle.ctl_words.specs.Commands.{IsWithin};
 use crate::command::command;
 use crate::fault::WordsFault;
 use crate::text::command_text;
-use crate::words::{Colour, CtlWords, FollowWords, StatusWords, Task, TransactionWord};
+use crate::words::{
+    Colour, CtlWords, FollowWords, OutboxWords, SendWords, StatusWords, Task, TransactionWord,
+};
 use clap::error::ErrorKind;
 use clap::{ArgMatches, Error};
 use std::alloc::{AllocError, Global};
@@ -13,12 +15,26 @@ use std::alloc::{AllocError, Global};
 // The most seconds that a server is awaited.
 const MOST_PATIENCE: u64 = 86_400;
 
-// The options of `status` and of `follow`, and those of both.
+// The options of `status`, `follow`, `outbox` and `send`, and those of all.
 const STATUS_OPTIONS: [&str; 2] = ["json", "watch"];
 
 const FOLLOW_OPTIONS: [&str; 3] = ["json", "user", "transaction"];
 
-const TASK_OPTIONS: [&str; 4] = ["json", "watch", "user", "transaction"];
+const OUTBOX_OPTIONS: [&str; 1] = ["json"];
+
+const SEND_OPTIONS: [&str; 6] = ["user", "to", "class", "closure", "into", "wait"];
+
+const TASK_OPTIONS: [&str; 9] = [
+    "json",
+    "watch",
+    "user",
+    "transaction",
+    "to",
+    "class",
+    "closure",
+    "into",
+    "wait",
+];
 
 /// What a command line of the program says; its first word is the program's own name.
 pub fn ctl_words<'a>(alloc: Global, line: &'a [String]) -> Result<CtlWords<'a>, WordsFault>
@@ -104,6 +120,8 @@ fn task_by<'a>(
         [] => input_task(alloc, matches),
         ["status", others @ ..] => status_task(alloc, matches, others),
         ["follow", others @ ..] => follow_task(alloc, matches, others),
+        ["outbox", others @ ..] => outbox_task(alloc, matches, others),
+        ["send", files @ ..] => send_task(alloc, matches, files),
         [name, ..] => command_task(alloc, matches, name, words),
     }
 }
@@ -155,6 +173,40 @@ fn follow_task<'a>(
         user: matches.get_str("user"),
         transaction: transaction_asked(alloc, matches)?,
     }))
+}
+
+fn outbox_task<'a>(
+    alloc: Global,
+    matches: &ArgMatches<'a>,
+    others: &[&str],
+) -> Result<Task<'a>, WordsFault> {
+    only_options(alloc, matches, "outbox", &OUTBOX_OPTIONS)?;
+    no_words(alloc, "outbox", others)?;
+    Ok(Task::Outbox(OutboxWords {
+        json: matches.get_flag("json"),
+    }))
+}
+
+fn send_task<'a>(
+    alloc: Global,
+    matches: &ArgMatches<'a>,
+    files: &[&'a str],
+) -> Result<Task<'a>, WordsFault> {
+    only_options(alloc, matches, "send", &SEND_OPTIONS)?;
+    let remote = number_of(alloc, matches, "to", 0, u64::MAX)?;
+    let class = number_of(alloc, matches, "class", 1, 2)?;
+    match remote {
+        Some(remote) if !files.is_empty() => Ok(Task::Send(SendWords {
+            remote,
+            user: matches.get_str("user"),
+            class: class.unwrap_or(2),
+            is_closed: matches.get_flag("closure"),
+            into: matches.get_str("into"),
+            wait: matches.get_flag("wait"),
+            files: Vec::from_slice(alloc, files)?,
+        })),
+        _ => Err(usage(String::from_str(alloc, "error: send needs --to REMOTE, and files\n"))),
+    }
 }
 
 // The transaction of the option, where the line has it.
@@ -225,7 +277,7 @@ fn only_options(
 
 // Whether a line has an option.
 fn is_given(matches: &ArgMatches<'_>, option: &str) -> bool {
-    if matches!(option, "json" | "watch") {
+    if matches!(option, "json" | "watch" | "closure" | "wait") {
         matches.get_flag(option)
     } else {
         matches.contains_id(option)

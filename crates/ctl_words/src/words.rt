@@ -29,6 +29,9 @@ pub enum Task<'a> {
     Command(String),
     Status(StatusWords),
     Follow(FollowWords<'a>),
+    /// The files that wait in the outbox are shown.
+    Outbox(OutboxWords),
+    Send(SendWords<'a>),
 }
 
 /// How the status is looked at.
@@ -54,4 +57,30 @@ pub struct FollowWords<'a> {
 pub struct TransactionWord {
     pub source: u64,
     pub seq: u64,
+}
+
+/// How the outbox is shown.
+#[derive(Clone, Copy)]
+pub struct OutboxWords {
+    /// The lines as they come.
+    pub json: bool,
+}
+
+/// Which files are sent, and how.
+#[derive(Drop)]
+pub struct SendWords<'a> {
+    /// The entity that receives.
+    pub remote: u64,
+    /// The user who sends, where the line has it.
+    pub user: Option<&'a str>,
+    /// 1 or 2.
+    pub class: u64,
+    /// Whether the receiver is to say at the end what became of a file, in class 1 too.
+    pub is_closed: bool,
+    /// A folder at the receiver.
+    pub into: Option<&'a str>,
+    /// Whether the end of each file is awaited.
+    pub wait: bool,
+    /// The paths of the files: one or more.
+    pub files: Vec<&'a str>,
 }

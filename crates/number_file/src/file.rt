@@ -90,7 +90,8 @@ impl NumberFile {
 
     /// A lane gave that round to a Put.
     pub fn note_given(&mut self, round: u64)
-        ensures { self.new.rounds ≡ given round self.old.rounds }
+        ensures rounds { self.new.rounds ≡ given round self.old.rounds }
+        ensures says { self.new.says ≡ self.old.says }
     {
         self.rounds.note_given(round);
     }

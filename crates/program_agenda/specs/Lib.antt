@@ -1,4 +1,6 @@
 pub mod Fates
+pub mod Links
 pub mod Paces
 pub mod PaceLaws
+pub mod Places
 pub mod Turns

@@ -1,24 +1,13 @@
 -- Meaning. What a program has to do by itself: timers that expire, files that are under way, deposits that wait.
-use Rattle.std.specs.Prelude.{ℕ, Bool, nat_le, min, fold, set, List, [], ◌∷◌, ◌++◌, Option, Some, None, position, slice_get, option_map, option_to_list}
-use Rattle.std.specs.List.{remove, list_all}
+use Rattle.std.specs.Prelude.{ℕ, Bool, nat_le, min, fold, map, set, List, [], ◌∷◌, ◌++◌, Option, Some, None, position, option_map}
 use Rattle.cfdp_types.specs.declared.key.TxnKey.{TxnKey}
 use Rattle.timer_list.specs.declared.armed.Armed.{Armed}
 use Rattle.timer_list.specs.Timers.{is_key}
+use Rattle.program_agenda.specs.Places.{at_place, turned_at, without_place}
+use Rattle.program_agenda.specs.declared.resting.Resting.{Resting}
 use Rattle.program_agenda.specs.declared.sending.Sending.{Sending}
 
 -- ---- places
-
--- what stands at a place, and the list without it, and the list with it behind all others
-abbrev pub at_place : {A : Type 0} → Option ℕ → List A → Option A
-at_place None items = None
-at_place (Some place) items = slice_get items place
-
-abbrev pub without_place : {A : Type 0} → Option ℕ → List A → List A
-without_place None items = items
-without_place (Some place) items = remove items place
-
-abbrev pub turned_at : {A : Type 0} → Option ℕ → List A → List A
-turned_at place items = without_place place items ++ option_to_list (at_place place items)
 
 -- the list with another item at a place
 abbrev pub written_at : {A : Type 0} → Option ℕ → A → List A → List A
@@ -65,6 +54,13 @@ begun key sendings = sendings ++ record { key = key; rests_until = 0 } ∷ []
 abbrev pub least_rest : List Sending → ℕ
 least_rest sendings = fold (λ least sending. min least sending.rests_until) 18446744073709551615 sendings
 
+-- a file rests no more, and none of a list does
+abbrev pub woken_one : Sending → Sending
+woken_one sending = record sending { rests_until = 0 }
+
+abbrev pub woken : List Sending → List Sending
+woken sendings = map woken_one sendings
+
 -- ---- deposits
 
 -- the first of a list, and what is behind it
@@ -78,8 +74,10 @@ behind_front (first ∷ rest) = rest
 
 -- ---- the whole
 
--- timers in the order in which they were armed, files in the order of their turns, deposits as they came
+-- timers in the order in which they were armed, those that rest as they expired, files in the order of their turns, deposits as
+-- they came
 pub record AgendaValue (D : Type 0) : Type 0 where
   pub timers : List Armed
+  pub resting : List Resting
   pub sendings : List Sending
   pub deposits : List D

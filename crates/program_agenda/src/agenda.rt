@@ -1,8 +1,10 @@
 ghost use Rattle.std.specs.Prelude.{◌≡◌, ◌++◌, ◌∷◌, [], IsTrue, OnOk, OnErr, IfErr, length, ◌<◌, ◌==◌, not};
 ghost use Rattle.timer_list.specs.Timers.{after, first_due, without_due};
 ghost use Rattle.timer_list.specs.Slots.{none_before};
-ghost use Rattle.program_agenda.specs.Turns.{next_key, turned, rested, forgotten, begun, least_rest, front_of, behind_front};
+ghost use Rattle.program_agenda.specs.Links.{next_resting, superseded, without_next};
+ghost use Rattle.program_agenda.specs.Turns.{next_key, turned, rested, forgotten, begun, woken, least_rest, front_of, behind_front};
 
+use crate::resting::RestingTimers;
 use crate::rotation::Rotation;
 use cfdp_types::{TimerOp, TxnKey};
 use std::alloc::{AllocError, Global};
@@ -10,11 +12,12 @@ use std::collections::VecDeque;
 use std::marker::Model;
 use timer_list::{Armed, TimerList};
 
-/// What a program has to do by itself: timers that expire, files that are under way, deposits that wait. Contracts see the
-/// three lists.
+/// What a program has to do by itself: timers that expire, files that are under way, deposits that wait; and the timers that
+/// rest since the link to their remote entity is held. Contracts see the four lists.
 #[derive(Drop)]
 pub struct Agenda<D: Drop> {
     timers: TimerList,
+    resting: RestingTimers,
     sendings: Rotation,
     deposits: VecDeque<D>,
 }
@@ -24,16 +27,17 @@ impl<D: Drop> Model for Agenda<D> {
 
     ghost Value = { AgendaValue D };
 
-    ghost view = { λ a. record { timers = a.timers; sendings = a.sendings; deposits = a.deposits.items } };
+    ghost view = { λ a. record { timers = a.timers; resting = a.resting; sendings = a.sendings; deposits = a.deposits.items } };
 }
 
 impl<D: Drop> Agenda<D> {
     /// Nothing is to be done.
     pub fn new(alloc: Global) -> Agenda<D>
-        ensures { result ≡ record { timers = []; sendings = []; deposits = [] } }
+        ensures { result ≡ record { timers = []; resting = []; sendings = []; deposits = [] } }
     {
         Agenda {
             timers: TimerList::new(alloc),
+            resting: RestingTimers::new(alloc),
             sendings: Rotation::new(alloc),
             deposits: VecDeque::new(alloc),
         }
@@ -63,12 +67,43 @@ impl<D: Drop> Agenda<D> {
         self.deposits.pop_front()
     }
 
-    /// Does to the timers what a step of this moment says.
+    /// Does to the timers what a step of this moment says. What it arms anew or disarms rests no more.
     pub fn apply(&mut self, operation: TimerOp, at: u64) -> Result<(), AllocError>
-        ensures ok { OnOk result (self.new ≡ record self.old { timers = after operation at self.old.timers }) }
+        ensures ok { OnOk result (self.new ≡ record self.old {
+          timers = after operation at self.old.timers;
+          resting = superseded operation self.old.resting;
+        }) }
         ensures err { OnErr result (self.new ≡ self.old) }
     {
-        self.timers.apply(operation, at)
+        self.timers.apply(operation, at)?;
+        self.resting.supersede(operation);
+        Ok(())
+    }
+
+    /// A timer that was taken out rests until its link is released, behind all others. It is given back for want of memory.
+    pub fn lay_by(&mut self, remote: usize, timer: Armed) -> Result<(), Armed>
+        ensures ok { OnOk result (self.new ≡ record self.old {
+          resting = self.old.resting ++ record { remote = remote; timer = timer } ∷ [];
+        }) }
+        ensures given_back { IfErr result (λ back. back ≡ timer) }
+        ensures err { OnErr result (self.new ≡ self.old) }
+    {
+        self.resting.add(remote, timer)
+    }
+
+    /// Takes out the first timer that rests for a remote entity.
+    pub fn next_resting(&mut self, remote: usize) -> Option<Armed>
+        ensures timer { result ≡ next_resting remote self.old.resting }
+        ensures left { self.new ≡ record self.old { resting = without_next remote self.old.resting } }
+    {
+        self.resting.next(remote)
+    }
+
+    /// No file rests any more.
+    pub fn wake_all(&mut self)
+        ensures { self.new ≡ record self.old { sendings = woken self.old.sendings } }
+    {
+        self.sendings.wake_all();
     }
 
     /// A timer that was taken out runs again, as the last one. It is given back where it runs already, or for want of memory.

@@ -1,5 +1,5 @@
 ghost use Rattle.std.specs.Prelude.{◌≡◌, ◌<◌, [], length, IfSome, OnOk, OnErr};
-ghost use Rattle.program_agenda.specs.Turns.{awake_place, key_place, next_key, turned, rested, forgotten, begun, least_rest};
+ghost use Rattle.program_agenda.specs.Turns.{awake_place, key_place, next_key, turned, rested, forgotten, begun, least_rest, woken, woken_one};
 
 use crate::sending::Sending;
 use cfdp_types::TxnKey;
@@ -75,6 +75,13 @@ impl Rotation {
         }
     }
 
+    /// No file rests any more.
+    pub fn wake_all(&mut self)
+        ensures { self.new ≡ woken self.old }
+    {
+        wake_each(&mut self.sendings);
+    }
+
     /// The file of a transaction is not under way any more.
     pub fn forget(&mut self, key: TxnKey)
         ensures { self.new ≡ forgotten key self.old }
@@ -110,4 +117,21 @@ fn key_place(sendings: &[Sending], key: TxnKey) -> Option<usize>
     ensures range { IfSome result (λ place. place < length sendings.now) }
 {
     sendings.iter().position(|sending| key == sending.key)
+}
+
+fn wake_each(sendings: &mut Vec<Sending>)
+    ensures { sendings.new.items ≡ woken sendings.old.items }
+{
+    for sending in sendings.iter_mut() {
+        *sending = woken_one(*sending);
+    }
+}
+
+fn woken_one(sending: Sending) -> Sending
+    ensures { result ≡ woken_one sending }
+{
+    Sending {
+        key: sending.key,
+        rests_until: 0,
+    }
 }

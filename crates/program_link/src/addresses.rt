@@ -1,7 +1,7 @@
 //! Where entities listen, looked up once.
-ghost use Rattle.std.specs.Prelude.{◌≡◌, All, IfOk, IfSome};
+ghost use Rattle.std.specs.Prelude.{◌≡◌, ◌↔◌, All, IfOk, IfSome, IsTrue};
 ghost use Rattle.config_reading.specs.Values.{ConfigValue};
-ghost use Rattle.program_link.specs.Peers.{ListensAt, peer_among};
+ghost use Rattle.program_link.specs.Peers.{FirstAt, ListensAt, StandsAt, peer_among};
 
 use crate::peers::address_of;
 use cfdp_types::EntityId;
@@ -20,7 +20,8 @@ pub struct PeerAddress {
 
 /// Where the remote entities listen that a configuration names, those whose address can be read.
 pub fn addresses_of(alloc: Global, config: &Config) -> Result<Vec<PeerAddress>, AllocError>
-    ensures { IfOk result (λ peers. All (λ peer. ListensAt config.now peer.id peer.address) peers.items) }
+    ensures listens { IfOk result (λ peers. All (λ peer. ListensAt config.now peer.id peer.address) peers.items) }
+    ensures stands { IfOk result (λ peers. All (λ peer. StandsAt config.now peer) peers.items) }
 {
     let mut peers = Vec::with_capacity(alloc, config.remotes())?;
     for place in 0..config.remotes() {
@@ -33,7 +34,8 @@ pub fn addresses_of(alloc: Global, config: &Config) -> Result<Vec<PeerAddress>, 
 
 // The remote entity at a place of a configuration, if its address can be read.
 fn peer_at(config: &Config, place: usize) -> Option<PeerAddress>
-    ensures { IfSome result (λ peer. ListensAt config.now peer.id peer.address) }
+    ensures listens { IfSome result (λ peer. ListensAt config.now peer.id peer.address) }
+    ensures stands { IfSome result (λ peer. StandsAt config.now peer) }
 {
     let id = config.remote_at(place)?.id;
     let address = address_of(config, id)?;
@@ -59,11 +61,23 @@ pub fn peer_among(peers: &[PeerAddress], id: EntityId) -> Option<PeerAddress>
 }
 
 /// The place in the configuration of the entity that listens at an address, among those that were looked up.
-pub fn place_of_address(peers: &[PeerAddress], address: SocketAddr) -> Option<usize> {
-    for peer in peers {
-        if peer.address == address {
-            return Some(peer.place);
+pub fn place_of_address(peers: &[PeerAddress], address: SocketAddr) -> Option<usize>
+    ensures { FirstAt peers.now address result }
+{
+    match peers {
+        [] => None,
+        [first, rest @ ..] => {
+            if listens_at(first, address) {
+                Some(first.place)
+            } else {
+                place_of_address(rest, address)
+            }
         }
     }
-    None
+}
+
+fn listens_at(peer: &PeerAddress, address: SocketAddr) -> bool
+    ensures { IsTrue result ↔ (peer.now.address ≡ address) }
+{
+    peer.address == address
 }

@@ -4,7 +4,7 @@ use entity_config::Config;
 use lane_table::Done;
 use pdu_codec::encode;
 use pdu_values::Pdu;
-use program_tallies::Traffic;
+use program_tallies::{Links, Traffic};
 use shared_entity::EntityRefusal;
 use std::alloc::{AllocError, Global};
 use std::net::{SocketAddr, UdpSocket};
@@ -13,27 +13,31 @@ use std::net::{SocketAddr, UdpSocket};
 // messages of at most 255 octets each, its NAKs at most 64 requests, and a header has at most 28 octets.
 const PDU_OCTETS: usize = 2_048;
 
-/// Sends PDUs through a socket, in room of its own, and counts them. A PDU that can't be sent is lost, as it may be on its way.
+/// Sends PDUs through a socket, in room of its own, and counts them. A PDU that can't be sent, or whose link is held, is lost, as
+/// it may be on its way.
 #[derive(Drop)]
 pub struct PduSender<'a> {
     socket: &'a UdpSocket,
     traffic: &'a Traffic,
+    links: &'a Links,
     peers: Vec<PeerAddress>,
     octets: Vec<u8>,
 }
 
 impl<'a> PduSender<'a> {
     /// A sender over a socket, to where a configuration says that its remote entities listen: they are looked up once. What
-    /// leaves is counted in `traffic`.
+    /// leaves is counted in `traffic`, and nothing leaves by a link that `links` holds.
     pub fn new(
         alloc: Global,
         socket: &'a UdpSocket,
         config: &Config,
         traffic: &'a Traffic,
+        links: &'a Links,
     ) -> Result<PduSender<'a>, AllocError> {
         Ok(PduSender {
             socket,
             traffic,
+            links,
             peers: addresses_of(alloc, config)?,
             octets: Vec::with_capacity(alloc, PDU_OCTETS)?,
         })
@@ -50,6 +54,9 @@ impl<'a> PduSender<'a> {
             self.traffic.note_unaddressed();
             return 0;
         };
+        if self.links.is_held(peer.place) {
+            return 0;
+        }
         self.octets.clear();
         if encode(pdu, &mut self.octets).is_err() {
             self.traffic.note_departure(peer.place, None);

@@ -1,40 +1,63 @@
 -- Whose turn it is, computed.
-use Rattle.std.proofs.Common.{◌≡◌, true, false, [], ◌∷◌, Some, None, refl}
+use Rattle.std.proofs.Common.{◌≡◌, ℕ, Bool, true, false, List, [], ◌∷◌, Some, None, refl}
+use Rattle.cfdp_types.specs.declared.key.EntityId.{EntityId}
+use Rattle.cfdp_types.specs.declared.names.Class.TheVariants.{Two}
 use Rattle.program_outbox.specs.declared.outbox.OutboxFile.{OutboxFile}
+use Rattle.program_outbox.specs.declared.outbox.Waiting.{Waiting}
 use Rattle.program_outbox.specs.Outboxes.{OutboxValue, going, after_going, withdrawn, queued, number_place}
 
--- two files of the first user and one of the second, each with a number
-abbrev two_users : OutboxFile → OutboxValue
-two_users file = record {
-  waiting = record { number = 1; user = 0; file = file } ∷ record { number = 2; user = 0; file = file } ∷ record { number = 3; user = 1; file = file } ∷ [];
-  turns = 0 ∷ 1 ∷ [];
-  next = 4;
-}
+-- a file for an entity
+abbrev file_for : ℕ → OutboxFile
+file_for entity = record { class = Two; destination = record { 0 = entity }; source = []; target = []; closure = false; since = 0 }
+
+abbrev waiting : ℕ → ℕ → ℕ → Waiting
+waiting number user entity = record { number = number; user = user; file = file_for entity }
+
+-- two files of the first user, for two entities, and one of the second, each with a number
+abbrev two_users : OutboxValue
+two_users = record { waiting = waiting 1 0 7 ∷ waiting 2 0 8 ∷ waiting 3 1 7 ∷ []; turns = 0 ∷ 1 ∷ []; next = 4 }
+
+abbrev both : List Bool
+both = true ∷ true ∷ []
+
+-- an entity that is held
+abbrev held : ℕ → List EntityId
+held entity = record { 0 = entity } ∷ []
 
 -- the first user's first file goes, and then it is the second user's turn
-first_goes : (file : OutboxFile) → going (true ∷ true ∷ []) (two_users file) ≡ Some (record { number = 1; user = 0; file = file })
-first_goes file = refl
+first_goes : going both [] two_users ≡ Some (waiting 1 0 7)
+first_goes = refl
 
-then_the_other : (file : OutboxFile) → going (true ∷ true ∷ []) (after_going (true ∷ true ∷ []) (two_users file)) ≡ Some (record { number = 3; user = 1; file = file })
-then_the_other file = refl
+then_the_other : going both [] (after_going both [] two_users) ≡ Some (waiting 3 1 7)
+then_the_other = refl
 
-turns_after : (file : OutboxFile) → (after_going (true ∷ true ∷ []) (two_users file)).turns ≡ 1 ∷ 0 ∷ []
-turns_after file = refl
+turns_after : (after_going both [] two_users).turns ≡ 1 ∷ 0 ∷ []
+turns_after = refl
 
 -- a user whose lanes are busy waits
-busy_waits : (file : OutboxFile) → going (false ∷ true ∷ []) (two_users file) ≡ Some (record { number = 3; user = 1; file = file })
-busy_waits file = refl
+busy_waits : going (false ∷ true ∷ []) [] two_users ≡ Some (waiting 3 1 7)
+busy_waits = refl
 
-nobody_goes : (file : OutboxFile) → going (false ∷ []) (two_users file) ≡ None
-nobody_goes file = refl
+nobody_goes : going (false ∷ []) [] two_users ≡ None
+nobody_goes = refl
+
+-- a file whose entity is held waits, and the one behind it goes
+held_waits : going both (held 7) two_users ≡ Some (waiting 2 0 8)
+held_waits = refl
+
+held_then : going both (held 7) (after_going both (held 7) two_users) ≡ None
+held_then = refl
+
+held_turns : (after_going both (held 7) two_users).turns ≡ 1 ∷ 0 ∷ []
+held_turns = refl
 
 -- what is withdrawn is gone, and its user's next file goes
-withdrawn_is_gone : (file : OutboxFile) → going (true ∷ true ∷ []) (withdrawn 1 (two_users file)) ≡ Some (record { number = 2; user = 0; file = file })
-withdrawn_is_gone file = refl
+withdrawn_is_gone : going both [] (withdrawn 1 two_users) ≡ Some (waiting 2 0 8)
+withdrawn_is_gone = refl
 
-no_such_number : (file : OutboxFile) → number_place 9 (two_users file) ≡ None
-no_such_number file = refl
+no_such_number : number_place 9 two_users ≡ None
+no_such_number = refl
 
 -- one more waits behind all others, with the next number
-next_number : (file : OutboxFile) → (queued 1 file (two_users file)).next ≡ 5
+next_number : (file : OutboxFile) → (queued 1 file two_users).next ≡ 5
 next_number file = refl

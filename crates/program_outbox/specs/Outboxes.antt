@@ -1,6 +1,7 @@
 -- Meaning. Files that wait until a sending lane of their user is idle.
-use Rattle.std.specs.Prelude.{ℕ, ◌+◌, ◌==◌, ◌&&◌, Bool, false, List, [], ◌∷◌, ◌++◌, Option, Some, None, position, slice_get, option_to_list}
+use Rattle.std.specs.Prelude.{ℕ, ◌+◌, ◌==◌, ◌&&◌, Bool, false, not, List, [], ◌∷◌, ◌++◌, Option, Some, None, position, slice_get, option_to_list}
 use Rattle.std.specs.List.{remove, list_any}
+use Rattle.cfdp_types.specs.declared.key.EntityId.{EntityId}
 use Rattle.program_outbox.specs.declared.outbox.OutboxFile.{OutboxFile}
 use Rattle.program_outbox.specs.declared.outbox.Waiting.{Waiting}
 
@@ -21,10 +22,15 @@ abbrev pub without_place : {A : Type 0} → Option ℕ → List A → List A
 without_place None items = items
 without_place (Some place) items = remove items place
 
--- a file is a user's, or has a number
-abbrev pub is_of : ℕ → Waiting → Bool
-is_of user file = file.user == user
+-- nothing goes to an entity, by the list of those that are held
+abbrev pub is_held : List EntityId → EntityId → Bool
+is_held held destination = list_any (λ id. id.0 == destination.0) held
 
+-- a file is a user's, and its entity isn't held
+abbrev pub is_free : List EntityId → ℕ → Waiting → Bool
+is_free held user file = (file.user == user) && not (is_held held file.file.destination)
+
+-- a file has a number
 abbrev pub has_number : ℕ → Waiting → Bool
 has_number number file = file.number == number
 
@@ -37,12 +43,12 @@ is_idle idle user = said (slice_get idle user)
     said (Some word) = word
 
 -- a user has a file that can go
-abbrev pub can_go : List Bool → List Waiting → ℕ → Bool
-can_go idle waiting user = is_idle idle user && list_any (is_of user) waiting
+abbrev pub can_go : List Bool → List EntityId → List Waiting → ℕ → Bool
+can_go idle held waiting user = is_idle idle user && list_any (is_free held user) waiting
 
 -- whose turn it is: the place of the first user who has a file that can go
-abbrev pub turn_place : List Bool → OutboxValue → Option ℕ
-turn_place idle outbox = position (can_go idle outbox.waiting) outbox.turns
+abbrev pub turn_place : List Bool → List EntityId → OutboxValue → Option ℕ
+turn_place idle held outbox = position (can_go idle held outbox.waiting) outbox.turns
 
 -- ---- what comes of each call
 
@@ -53,23 +59,24 @@ queued user file outbox = record outbox {
   next = outbox.next + 1;
 }
 
--- the first file of a user, where it stands
-abbrev pub place_of_user : Option ℕ → List Waiting → Option ℕ
-place_of_user None waiting = None
-place_of_user (Some user) waiting = position (is_of user) waiting
+-- the first file of a user whose entity isn't held, where it stands
+abbrev pub place_of_user : List EntityId → Option ℕ → List Waiting → Option ℕ
+place_of_user held None waiting = None
+place_of_user held (Some user) waiting = position (is_free held user) waiting
 
--- the place of the file that goes: the first one of the user whose turn it is
-abbrev pub going_place : List Bool → OutboxValue → Option ℕ
-going_place idle outbox = place_of_user (at_place (turn_place idle outbox) outbox.turns) outbox.waiting
+-- the place of the file that goes: such a file of the user whose turn it is
+abbrev pub going_place : List Bool → List EntityId → OutboxValue → Option ℕ
+going_place idle held outbox =
+    place_of_user held (at_place (turn_place idle held outbox) outbox.turns) outbox.waiting
 
 -- the file that goes; that user's next turn is behind all others
-abbrev pub going : List Bool → OutboxValue → Option Waiting
-going idle outbox = at_place (going_place idle outbox) outbox.waiting
+abbrev pub going : List Bool → List EntityId → OutboxValue → Option Waiting
+going idle held outbox = at_place (going_place idle held outbox) outbox.waiting
 
-abbrev pub after_going : List Bool → OutboxValue → OutboxValue
-after_going idle outbox = record outbox {
-  waiting = without_place (going_place idle outbox) outbox.waiting;
-  turns = without_place (turn_place idle outbox) outbox.turns ++ option_to_list (at_place (turn_place idle outbox) outbox.turns);
+abbrev pub after_going : List Bool → List EntityId → OutboxValue → OutboxValue
+after_going idle held outbox = record outbox {
+  waiting = without_place (going_place idle held outbox) outbox.waiting;
+  turns = without_place (turn_place idle held outbox) outbox.turns ++ option_to_list (at_place (turn_place idle held outbox) outbox.turns);
 }
 
 -- a file with a number waits no more

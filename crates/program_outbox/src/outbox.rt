@@ -1,8 +1,8 @@
-ghost use Rattle.std.specs.Prelude.{◌≡◌, ◌≤◌, ◌<◌, ◌↔◌, ◌⊎◌, [], IfOk, IfSome, IsSome, OnErr, Err, length, position, true};
+ghost use Rattle.std.specs.Prelude.{◌≡◌, ◌≤◌, ◌<◌, ◌↔◌, ◌⊎◌, [], IfOk, IfSome, OnErr, Err, length, position, true};
 ghost use Rattle.std.specs.List.{list_any};
-ghost use Rattle.program_outbox.specs.Outboxes.{after_going, can_go, going, has_number, is_idle, is_of, number_place, queued, turn_place, withdrawn};
+ghost use Rattle.program_outbox.specs.Outboxes.{after_going, at_place, can_go, going, has_number, is_free, is_held, is_idle, number_place, queued, withdrawn};
 
-use cfdp_types::{Class, EntityId};
+use cfdp_types::{Class, EntityId, Octets};
 use std::alloc::{AllocError, Global};
 use std::marker::Model;
 
@@ -15,10 +15,12 @@ pub struct OutboxFile {
     pub class: Class,
     pub destination: EntityId,
     /// Its path, which is its name at the sender.
-    pub source: Vec<u8>,
+    pub source: Octets,
     /// Its name at the receiver.
-    pub target: Vec<u8>,
+    pub target: Octets,
     pub closure: bool,
+    /// When it was given, in milliseconds since the start of 1970.
+    pub since: u64,
 }
 
 /// A file that waits.
@@ -94,31 +96,26 @@ impl Outbox {
         }
     }
 
-    /// The file that goes, where each user's word in `idle` says whether a lane is idle: the first file of the user whose turn
-    /// it is, who then waits behind all others.
-    pub fn take(&mut self, idle: &[bool]) -> Option<Waiting>
-        ensures file { result ≡ going idle.now self.old }
-        ensures rest { self.new ≡ after_going idle.now self.old }
+    /// The file that goes, where each user's word in `idle` says whether a lane is idle, and nothing goes to the entities in
+    /// `held`: the first file for another entity of the user whose turn it is, who then waits behind all others.
+    pub fn take(&mut self, idle: &[bool], held: &[EntityId]) -> Option<Waiting>
+        ensures file { result ≡ going idle.now held.now self.old }
+        ensures rest { self.new ≡ after_going idle.now held.now self.old }
     {
-        let turn = turn_place(&self.turns, &self.waiting, idle)?;
+        let turn = turn_place(&self.turns, &self.waiting, idle, held)?;
         let user = self.turns.remove(turn);
         self.turns.push_reserved(user);
-        let place = place_of(&self.waiting, user)?;
+        let place = place_of(&self.waiting, held, user)?;
         Some(self.waiting.remove(place))
     }
 
-    /// The file with a number waits no more; whether it did.
-    pub fn withdraw(&mut self, number: u64) -> bool
-        ensures found { (result ≡ true) ↔ IsSome (number_place number self.old) }
+    /// Takes out the file with a number, which waits no more.
+    pub fn withdraw(&mut self, number: u64) -> Option<Waiting>
+        ensures file { result ≡ at_place (number_place number self.old) self.old.waiting }
         ensures rest { self.new ≡ withdrawn number self.old }
     {
-        match number_place(&self.waiting, number) {
-            Some(place) => {
-                self.waiting.remove(place);
-                true
-            }
-            None => false,
-        }
+        let place = number_place(&self.waiting, number)?;
+        Some(self.waiting.remove(place))
     }
 
     /// The files that wait, in the order in which they came.
@@ -139,34 +136,55 @@ fn is_idle(idle: &[bool], user: usize) -> bool
     }
 }
 
-// Whether a user has a file that can go.
-fn can_go(idle: &[bool], waiting: &[Waiting], user: usize) -> bool
-    ensures { result ≡ can_go idle.now waiting.now user }
+// Whether nothing goes to an entity.
+fn is_held(held: &[EntityId], destination: EntityId) -> bool
+    ensures { result ≡ is_held held.now destination }
 {
-    is_idle(idle, user) && has_file(waiting, user)
+    held.iter().any(|id| id.0 == destination.0)
 }
 
-// Whether a file of a user waits.
-fn has_file(waiting: &[Waiting], user: usize) -> bool
-    ensures { result ≡ list_any (is_of user) waiting.now }
+// Whether a file is a user's, and its entity isn't held.
+fn is_free(held: &[EntityId], user: usize, one: &Waiting) -> bool
+    ensures { result ≡ is_free held.now user one.now }
 {
-    waiting.iter().any(|one| one.user == user)
+    one.user == user && !is_held(held, one.file.destination)
+}
+
+// Whether a user has a file that can go.
+fn can_go(idle: &[bool], held: &[EntityId], waiting: &[Waiting], user: usize) -> bool
+    ensures { result ≡ can_go idle.now held.now waiting.now user }
+{
+    is_idle(idle, user) && has_file(waiting, held, user)
+}
+
+// Whether a file of a user waits whose entity isn't held.
+fn has_file(waiting: &[Waiting], held: &[EntityId], user: usize) -> bool
+    ensures { result ≡ list_any (is_free held.now user) waiting.now }
+{
+    waiting.iter().any(|one| is_free(held, user, one))
 }
 
 // The place of the first user who has a file that can go.
-fn turn_place(turns: &[usize], waiting: &[Waiting], idle: &[bool]) -> Option<usize>
-    ensures place { result ≡ position (can_go idle.now waiting.now) turns.now }
+fn turn_place(
+    turns: &[usize],
+    waiting: &[Waiting],
+    idle: &[bool],
+    held: &[EntityId],
+) -> Option<usize>
+    ensures place { result ≡ position (can_go idle.now held.now waiting.now) turns.now }
     ensures range { IfSome result (λ place. place < length turns.now) }
 {
-    turns.iter().position(|user| can_go(idle, waiting, *user))
+    turns
+        .iter()
+        .position(|user| can_go(idle, held, waiting, *user))
 }
 
-// Where the first file of a user stands.
-fn place_of(waiting: &[Waiting], user: usize) -> Option<usize>
-    ensures place { result ≡ position (is_of user) waiting.now }
+// Where the first file of a user stands whose entity isn't held.
+fn place_of(waiting: &[Waiting], held: &[EntityId], user: usize) -> Option<usize>
+    ensures place { result ≡ position (is_free held.now user) waiting.now }
     ensures range { IfSome result (λ place. place < length waiting.now) }
 {
-    waiting.iter().position(|one| one.user == user)
+    waiting.iter().position(|one| is_free(held, user, one))
 }
 
 // Where the file with a number stands.

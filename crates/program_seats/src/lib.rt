@@ -9,4 +9,5 @@ mod seats;
 
 pub use asker::Asker;
 pub use outbox::{Outbox, Way};
+pub use seat::{Given, Seat};
 pub use seats::{LAST_MS, SEATS, Seats, TEXT_OCTETS};

@@ -1,30 +1,61 @@
 //! What one seat holds.
-ghost use Rattle.std.specs.Prelude.{◌≡◌, ◌≢◌, ◌+◌, IsTrue, IsFalse, IfSome, IfNone};
-ghost use Rattle.program_seats.specs.Outboxes.{cut_off, empty, ended};
+ghost use Rattle.std.specs.Prelude.{◌≡◌, ◌↔◌, ◌⊎◌, [], IfSome, IfNone, IsFalse, false, true};
+ghost use Rattle.program_seats.specs.Seating.{IsAnswered, IsSent, IsSentTo, IsTold, asked, closing, cut, followed, free_seat, is_here, left, may_sit, sat};
 
-use crate::outbox::Outbox;
+use crate::outbox::{Outbox, Way};
 use std::alloc::Global;
+use std::marker::Model;
 use std::net::Shutdown;
 use std::os::unix::net::UnixStream;
 
-/// What one seat holds, under its lock.
+/// What became of a text for a client.
+#[derive(Clone, Copy, Debug, PartialEq, Eq)]
+pub enum Given {
+    /// It waits to be sent.
+    Taken,
+    /// There was no room or no memory for it, and the client was cut off.
+    Dropped,
+    /// The client is not there, or takes nothing more. Nothing happened.
+    Gone,
+}
+
+/// What one seat holds, under its lock. Contracts see all but the stream itself.
 #[derive(Drop)]
-pub(crate) struct Seat<const ROOM: usize> {
+pub struct Seat<const ROOM: usize> {
     /// How many clients have sat here.
-    pub(crate) visits: u64,
+    visits: u64,
     /// The client's stream, while one sits here.
-    pub(crate) stream: Option<UnixStream>,
+    stream: Option<UnixStream>,
     /// Whether the client reads events too.
-    pub(crate) follows: bool,
+    follows: bool,
     /// Whether a command of the client waits for its answer.
-    pub(crate) is_asking: bool,
+    is_asking: bool,
     /// Whether nobody may sit down any more.
-    pub(crate) is_closed: bool,
-    pub(crate) outbox: Outbox<ROOM>,
+    is_closed: bool,
+    outbox: Outbox<ROOM>,
+}
+
+impl<const ROOM: usize> Model for Seat<ROOM> {
+    ghost use Rattle.std.specs.Prelude.{is_some};
+    ghost use Rattle.program_seats.specs.Seating.{SeatValue};
+
+    ghost Value = { SeatValue };
+
+    ghost view = { λ s. record {
+      visits = s.visits;
+      is_taken = is_some s.stream;
+      follows = s.follows;
+      is_asking = s.is_asking;
+      is_closed = s.is_closed;
+      outbox = s.outbox;
+    } };
 }
 
 impl<const ROOM: usize> Seat<ROOM> {
-    pub(crate) fn new(alloc: Global) -> Seat<ROOM> {
+    /// Nobody has sat here.
+    pub fn new(alloc: Global) -> Seat<ROOM>
+        ensures { result ≡ free_seat }
+    {
         Seat {
             visits: 0,
             stream: None,
@@ -35,21 +66,65 @@ impl<const ROOM: usize> Seat<ROOM> {
         }
     }
 
+    /// Whether a client sits here.
+    pub fn is_taken(&self) -> bool
+        ensures { result ≡ self.now.is_taken }
+    {
+        self.stream.is_some()
+    }
+
+    /// Whether the client reads events too.
+    pub fn follows(&self) -> bool
+        ensures { result ≡ self.now.follows }
+    {
+        self.follows
+    }
+
+    /// Whether a command of the client waits for its answer.
+    pub fn is_asking(&self) -> bool
+        ensures { result ≡ self.now.is_asking }
+    {
+        self.is_asking
+    }
+
+    /// Whether nobody may sit down any more.
+    pub fn is_closed(&self) -> bool
+        ensures { result ≡ self.now.is_closed }
+    {
+        self.is_closed
+    }
+
+    /// Whether text can still go to the client.
+    pub fn way(&self) -> Way
+        ensures { result ≡ self.now.outbox.way }
+    {
+        self.outbox.way()
+    }
+
     /// Whether a visit still lasts.
-    pub(crate) fn is_here(&self, visit: u64) -> bool
-        ensures { IsTrue result → self.now.visits ≡ visit }
+    pub fn is_here(&self, visit: u64) -> bool
+        ensures { result ≡ is_here visit self.now }
     {
         self.stream.is_some() && self.visits == visit
     }
 
-    /// Lets a client sit down; the number of the visit, or none where the seat is taken or closed.
-    pub(crate) fn sit(&mut self, alloc: Global, stream: UnixStream) -> Option<u64>
-        ensures number { IfSome result (λ visit. visit ≡ self.new.visits) }
-        ensures next { IfSome result (λ visit. visit ≡ self.old.visits + 1) }
-        ensures nothing_waits { IfSome result (λ _. self.new.outbox ≡ empty) }
-        ensures none { IfNone result (self.new ≡ self.old) }
+    /// Whether a client may sit down.
+    pub fn may_sit(&self) -> bool
+        ensures { result ≡ may_sit self.now }
     {
-        if self.is_closed || self.stream.is_some() {
+        !(self.is_closed || self.stream.is_some())
+    }
+
+    /// Lets a client sit down, to whom nothing of the one before goes; the number of the visit, or none where the seat is taken or
+    /// closed, or had a client for each number.
+    pub fn sit(&mut self, alloc: Global, stream: UnixStream) -> Option<u64>
+        ensures number { IfSome result (λ visit. visit ≡ self.new.visits) }
+        ensures was_free { IfSome result (λ _. may_sit self.old ≡ true) }
+        ensures seated { IfSome result (λ _. self.new ≡ sat self.old) }
+        ensures none { IfNone result (self.new ≡ self.old) }
+        ensures why { IfNone result ((may_sit self.old ≡ false) ⊎ (self.old.visits ≡ 18446744073709551615)) }
+    {
+        if !self.may_sit() {
             return None;
         }
         self.visits = self.visits.checked_add(1)?;
@@ -60,35 +135,89 @@ impl<const ROOM: usize> Seat<ROOM> {
         Some(self.visits)
     }
 
-    /// Answers the command of a visit; whether the client is still there and there was room. An answer that comes late changes
-    /// nothing of the seat.
-    pub(crate) fn answer(&mut self, visit: u64, text: &[u8]) -> bool
-        ensures late { self.old.visits ≢ visit → self.new ≡ self.old }
-        ensures late_said { self.old.visits ≢ visit → IsFalse result }
-        ensures visits { self.new.visits ≡ self.old.visits }
+    /// A command of a visit is about to wait for its answer; not where the client has left or takes nothing more.
+    pub fn ask(&mut self, visit: u64) -> bool
+        ensures { asked visit self.old result self.new }
     {
-        if !self.is_here(visit) || !self.put(text) {
+        if !self.is_here(visit) || self.outbox.way() != Way::Open {
             return false;
         }
-        self.is_asking = false;
+        self.is_asking = true;
         true
     }
 
-    /// Puts a text behind what waits. A client for which there is no room is cut off.
-    pub(crate) fn put(&mut self, text: &[u8]) -> bool
-        ensures visits { self.new.visits ≡ self.old.visits }
+    /// Answers the command of a visit, and the client may ask again. An answer that comes late changes nothing.
+    pub fn answer(&mut self, visit: u64, text: &[u8]) -> Given
+        ensures { IsAnswered ROOM text.now visit self.old result self.new }
     {
-        let taken = self.outbox.put(text);
-        if !taken {
-            self.cut();
+        if !self.is_here(visit) {
+            return Given::Gone;
         }
-        taken
+        self.is_asking = false;
+        self.put(text)
+    }
+
+    /// Sends a text to a visit, beside its answers.
+    pub fn send(&mut self, visit: u64, text: &[u8]) -> Given
+        ensures { IsSentTo ROOM text.now visit self.old result self.new }
+    {
+        if !self.is_here(visit) {
+            return Given::Gone;
+        }
+        self.put(text)
+    }
+
+    /// Sends a text to the client if it reads events too.
+    pub fn tell(&mut self, text: &[u8]) -> Given
+        ensures { IsTold ROOM text.now self.old result self.new }
+    {
+        if !self.follows {
+            return Given::Gone;
+        }
+        self.put(text)
+    }
+
+    // Puts a text behind what waits. A client for which there is no room is cut off.
+    fn put(&mut self, text: &[u8]) -> Given
+        ensures { IsSent ROOM text.now self.old result self.new }
+    {
+        if self.outbox.way() != Way::Open {
+            return Given::Gone;
+        }
+        if self.outbox.put(text) {
+            return Given::Taken;
+        }
+        self.cut();
+        Given::Dropped
+    }
+
+    /// The client reads events too from now on, where the visit lasts.
+    pub fn follow(&mut self, visit: u64)
+        ensures { self.new ≡ followed visit self.old }
+    {
+        if self.is_here(visit) {
+            self.follows = true;
+        }
+    }
+
+    /// Gives what waits in place of what `texts` holds; nothing waits then.
+    pub fn take(&mut self, texts: &mut Vec<u8>)
+        ensures given { texts.new.items ≡ self.old.outbox.waiting }
+        ensures rest { self.new ≡ record self.old { outbox = record { waiting = []; way = self.old.outbox.way } } }
+    {
+        self.outbox.take(texts);
+    }
+
+    /// Whether something waits to be sent.
+    pub fn has_text(&self) -> bool
+        ensures { IsFalse result ↔ (self.now.outbox.waiting ≡ []) }
+    {
+        !self.outbox.is_empty()
     }
 
     /// Cuts the client off: nothing is sent or read any more.
-    pub(crate) fn cut(&mut self)
-        ensures cut { self.new.outbox ≡ cut_off }
-        ensures visits { self.new.visits ≡ self.old.visits }
+    pub fn cut(&mut self)
+        ensures { self.new ≡ cut self.old }
     {
         self.outbox.cut();
         self.is_asking = false;
@@ -96,24 +225,31 @@ impl<const ROOM: usize> Seat<ROOM> {
     }
 
     /// Nothing more is read from the client; what waits is still sent.
-    pub(crate) fn end(&mut self)
-        ensures waits { self.new.outbox ≡ ended self.old.outbox }
-        ensures visits { self.new.visits ≡ self.old.visits }
+    pub fn end(&mut self)
+        ensures { self.new ≡ closing self.old }
     {
         self.outbox.end();
         self.is_asking = false;
     }
 
-    pub(crate) fn shut(&self, how: Shutdown) {
+    /// Nobody may sit down any more, nothing more is read from the client, and what waits is still sent.
+    pub fn close(&mut self)
+        ensures { self.new ≡ record (closing self.old) { is_closed = true } }
+    {
+        self.is_closed = true;
+        self.end();
+        self.shut(Shutdown::Read);
+    }
+
+    fn shut(&self, how: Shutdown) {
         if let Some(stream) = &self.stream {
             let _as_it_may = stream.shutdown(how);
         }
     }
 
-    /// The client has left.
-    pub(crate) fn leave(&mut self)
-        ensures cut { self.new.outbox ≡ cut_off }
-        ensures visits { self.new.visits ≡ self.old.visits }
+    /// The client has left, and the next one may sit down.
+    pub fn leave(&mut self)
+        ensures { self.new ≡ left self.old }
     {
         self.outbox.cut();
         self.stream = None;

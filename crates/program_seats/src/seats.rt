@@ -1,9 +1,8 @@
 //! All seats, each under a lock of its own.
 use crate::asker::Asker;
 use crate::outbox::Way;
-use crate::seat::Seat;
+use crate::seat::{Given, Seat};
 use std::alloc::{AllocError, Global};
-use std::net::Shutdown;
 use std::os::unix::net::UnixStream;
 use std::sync::atomic::{AtomicU64, Ordering};
 use std::sync::{Condvar, CondvarTimeouts, Mutex, Wait};
@@ -13,7 +12,7 @@ use std::time::{Clock, Duration};
 pub const SEATS: usize = 16;
 
 /// How many octets may wait for one client.
-pub const TEXT_OCTETS: usize = 4 * 1024 * 1024;
+pub const TEXT_OCTETS: usize = 8 * 1024 * 1024;
 
 /// How many milliseconds the clients may take, at the end, for what waits for them.
 pub const LAST_MS: u64 = 200;
@@ -25,7 +24,8 @@ struct Place {
     changed: Condvar,
 }
 
-/// The seats of clients. The thread that answers never waits for a client.
+/// The seats of clients. The thread that answers never waits for a client. Each call does to a seat, under its lock, what the
+/// call of `Seat` says that it makes.
 #[derive(Drop)]
 pub struct Seats {
     alloc: Global,
@@ -59,7 +59,7 @@ impl Seats {
     pub fn taken<R: Wait>(&self, rt: &R) -> usize {
         let mut count = 0usize;
         for place in &self.places {
-            if place.seat.lock(rt).stream.is_some() {
+            if place.seat.lock(rt).is_taken() {
                 count = count.saturating_add(1);
             }
         }
@@ -74,7 +74,7 @@ impl Seats {
     pub fn sit<R: Wait>(&self, rt: &R, stream: &UnixStream) -> Option<Asker> {
         for (number, place) in self.places.iter().enumerate() {
             let mut seat = place.seat.lock(rt);
-            if seat.is_closed || seat.stream.is_some() {
+            if !seat.may_sit() {
                 continue;
             }
             let other = stream.try_clone().ok()?;
@@ -104,9 +104,7 @@ impl Seats {
         match self.places.get(asker.seat) {
             Some(place) => {
                 let mut seat = place.seat.lock(rt);
-                let may_ask = seat.is_here(asker.visit) && seat.outbox.way() == Way::Open;
-                seat.is_asking = may_ask;
-                may_ask
+                seat.ask(asker.visit)
             }
             None => false,
         }
@@ -119,10 +117,10 @@ impl Seats {
         };
         let mut seat = place.seat.lock(rt);
         for _ in rt.forever() {
-            if !seat.is_here(asker.visit) || seat.outbox.way() != Way::Open {
+            if !seat.is_here(asker.visit) || seat.way() != Way::Open {
                 return false;
             }
-            if !seat.is_asking {
+            if !seat.is_asking() {
                 return true;
             }
             seat = place.changed.wait(rt, seat);
@@ -130,19 +128,23 @@ impl Seats {
         false
     }
 
+    // Wakes the thread that writes to a client, and counts a client that was cut off; whether the text was taken.
+    fn note_given(&self, place: &Place, given: Given) -> bool {
+        match given {
+            Given::Gone => return false,
+            Given::Dropped => self.note_dropped(),
+            Given::Taken => {}
+        }
+        place.changed.notify_all();
+        given == Given::Taken
+    }
+
     /// Answers a client's command; whether the client is still there and there was room. Where it is not, nothing happens.
     pub fn answer<R: Wait>(&self, rt: &R, asker: Asker, text: &[u8]) -> bool {
         match self.places.get(asker.seat) {
             Some(place) => {
-                let mut seat = place.seat.lock(rt);
-                let was_open = seat.is_here(asker.visit) && seat.outbox.way() == Way::Open;
-                let taken = seat.answer(asker.visit, text);
-                drop(seat);
-                if was_open && !taken {
-                    self.note_dropped();
-                }
-                place.changed.notify_all();
-                taken
+                let given = place.seat.lock(rt).answer(asker.visit, text);
+                self.note_given(place, given)
             }
             None => false,
         }
@@ -151,17 +153,14 @@ impl Seats {
     /// The client reads events too from now on.
     pub fn follow<R: Wait>(&self, rt: &R, asker: Asker) {
         if let Some(place) = self.places.get(asker.seat) {
-            let mut seat = place.seat.lock(rt);
-            if seat.is_here(asker.visit) {
-                seat.follows = true;
-            }
+            place.seat.lock(rt).follow(asker.visit);
         }
     }
 
     /// Whether anyone reads events too.
     pub fn has_followers<R: Wait>(&self, rt: &R) -> bool {
         for place in &self.places {
-            if place.seat.lock(rt).follows {
+            if place.seat.lock(rt).follows() {
                 return true;
             }
         }
@@ -171,32 +170,17 @@ impl Seats {
     /// Sends a text, of whole lines, to all who follow. A client for which there is no room is cut off.
     pub fn tell<R: Wait>(&self, rt: &R, text: &[u8]) {
         for place in &self.places {
-            let mut seat = place.seat.lock(rt);
-            let is_sent = seat.follows && seat.outbox.way() == Way::Open;
-            let is_dropped = is_sent && !seat.put(text);
-            drop(seat);
-            if is_dropped {
-                self.note_dropped();
-            }
-            if is_sent {
-                place.changed.notify_all();
-            }
+            let given = place.seat.lock(rt).tell(text);
+            let _is_taken = self.note_given(place, given);
         }
     }
 
     /// Sends a text, of whole lines, to one client, beside its answers. Where there is no room for it, the client is cut off.
     pub fn send<R: Wait>(&self, rt: &R, asker: Asker, text: &[u8]) {
-        let Some(place) = self.places.get(asker.seat) else {
-            return;
-        };
-        let mut seat = place.seat.lock(rt);
-        let is_open = seat.is_here(asker.visit) && seat.outbox.way() == Way::Open;
-        let is_dropped = is_open && !seat.put(text);
-        drop(seat);
-        if is_dropped {
-            self.note_dropped();
+        if let Some(place) = self.places.get(asker.seat) {
+            let given = place.seat.lock(rt).send(asker.visit, text);
+            let _is_taken = self.note_given(place, given);
         }
-        place.changed.notify_all();
     }
 
     /// Waits until something is there to be sent, and gives it in place of what `texts` holds; not where nothing more
@@ -207,14 +191,14 @@ impl Seats {
         };
         let mut seat = place.seat.lock(rt);
         for _ in rt.forever() {
-            if !seat.is_here(asker.visit) || seat.outbox.way() == Way::Cut {
+            if !seat.is_here(asker.visit) || seat.way() == Way::Cut {
                 return false;
             }
-            if !seat.outbox.is_empty() {
-                seat.outbox.take(texts);
+            if seat.has_text() {
+                seat.take(texts);
                 return true;
             }
-            if seat.outbox.way() == Way::Ending {
+            if seat.way() == Way::Ending {
                 return false;
             }
             seat = place.changed.wait(rt, seat);
@@ -249,7 +233,7 @@ impl Seats {
     /// Whether nobody may sit down any more.
     pub fn is_closed<R: Wait>(&self, rt: &R) -> bool {
         for place in &self.places {
-            if !place.seat.lock(rt).is_closed {
+            if !place.seat.lock(rt).is_closed() {
                 return false;
             }
         }
@@ -260,11 +244,7 @@ impl Seats {
     /// they are cut off.
     pub fn close<R: Wait>(&self, rt: &R) {
         for place in &self.places {
-            let mut seat = place.seat.lock(rt);
-            seat.is_closed = true;
-            seat.end();
-            seat.shut(Shutdown::Read);
-            drop(seat);
+            place.seat.lock(rt).close();
             place.changed.notify_all();
         }
     }
@@ -277,7 +257,7 @@ impl Seats {
             let mut seat = place.seat.lock(rt);
             for _ in rt.forever() {
                 let now = rt.monotonic().unwrap_or(Duration::MAX);
-                if seat.stream.is_none() || now >= end {
+                if !seat.is_taken() || now >= end {
                     break;
                 }
                 let (again, _) = place

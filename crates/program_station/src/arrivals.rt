@@ -1,3 +1,6 @@
+ghost use Rattle.std.specs.Prelude.{◌≡◌, None, false};
+ghost use Rattle.program_station.specs.Hearing.{is_heard};
+
 use crate::forwarder::Forwarder;
 use entity_workers::{Message, Source, message_of};
 use lane_table::{Done, Refused};
@@ -18,6 +21,13 @@ pub enum Sources {
     Any,
     /// Those whose address the configuration has. All others are counted and dropped, and nothing of them is read.
     KnownAlone,
+}
+
+// Whether a datagram is heard, by whether the configuration has the address that it came from.
+fn is_heard(sources: Sources, is_known: bool) -> bool
+    ensures { result ≡ is_heard sources is_known }
+{
+    is_known || sources == Sources::Any
 }
 
 /// The datagrams that arrive at a socket. Each worker reads its own, so none passes from one thread to another.
@@ -52,8 +62,10 @@ impl<'a> Arrivals<'a> {
         forwarder: &Forwarder<'_, R>,
         count: usize,
         is_known: bool,
-    ) -> Option<Message> {
-        if !is_known && self.sources == Sources::KnownAlone {
+    ) -> Option<Message>
+        ensures unheard { is_heard self.now.sources is_known ≡ false → result ≡ None }
+    {
+        if !is_heard(self.sources, is_known) {
             forwarder.note_refusal(RefusalKind::ForeignSource);
             return None;
         }

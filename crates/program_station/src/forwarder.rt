@@ -123,7 +123,7 @@ pub fn forwarders_of<'a, R>(
     for traffic in &tallies.workers {
         forwarders.push(Forwarder {
             rt,
-            sender: PduSender::new(alloc, socket, config, traffic)?,
+            sender: PduSender::new(alloc, socket, config, traffic, &tallies.links)?,
             desk,
             local: config.entity().local,
             others,

@@ -6,10 +6,13 @@ mod answers;
 mod arrivals;
 mod clock;
 mod forwarder;
+mod link_book;
 mod station;
+mod storing;
 
 pub use answers::flat;
 pub use arrivals::{Arrivals, READ_FAILURES, Sources};
 pub use clock::{moment, wall_moment};
 pub use forwarder::{Forwarder, forwarders_of, run_forwarders};
-pub use station::{REST_MS, Station, StoredNote};
+pub use station::{REST_MS, Station};
+pub use storing::{Preparing, StoredNote};

@@ -1,12 +1,15 @@
 //! What the main thread keeps, and its turns.
 use crate::answers::{flat, obstacle_of};
 use crate::clock::moment;
-use cfdp_types::{Deposit, TxnKey};
-use entity_workers::{DepositRest, Filestore, deposit_one, finish};
+use crate::link_book::{Departure, LinkBook};
+use crate::storing::{Preparing, StoredNote, Waiting};
+use cfdp_types::{EntityId, TxnKey};
+use entity_workers::Filestore;
 use lane_table::Done;
 use program_agenda::{Agenda, Fate, Pace, fate_of_pump, fate_of_retry};
 use program_desk::{Desk, Step};
 use program_link::{PduSender, reach_of};
+use program_tallies::Tallies;
 use shared_entity::{Entity, EntityRefusal};
 use shared_lanes::{Names, NoGate};
 use std::alloc::{AllocError, Global};
@@ -14,28 +17,16 @@ use std::sync::Wait;
 use std::time::Clock;
 use timer_list::Armed;
 
-// How many PDUs of files leave in a turn at most.
+// How many PDUs of files leave in a turn at most, and how many timers expire.
 const PUMPS: usize = 16;
+
+const EXPIRATIONS: usize = 16;
+
+// How many timers of a link that was released go on in a turn.
+const GOING_ON: usize = 64;
 
 /// How long what was refused for want of memory or of room in a queue rests, in milliseconds.
 pub const REST_MS: u64 = 10;
-
-/// A deposit that waits.
-#[derive(Drop)]
-enum Waiting {
-    /// It was handed out.
-    New(Deposit),
-    /// It came back.
-    Rest(DepositRest),
-}
-
-/// What became of a received file.
-#[derive(Clone, Copy, Debug, PartialEq, Eq)]
-pub struct StoredNote {
-    pub key: TxnKey,
-    /// Whether the store kept it.
-    pub is_kept: bool,
-}
 
 /// A step of which something is left to be noted, since there was no memory.
 #[derive(Drop)]
@@ -49,41 +40,98 @@ struct Unsettled {
 /// more is begun while something waits for that.
 #[derive(Drop)]
 pub struct Station<'a, N: Names, R: Copy, S: Drop> {
-    rt: &'a R,
-    entity: &'a Entity<N, R>,
+    pub(crate) rt: &'a R,
+    pub(crate) entity: &'a Entity<N, R>,
     sender: PduSender<'a>,
-    store: S,
-    agenda: Agenda<Waiting>,
+    pub(crate) store: S,
+    pub(crate) agenda: Agenda<Waiting>,
+    /// How fast octets may leave by the links that have no limit of their own.
     pace: Pace,
+    links: LinkBook<'a>,
     reach: u64,
     unsettled: Option<Unsettled>,
     kept_timer: Option<Armed>,
     kept_deposit: Option<Waiting>,
-    stored: Option<StoredNote>,
+    pub(crate) stored: Option<StoredNote>,
+    /// For how many milliseconds a file that can't be stored is tried again.
+    pub(crate) retry: u64,
 }
 
-impl<'a, N: Names, R: Wait + Copy + Clock, S: Filestore + Drop> Station<'a, N, R, S> {
-    /// A station where nothing is to be done, that lets at most so many octets a second leave for its files.
+impl<'a, N: Names, R: Wait + Copy + Clock, S: Filestore + Preparing + Drop> Station<'a, N, R, S> {
+    /// A station where nothing is to be done, that lets at most so many octets a second leave for its files. All links are open.
     pub fn new(
         rt: &'a R,
         alloc: Global,
         entity: &'a Entity<N, R>,
         sender: PduSender<'a>,
         store: S,
+        tallies: &'a Tallies,
         octets_a_second: Option<u64>,
-    ) -> Station<'a, N, R, S> {
-        Station {
+    ) -> Result<Station<'a, N, R, S>, AllocError> {
+        Ok(Station {
             rt,
             entity,
             sender,
             store,
             agenda: Agenda::new(alloc),
             pace: Pace::new(octets_a_second),
+            links: LinkBook::new(alloc, entity.config(), tallies)?,
             reach: 0,
             unsettled: None,
             kept_timer: None,
             kept_deposit: None,
             stored: None,
+            retry: 0,
+        })
+    }
+
+    /// A file that can't be stored is tried again for so many milliseconds.
+    pub fn try_for(&mut self, milliseconds: u64) {
+        self.retry = milliseconds;
+    }
+
+    /// Files to a remote entity have a limit of their own from now on, of so many octets a second; what else leaves for that
+    /// entity counts, too. Whether the configuration has the entity.
+    pub fn limit(&mut self, remote: EntityId, octets_a_second: u64) -> bool {
+        match self.links.place_of(remote) {
+            Some(place) => {
+                self.links.limit(place, octets_a_second);
+                true
+            }
+            None => false,
+        }
+    }
+
+    /// Nothing leaves for a remote entity from now on, a moment in milliseconds since 1970: its files rest, and so do its timers
+    /// once they expire. Whether the configuration has the entity.
+    pub fn hold(&mut self, remote: EntityId, at: u64) -> bool {
+        match self.links.place_of(remote) {
+            Some(place) => {
+                self.links.hold(place, at);
+                true
+            }
+            None => false,
+        }
+    }
+
+    /// The link to a remote entity is open again, at a moment of the runtime's clock. Whether the configuration has the entity.
+    pub fn release(&mut self, remote: EntityId, now: u64) -> bool {
+        match self.links.place_of(remote) {
+            Some(place) => {
+                if self.links.release(place, now) {
+                    self.agenda.wake_all();
+                }
+                true
+            }
+            None => false,
+        }
+    }
+
+    /// Whether nothing leaves for a remote entity.
+    pub fn is_held(&self, remote: EntityId) -> bool {
+        match self.links.place_of(remote) {
+            Some(place) => self.links.is_held(place),
+            None => false,
         }
     }
 
@@ -102,8 +150,9 @@ impl<'a, N: Names, R: Wait + Copy + Clock, S: Filestore + Drop> Station<'a, N, R
         self.agenda.reserve()
     }
 
-    /// A file is under way from now on, for which there is room.
-    pub fn begin(&mut self, key: TxnKey) {
+    /// A file is under way to a remote entity from now on, for which there is room.
+    pub fn begin(&mut self, key: TxnKey, destination: EntityId) {
+        self.links.begin(key, destination);
         let _room_was_made = self.agenda.begin(key);
     }
 
@@ -158,7 +207,7 @@ impl<'a, N: Names, R: Wait + Copy + Clock, S: Filestore + Drop> Station<'a, N, R
     }
 
     // A deposit waits, behind all others.
-    fn keep(&mut self, waiting: Waiting) {
+    pub(crate) fn keep(&mut self, waiting: Waiting) {
         if let Err(back) = self.agenda.keep(waiting) {
             self.kept_deposit = Some(back);
         }
@@ -207,22 +256,72 @@ impl<'a, N: Names, R: Wait + Copy + Clock, S: Filestore + Drop> Station<'a, N, R
         count > 0
     }
 
-    /// A turn: at most one timer, sixteen PDUs of files in rotation, and one deposit. Whether anything came of it.
+    /// A turn: at most sixteen timers, sixteen PDUs of files in rotation, and one deposit. Whether anything came of it.
     pub fn turn(&mut self, now: u64) -> bool {
         if !self.is_settled() {
             return false;
         }
-        let has_expired = self.expire(now);
+        let has_gone_on = self.go_on();
+        let has_expired = self.expire_some(now);
         let has_pumped = self.pump_some(now);
         let has_stored = self.is_settled() && self.store_one(now);
-        has_expired || has_pumped || has_stored
+        has_gone_on || has_expired || has_pumped || has_stored
     }
 
-    // A timer that has expired, if there is one.
+    // Timers go on that rested by a link which is open again, if there are any.
+    fn go_on(&mut self) -> bool {
+        let Some(place) = self.links.going_on() else {
+            return false;
+        };
+        for _ in 0..GOING_ON {
+            if !self.is_settled() {
+                break;
+            }
+            let Some(timer) = self.agenda.next_resting(place) else {
+                self.links.has_gone_on(place);
+                break;
+            };
+            self.put_back(timer);
+        }
+        true
+    }
+
+    // Timers that have expired; whether something came of one.
+    fn expire_some(&mut self, now: u64) -> bool {
+        let mut has_expired = false;
+        for _ in 0..EXPIRATIONS {
+            if !self.is_settled() || !self.expire(now) {
+                break;
+            }
+            has_expired = true;
+        }
+        has_expired
+    }
+
+    // A timer that has expired, if there is one. By a held link it rests, and behind a release silence counts anew.
     fn expire(&mut self, now: u64) -> bool {
         let Some(timer) = self.agenda.due(now) else {
             return false;
         };
+        let Some(place) = self.links.link_of(timer.key) else {
+            return self.tell_expired(timer, now);
+        };
+        if self.links.is_held(place) {
+            if let Err(back) = self.agenda.lay_by(place, timer) {
+                self.kept_timer = Some(back);
+            }
+            return true;
+        }
+        let deadline = self.links.deadline(place, timer);
+        if deadline > now {
+            self.put_back(Armed { deadline, ..timer });
+            return true;
+        }
+        self.tell_expired(timer, now)
+    }
+
+    // The entity is told that a timer has expired.
+    fn tell_expired(&mut self, timer: Armed, now: u64) -> bool {
         let Armed {
             key,
             kind,
@@ -257,19 +356,34 @@ impl<'a, N: Names, R: Wait + Copy + Clock, S: Filestore + Drop> Station<'a, N, R
         has_pumped
     }
 
-    // The next PDU of the file whose turn it is, if one is under way and the pace allows.
+    // The next PDU of the file whose turn it is, if one is under way and its pace allows.
     fn pump(&mut self, now: u64) -> bool {
-        if !self.pace.is_free(now) {
+        if !self.links.has_paces() && !self.pace.is_free(now) {
             return false;
         }
         let Some(key) = self.agenda.next_sending(now) else {
             return false;
         };
+        let departure = self.links.departure(key, now);
+        let until = match departure {
+            Departure::Shared if !self.pace.is_free(now) => self.pace.free_moment(),
+            Departure::Shared | Departure::Now => return self.pump_file(key, departure, now),
+            Departure::From(moment) => moment,
+            Departure::Held => u64::MAX,
+        };
+        self.agenda.rest(key, until);
+        true
+    }
+
+    // The next PDU of a file.
+    fn pump_file(&mut self, key: TxnKey, departure: Departure, now: u64) -> bool {
         match flat(self.entity.pump(self.rt, &NoGate, key)) {
             Ok(done) => {
                 let octets = self.sender.send_done(&done) as u64;
                 self.reach = self.reach.max(reach_of(&done));
-                self.pace = self.pace.spend(octets, now);
+                if departure == Departure::Shared {
+                    self.pace = self.pace.spend(octets, now);
+                }
                 self.settle(Step::of(done, now));
                 true
             }
@@ -284,57 +398,16 @@ impl<'a, N: Names, R: Wait + Copy + Clock, S: Filestore + Drop> Station<'a, N, R
         }
     }
 
-    // The first deposit, if one waits.
-    fn store_one(&mut self, now: u64) -> bool {
-        if self.store.calls() == u64::MAX {
-            return false;
-        }
-        let (calls, failures) = (self.store.calls(), self.store.failures());
-        let (key, answer) = match self.agenda.next_deposit() {
-            None => return false,
-            Some(Waiting::New(deposit)) => (
-                deposit.key,
-                deposit_one(self.rt, self.entity, &mut self.store, deposit),
-            ),
-            Some(Waiting::Rest(rest)) => (
-                rest.deposit.key,
-                finish(self.rt, self.entity, &mut self.store, rest),
-            ),
-        };
-        if self.store.calls() > calls {
-            let is_kept = self.store.failures() == failures;
-            self.stored = Some(StoredNote { key, is_kept });
-        }
-        match answer {
-            Ok(done) => {
-                self.settle_own(done);
-                true
-            }
-            Err(rest) if fate_of_retry(obstacle_of(&rest.refusal)) == Fate::Again => {
-                self.keep(Waiting::Rest(rest));
-                false
-            }
-            Err(_) => true,
-        }
-    }
-
-    /// What became of the file that the last turn stored, unless it was taken.
-    pub fn take_stored(&mut self) -> Option<StoredNote> {
-        self.stored.take()
-    }
-
-    /// How many files the store was given, and how many of them it did not keep.
-    pub fn stores(&self) -> (u64, u64) {
-        (self.store.calls(), self.store.failures())
-    }
-
     /// The moment until which nothing has to be done unless something comes, after a turn of which nothing came.
     pub fn next_moment(&self, now: u64) -> u64 {
         let soon = now.saturating_add(REST_MS);
         if !self.is_settled() {
             return soon;
         }
-        let sending = self.agenda.soonest_sending().max(self.pace.free_moment());
+        let mut sending = self.agenda.soonest_sending();
+        if !self.links.has_paces() {
+            sending = sending.max(self.pace.free_moment());
+        }
         let until = self.agenda.soonest_timer().min(sending);
         if self.agenda.has_deposits() {
             until.min(soon)

@@ -6,9 +6,9 @@ use program_events::{EventLog, Kept};
 use program_seats::{Asker, Seats};
 use program_tallies::RefusalCase;
 use station_lines::{
-    EventHead, IndicationEvent, LogStatus, Moment, PutEvent, push_end_event, push_indication_event,
-    push_put_event, push_reads_ended_event, push_refused_event, push_start_event,
-    push_stored_event,
+    EventHead, IndicationEvent, LogStatus, Moment, PutEvent, UnsentEvent, push_end_event,
+    push_hold_event, push_indication_event, push_put_event, push_reads_ended_event,
+    push_refused_event, push_release_event, push_start_event, push_stored_event, push_unsent_event,
 };
 use std::alloc::{AllocError, Global};
 use std::rt::Files;
@@ -18,7 +18,7 @@ use std::sync::Wait;
 const WORD: &str = "event ";
 
 /// The events that a server reports: to the clients that follow, to the log, and to who comes later. Those of a turn leave
-/// at its end.
+/// at its end. An event for which there is no memory is lost, and its number is missing.
 #[derive(Drop)]
 pub struct Events<'a, R: Files> {
     alloc: Global,
@@ -125,75 +125,188 @@ impl<'a, R: Wait + Files> Events<'a, R> {
         }
     }
 
-    // Reports an event.
-    fn add(&mut self, line: String) -> Result<(), AllocError> {
+    // Reports an event whose line was written, where there was memory for it.
+    fn add(&mut self, line: Result<String, AllocError>) {
+        let Ok(line) = line else {
+            return;
+        };
         self.octets = self.octets.saturating_add(line.len());
         if let Some(log) = &mut self.log {
             log.push(line.as_str());
         }
         if self.has_followers {
-            self.told.push_str(WORD)?;
-            self.told.push_str(line.as_str())?;
+            self.tell(line.as_str());
         }
-        self.kept.push(line)
+        let _kept_where_there_is_memory = self.kept.push(line);
+    }
+
+    // An event is for the clients that follow: the whole of it or nothing.
+    fn tell(&mut self, line: &str) {
+        if self
+            .told
+            .try_reserve(WORD.len().saturating_add(line.len()))
+            .is_ok()
+        {
+            let _there_is_room = self.told.push_str(WORD);
+            let _there_is_room = self.told.push_str(line);
+        }
     }
 
     /// The server has started.
-    pub fn start(&mut self, at: Moment, id: EntityId, version: &str) -> Result<(), AllocError> {
-        let mut line = String::new(self.alloc);
-        push_start_event(self.alloc, &mut line, self.next_head(at), id, version)?;
-        self.add(line)
+    pub fn start(&mut self, at: Moment, id: EntityId, version: &str) {
+        let head = self.next_head(at);
+        let line = start_line(self.alloc, head, id, version);
+        self.add(line);
     }
 
     /// The server ends.
-    pub fn end(&mut self, at: Moment) -> Result<(), AllocError> {
-        let mut line = String::new(self.alloc);
-        push_end_event(self.alloc, &mut line, self.next_head(at))?;
-        self.add(line)
+    pub fn end(&mut self, at: Moment) {
+        let head = self.next_head(at);
+        let line = end_line(self.alloc, head);
+        self.add(line);
     }
 
     /// A user of this name received a bundle.
-    pub fn receive(&mut self, at: Moment, user: &str, bundle: &Bundle) -> Result<(), AllocError> {
+    pub fn receive(&mut self, at: Moment, user: &str, bundle: &Bundle) {
         for indication in bundle.inds.as_slice() {
-            let mut line = String::new(self.alloc);
             let event = IndicationEvent {
                 user,
                 key: bundle.key,
                 indication,
             };
-            push_indication_event(self.alloc, &mut line, self.next_head(at), &event)?;
-            self.add(line)?;
+            let head = self.next_head(at);
+            let line = indication_line(self.alloc, head, &event);
+            self.add(line);
         }
-        Ok(())
     }
 
     /// A Put opened a transaction.
-    pub fn put(&mut self, at: Moment, put: &PutEvent<'_>) -> Result<(), AllocError> {
-        let mut line = String::new(self.alloc);
-        push_put_event(self.alloc, &mut line, self.next_head(at), put)?;
-        self.add(line)
+    pub fn put(&mut self, at: Moment, put: &PutEvent<'_>) {
+        let head = self.next_head(at);
+        let line = put_line(self.alloc, head, put);
+        self.add(line);
     }
 
-    /// The store kept a received file, or did not.
-    pub fn store(&mut self, at: Moment, key: TxnKey, is_kept: bool) -> Result<(), AllocError> {
-        let mut line = String::new(self.alloc);
-        push_stored_event(self.alloc, &mut line, self.next_head(at), key, is_kept)?;
-        self.add(line)
+    /// A file of the outbox was not sent.
+    pub fn fail(&mut self, at: Moment, unsent: &UnsentEvent<'_>) {
+        let head = self.next_head(at);
+        let line = unsent_line(self.alloc, head, unsent);
+        self.add(line);
+    }
+
+    /// Nothing leaves for a remote entity.
+    pub fn hold(&mut self, at: Moment, id: EntityId) {
+        let head = self.next_head(at);
+        let line = hold_line(self.alloc, head, id);
+        self.add(line);
+    }
+
+    /// The link to a remote entity is open again.
+    pub fn release(&mut self, at: Moment, id: EntityId) {
+        let head = self.next_head(at);
+        let line = release_line(self.alloc, head, id);
+        self.add(line);
+    }
+
+    /// The store kept a received file, at a place below its folder, or did not.
+    pub fn store(&mut self, at: Moment, key: TxnKey, is_kept: bool, place: Option<&str>) {
+        let head = self.next_head(at);
+        let line = stored_line(self.alloc, head, key, is_kept, place);
+        self.add(line);
     }
 
     /// Something was refused, so often since the last event of its kind.
-    pub fn refuse(&mut self, at: Moment, case: &RefusalCase) -> Result<(), AllocError> {
-        let origin = origin_of(self.alloc, case)?;
-        let shown = refused_case(case, &origin, case.unreported());
-        let mut line = String::new(self.alloc);
-        push_refused_event(self.alloc, &mut line, self.next_head(at), &shown)?;
-        self.add(line)
+    pub fn refuse(&mut self, at: Moment, case: &RefusalCase) {
+        let head = self.next_head(at);
+        let line = refused_line(self.alloc, head, case);
+        self.add(line);
     }
 
     /// A worker reads no more.
-    pub fn end_reads(&mut self, at: Moment) -> Result<(), AllocError> {
-        let mut line = String::new(self.alloc);
-        push_reads_ended_event(self.alloc, &mut line, self.next_head(at))?;
-        self.add(line)
+    pub fn end_reads(&mut self, at: Moment) {
+        let head = self.next_head(at);
+        let line = reads_ended_line(self.alloc, head);
+        self.add(line);
     }
+}
+
+fn start_line(
+    alloc: Global,
+    head: EventHead,
+    id: EntityId,
+    version: &str,
+) -> Result<String, AllocError> {
+    let mut line = String::new(alloc);
+    push_start_event(alloc, &mut line, head, id, version)?;
+    Ok(line)
+}
+
+fn end_line(alloc: Global, head: EventHead) -> Result<String, AllocError> {
+    let mut line = String::new(alloc);
+    push_end_event(alloc, &mut line, head)?;
+    Ok(line)
+}
+
+fn indication_line(
+    alloc: Global,
+    head: EventHead,
+    event: &IndicationEvent<'_>,
+) -> Result<String, AllocError> {
+    let mut line = String::new(alloc);
+    push_indication_event(alloc, &mut line, head, event)?;
+    Ok(line)
+}
+
+fn put_line(alloc: Global, head: EventHead, put: &PutEvent<'_>) -> Result<String, AllocError> {
+    let mut line = String::new(alloc);
+    push_put_event(alloc, &mut line, head, put)?;
+    Ok(line)
+}
+
+fn unsent_line(
+    alloc: Global,
+    head: EventHead,
+    unsent: &UnsentEvent<'_>,
+) -> Result<String, AllocError> {
+    let mut line = String::new(alloc);
+    push_unsent_event(alloc, &mut line, head, unsent)?;
+    Ok(line)
+}
+
+fn hold_line(alloc: Global, head: EventHead, id: EntityId) -> Result<String, AllocError> {
+    let mut line = String::new(alloc);
+    push_hold_event(alloc, &mut line, head, id)?;
+    Ok(line)
+}
+
+fn release_line(alloc: Global, head: EventHead, id: EntityId) -> Result<String, AllocError> {
+    let mut line = String::new(alloc);
+    push_release_event(alloc, &mut line, head, id)?;
+    Ok(line)
+}
+
+fn stored_line(
+    alloc: Global,
+    head: EventHead,
+    key: TxnKey,
+    is_kept: bool,
+    place: Option<&str>,
+) -> Result<String, AllocError> {
+    let mut line = String::new(alloc);
+    push_stored_event(alloc, &mut line, head, key, is_kept, place)?;
+    Ok(line)
+}
+
+fn refused_line(alloc: Global, head: EventHead, case: &RefusalCase) -> Result<String, AllocError> {
+    let origin = origin_of(alloc, case)?;
+    let shown = refused_case(case, &origin, case.unreported());
+    let mut line = String::new(alloc);
+    push_refused_event(alloc, &mut line, head, &shown)?;
+    Ok(line)
+}
+
+fn reads_ended_line(alloc: Global, head: EventHead) -> Result<String, AllocError> {
+    let mut line = String::new(alloc);
+    push_reads_ended_event(alloc, &mut line, head)?;
+    Ok(line)
 }

@@ -8,4 +8,4 @@ mod status;
 
 pub use events::Events;
 pub use notes::{LaneNote, LaneNotes};
-pub use status::{Shown, push_status};
+pub use status::{Queued, Shown, push_outbox, push_status};

@@ -1,5 +1,7 @@
 //! What the server saw last of each lane.
 use cfdp_types::TxnKey;
+use entity_config::Config;
+use entity_routing::lanes_of;
 use indications::{Bundle, Indication};
 use station_lines::{Ending, Moment};
 use std::alloc::{AllocError, Global};
@@ -30,11 +32,12 @@ pub struct LaneNotes {
 }
 
 impl LaneNotes {
-    /// Nothing was seen, of so many users.
-    pub fn new(alloc: Global, users: usize) -> Result<LaneNotes, AllocError> {
-        let mut all = Vec::with_capacity(alloc, users)?;
-        for _ in 0..users {
-            all.push(Vec::new(alloc))?;
+    /// Nothing was seen, of any lane of a configuration's users.
+    pub fn new(alloc: Global, config: &Config) -> Result<LaneNotes, AllocError> {
+        let mut all = Vec::with_capacity(alloc, config.users())?;
+        for user in 0..config.users() {
+            let lanes = lanes_of(config, user);
+            all.push(Vec::from_elem(alloc, LaneNote::NOTHING, lanes)?)?;
         }
         Ok(LaneNotes { users: all })
     }
@@ -48,14 +51,10 @@ impl LaneNotes {
     }
 
     /// Notes a bundle that came at a moment.
-    pub fn note(&mut self, bundle: &Bundle, at: Moment) -> Result<(), AllocError> {
+    pub fn note(&mut self, bundle: &Bundle, at: Moment) {
         let Some(lanes) = self.users.get_mut(bundle.user) else {
-            return Ok(());
+            return;
         };
-        let missing = (bundle.lane.saturating_add(1)).saturating_sub(lanes.len());
-        for _ in 0..missing {
-            lanes.push(LaneNote::NOTHING)?;
-        }
         if let Some(note) = lanes.get_mut(bundle.lane) {
             *note = LaneNote {
                 key: Some(bundle.key),
@@ -63,7 +62,6 @@ impl LaneNotes {
                 ending: ending_in(bundle.inds.as_slice()),
             };
         }
-        Ok(())
     }
 }
 

@@ -6,12 +6,14 @@ use cfdp_types::limits::{JOURNAL_ENTRIES, JOURNAL_ENTRIES_KEPT};
 use entity_config::Config;
 use entity_routing::Place;
 use lane_table::Glance;
+use program_outbox::{Outbox, Waiting};
 use program_tallies::Tallies;
 use shared_entity::{Entity, EntityRefusal};
 use shared_lanes::Names;
 use station_lines::{
-    Counters, EntityStatus, LogStatus, Moment, Notice, RemoteStatus, TransactionStatus, UserStatus,
-    push_entity, push_log, push_refusal, push_remote, push_transaction, push_user,
+    Counters, EntityStatus, LogStatus, Moment, Notice, QueuedStatus, RemoteStatus,
+    TransactionStatus, UserStatus, push_entity, push_log, push_queued, push_refusal, push_remote,
+    push_transaction, push_user,
 };
 use std::alloc::{AllocError, Global};
 use std::sync::Wait;
@@ -22,6 +24,14 @@ const FEW_ROUNDS: u64 = 1_000;
 
 const WIDEST_ROUND: u64 = 512;
 
+/// The files that wait to be sent.
+#[derive(Clone, Copy)]
+pub struct Queued<'a> {
+    /// Those whose turn came, and which could not be put yet.
+    pub returned: &'a [Waiting],
+    pub outbox: &'a Outbox,
+}
+
 /// What a status shows beside the entity.
 #[derive(Clone, Copy)]
 pub struct Shown<'a> {
@@ -30,6 +40,7 @@ pub struct Shown<'a> {
     pub now: Moment,
     pub tallies: &'a Tallies,
     pub notes: &'a LaneNotes,
+    pub queued: Queued<'a>,
     /// The number of the last event.
     pub events: u64,
     pub log: Option<LogStatus>,
@@ -39,8 +50,8 @@ pub struct Shown<'a> {
     pub stores: (u64, u64),
 }
 
-/// Adds a line for the entity, for the log, for each user, for each lane that has run a transaction, for each remote entity,
-/// and for each kind of refusal. Each lane's lock is taken for itself.
+/// Adds a line for the entity, for the log, for each user, for each lane that has run a transaction, for each file of the
+/// outbox, for each remote entity, and for each kind of refusal. Each lane's lock is taken for itself.
 pub fn push_status<N: Names, R: Wait + Copy>(
     rt: &R,
     alloc: Global,
@@ -54,6 +65,7 @@ pub fn push_status<N: Names, R: Wait + Copy>(
     for user in 0..entity.users() {
         push_lanes(rt, alloc, text, entity, user, shown.notes)?;
     }
+    push_outbox(alloc, text, entity.config(), &shown.queued)?;
     push_remotes(alloc, text, entity, shown.tallies)?;
     push_refusals(rt, alloc, text, shown.tallies)
 }
@@ -91,6 +103,7 @@ fn counters_of(shown: &Shown<'_>) -> Counters {
         octets_out: totals.octets_out,
         failed_sends: totals.failed_sends,
         failed_reads: totals.failed_reads,
+        ended_reads: totals.ended_reads,
         foreign_datagrams: totals.foreign_datagrams,
         decode_faults: totals.decode_faults,
         refused: shown.tallies.ledger.total(),
@@ -178,6 +191,41 @@ fn notice_of(glance: &Glance, few_numbers: u64) -> Option<Notice> {
     }
 }
 
+/// Adds a line for each file that waits.
+pub fn push_outbox(
+    alloc: Global,
+    text: &mut String,
+    config: &Config,
+    queued: &Queued<'_>,
+) -> Result<(), AllocError> {
+    for waiting in queued.returned {
+        push_waiting(alloc, text, config, waiting)?;
+    }
+    for waiting in queued.outbox.waiting() {
+        push_waiting(alloc, text, config, waiting)?;
+    }
+    Ok(())
+}
+
+fn push_waiting(
+    alloc: Global,
+    text: &mut String,
+    config: &Config,
+    waiting: &Waiting,
+) -> Result<(), AllocError> {
+    let file = &waiting.file;
+    let queued = QueuedStatus {
+        number: waiting.number,
+        user: config.name_of(waiting.user).unwrap_or(""),
+        class: file.class,
+        destination: file.destination,
+        file: file.source.as_slice(),
+        to: file.target.as_slice(),
+        since: Moment(file.since),
+    };
+    push_queued(alloc, text, &queued)
+}
+
 fn push_remotes<N: Names, R: Copy>(
     alloc: Global,
     text: &mut String,
@@ -193,7 +241,7 @@ fn push_remotes<N: Names, R: Copy>(
         let status = RemoteStatus {
             id: remote.id,
             address: config.address_of(remote.id),
-            held: false,
+            held_since: tallies.links.held_since(place).map(Moment),
             datagrams_in: totals.datagrams_in,
             octets_in: totals.octets_in,
             datagrams_out: totals.datagrams_out,

@@ -1,12 +1,15 @@
-//! What a program counts: datagrams by thread and by remote entity, and refusals by their kind.
+//! What the threads of a program share beside the entity: counts of datagrams by thread and by remote entity, refusals by their
+//! kind, and which links are held.
 #![tactic(auto)]
 
 mod ledger;
+mod links;
 mod refusals;
 mod tallies;
 mod traffic;
 
 pub use ledger::Ledger;
+pub use links::Links;
 pub use refusals::{RefusalCase, RefusalKind, SHOWN_OCTETS};
 pub use tallies::Tallies;
 pub use traffic::{RemoteTotals, Totals, Traffic};

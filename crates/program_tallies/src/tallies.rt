@@ -1,9 +1,10 @@
 //! What all threads of a program count.
 use crate::ledger::Ledger;
+use crate::links::Links;
 use crate::traffic::{RemoteTotals, Totals, Traffic};
 use std::alloc::{AllocError, Global};
 
-/// What all threads of a program count.
+/// What all threads of a program count, and which links are held.
 #[derive(Drop)]
 pub struct Tallies {
     /// By the main thread.
@@ -11,6 +12,7 @@ pub struct Tallies {
     /// By each worker.
     pub workers: Vec<Traffic>,
     pub ledger: Ledger,
+    pub links: Links,
 }
 
 impl Tallies {
@@ -24,6 +26,7 @@ impl Tallies {
             own: Traffic::new(alloc, remotes)?,
             workers: all,
             ledger: Ledger::new(alloc)?,
+            links: Links::new(alloc, remotes)?,
         })
     }
 

@@ -1,5 +1,5 @@
 use cfdp_types::{EntityId, TimerKind, TimerOp, TxnKey};
-use program_agenda::Agenda;
+use program_agenda::{Agenda, deadline_behind};
 use std::alloc::{AllocError, Global};
 use std::test::*;
 
@@ -41,5 +41,53 @@ fn timers_come(alloc: Global) -> Result<bool, AllocError> {
 fn timers(rt: HostRuntime) -> Result<(), Fail> {
     let alloc = rt.alloc();
     assert!(rt; timers_come(alloc)?);
+    Ok(())
+}
+
+// A timer that expired while its link was held rests until it goes on; one that was armed anew rests no more. Behind a release
+// silence counts anew.
+fn timers_rest(alloc: Global) -> Result<bool, AllocError> {
+    let mut agenda: Agenda<u32> = Agenda::new(alloc);
+    let arm = TimerOp::Arm {
+        key: key_of(5),
+        kind: TimerKind::Inactivity,
+        stamp: 1,
+        ms: 1_000,
+    };
+    agenda.apply(arm, 0)?;
+    let Some(timer) = agenda.due(1_000) else {
+        return Ok(false);
+    };
+    let rests = agenda.lay_by(3, timer).is_ok() && agenda.due(9_000).is_none();
+    let goes_on = agenda.next_resting(2).is_none() && agenda.next_resting(3) == Some(timer);
+    let is_laid_by = agenda.lay_by(3, timer).is_ok();
+    agenda.apply(arm, 9_000)?;
+    Ok(
+        rests
+            && goes_on
+            && is_laid_by
+            && agenda.next_resting(3).is_none()
+            && deadline_behind(timer, 8_000, 1_000) == 9_000,
+    )
+}
+
+#[test]
+fn resting_timers(rt: HostRuntime) -> Result<(), Fail> {
+    let alloc = rt.alloc();
+    assert!(rt; timers_rest(alloc)?);
+    Ok(())
+}
+
+// Every file that rests is under way again.
+#[test]
+fn woken_files(rt: HostRuntime) -> Result<(), Fail> {
+    let mut agenda: Agenda<u32> = Agenda::new(rt.alloc());
+    for seq in [5u64, 6] {
+        agenda.begin(key_of(seq))?;
+        agenda.rest(key_of(seq), u64::MAX);
+    }
+    assert!(rt; agenda.next_sending(1_000).is_none());
+    agenda.wake_all();
+    assert!(rt; agenda.soonest_sending() == 0 && agenda.next_sending(0) == Some(key_of(5)));
     Ok(())
 }

@@ -1,6 +1,6 @@
 use entity_routing::RouteRefusal;
 use pdu_reading::DecodeFault;
-use program_tallies::{RefusalKind, RemoteTotals, Tallies, Totals};
+use program_tallies::{Links, RefusalKind, RemoteTotals, Tallies, Totals};
 use std::test::*;
 use txn_events::Refusal;
 
@@ -61,5 +61,19 @@ fn refusals(rt: HostRuntime) -> Result<(), Fail> {
     ledger.note(&rt, ODD, 5_020, None, &[7; 100]);
     let due = ledger.take_unreported(&rt, alloc)?;
     assert!(rt; due.len() == 1 && due[0].unreported() == 1 && due[0].octets().len() == 64);
+    Ok(())
+}
+
+// A link is held since it was held first, until it is released.
+#[test]
+fn links(rt: HostRuntime) -> Result<(), Fail> {
+    let links = Links::new(rt.alloc(), 2)?;
+    links.hold(1, 5);
+    links.hold(1, 9);
+    links.hold(2, 9);
+    assert!(rt; links.held_since(1) == Some(5) && links.is_held(1));
+    assert!(rt; !links.is_held(0) && !links.is_held(2));
+    assert!(rt; links.release(1) && !links.release(1) && !links.release(0));
+    assert_eq!(rt; links.held_since(1), None);
     Ok(())
 }

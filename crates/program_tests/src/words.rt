@@ -1,5 +1,5 @@
 use cfdp_types::{Class, EntityId};
-use program_words::{PutWords, ServerWords, WordsFault, put_words, server_words};
+use program_words::{PutWords, Rate, ServerWords, WordsFault, put_words, server_words};
 use std::alloc::{AllocError, Global};
 use std::test::*;
 
@@ -100,7 +100,11 @@ fn is_server(words: &ServerWords<'_>, workers: u64, rate: Option<u64>, follow: b
         && words.bind == "1.2.3.4:5"
         && words.folder == "f"
         && words.workers == workers
-        && words.rate == rate
+        && words.rates.first().copied()
+            == rate.map(|octets| Rate {
+                remote: None,
+                octets,
+            })
         && words.follow == follow
 }
 
@@ -136,6 +140,47 @@ fn places(rt: HostRuntime) -> Result<(), Fail> {
         server_words(alloc, line.as_slice()).err(),
         Some(WordsFault::Usage)
     );
+    Ok(())
+}
+
+// Limits of single remote entities, each once, beside one of all the rest; and what else a station may be started with.
+#[test]
+fn limits(rt: HostRuntime) -> Result<(), Fail> {
+    let alloc = rt.alloc();
+    let line = split(
+        alloc,
+        "s --config c --bind 1.2.3.4:5 --folder f --rate 7=5 --rate 9 --rate=8=6 --hold --tree --keep --retry 60",
+    )?;
+    let words = server_words(alloc, line.as_slice());
+    assert!(rt;
+        words.is_ok_and(|words| words.rates.len() == 3
+            && words.rates.first().is_some_and(|rate| rate.remote == Some(EntityId(7))
+                && rate.octets == 5)
+            && words
+                .rates
+                .get(1)
+                .is_some_and(|rate| rate.remote.is_none() && rate.octets == 9)
+            && words.hold
+            && words.tree
+            && words.keep
+            && words.retry == Some(60))
+    );
+    for rates in [
+        "--rate 7=5 --rate 7=6",
+        "--rate 5 --rate 5",
+        "--rate =5",
+        "--rate 7=",
+        "--rate 7=0",
+        "--retry 0",
+    ] {
+        let mut text = String::from_str(alloc, "s --config c --bind 1.2.3.4:5 --folder f ")?;
+        text.push_str(rates)?;
+        let line = split(alloc, text.as_str())?;
+        assert_eq!(rt;
+            server_words(alloc, line.as_slice()).err(),
+            Some(WordsFault::Usage)
+        );
+    }
     Ok(())
 }
 

@@ -1,12 +1,21 @@
 -- Meaning. What the command lines of the programs say: which options and words they have, and what a line gives to each.
-use Rattle.std.specs.Prelude.{◌≡◌, Bool, true, false, List, [], ◌∷◌, Some, codes}
-use Rattle.clap.specs.Words.{App, Rule, Text, first_of, matches_of, new_rule}
+use Rattle.std.specs.Prelude.{◌≡◌, Bool, true, false, List, [], ◌∷◌, Option, Some, None, codes, map, option_and_then}
+use Rattle.std.specs.Option.{option_map}
+use Rattle.clap.specs.Words.{App, Rule, Text, all_of, first_of, first_value, matched_of, matches_of, new_rule, one_of, one_text, raw_values}
+use Rattle.clap.specs.declared.parser.matches.Found.{Found}
 use Rattle.clap.specs.Simple.{new_shape}
-use Rattle.clap.specs.declared.builder.action.ArgAction.TheVariants.{Set, SetTrue}
+use Rattle.program_words.specs.Numbers.{class_of, first_number, limit_of, number_within, rates_of, seconds_of, workers_of}
+use Rattle.program_words.specs.declared.putting.PutWords.{PutWords}
+use Rattle.program_words.specs.declared.serving.ServerWords.{ServerWords}
+use Rattle.clap.specs.declared.builder.action.ArgAction.TheVariants.{Append, Set, SetTrue}
 
 -- an option with a value, which has to be given or not
 abbrev pub valued : Text → Bool → Rule
 valued name is_required = record (new_rule name) { long = Some name; action = Some Set; required = is_required }
+
+-- an option with a value, which may be given several times
+abbrev pub repeated : Text → Rule
+repeated name = record (new_rule name) { long = Some name; action = Some Append }
 
 -- a word that is there or not
 abbrev pub flag : Text → Rule
@@ -32,10 +41,67 @@ put_program = program_of (codes "cfdp_put")
 abbrev pub server_program : App
 server_program = program_of (codes "cfdp_server")
     (valued (codes "config") true ∷ valued (codes "bind") true ∷ valued (codes "folder") true
-    ∷ valued (codes "workers") false ∷ valued (codes "rate") false ∷ flag (codes "follow")
+    ∷ valued (codes "workers") false ∷ repeated (codes "rate") ∷ flag (codes "follow")
     ∷ valued (codes "control") false ∷ valued (codes "log") false ∷ valued (codes "numbers") false
-    ∷ flag (codes "known-sources") ∷ [])
+    ∷ flag (codes "known-sources") ∷ flag (codes "hold") ∷ flag (codes "tree") ∷ flag (codes "keep")
+    ∷ valued (codes "retry") false ∷ [])
 
--- the first value that a line, the program's own name first, gives to the option or word of a name
-abbrev pub Gives : App → List Text → Text → Text → Type 0
-Gives program line name value = first_of name (matches_of program line) ≡ Some value
+-- what is given to an option or word, by its name: its first value as it stands and as it is read, and all its values
+pub record Givings : Type 0 where
+  pub first : Text → Option Text
+  pub one : Text → Option Text
+  pub all : Text → Option (List Text)
+
+-- what a line gives, the program's own name first
+abbrev pub given_by : App → List Text → Givings
+given_by program line = record {
+  first = λ name. first_of name (matches_of program line);
+  one = λ name. one_of name (matches_of program line);
+  all = λ name. all_of name (matches_of program line);
+}
+
+-- what matches give
+abbrev pub found_in : Found → Givings
+found_in found = record {
+  first = λ name. first_value found name;
+  one = λ name. one_text found name;
+  all = λ name. option_map raw_values (matched_of found name);
+}
+
+-- whether a word that is there or not is there
+pub record IsFlag (found : Option Text) (is_there : Bool) : Type 0 where
+  pub missing : found ≡ None → is_there ≡ false
+  pub there : found ≡ Some (codes "true") → is_there ≡ true
+  pub absent : found ≡ Some (codes "false") → is_there ≡ false
+
+-- what the server is started with, as its line gives it
+pub record ServerSays (given : Givings) (words : ServerWords) : Type 0 where
+  pub config : given.first (codes "config") ≡ Some words.config.now
+  pub bind : given.first (codes "bind") ≡ Some words.bind.now
+  pub folder : given.first (codes "folder") ≡ Some words.folder.now
+  pub workers : workers_of (given.first (codes "workers")) ≡ Some words.workers
+  pub rates : rates_of (given.all (codes "rate")) ≡ map Some words.rates.items
+  pub follow : IsFlag (given.one (codes "follow")) words.follow
+  pub control : given.first (codes "control") ≡ option_map (λ path. path.now) words.control
+  pub log : given.first (codes "log") ≡ option_map (λ path. path.now) words.log
+  pub numbers : given.first (codes "numbers") ≡ option_map (λ path. path.now) words.numbers
+  pub known_sources : IsFlag (given.one (codes "known-sources")) words.known_sources
+  pub hold : IsFlag (given.one (codes "hold")) words.hold
+  pub tree : IsFlag (given.one (codes "tree")) words.tree
+  pub keep : IsFlag (given.one (codes "keep")) words.keep
+  pub retry : seconds_of (given.first (codes "retry")) ≡ Some words.retry
+
+-- what is put, and how, as its line gives it
+pub record PutSays (given : Givings) (words : PutWords) : Type 0 where
+  pub config : given.first (codes "config") ≡ Some words.config.now
+  pub bind : given.first (codes "bind") ≡ Some words.bind.now
+  pub user : given.first (codes "user") ≡ Some words.user.now
+  pub remote : option_and_then (number_within 0 18446744073709551615) (given.first (codes "remote")) ≡ Some words.remote.0
+  pub class : option_and_then class_of (given.first (codes "class")) ≡ Some words.class
+  pub rate : limit_of (given.first (codes "rate")) ≡ Some words.rate
+  pub closure : IsFlag (given.one (codes "closure")) words.closure
+  pub first : first_number (given.first (codes "first")) ≡ Some words.first
+  pub numbers : given.first (codes "numbers") ≡ option_map (λ path. path.now) words.numbers
+  pub known_sources : IsFlag (given.one (codes "known-sources")) words.known_sources
+  pub source : given.first (codes "source") ≡ Some words.source.now
+  pub target : given.first (codes "target") ≡ Some words.target.now

@@ -1,10 +1,65 @@
 -- Meaning. Numbers on a command line.
-use Rattle.std.specs.Prelude.{ℕ, nat_lt, if◌then◌else◌, List, Option, Some, None}
+use Rattle.std.specs.Prelude.{ℕ, ◌+◌, ◌==◌, nat_lt, if◌then◌else◌, List, [], map, Option, Some, None, position, take, drop}
+use Rattle.std.specs.Option.{option_map}
+use Rattle.cfdp_types.specs.declared.limits.TheConstants.{CONFIGURED_NUMBER}
+use Rattle.cfdp_types.specs.declared.names.Class.{Class}
+use Rattle.cfdp_types.specs.declared.names.Class.TheVariants as class
 use Rattle.line_words.specs.Words.{decimal_of}
 use Rattle.line_words.specs.Operands.{◌>>=◌}
+use Rattle.program_words.specs.declared.rates.Rate.{Rate}
 
 -- the number that a word writes in decimal digits, where it is within a range
 abbrev pub number_within : ℕ → ℕ → List ℕ → Option ℕ
 number_within least most word = do
   number ← decimal_of most word
   if nat_lt number least then None else Some number
+
+-- an option's number where the option is given, and nothing where it isn't; none where its word is no such number
+abbrev pub perhaps : (List ℕ → Option ℕ) → Option (List ℕ) → Option (Option ℕ)
+perhaps read None = Some None
+perhaps read (Some word) = option_map Some (read word)
+
+-- how many workers a word asks for: 4 where there is none
+abbrev pub workers_of : Option (List ℕ) → Option ℕ
+workers_of None = Some 4
+workers_of (Some word) = number_within 1 16 word
+
+-- for how many seconds, a day at most
+abbrev pub seconds_of : Option (List ℕ) → Option (Option ℕ)
+seconds_of word = perhaps (number_within 1 86400) word
+
+-- how many octets a second
+abbrev pub limit_of : Option (List ℕ) → Option (Option ℕ)
+limit_of word = perhaps (number_within 1 1000000000) word
+
+-- where numbers of transactions begin
+abbrev pub first_number : Option (List ℕ) → Option (Option ℕ)
+first_number word = perhaps (number_within 0 CONFIGURED_NUMBER) word
+
+-- a class by its number
+abbrev pub class_of : List ℕ → Option Class
+class_of word = do
+  number ← number_within 1 2 word
+  Some (if number == 1 then class.One else class.Two)
+
+-- a limit of octets a second: of one remote entity as REMOTE=N, of all the rest as N
+abbrev pub rate_by : Option ℕ → List ℕ → Option Rate
+rate_by None word = do
+  octets ← number_within 1 1000000000 word
+  Some (record { remote = None; octets = octets })
+rate_by (Some place) word = do
+  remote ← decimal_of 18446744073709551615 (take place word)
+  octets ← number_within 1 1000000000 (drop (place + 1) word)
+  Some (record { remote = Some (record { 0 = remote }); octets = octets })
+
+-- where the first sign = stands
+abbrev pub equals_place : List ℕ → Option ℕ
+equals_place word = position (λ octet. octet == 61) word
+
+abbrev pub rate_of : List ℕ → Option Rate
+rate_of word = rate_by (equals_place word) word
+
+-- the limits of all words that are given
+abbrev pub rates_of : Option (List (List ℕ)) → List (Option Rate)
+rates_of None = []
+rates_of (Some words) = map rate_of words

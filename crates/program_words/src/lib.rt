@@ -5,9 +5,11 @@ mod fault;
 mod line;
 mod options;
 mod putting;
+mod rates;
 mod serving;
 
 pub use fault::WordsFault;
 pub use line::line_of;
 pub use putting::{PutWords, put_help, put_version, put_words};
+pub use rates::Rate;
 pub use serving::{SERVER_VERSION, ServerWords, server_help, server_version, server_words};

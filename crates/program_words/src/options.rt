@@ -1,19 +1,23 @@
 //! What both command lines have.
 ghost use Rattle.std.specs.Prelude.{◌≡◌, false, true};
+ghost use Rattle.std.specs.Option.{option_map};
 ghost use Rattle.clap.specs.Words.{rule_of};
-ghost use Rattle.program_words.specs.Lines.{flag, valued};
-ghost use Rattle.program_words.specs.Numbers.{number_within};
+ghost use Rattle.program_words.specs.Lines.{flag, repeated, valued};
+ghost use Rattle.program_words.specs.Numbers.{first_number, limit_of, number_within, seconds_of, workers_of};
 
 use crate::fault::WordsFault;
-use cfdp_types::limits::NAME_OCTETS;
+use cfdp_types::limits::{CONFIGURED_NUMBER, NAME_OCTETS};
 use clap::error::ErrorKind;
 use clap::{Arg, ArgAction, Error};
 use line_words::decimal;
 use std::alloc::Global;
 use std::net::SocketAddrV4;
 
+// The seconds of a day.
+const A_DAY: u64 = 86_400;
+
 // The greatest limit that can be asked for.
-const MOST_OCTETS_A_SECOND: u64 = 1_000_000_000;
+pub(crate) const MOST_OCTETS_A_SECOND: u64 = 1_000_000_000;
 
 /// An option with a value that has to be given.
 pub(crate) fn required<'a>(alloc: Global, name: &'static str) -> Arg<'a>
@@ -29,6 +33,14 @@ pub(crate) fn optional<'a>(alloc: Global, name: &'static str) -> Arg<'a>
     ensures local { result.global ≡ false }
 {
     Arg::new(alloc, name).long(name).action(ArgAction::Set)
+}
+
+/// An option with a value, which may be given several times.
+pub(crate) fn repeated<'a>(alloc: Global, name: &'static str) -> Arg<'a>
+    ensures rule { rule_of result ≡ repeated name.entry.now }
+    ensures local { result.global ≡ false }
+{
+    Arg::new(alloc, name).long(name).action(ArgAction::Append)
 }
 
 /// A word that is there or not.
@@ -53,7 +65,14 @@ pub(crate) fn fault_of(error: &Error) -> WordsFault {
 pub(crate) fn number_within(word: &str, least: u64, most: u64) -> Option<u64>
     ensures { result ≡ number_within least most word.now }
 {
-    let number = decimal(word.as_bytes(), most)?;
+    octets_within(word.as_bytes(), least, most)
+}
+
+/// The same of a word's octets.
+pub(crate) fn octets_within(word: &[u8], least: u64, most: u64) -> Option<u64>
+    ensures { result ≡ number_within least most word.now }
+{
+    let number = decimal(word, most)?;
     if number < least { None } else { Some(number) }
 }
 
@@ -74,9 +93,41 @@ pub(crate) fn is_name(word: &str) -> bool {
 }
 
 /// The limit of octets a second that a word gives, if there is one: nothing where the word is none.
-pub(crate) fn rate_of(word: Option<&str>) -> Option<Option<u64>> {
+pub(crate) fn limit_of(word: Option<&str>) -> Option<Option<u64>>
+    ensures { result ≡ limit_of (option_map (λ word. word.now) word.entry) }
+{
     match word {
         None => Some(None),
         Some(word) => Some(Some(number_within(word, 1, MOST_OCTETS_A_SECOND)?)),
+    }
+}
+
+/// The seconds that a word gives, likewise.
+pub(crate) fn seconds_of(word: Option<&str>) -> Option<Option<u64>>
+    ensures { result ≡ seconds_of (option_map (λ word. word.now) word.entry) }
+{
+    match word {
+        None => Some(None),
+        Some(word) => Some(Some(number_within(word, 1, A_DAY)?)),
+    }
+}
+
+/// The number of the first transaction that a word gives, likewise.
+pub(crate) fn first_number(word: Option<&str>) -> Option<Option<u64>>
+    ensures { result ≡ first_number (option_map (λ word. word.now) word.entry) }
+{
+    match word {
+        None => Some(None),
+        Some(word) => Some(Some(number_within(word, 0, CONFIGURED_NUMBER)?)),
+    }
+}
+
+/// How many workers a word asks for: 4 where there is none.
+pub(crate) fn workers_of(word: Option<&str>) -> Option<u64>
+    ensures { result ≡ workers_of (option_map (λ word. word.now) word.entry) }
+{
+    match word {
+        None => Some(4),
+        Some(word) => number_within(word, 1, 16),
     }
 }

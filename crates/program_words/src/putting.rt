@@ -1,12 +1,12 @@
-ghost use Rattle.std.specs.Prelude.{◌≡◌, IfOk, IfSome, Some, codes, false, map, string_bytes};
-ghost use Rattle.clap.specs.Words.{app_of, first_value, found_of, rule_of};
-ghost use Rattle.program_words.specs.Lines.{Gives, placed, put_program};
+ghost use Rattle.std.specs.Prelude.{◌≡◌, IfOk, IfSome, false, map, string_bytes};
+ghost use Rattle.clap.specs.Words.{app_of, found_of, rule_of};
+ghost use Rattle.program_words.specs.Lines.{PutSays, found_in, given_by, placed, put_program};
+ghost use Rattle.program_words.specs.Numbers.{class_of};
 
 use crate::fault::WordsFault;
 use crate::options::{
-    fault_of, flag, is_address, is_name, number_within, optional, rate_of, required,
+    fault_of, first_number, flag, is_address, is_name, limit_of, number_within, optional, required,
 };
-use cfdp_types::limits::CONFIGURED_NUMBER;
 use cfdp_types::{Class, EntityId};
 use clap::{Arg, ArgAction, ArgMatches, Command};
 use std::alloc::{AllocError, Global};
@@ -39,7 +39,7 @@ pub struct PutWords<'a> {
     pub known_sources: bool,
 }
 
-const HELP: &str = "Sends one file by CFDP over UDP, and prints what its user is told.
+const HELP: &str = "Sends one file by CFDP over UDP, and prints its user's indications.
 
 Usage: cfdp_put --config FILE --bind ADDR --user NAME --remote ID --class N [--closure] [--rate N] [--first N]
        [--numbers FILE] [--known-sources] SRC DST
@@ -102,33 +102,19 @@ fn command<'a>(alloc: Global) -> Result<Command<'a>, AllocError>
     Ok(command)
 }
 
-fn class_of(word: &str) -> Option<Class> {
+// A class by its number.
+fn class_of(word: &str) -> Option<Class>
+    ensures { result ≡ class_of word.now }
+{
     match number_within(word, 1, 2)? {
         1 => Some(Class::One),
         _ => Some(Class::Two),
     }
 }
 
-// The number of the first transaction that a word gives, if there is one: nothing where the word is none.
-fn first_of(word: Option<&str>) -> Option<Option<u64>> {
-    match word {
-        None => Some(None),
-        Some(word) => Some(Some(number_within(word, 0, CONFIGURED_NUMBER)?)),
-    }
-}
-
 // What the matches of a command line say.
 fn words_in<'a>(matches: &ArgMatches<'a>) -> Option<PutWords<'a>>
-    ensures config { IfSome result
-        (λ words. first_value (found_of matches.now) (codes "config") ≡ Some words.config.now) }
-    ensures bind { IfSome result
-        (λ words. first_value (found_of matches.now) (codes "bind") ≡ Some words.bind.now) }
-    ensures user { IfSome result
-        (λ words. first_value (found_of matches.now) (codes "user") ≡ Some words.user.now) }
-    ensures source { IfSome result
-        (λ words. first_value (found_of matches.now) (codes "source") ≡ Some words.source.now) }
-    ensures target { IfSome result
-        (λ words. first_value (found_of matches.now) (codes "target") ≡ Some words.target.now) }
+    ensures { IfSome result (λ words. PutSays (found_in (found_of matches.now)) words) }
 {
     let config = matches.get_str("config")?;
     let bind = matches.get_str("bind")?;
@@ -137,9 +123,9 @@ fn words_in<'a>(matches: &ArgMatches<'a>) -> Option<PutWords<'a>>
     let class = class_of(matches.get_str("class")?)?;
     let source = matches.get_str("source")?;
     let target = matches.get_str("target")?;
-    let rate = rate_of(matches.get_str("rate"))?;
+    let rate = limit_of(matches.get_str("rate"))?;
     let closure = matches.get_flag("closure");
-    let first = first_of(matches.get_str("first"))?;
+    let first = first_number(matches.get_str("first"))?;
     let numbers = matches.get_str("numbers");
     let known_sources = matches.get_flag("known-sources");
     if !is_address(bind) || !is_name(source) || !is_name(target) || numbers == Some("") {
@@ -164,16 +150,7 @@ fn words_in<'a>(matches: &ArgMatches<'a>) -> Option<PutWords<'a>>
 // What a line says to a command with the program's options.
 fn words_by<'a>(command: Command<'a>, line: &'a [String]) -> Result<PutWords<'a>, WordsFault>
     requires { app_of command ≡ put_program }
-    ensures config { IfOk result
-        (λ words. Gives put_program (map string_bytes line.entry.now) (codes "config") words.config.now) }
-    ensures bind { IfOk result
-        (λ words. Gives put_program (map string_bytes line.entry.now) (codes "bind") words.bind.now) }
-    ensures user { IfOk result
-        (λ words. Gives put_program (map string_bytes line.entry.now) (codes "user") words.user.now) }
-    ensures source { IfOk result
-        (λ words. Gives put_program (map string_bytes line.entry.now) (codes "source") words.source.now) }
-    ensures target { IfOk result
-        (λ words. Gives put_program (map string_bytes line.entry.now) (codes "target") words.target.now) }
+    ensures { IfOk result (λ words. PutSays (given_by put_program (map string_bytes line.entry.now)) words) }
 {
     match command.try_get_matches_from(line) {
         Ok(matches) => words_in(&matches).ok_or(WordsFault::Usage),
@@ -183,16 +160,7 @@ fn words_by<'a>(command: Command<'a>, line: &'a [String]) -> Result<PutWords<'a>
 
 /// What a command line of the program says; its first word is the program's own name.
 pub fn put_words<'a>(alloc: Global, line: &'a [String]) -> Result<PutWords<'a>, WordsFault>
-    ensures config { IfOk result
-        (λ words. Gives put_program (map string_bytes line.entry.now) (codes "config") words.config.now) }
-    ensures bind { IfOk result
-        (λ words. Gives put_program (map string_bytes line.entry.now) (codes "bind") words.bind.now) }
-    ensures user { IfOk result
-        (λ words. Gives put_program (map string_bytes line.entry.now) (codes "user") words.user.now) }
-    ensures source { IfOk result
-        (λ words. Gives put_program (map string_bytes line.entry.now) (codes "source") words.source.now) }
-    ensures target { IfOk result
-        (λ words. Gives put_program (map string_bytes line.entry.now) (codes "target") words.target.now) }
+    ensures { IfOk result (λ words. PutSays (given_by put_program (map string_bytes line.entry.now)) words) }
 {
     match command(alloc) {
         Ok(command) => words_by(command, line),

@@ -1,14 +1,18 @@
 ghost use Rattle.std.specs.Prelude.{◌≡◌, IfOk, IfSome, Some, codes, map, string_bytes};
-ghost use Rattle.clap.specs.Words.{app_of, first_value, found_of};
-ghost use Rattle.program_words.specs.Lines.{Gives, server_program};
+ghost use Rattle.clap.specs.Words.{app_of, found_of};
+ghost use Rattle.program_words.specs.Lines.{ServerSays, found_in, given_by, server_program};
+ghost use Rattle.program_words.specs.Numbers.{rates_of};
 
 use crate::fault::WordsFault;
-use crate::options::{fault_of, flag, is_address, number_within, optional, rate_of, required};
+use crate::options::{
+    fault_of, flag, is_address, optional, repeated, required, seconds_of, workers_of,
+};
+use crate::rates::{Rate, rates_of};
 use clap::{ArgMatches, Command};
 use std::alloc::{AllocError, Global};
 
 /// What the server is started with.
-#[derive(Clone, Copy, Debug)]
+#[derive(Debug, Drop)]
 pub struct ServerWords<'a> {
     /// The path of the configuration's file.
     pub config: &'a str,
@@ -18,8 +22,9 @@ pub struct ServerWords<'a> {
     pub folder: &'a str,
     /// How many workers bring datagrams to their lanes: 1 to 16.
     pub workers: u64,
-    /// How many octets of files' PDUs may leave in a second, where that is limited.
-    pub rate: Option<u64>,
+    /// How many octets of files' PDUs may leave in a second, where that is limited: at most one limit of each remote entity, and
+    /// one of all the rest.
+    pub rates: Vec<Rate>,
     /// Whether each user's indications are printed as they come.
     pub follow: bool,
     /// The path of the socket by which clients command the server, in place of standard input and output.
@@ -30,28 +35,45 @@ pub struct ServerWords<'a> {
     pub numbers: Option<&'a str>,
     /// Whether datagrams from addresses that the configuration doesn't have are dropped.
     pub known_sources: bool,
+    /// Whether nothing leaves for any remote entity until it is released.
+    pub hold: bool,
+    /// Whether slashes in a received file's name lead into folders.
+    pub tree: bool,
+    /// Whether a file that is there is kept, and the new one gets a name of its own.
+    pub keep: bool,
+    /// For how many seconds a received file that can't be stored is tried again: 1 to 86,400.
+    pub retry: Option<u64>,
 }
 
 const HELP: &str = "Receives and sends files by CFDP over UDP, as one entity.
 
-Usage: cfdp_server --config FILE --bind ADDR --folder DIR [--workers N] [--rate N] [--follow]
-       [--control PATH] [--log FILE] [--numbers FILE] [--known-sources]
+Usage: cfdp_server --config FILE --bind ADDR --folder DIR [--workers N] [--rate [ID=]N].. [--follow]
+       [--control PATH] [--log FILE] [--numbers FILE] [--known-sources] [--hold] [--tree] [--keep] [--retry N]
 
   --config FILE   the configuration of the entity, in TOML
   --bind ADDR     where it listens: A.B.C.D:PORT, all in decimal
   --folder DIR    where received files are kept
   --workers N     threads that take datagrams, 1 to 16 (4 where it is left out)
   --rate N        octets a second that leave for files under way, 1 to 1000000000 (no limit where it is left out)
-  --follow        prints what each user is told as it comes, as if it were taken between the commands
+  --rate ID=N     the same for the files to one remote entity; may be given once for each
+  --follow        prints each user's indications as they come, as if they were taken between the commands
   --control PATH  takes commands and answers at this socket, in place of standard input and output
   --log FILE      appends events to this file, one JSON object a line
   --numbers FILE  keeps in this file where the numbers of the next run begin
   --known-sources drops datagrams from addresses that the configuration doesn't have
+  --hold          nothing leaves for any remote entity until `release`
+  --tree          slashes in a received file's name lead into folders
+  --keep          a file that is there stays, and the new one gets `.1`, `.2` .. behind its name
+  --retry N       tries for so many seconds to store a received file, 1 to 86400 (once where it is left out)
   --help          prints this, and ends
   --version       prints the version, and ends
 
 Commands come on the standard input, or by the socket, one a line:
   put USER LANE CLASS DEST SRC DST [closure]
+  send USER CLASS DEST SRC DST [closure]
+  outbox
+  drop NUMBER
+  hold|release ID
   cancel|suspend|resume|report|abandon USER SOURCE SEQ
   take USER
   trace SOURCE SEQ
@@ -84,42 +106,45 @@ fn command<'a>(alloc: Global) -> Result<Command<'a>, AllocError>
         .arg(required(alloc, "bind"))?
         .arg(required(alloc, "folder"))?
         .arg(optional(alloc, "workers"))?
-        .arg(optional(alloc, "rate"))?
+        .arg(repeated(alloc, "rate"))?
         .arg(flag(alloc, "follow"))?
         .arg(optional(alloc, "control"))?
         .arg(optional(alloc, "log"))?
         .arg(optional(alloc, "numbers"))?
-        .arg(flag(alloc, "known-sources"))?;
+        .arg(flag(alloc, "known-sources"))?
+        .arg(flag(alloc, "hold"))?
+        .arg(flag(alloc, "tree"))?
+        .arg(flag(alloc, "keep"))?
+        .arg(optional(alloc, "retry"))?;
     Ok(command)
 }
 
-// How many workers a word asks for: 4 where there is none.
-fn workers_of(word: Option<&str>) -> Option<u64> {
-    match word {
-        None => Some(4),
-        Some(word) => number_within(word, 1, 16),
-    }
+// What the matches of a command line say.
+fn words_in<'a>(alloc: Global, matches: &ArgMatches<'a>) -> Result<ServerWords<'a>, WordsFault>
+    ensures { IfOk result (λ words. ServerSays (found_in (found_of matches.now)) words) }
+{
+    let rates = rates_of(alloc, matches.get_strs("rate"))?;
+    words_with(matches, rates).ok_or(WordsFault::Usage)
 }
 
-// What the matches of a command line say.
-fn words_in<'a>(matches: &ArgMatches<'a>) -> Option<ServerWords<'a>>
-    ensures config { IfSome result
-        (λ words. first_value (found_of matches.now) (codes "config") ≡ Some words.config.now) }
-    ensures bind { IfSome result
-        (λ words. first_value (found_of matches.now) (codes "bind") ≡ Some words.bind.now) }
-    ensures folder { IfSome result
-        (λ words. first_value (found_of matches.now) (codes "folder") ≡ Some words.folder.now) }
+// The same, with the limits that were read of it.
+fn words_with<'a>(matches: &ArgMatches<'a>, rates: Vec<Rate>) -> Option<ServerWords<'a>>
+    requires { rates_of ((found_in (found_of matches.now)).all (codes "rate")) ≡ map Some rates.items }
+    ensures { IfSome result (λ words. ServerSays (found_in (found_of matches.now)) words) }
 {
     let config = matches.get_str("config")?;
     let bind = matches.get_str("bind")?;
     let folder = matches.get_str("folder")?;
     let workers = workers_of(matches.get_str("workers"))?;
-    let rate = rate_of(matches.get_str("rate"))?;
     let follow = matches.get_flag("follow");
     let control = matches.get_str("control");
     let log = matches.get_str("log");
     let numbers = matches.get_str("numbers");
     let known_sources = matches.get_flag("known-sources");
+    let hold = matches.get_flag("hold");
+    let tree = matches.get_flag("tree");
+    let keep = matches.get_flag("keep");
+    let retry = seconds_of(matches.get_str("retry"))?;
     let is_named = control != Some("") && log != Some("") && numbers != Some("");
     if !is_address(bind) || folder.is_empty() || !is_named {
         return None;
@@ -129,42 +154,40 @@ fn words_in<'a>(matches: &ArgMatches<'a>) -> Option<ServerWords<'a>>
         bind,
         folder,
         workers,
-        rate,
+        rates,
         follow,
         control,
         log,
         numbers,
         known_sources,
+        hold,
+        tree,
+        keep,
+        retry,
     })
 }
 
 // What a line says to a command with the program's options.
-fn words_by<'a>(command: Command<'a>, line: &'a [String]) -> Result<ServerWords<'a>, WordsFault>
+fn words_by<'a>(
+    alloc: Global,
+    command: Command<'a>,
+    line: &'a [String],
+) -> Result<ServerWords<'a>, WordsFault>
     requires { app_of command ≡ server_program }
-    ensures config { IfOk result
-        (λ words. Gives server_program (map string_bytes line.entry.now) (codes "config") words.config.now) }
-    ensures bind { IfOk result
-        (λ words. Gives server_program (map string_bytes line.entry.now) (codes "bind") words.bind.now) }
-    ensures folder { IfOk result
-        (λ words. Gives server_program (map string_bytes line.entry.now) (codes "folder") words.folder.now) }
+    ensures { IfOk result (λ words. ServerSays (given_by server_program (map string_bytes line.entry.now)) words) }
 {
     match command.try_get_matches_from(line) {
-        Ok(matches) => words_in(&matches).ok_or(WordsFault::Usage),
+        Ok(matches) => words_in(alloc, &matches),
         Err(error) => Err(fault_of(&error)),
     }
 }
 
 /// What a command line of the server says; its first word is the program's own name.
 pub fn server_words<'a>(alloc: Global, line: &'a [String]) -> Result<ServerWords<'a>, WordsFault>
-    ensures config { IfOk result
-        (λ words. Gives server_program (map string_bytes line.entry.now) (codes "config") words.config.now) }
-    ensures bind { IfOk result
-        (λ words. Gives server_program (map string_bytes line.entry.now) (codes "bind") words.bind.now) }
-    ensures folder { IfOk result
-        (λ words. Gives server_program (map string_bytes line.entry.now) (codes "folder") words.folder.now) }
+    ensures { IfOk result (λ words. ServerSays (given_by server_program (map string_bytes line.entry.now)) words) }
 {
     match command(alloc) {
-        Ok(command) => words_by(command, line),
+        Ok(command) => words_by(alloc, command, line),
         Err(AllocError) => Err(WordsFault::NoMemory),
     }
 }

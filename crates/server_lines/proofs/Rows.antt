@@ -1,5 +1,5 @@
 -- Worked rows: what lines of commands say, by the reference configuration.
-use Rattle.std.proofs.Common.{◌≡◌, true, false, [], ◌∷◌, map, replicate, Some, None, codes, refl}
+use Rattle.std.proofs.Common.{◌≡◌, true, false, [], ◌∷◌, ◌++◌, map, replicate, Some, None, codes, refl}
 use Rattle.cfdp_types.specs.declared.key.TxnKey.{TxnKey}
 use Rattle.cfdp_types.specs.declared.names.Class.TheVariants.{One, Two}
 use Rattle.entity_config.specs.Reference.{reference_config}
@@ -51,6 +51,55 @@ services = refl
 bad_services : map (command_of reference_config) (codes "status now" ∷ codes "follow x" ∷ codes "follow 1 2" ∷ codes "follow " ∷ codes "follow 18446744073709551616" ∷ [])
     ≡ replicate 5 None
 bad_services = refl
+
+-- names in quotes have any octets, and what stands without quotes means what it means in a line without them
+quoted : map (command_of reference_config) (codes "put \"alice\" 0 1 1 \"a b\" c\"d" ∷ codes "send bob 2 7 \"\\xff\\\"\" b closure" ∷ codes "\"quit\"" ∷ [])
+    ≡ Some (command.Put (record {
+      user = 0;
+      lane = 0;
+      class = One;
+      closure = false;
+      destination = record { 0 = 1 };
+      source = codes "a b";
+      target = codes "c\"d";
+    }))
+    ∷ Some (command.Send (record {
+      user = 1;
+      class = Two;
+      closure = true;
+      destination = record { 0 = 7 };
+      source = 255 ∷ 34 ∷ [];
+      target = codes "b";
+    }))
+    ∷ Some command.Quit
+    ∷ []
+quoted = refl
+
+bad_quoted : map (command_of reference_config) (codes "put alice 0 1 1 \"a b" ∷ codes "put alice 0 1 1 \"a\"b c" ∷ codes "put alice 0 1 1 \"\" b" ∷ codes "send alice 1 1 \"\\n\" b"
+    ∷ (codes "send alice 1 1 \"a\" " ++ 233 ∷ []) ∷ (codes "send alice 1 1 a " ++ 233 ∷ []) ∷ [])
+    ≡ replicate 6 None
+bad_quoted = refl
+
+outbox : map (command_of reference_config) (codes "send alice 1 1 a b" ∷ codes "outbox" ∷ codes "drop 3" ∷ codes "hold 7" ∷ codes "release 7" ∷ [])
+    ≡ Some (command.Send (record {
+      user = 0;
+      class = One;
+      closure = false;
+      destination = record { 0 = 1 };
+      source = codes "a";
+      target = codes "b";
+    }))
+    ∷ Some command.Outbox
+    ∷ Some (command.Drop 3)
+    ∷ Some (command.Hold (record { 0 = 7 }))
+    ∷ Some (command.Release (record { 0 = 7 }))
+    ∷ []
+outbox = refl
+
+bad_outbox : map (command_of reference_config) (codes "send alice 0 1 1 a b" ∷ codes "send carol 1 1 a b" ∷ codes "send alice 1 1 a" ∷ codes "outbox 1" ∷ codes "drop"
+    ∷ codes "drop x" ∷ codes "drop 1 2" ∷ codes "hold" ∷ codes "hold alice" ∷ codes "release 7 7" ∷ [])
+    ≡ replicate 10 None
+bad_outbox = refl
 
 bad_others : map (command_of reference_config) ([] ∷ codes "take" ∷ codes "take carol" ∷ codes "trace 2" ∷ codes "quit now" ∷ codes "quit " ∷ codes "cancel alice 2"
     ∷ codes "stop alice 2 4" ∷ codes " quit" ∷ [])

@@ -2,14 +2,15 @@
 use Rattle.std.specs.Prelude.{ℕ, ◌==◌, ◌||◌, Bool, nat_lt, if◌then◌else◌, List, [], ◌∷◌, length, Option, Some, None, codes, position}
 use Rattle.std.specs.Option.{option_map}
 use Rattle.std.specs.Str.{bytes_eq}
+use Rattle.cfdp_types.specs.declared.key.EntityId.{EntityId}
 use Rattle.cfdp_types.specs.declared.limits.TheConstants.{NAME_OCTETS}
 use Rattle.config_reading.specs.Texts.{is_same_text}
 use Rattle.config_reading.specs.Values.{ConfigValue}
-use Rattle.entity_routing.specs.declared.place.Place.{Place}
-use Rattle.line_words.specs.Words.{words_of}
 use Rattle.line_words.specs.Operands.{◌>>=◌, number_of, key_from, name_of, class_of, closure_of, request_for}
+use Rattle.quoted_words.specs.Quoted.{words_in}
 use Rattle.server_lines.specs.declared.command.Command.{Command}
 use Rattle.server_lines.specs.declared.command.Command.TheVariants as command
+use Rattle.server_lines.specs.declared.sending.Sending.{Sending}
 
 -- ---- words
 
@@ -25,47 +26,77 @@ lane_of config word = do
   lane ← number_of word
   if nat_lt lane config.entity.put_lanes then Some lane else None
 
--- a name that a file may have: a word of ASCII, not empty and not too long
+-- a name that a file may have: not empty and not too long
 abbrev pub file_name_of : List ℕ → Option (List ℕ)
-file_name_of word = do
-  name ← name_of word
-  if (length name == 0) || nat_lt NAME_OCTETS (length name) then None else Some name
+file_name_of word = if (length word == 0) || nat_lt NAME_OCTETS (length word) then None else Some word
 
--- ---- lines
+-- ---- files that are to be sent
 
--- a Put from a place: CLASS DEST SRC DST, with closure asked for or not
-abbrev pub put_from : Place → List ℕ → List ℕ → List ℕ → List ℕ → Bool → Option Command
-put_from place class destination source target closure = do
+-- CLASS DEST SRC DST, with closure asked for or not
+abbrev pub sending_from : List ℕ → List ℕ → List ℕ → List ℕ → Bool → Option Sending
+sending_from class destination source target closure = do
   of_class ← class_of class
   to ← number_of destination
   from_name ← file_name_of source
   to_name ← file_name_of target
-  Some (command.Put (record {
-    user = place.user;
-    lane = place.lane;
-    class = of_class;
-    closure = closure;
-    destination = record { 0 = to };
-    source = from_name;
-    target = to_name;
-  }))
+  Some (record { class = of_class; closure = closure; destination = record { 0 = to }; source = from_name; target = to_name })
 
-abbrev pub put_words : Place → List (List ℕ) → Option Command
-put_words place (class ∷ destination ∷ source ∷ target ∷ operands) = do
+-- the same words, and nothing or the word for closure behind them
+abbrev pub sending_of : List (List ℕ) → Option Sending
+sending_of (class ∷ destination ∷ source ∷ target ∷ operands) = do
   closure ← closure_of operands
-  put_from place class destination source target closure
-put_words place operands = None
+  sending_from class destination source target closure
+sending_of operands = None
+
+-- a file that goes from one of a user's lanes
+abbrev pub put_command : ℕ → ℕ → Sending → Command
+put_command user lane sending =
+    command.Put (record {
+      user = user;
+      lane = lane;
+      class = sending.class;
+      closure = sending.closure;
+      destination = sending.destination;
+      source = sending.source;
+      target = sending.target;
+    })
+
+-- a file that waits for one of a user's lanes
+abbrev pub send_command : ℕ → Sending → Command
+send_command user sending =
+    command.Send (record {
+      user = user;
+      class = sending.class;
+      closure = sending.closure;
+      destination = sending.destination;
+      source = sending.source;
+      target = sending.target;
+    })
 
 -- put USER LANE and what is to be sent
 abbrev pub put_at : ConfigValue → List ℕ → List ℕ → List (List ℕ) → Option Command
 put_at config user lane operands = do
   of_user ← user_of config user
   of_lane ← lane_of config lane
-  put_words (record { user = of_user; lane = of_lane }) operands
+  sending ← sending_of operands
+  Some (put_command of_user of_lane sending)
 
 abbrev pub put_of : ConfigValue → List (List ℕ) → Option Command
 put_of config (user ∷ lane ∷ operands) = put_at config user lane operands
 put_of config operands = None
+
+-- send USER and what is to be sent
+abbrev pub send_at : ConfigValue → List ℕ → List (List ℕ) → Option Command
+send_at config user operands = do
+  of_user ← user_of config user
+  sending ← sending_of operands
+  Some (send_command of_user sending)
+
+abbrev pub send_of : ConfigValue → List (List ℕ) → Option Command
+send_of config (user ∷ operands) = send_at config user operands
+send_of config operands = None
+
+-- ---- other lines
 
 -- a request of a user, by its four words
 abbrev pub asked_from : ConfigValue → List ℕ → List ℕ → List ℕ → List ℕ → Option Command
@@ -106,7 +137,31 @@ abbrev pub quit_of : List (List ℕ) → Option Command
 quit_of [] = Some command.Quit
 quit_of operands = None
 
--- by the first word
+-- outbox, and nothing else
+abbrev pub outbox_of : List (List ℕ) → Option Command
+outbox_of [] = Some command.Outbox
+outbox_of operands = None
+
+-- drop and the number of a file in the outbox
+abbrev pub drop_of : List (List ℕ) → Option Command
+drop_of (number ∷ []) = option_map command.Drop (number_of number)
+drop_of operands = None
+
+-- a remote entity, where it is the only operand
+abbrev pub remote_of : List (List ℕ) → Option EntityId
+remote_of (remote ∷ []) = option_map (λ id. record { 0 = id }) (number_of remote)
+remote_of operands = None
+
+-- by the first word: the outbox and holds, and else a request
+abbrev pub outbox_by : ConfigValue → List ℕ → List (List ℕ) → Option Command
+outbox_by config kind operands =
+    if bytes_eq kind (codes "outbox") then outbox_of operands
+    else if bytes_eq kind (codes "drop") then drop_of operands
+    else if bytes_eq kind (codes "hold") then option_map command.Hold (remote_of operands)
+    else if bytes_eq kind (codes "release") then option_map command.Release (remote_of operands)
+    else asked_of config kind operands
+
+-- the others that send no file
 abbrev pub other_by : ConfigValue → List ℕ → List (List ℕ) → Option Command
 other_by config kind operands =
     if bytes_eq kind (codes "take") then take_of config operands
@@ -114,11 +169,15 @@ other_by config kind operands =
     else if bytes_eq kind (codes "status") then status_of operands
     else if bytes_eq kind (codes "follow") then follow_of operands
     else if bytes_eq kind (codes "quit") then quit_of operands
-    else asked_of config kind operands
+    else outbox_by config kind operands
 
 abbrev pub command_by : ConfigValue → List ℕ → List (List ℕ) → Option Command
 command_by config kind operands =
-    if bytes_eq kind (codes "put") then put_of config operands else other_by config kind operands
+    if bytes_eq kind (codes "put") then put_of config operands
+    else if bytes_eq kind (codes "send") then send_of config operands
+    else other_by config kind operands
+
+-- ---- whole lines
 
 abbrev pub command_of_words : ConfigValue → List (List ℕ) → Option Command
 command_of_words config [] = None
@@ -126,4 +185,6 @@ command_of_words config (kind ∷ operands) = command_by config kind operands
 
 -- what a line asks for, or nothing where it is no command
 abbrev pub command_of : ConfigValue → List ℕ → Option Command
-command_of config line = command_of_words config (words_of line)
+command_of config line = do
+  words ← words_in line
+  command_of_words config words

@@ -1,17 +1,15 @@
 ghost use Rattle.std.specs.Prelude.{◌≡◌, IfOk};
-ghost use Rattle.std.specs.Option.{option_copied};
-ghost use Rattle.line_words.specs.Words.{words_left};
-ghost use Rattle.server_lines.specs.Commands.{command_of, other_by, asked_of, asked_from, take_of, trace_of, status_of, follow_of, quit_of};
+ghost use Rattle.server_lines.specs.Commands.{command_of, command_of_words};
 
-use crate::operands::user_of;
-use crate::put::put;
+use crate::other::other;
+use crate::put::{put, send};
 use cfdp_types::{Class, EntityId, Octets, TxnKey};
 use entity_config::Config;
 use entity_routing::Request;
-use line_words::{Rest, key_from, last_word, next_word, number_of, request_for, split_word};
+use quoted_words::{Words, has_quote, is_ascii, quoted_words};
 use std::alloc::{AllocError, Global};
 
-/// A file that a user wants to be sent.
+/// A file that a user wants to be sent from one of its lanes.
 #[derive(Debug, Drop)]
 pub struct PutCommand {
     pub user: usize,
@@ -20,9 +18,23 @@ pub struct PutCommand {
     /// Whether the receiver is asked to say at the end what became of the file: class 1 alone heeds it.
     pub closure: bool,
     pub destination: EntityId,
-    /// Where the file is read, which is its name at the sender, too: 1 to 255 octets of ASCII.
+    /// Where the file is read, which is its name at the sender, too: 1 to 255 octets, beyond ASCII only where it was quoted.
     pub source: Octets,
-    /// Its name at the receiver: 1 to 255 octets of ASCII.
+    /// Its name at the receiver, of such octets.
+    pub target: Octets,
+}
+
+/// A file that a user wants to be sent once one of its lanes is idle.
+#[derive(Debug, Drop)]
+pub struct SendCommand {
+    pub user: usize,
+    pub class: Class,
+    /// Whether the receiver is asked to say at the end what became of the file: class 1 alone heeds it.
+    pub closure: bool,
+    pub destination: EntityId,
+    /// Where the file is read, which is its name at the sender, too: 1 to 255 octets, beyond ASCII only where it was quoted.
+    pub source: Octets,
+    /// Its name at the receiver, of such octets.
     pub target: Octets,
 }
 
@@ -31,6 +43,8 @@ pub struct PutCommand {
 pub enum Command {
     /// A file is to be sent.
     Put(PutCommand),
+    /// A file is to wait in the outbox.
+    Send(SendCommand),
     /// A user asks for something to happen to a transaction.
     Ask(usize, Request),
     /// A user takes the bundle at the front.
@@ -41,11 +55,20 @@ pub enum Command {
     Status,
     /// The client reads events too from now on, after the last ones of those that are kept, so many at most.
     Follow(u64),
+    /// The files that wait in the outbox.
+    Outbox,
+    /// The file with this number in the outbox is to wait no more.
+    Drop(u64),
+    /// Nothing of the outbox is to go to this entity.
+    Hold(EntityId),
+    /// What waits for this entity may go again.
+    Release(EntityId),
     /// The server is to end.
     Quit,
 }
 
-/// What a line asks for, by the users and lanes of a configuration, or nothing where it is no command.
+/// What a line asks for, by the users and lanes of a configuration, or nothing where it is no command. A line without
+/// double quotes takes memory for the names of a file alone, one with quotes for each of its words.
 pub fn command_of(
     alloc: Global,
     config: &Config,
@@ -53,97 +76,34 @@ pub fn command_of(
 ) -> Result<Option<Command>, AllocError>
     ensures { IfOk result (λ command. command ≡ command_of config.now line.now) }
 {
-    let (kind, operands) = split_word(line);
-    if kind == b"put".as_slice() {
-        return put(alloc, config, operands);
+    if has_quote(line) {
+        return match quoted_words(alloc, line)? {
+            None => Ok(None),
+            Some(words) => command_of_words(alloc, config, Words::of_list(words.as_slice())),
+        };
     }
-    Ok(other(config, kind, operands))
-}
-
-// A command that takes no memory.
-fn other(config: &Config, kind: &[u8], operands: Rest<'_>) -> Option<Command>
-    ensures { result ≡ other_by config.now kind.now (words_left (option_copied operands.entry)) }
-{
-    if kind == b"take".as_slice() {
-        take(config, operands)
-    } else if kind == b"trace".as_slice() {
-        trace(operands)
-    } else if kind == b"status".as_slice() {
-        status(operands)
-    } else if kind == b"follow".as_slice() {
-        follow(operands)
-    } else if kind == b"quit".as_slice() {
-        quit(operands)
+    if is_ascii(line) {
+        command_of_words(alloc, config, Words::of_line(line))
     } else {
-        asked(config, kind, operands)
+        Ok(None)
     }
 }
 
-fn take(config: &Config, operands: Rest<'_>) -> Option<Command>
-    ensures { result ≡ take_of config.now (words_left (option_copied operands.entry)) }
-{
-    let user = user_of(config, last_word(operands)?)?;
-    Some(Command::Take(user))
-}
-
-fn trace(operands: Rest<'_>) -> Option<Command>
-    ensures { result ≡ trace_of (words_left (option_copied operands.entry)) }
-{
-    let (source, operands) = next_word(operands)?;
-    let key = key_from(source, last_word(operands)?)?;
-    Some(Command::Trace(key))
-}
-
-fn status(operands: Rest<'_>) -> Option<Command>
-    ensures { result ≡ status_of (words_left (option_copied operands.entry)) }
-{
-    match next_word(operands) {
-        None => Some(Command::Status),
-        Some(_) => None,
-    }
-}
-
-fn follow(operands: Rest<'_>) -> Option<Command>
-    ensures { result ≡ follow_of (words_left (option_copied operands.entry)) }
-{
-    let Some((count, operands)) = next_word(operands) else {
-        return Some(Command::Follow(0));
-    };
-    let count = number_of(count)?;
-    match next_word(operands) {
-        None => Some(Command::Follow(count)),
-        Some(_) => None,
-    }
-}
-
-fn quit(operands: Rest<'_>) -> Option<Command>
-    ensures { result ≡ quit_of (words_left (option_copied operands.entry)) }
-{
-    match next_word(operands) {
-        None => Some(Command::Quit),
-        Some(_) => None,
-    }
-}
-
-fn asked(config: &Config, kind: &[u8], operands: Rest<'_>) -> Option<Command>
-    ensures { result ≡ asked_of config.now kind.now (words_left (option_copied operands.entry)) }
-{
-    let (user, operands) = next_word(operands)?;
-    let (source, operands) = next_word(operands)?;
-    asked_from(config, kind, user, source, last_word(operands)?)
-}
-
-fn asked_from(
+fn command_of_words(
+    alloc: Global,
     config: &Config,
-    kind: &[u8],
-    user: &[u8],
-    source: &[u8],
-    seq: &[u8],
-) -> Option<Command>
-    ensures { result ≡ asked_from config.now kind.now user.now source.now seq.now }
+    words: Words<'_>,
+) -> Result<Option<Command>, AllocError>
+    ensures { IfOk result (λ command. command ≡ command_of_words config.now words.entry) }
 {
-    let user = user_of(config, user)?;
-    let key = key_from(source, seq)?;
-    let request = request_for(kind, key)?;
-    Some(Command::Ask(user, request))
+    let Some((kind, operands)) = words.next() else {
+        return Ok(None);
+    };
+    if kind == b"put".as_slice() {
+        put(alloc, config, operands)
+    } else if kind == b"send".as_slice() {
+        send(alloc, config, operands)
+    } else {
+        Ok(other(config, kind, operands))
+    }
 }

@@ -3,6 +3,8 @@
 
 mod command;
 mod operands;
+mod other;
 mod put;
+mod sending;
 
-pub use command::{Command, PutCommand, command_of};
+pub use command::{Command, PutCommand, SendCommand, command_of};

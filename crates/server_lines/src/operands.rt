@@ -1,11 +1,14 @@
 //! What single words write, by a configuration.
 ghost use Rattle.std.specs.Prelude.{◌≡◌};
 ghost use Rattle.std.specs.Option.{option_copied};
-ghost use Rattle.server_lines.specs.Commands.{user_of, lane_of, file_name_of};
+ghost use Rattle.line_words.specs.Operands.{closure_of};
+ghost use Rattle.server_lines.specs.Commands.{user_of, lane_of, file_name_of, remote_of};
 
+use cfdp_types::EntityId;
 use cfdp_types::limits::NAME_OCTETS;
 use entity_config::Config;
 use line_words::{name_of, number_of};
+use quoted_words::Words;
 
 /// A user's number, by the user's name.
 pub(crate) fn user_of(config: &Config, word: &[u8]) -> Option<usize>
@@ -34,10 +37,30 @@ pub(crate) fn lane_of(config: &Config, word: &[u8]) -> Option<usize>
 pub(crate) fn file_name_of(word: &[u8]) -> Option<&[u8]>
     ensures { option_copied result ≡ file_name_of word.now }
 {
-    let name = name_of(word)?;
-    if name.is_empty() || name.len() > NAME_OCTETS {
+    if word.is_empty() || word.len() > NAME_OCTETS {
         None
     } else {
-        Some(name)
+        Some(word)
     }
+}
+
+/// Whether closure is asked for, by what stands behind all else; nothing where that is anything but the one word `closure`.
+pub(crate) fn closure_of(rest: Words<'_>) -> Option<bool>
+    ensures { result ≡ closure_of rest.entry }
+{
+    let Some((word, rest)) = rest.next() else {
+        return Some(false);
+    };
+    match rest.next() {
+        None if word == b"closure".as_slice() => Some(true),
+        _ => None,
+    }
+}
+
+/// A remote entity, where it is the only operand.
+pub(crate) fn remote_of(operands: Words<'_>) -> Option<EntityId>
+    ensures { result ≡ remote_of operands.entry }
+{
+    let id = number_of(operands.last()?)?;
+    Some(EntityId(id))
 }

@@ -1,30 +1,26 @@
-//! Lines that put a file.
+//! Lines that send a file.
 ghost use Rattle.std.specs.Prelude.{◌≡◌, IfOk};
-ghost use Rattle.std.specs.Option.{option_copied};
-ghost use Rattle.line_words.specs.Words.{words_left};
-ghost use Rattle.server_lines.specs.Commands.{put_of, put_words, put_from};
+ghost use Rattle.server_lines.specs.Commands.{put_of, put_command, send_of, send_command};
 
-use crate::command::{Command, PutCommand};
-use crate::operands::{file_name_of, lane_of, user_of};
-use cfdp_types::{EntityId, Octets};
+use crate::command::{Command, PutCommand, SendCommand};
+use crate::operands::{lane_of, user_of};
+use crate::sending::{Sending, sending_of};
 use entity_config::Config;
-use entity_routing::Place;
-use line_words::{Rest, class_of, closure_of, next_word, number_of};
+use quoted_words::Words;
 use std::alloc::{AllocError, Global};
 
 /// A Put, by what stands behind the first word.
 pub(crate) fn put(
     alloc: Global,
     config: &Config,
-    operands: Rest<'_>,
+    operands: Words<'_>,
 ) -> Result<Option<Command>, AllocError>
-    ensures { IfOk result
-        (λ command. command ≡ put_of config.now (words_left (option_copied operands.entry))) }
+    ensures { IfOk result (λ command. command ≡ put_of config.now operands.entry) }
 {
-    let Some((user, operands)) = next_word(operands) else {
+    let Some((user, operands)) = operands.next() else {
         return Ok(None);
     };
-    let Some((lane, operands)) = next_word(operands) else {
+    let Some((lane, operands)) = operands.next() else {
         return Ok(None);
     };
     let Some(user) = user_of(config, user) else {
@@ -33,63 +29,51 @@ pub(crate) fn put(
     let Some(lane) = lane_of(config, lane) else {
         return Ok(None);
     };
-    put_words(alloc, Place { user, lane }, operands)
+    let sending = sending_of(alloc, operands)?;
+    Ok(sending.map(|sending| put_command(user, lane, sending)))
 }
 
-// What is to be sent from a place: class, destination, both names, and whether closure is asked for.
-fn put_words(alloc: Global, place: Place, operands: Rest<'_>) -> Result<Option<Command>, AllocError>
-    ensures { IfOk result
-        (λ command. command ≡ put_words place (words_left (option_copied operands.entry))) }
+fn put_command(user: usize, lane: usize, sending: Sending) -> Command
+    ensures { result ≡ put_command user lane sending }
 {
-    let Some((class, operands)) = next_word(operands) else {
-        return Ok(None);
-    };
-    let Some((destination, operands)) = next_word(operands) else {
-        return Ok(None);
-    };
-    let Some((source, operands)) = next_word(operands) else {
-        return Ok(None);
-    };
-    let Some((target, operands)) = next_word(operands) else {
-        return Ok(None);
-    };
-    let Some(closure) = closure_of(operands) else {
-        return Ok(None);
-    };
-    put_from(alloc, place, class, destination, source, target, closure)
+    Command::Put(PutCommand {
+        user,
+        lane,
+        class: sending.class,
+        closure: sending.closure,
+        destination: sending.destination,
+        source: sending.source,
+        target: sending.target,
+    })
 }
 
-fn put_from(
+/// A file for the outbox, by what stands behind the first word.
+pub(crate) fn send(
     alloc: Global,
-    place: Place,
-    class: &[u8],
-    destination: &[u8],
-    source: &[u8],
-    target: &[u8],
-    closure: bool,
+    config: &Config,
+    operands: Words<'_>,
 ) -> Result<Option<Command>, AllocError>
-    ensures { IfOk result
-        (λ command. command ≡ put_from place class.now destination.now source.now target.now closure) }
+    ensures { IfOk result (λ command. command ≡ send_of config.now operands.entry) }
 {
-    let Some(class) = class_of(class) else {
+    let Some((user, operands)) = operands.next() else {
         return Ok(None);
     };
-    let Some(destination) = number_of(destination) else {
+    let Some(user) = user_of(config, user) else {
         return Ok(None);
     };
-    let Some(source) = file_name_of(source) else {
-        return Ok(None);
-    };
-    let Some(target) = file_name_of(target) else {
-        return Ok(None);
-    };
-    Ok(Some(Command::Put(PutCommand {
-        user: place.user,
-        lane: place.lane,
-        class,
-        closure,
-        destination: EntityId(destination),
-        source: Octets::from_slice(alloc, source)?,
-        target: Octets::from_slice(alloc, target)?,
-    })))
+    let sending = sending_of(alloc, operands)?;
+    Ok(sending.map(|sending| send_command(user, sending)))
+}
+
+fn send_command(user: usize, sending: Sending) -> Command
+    ensures { result ≡ send_command user sending }
+{
+    Command::Send(SendCommand {
+        user,
+        class: sending.class,
+        closure: sending.closure,
+        destination: sending.destination,
+        source: sending.source,
+        target: sending.target,
+    })
 }

@@ -1,5 +1,5 @@
 -- Worked rows: moments, members and lines, as text.
-use Rattle.std.proofs.Common.{◌≡◌, ◌++◌, ◌∷◌, [], true, false, map, codes, refl}
+use Rattle.std.proofs.Common.{◌≡◌, ◌++◌, ◌∷◌, [], true, false, Some, map, codes, refl}
 use Rattle.std.specs.Char.{encode_utf8}
 use Rattle.std.specs.Fmt.{digits, padded_integral, char_count}
 use Rattle.std.specs.Str.{chars, is_utf8}
@@ -57,8 +57,8 @@ ends : end_line (record { at = record { 0 = 0 }; number = 5 })
 unfolding digits print_from escape_byte padded_integral char_count encode_utf8 moment_member text_member number_member
 ends = refl
 
--- the store kept a file
-stores : stored_line (record { at = record { 0 = 0 }; number = 2 }) (record { source = record { 0 = 1 }; seq = 41 }) true
-    ≡ codes "{\"at\":\"1970-01-01T00:00:00.000Z\",\"number\":2,\"kind\":\"stored\",\"source\":1,\"seq\":41,\"status\":\"retained\"}\n"
+-- the store kept a file, under another name
+stores : stored_line (record { at = record { 0 = 0 }; number = 2 }) (record { source = record { 0 = 1 }; seq = 41 }) true (Some (codes "a.1"))
+    ≡ codes "{\"at\":\"1970-01-01T00:00:00.000Z\",\"number\":2,\"kind\":\"stored\",\"source\":1,\"seq\":41,\"status\":\"retained\",\"as\":\"a.1\"}\n"
 unfolding digits print_from escape_byte padded_integral char_count encode_utf8 moment_member text_member number_member
 stores = refl

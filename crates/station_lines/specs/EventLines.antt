@@ -1,5 +1,5 @@
 -- Meaning. The lines of events.
-use Rattle.std.specs.Prelude.{ℕ, Bool, if◌then◌else◌, List, [], ◌++◌, codes}
+use Rattle.std.specs.Prelude.{ℕ, Bool, if◌then◌else◌, List, [], ◌++◌, Option, Some, None, codes}
 use Rattle.cfdp_types.specs.declared.key.EntityId.{EntityId}
 use Rattle.cfdp_types.specs.declared.key.TxnKey.{TxnKey}
 use Rattle.cfdp_types.specs.declared.names.FileStatus.{FileStatus}
@@ -13,6 +13,7 @@ use Rattle.station_lines.specs.Shared.{key_members, finished_members, case_membe
 use Rattle.station_lines.specs.declared.event.EventHead.{EventHead}
 use Rattle.station_lines.specs.declared.event.IndicationEvent.{IndicationEvent}
 use Rattle.station_lines.specs.declared.event.PutEvent.{PutEvent}
+use Rattle.station_lines.specs.declared.event.UnsentEvent.{UnsentEvent}
 use Rattle.station_lines.specs.declared.members.RefusedCase.{RefusedCase}
 
 -- what each event begins with
@@ -63,7 +64,7 @@ indication_line head event =
     ++ (key_members event.key ++ (text_member (codes "name") (indication_name event.indication.now)
     ++ said_members event.indication.now))))
 
--- ---- Puts, the store, refusals
+-- ---- Puts, the outbox, the store, refusals
 
 -- whose Put it is, and where the file goes
 abbrev pub put_head : PutEvent → List Token
@@ -71,30 +72,65 @@ put_head put =
     text_member (codes "user") put.user.now ++ (key_members put.key
     ++ (number_member (codes "peer") put.peer.0 ++ number_member (codes "class") (class_number put.class)))
 
+-- the number in the outbox, if a file waited there
+abbrev pub queued_members : Option ℕ → List Token
+queued_members None = []
+queued_members (Some number) = number_member (codes "queued") number
+
 -- its file
 abbrev pub put_file : PutEvent → List Token
 put_file put =
     octets_member (codes "file") put.file.now ++ (octets_member (codes "to") put.to.now
-    ++ number_member (codes "size") put.size)
+    ++ (number_member (codes "size") put.size ++ queued_members put.queued))
 
 -- the line of a Put
 abbrev pub put_line : EventHead → PutEvent → List ℕ
 put_line head put = line_of (head_members head (codes "put") ++ (put_head put ++ put_file put))
 
+-- which file of the outbox was given up, and why
+abbrev pub unsent_members : UnsentEvent → List Token
+unsent_members unsent =
+    number_member (codes "queued") unsent.queued ++ (text_member (codes "user") unsent.user.now
+    ++ (number_member (codes "destination") unsent.destination.0 ++ (octets_member (codes "file") unsent.file.now
+    ++ text_member (codes "why") unsent.why.now)))
+
+-- the line of such a file
+abbrev pub unsent_line : EventHead → UnsentEvent → List ℕ
+unsent_line head unsent = line_of (head_members head (codes "unsent") ++ unsent_members unsent)
+
 -- what became of a file that the store kept, or did not
 abbrev pub stored_status : Bool → FileStatus
 stored_status is_retained = if is_retained then Retained else Rejected
 
+-- where the store kept it, if that is shown
+abbrev pub place_members : Option (List ℕ) → List Token
+place_members None = []
+place_members (Some place) = text_member (codes "as") place
+
 -- the line of a store's answer
-abbrev pub stored_line : EventHead → TxnKey → Bool → List ℕ
-stored_line head key is_retained =
+abbrev pub stored_line : EventHead → TxnKey → Bool → Option (List ℕ) → List ℕ
+stored_line head key is_retained place =
     line_of (head_members head (codes "stored") ++ (key_members key
-    ++ text_member (codes "status") (status_name (stored_status is_retained))))
+    ++ (text_member (codes "status") (status_name (stored_status is_retained)) ++ place_members place)))
 
 -- the line of refusals of one kind
 abbrev pub refused_line : EventHead → RefusedCase → List ℕ
 refused_line head case =
     line_of (head_members head (codes "refused") ++ (case_members (codes "refusal") case ++ datagram_members case.datagram))
+
+-- ---- holds
+
+-- the line of an event about a remote entity
+abbrev pub about_remote_line : EventHead → List ℕ → EntityId → List ℕ
+about_remote_line head kind id = line_of (head_members head kind ++ number_member (codes "id") id.0)
+
+-- the line of a hold
+abbrev pub hold_line : EventHead → EntityId → List ℕ
+hold_line head id = about_remote_line head (codes "hold") id
+
+-- the line of its end
+abbrev pub release_line : EventHead → EntityId → List ℕ
+release_line head id = about_remote_line head (codes "release") id
 
 -- ---- events without members of their own
 

@@ -1,5 +1,5 @@
 -- Meaning. The lines of a status.
-use Rattle.std.specs.Prelude.{ℕ, if◌then◌else◌, List, [], ◌++◌, Option, Some, None, codes}
+use Rattle.std.specs.Prelude.{ℕ, true, false, if◌then◌else◌, List, [], ◌++◌, Option, Some, None, codes}
 use Rattle.std.specs.Option.{option_copied}
 use Rattle.indications.specs.declared.side.Side.{Side}
 use Rattle.indications.specs.declared.side.Side.TheVariants.{Sender, Receiver}
@@ -18,6 +18,7 @@ use Rattle.station_lines.specs.declared.status.EntityStatus.{EntityStatus}
 use Rattle.station_lines.specs.declared.status.LogStatus.{LogStatus}
 use Rattle.station_lines.specs.declared.status.Notice.{Notice}
 use Rattle.station_lines.specs.declared.status.Notice.TheVariants.{JournalFull, LastNumbers}
+use Rattle.station_lines.specs.declared.status.QueuedStatus.{QueuedStatus}
 use Rattle.station_lines.specs.declared.status.RemoteStatus.{RemoteStatus}
 use Rattle.station_lines.specs.declared.status.TransactionStatus.{TransactionStatus}
 use Rattle.station_lines.specs.declared.status.UserStatus.{UserStatus}
@@ -46,8 +47,9 @@ traffic_members c =
 abbrev pub trouble_members : Counters → List Token
 trouble_members c =
     number_member (codes "failed_sends") c.failed_sends ++ (number_member (codes "failed_reads") c.failed_reads
+    ++ (number_member (codes "ended_reads") c.ended_reads
     ++ (number_member (codes "foreign_datagrams") c.foreign_datagrams
-    ++ number_member (codes "decode_faults") c.decode_faults))
+    ++ number_member (codes "decode_faults") c.decode_faults)))
 
 -- the counters of what becomes of it
 abbrev pub outcome_members : Counters → List Token
@@ -149,6 +151,25 @@ abbrev pub transaction_line : TransactionStatus → List ℕ
 transaction_line t =
     line_of (transaction_head t ++ (transaction_part t.glance.now ++ (transaction_file t.glance.now ++ transaction_end t)))
 
+-- ---- the outbox
+
+-- which file waits, whose, and where it goes
+abbrev pub queued_head : QueuedStatus → List Token
+queued_head q =
+    text_member (codes "kind") (codes "queued") ++ (number_member (codes "number") q.number
+    ++ (text_member (codes "user") q.user.now ++ (number_member (codes "class") (class_number q.class)
+    ++ number_member (codes "destination") q.destination.0)))
+
+-- its names, and since when it waits
+abbrev pub queued_file : QueuedStatus → List Token
+queued_file q =
+    octets_member (codes "file") q.file.now ++ (octets_member (codes "to") q.to.now
+    ++ moment_member (codes "since") q.since)
+
+-- the line of a file that waits
+abbrev pub queued_line : QueuedStatus → List ℕ
+queued_line q = line_of (queued_head q ++ queued_file q)
+
 -- ---- remote entities and refusals
 
 -- the address of a remote entity, if it has one
@@ -162,6 +183,11 @@ remote_head r =
     text_member (codes "kind") (codes "remote") ++ (number_member (codes "id") r.id.0
     ++ address_members (option_copied r.address))
 
+-- whether it is held, and since when
+abbrev pub held_members : Option Moment → List Token
+held_members None = flag_member (codes "held") false
+held_members (Some since) = flag_member (codes "held") true ++ moment_member (codes "held_since") since
+
 -- what comes from a remote entity and goes to it
 abbrev pub crossing_members : RemoteStatus → List Token
 crossing_members r =
@@ -171,7 +197,7 @@ crossing_members r =
 -- the line of a remote entity
 abbrev pub remote_line : RemoteStatus → List ℕ
 remote_line r =
-    line_of (remote_head r ++ (flag_member (codes "held") r.held
+    line_of (remote_head r ++ (held_members r.held_since
     ++ (crossing_members r ++ number_member (codes "failed_sends") r.failed_sends)))
 
 -- the line of a kind of refusal

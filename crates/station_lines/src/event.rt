@@ -35,4 +35,21 @@ pub struct PutEvent<'a> {
     pub to: &'a [u8],
     /// In octets.
     pub size: u64,
+    /// Its number in the outbox, where it waited there.
+    pub queued: Option<u64>,
+}
+
+/// A file of the outbox that was given up.
+#[derive(Clone, Copy, Debug)]
+pub struct UnsentEvent<'a> {
+    /// Its number in the outbox.
+    pub queued: u64,
+    /// The name of its user.
+    pub user: &'a str,
+    /// The entity that was to receive it.
+    pub destination: EntityId,
+    /// The name of the file here.
+    pub file: &'a [u8],
+    /// Why it was given up.
+    pub why: &'a str,
 }

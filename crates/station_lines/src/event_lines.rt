@@ -1,8 +1,9 @@
 //! The lines of events. A follower gets them behind the word `event` and a space, which these functions don't write.
 ghost use Rattle.std.specs.Prelude.{◌≡◌, ◌++◌, OnErr, OnOk, string_bytes};
-ghost use Rattle.station_lines.specs.EventLines.{head_members, start_line, indication_line, said_members, metadata_members, put_line, put_head, put_file, stored_line, stored_status, refused_line, reads_ended_line, end_line, plain_line};
+ghost use Rattle.std.specs.Option.{option_copied};
+ghost use Rattle.station_lines.specs.EventLines.{head_members, start_line, indication_line, said_members, metadata_members, put_line, put_head, put_file, queued_members, unsent_line, unsent_members, place_members, stored_line, stored_status, refused_line, hold_line, release_line, about_remote_line, reads_ended_line, end_line, plain_line};
 
-use crate::event::{EventHead, IndicationEvent, PutEvent};
+use crate::event::{EventHead, IndicationEvent, PutEvent, UnsentEvent};
 use crate::line::Line;
 use crate::members::{
     RefusedCase, case_members, class_number, datagram_members, finished_members, key_members,
@@ -158,25 +159,74 @@ fn put_file(line: &mut Line, put: &PutEvent<'_>) -> Result<(), AllocError>
 {
     line.octets("file", put.file)?;
     line.octets("to", put.to)?;
-    line.number("size", put.size)
+    line.number("size", put.size)?;
+    queued_members(line, put.queued)
 }
 
-/// Adds the line of a store's answer: whether it kept the file of a transaction.
+fn queued_members(line: &mut Line, queued: Option<u64>) -> Result<(), AllocError>
+    ensures { OnOk result (line.new ≡ line.old ++ queued_members queued) }
+{
+    match queued {
+        None => Ok(()),
+        Some(number) => line.number("queued", number),
+    }
+}
+
+/// Adds the line of a file of the outbox that was given up.
+pub fn push_unsent_event(
+    alloc: Global,
+    text: &mut String,
+    head: EventHead,
+    unsent: &UnsentEvent<'_>,
+) -> Result<(), AllocError>
+    ensures added { OnOk result (string_bytes text.new ≡ string_bytes text.old ++ unsent_line head unsent.entry.now) }
+    ensures kept { OnErr result (string_bytes text.new ≡ string_bytes text.old) }
+{
+    let mut line = Line::begin(alloc)?;
+    head_members(&mut line, head, "unsent")?;
+    unsent_members(&mut line, unsent)?;
+    line.end(text)
+}
+
+// Which file it was, and why.
+fn unsent_members(line: &mut Line, unsent: &UnsentEvent<'_>) -> Result<(), AllocError>
+    ensures { OnOk result (line.new ≡ line.old ++ unsent_members unsent.entry.now) }
+{
+    line.number("queued", unsent.queued)?;
+    line.text("user", unsent.user)?;
+    line.number("destination", unsent.destination.0)?;
+    line.octets("file", unsent.file)?;
+    line.text("why", unsent.why)
+}
+
+/// Adds the line of a store's answer: whether it kept the file of a transaction, and where below its folder, if that is shown.
 pub fn push_stored_event(
     alloc: Global,
     text: &mut String,
     head: EventHead,
     key: TxnKey,
     is_retained: bool,
+    place: Option<&str>,
 ) -> Result<(), AllocError>
-    ensures added { OnOk result (string_bytes text.new ≡ string_bytes text.old ++ stored_line head key is_retained) }
+    ensures added { OnOk result (string_bytes text.new
+        ≡ string_bytes text.old ++ stored_line head key is_retained (option_copied place.entry)) }
     ensures kept { OnErr result (string_bytes text.new ≡ string_bytes text.old) }
 {
     let mut line = Line::begin(alloc)?;
     head_members(&mut line, head, "stored")?;
     key_members(&mut line, key)?;
     line.text("status", status_name(stored_status(is_retained)))?;
+    place_members(&mut line, place)?;
     line.end(text)
+}
+
+fn place_members(line: &mut Line, place: Option<&str>) -> Result<(), AllocError>
+    ensures { OnOk result (line.new ≡ line.old ++ place_members (option_copied place.entry)) }
+{
+    match place {
+        None => Ok(()),
+        Some(place) => line.text("as", place),
+    }
 }
 
 fn stored_status(is_retained: bool) -> FileStatus
@@ -203,6 +253,49 @@ pub fn push_refused_event(
     head_members(&mut line, head, "refused")?;
     case_members(&mut line, "refusal", case)?;
     datagram_members(&mut line, case.datagram)?;
+    line.end(text)
+}
+
+/// Adds the line of a hold: nothing of the outbox goes to a remote entity from now on.
+pub fn push_hold_event(
+    alloc: Global,
+    text: &mut String,
+    head: EventHead,
+    id: EntityId,
+) -> Result<(), AllocError>
+    ensures added { OnOk result (string_bytes text.new ≡ string_bytes text.old ++ hold_line head id) }
+    ensures kept { OnErr result (string_bytes text.new ≡ string_bytes text.old) }
+{
+    push_about_remote(alloc, text, head, "hold", id)
+}
+
+/// Adds the line of a hold's end.
+pub fn push_release_event(
+    alloc: Global,
+    text: &mut String,
+    head: EventHead,
+    id: EntityId,
+) -> Result<(), AllocError>
+    ensures added { OnOk result (string_bytes text.new ≡ string_bytes text.old ++ release_line head id) }
+    ensures kept { OnErr result (string_bytes text.new ≡ string_bytes text.old) }
+{
+    push_about_remote(alloc, text, head, "release", id)
+}
+
+// An event about a remote entity.
+fn push_about_remote(
+    alloc: Global,
+    text: &mut String,
+    head: EventHead,
+    kind: &str,
+    id: EntityId,
+) -> Result<(), AllocError>
+    ensures added { OnOk result (string_bytes text.new ≡ string_bytes text.old ++ about_remote_line head kind.now id) }
+    ensures kept { OnErr result (string_bytes text.new ≡ string_bytes text.old) }
+{
+    let mut line = Line::begin(alloc)?;
+    head_members(&mut line, head, kind)?;
+    line.number("id", id.0)?;
     line.end(text)
 }
 

@@ -1,7 +1,7 @@
 //! What the lines of a status show.
 
 use crate::moment::Moment;
-use cfdp_types::{Condition, Delivery, EntityId, FileStatus};
+use cfdp_types::{Class, Condition, Delivery, EntityId, FileStatus};
 use lane_table::Glance;
 
 /// The entity and its server.
@@ -38,6 +38,8 @@ pub struct Counters {
     pub failed_sends: u64,
     /// Reads from the socket that failed.
     pub failed_reads: u64,
+    /// Workers that read no more, since the socket failed a million times.
+    pub ended_reads: u64,
     /// Datagrams from an address that the configuration doesn't have.
     pub foreign_datagrams: u64,
     /// Datagrams that are no PDU.
@@ -114,14 +116,32 @@ pub enum Notice {
     LastNumbers,
 }
 
+/// A file that waits in the outbox.
+#[derive(Clone, Copy, Debug)]
+pub struct QueuedStatus<'a> {
+    /// Its number in the outbox.
+    pub number: u64,
+    /// The name of its user.
+    pub user: &'a str,
+    pub class: Class,
+    /// The entity that is to receive it.
+    pub destination: EntityId,
+    /// The name of the file here.
+    pub file: &'a [u8],
+    /// The name of the file at the receiver.
+    pub to: &'a [u8],
+    /// When it was given.
+    pub since: Moment,
+}
+
 /// A remote entity.
 #[derive(Clone, Copy, Debug)]
 pub struct RemoteStatus<'a> {
     pub id: EntityId,
     /// Its address, where the configuration has one.
     pub address: Option<&'a str>,
-    /// Whether nothing is sent to it for now.
-    pub held: bool,
+    /// Since when nothing of the outbox is sent to it, where it is held.
+    pub held_since: Option<Moment>,
     /// Datagrams that came from its address.
     pub datagrams_in: u64,
     /// Their octets.

@@ -2,7 +2,7 @@
 ghost use Rattle.std.specs.Prelude.{◌≡◌, ◌++◌, OnErr, OnOk, string_bytes, codes};
 ghost use Rattle.std.specs.Option.{option_copied};
 ghost use Rattle.station_lines.specs.Members.{object_member};
-ghost use Rattle.station_lines.specs.StatusLines.{entity_line, entity_head, entity_state, counter_members, traffic_members, trouble_members, outcome_members, log_line, user_line, transaction_line, transaction_head, transaction_part, transaction_file, transaction_end, file_members, last_members, ending_members, end_members, notice_members, notice_name, role_name, state_name, remote_line, remote_head, crossing_members, address_members, refusal_line};
+ghost use Rattle.station_lines.specs.StatusLines.{entity_line, entity_head, entity_state, counter_members, traffic_members, trouble_members, outcome_members, log_line, user_line, transaction_line, transaction_head, transaction_part, transaction_file, transaction_end, file_members, last_members, ending_members, end_members, notice_members, notice_name, role_name, state_name, queued_line, queued_head, queued_file, remote_line, remote_head, held_members, crossing_members, address_members, refusal_line};
 
 use crate::line::Line;
 use crate::members::{
@@ -10,7 +10,8 @@ use crate::members::{
 };
 use crate::moment::Moment;
 use crate::status::{
-    Counters, Ending, EntityStatus, LogStatus, Notice, RemoteStatus, TransactionStatus, UserStatus,
+    Counters, Ending, EntityStatus, LogStatus, Notice, QueuedStatus, RemoteStatus,
+    TransactionStatus, UserStatus,
 };
 use answer_texts::phase_name;
 use indications::Side;
@@ -85,9 +86,10 @@ fn traffic_members(line: &mut Line, counters: &Counters) -> Result<(), AllocErro
 fn trouble_members(line: &mut Line, counters: &Counters) -> Result<(), AllocError>
     ensures { OnOk result (line.new ≡ line.old ++ trouble_members counters.now) }
 {
-    line.four_numbers(
+    line.five_numbers(
         ("failed_sends", counters.failed_sends),
         ("failed_reads", counters.failed_reads),
+        ("ended_reads", counters.ended_reads),
         ("foreign_datagrams", counters.foreign_datagrams),
         ("decode_faults", counters.decode_faults),
     )
@@ -264,6 +266,41 @@ fn state_name(glance: &Glance) -> &'static str
     }
 }
 
+/// Adds the line of a file that waits in the outbox.
+pub fn push_queued(
+    alloc: Global,
+    text: &mut String,
+    queued: &QueuedStatus<'_>,
+) -> Result<(), AllocError>
+    ensures added { OnOk result (string_bytes text.new ≡ string_bytes text.old ++ queued_line queued.entry.now) }
+    ensures kept { OnErr result (string_bytes text.new ≡ string_bytes text.old) }
+{
+    let mut line = Line::begin(alloc)?;
+    queued_head(&mut line, queued)?;
+    queued_file(&mut line, queued)?;
+    line.end(text)
+}
+
+// Which file it is, whose, and where it goes.
+fn queued_head(line: &mut Line, queued: &QueuedStatus<'_>) -> Result<(), AllocError>
+    ensures { OnOk result (line.new ≡ line.old ++ queued_head queued.entry.now) }
+{
+    line.text("kind", "queued")?;
+    line.number("number", queued.number)?;
+    line.text("user", queued.user)?;
+    line.number("class", class_number(queued.class))?;
+    line.number("destination", queued.destination.0)
+}
+
+// Its names, and since when it waits.
+fn queued_file(line: &mut Line, queued: &QueuedStatus<'_>) -> Result<(), AllocError>
+    ensures { OnOk result (line.new ≡ line.old ++ queued_file queued.entry.now) }
+{
+    line.octets("file", queued.file)?;
+    line.octets("to", queued.to)?;
+    line.moment("since", queued.since)
+}
+
 /// Adds the line of a remote entity.
 pub fn push_remote(
     alloc: Global,
@@ -275,7 +312,7 @@ pub fn push_remote(
 {
     let mut line = Line::begin(alloc)?;
     remote_head(&mut line, remote)?;
-    line.flag("held", remote.held)?;
+    held_members(&mut line, remote.held_since)?;
     crossing_members(&mut line, remote)?;
     line.number("failed_sends", remote.failed_sends)?;
     line.end(text)
@@ -296,6 +333,18 @@ fn address_members(line: &mut Line, address: Option<&str>) -> Result<(), AllocEr
     match address {
         None => Ok(()),
         Some(address) => line.text("address", address),
+    }
+}
+
+fn held_members(line: &mut Line, held_since: Option<Moment>) -> Result<(), AllocError>
+    ensures { OnOk result (line.new ≡ line.old ++ held_members held_since) }
+{
+    match held_since {
+        None => line.flag("held", false),
+        Some(since) => {
+            line.flag("held", true)?;
+            line.moment("held_since", since)
+        }
     }
 }
 

@@ -2,9 +2,9 @@ use crate::reading::are_json;
 use cfdp_types::{Class, Condition, Delivery, EntityId, FileStatus, Messages, Octets, TxnKey};
 use indications::{Indication, Phase};
 use station_lines::{
-    Datagram, EventHead, IndicationEvent, Moment, PutEvent, RefusedCase, push_end_event,
-    push_indication_event, push_put_event, push_reads_ended_event, push_refused_event,
-    push_start_event, push_stored_event,
+    Datagram, EventHead, IndicationEvent, Moment, PutEvent, RefusedCase, UnsentEvent,
+    push_end_event, push_hold_event, push_indication_event, push_put_event, push_reads_ended_event,
+    push_refused_event, push_release_event, push_start_event, push_stored_event, push_unsent_event,
 };
 use std::alloc::{AllocError, Global};
 use std::test::*;
@@ -26,14 +26,16 @@ fn a_server(rt: HostRuntime) -> Result<(), Fail> {
     let alloc = rt.alloc();
     let mut text = String::new(alloc);
     push_start_event(alloc, &mut text, head_of(1), EntityId(2), "0.1")?;
-    push_stored_event(alloc, &mut text, head_of(2), KEY, true)?;
-    push_stored_event(alloc, &mut text, head_of(3), KEY, false)?;
+    push_stored_event(alloc, &mut text, head_of(2), KEY, true, None)?;
+    push_stored_event(alloc, &mut text, head_of(3), KEY, false, None)?;
+    push_stored_event(alloc, &mut text, head_of(4), KEY, true, Some("a/b.1"))?;
     push_reads_ended_event(alloc, &mut text, head_of(4))?;
     push_end_event(alloc, &mut text, head_of(5))?;
     let wanted =
         r#"{"at":"2026-11-26T12:00:00.000Z","number":1,"kind":"start","id":2,"version":"0.1"}
 {"at":"2026-11-26T12:00:00.000Z","number":2,"kind":"stored","source":1,"seq":41,"status":"retained"}
 {"at":"2026-11-26T12:00:00.000Z","number":3,"kind":"stored","source":1,"seq":41,"status":"rejected"}
+{"at":"2026-11-26T12:00:00.000Z","number":4,"kind":"stored","source":1,"seq":41,"status":"retained","as":"a/b.1"}
 {"at":"2026-11-26T12:00:00.000Z","number":4,"kind":"reads-ended"}
 {"at":"2026-11-26T12:00:00.000Z","number":5,"kind":"end"}
 "#;
@@ -54,13 +56,54 @@ fn a_put(rt: HostRuntime) -> Result<(), Fail> {
         file: b"a.bin",
         to: b"\xc3(",
         size: 9,
+        queued: None,
     };
     push_put_event(alloc, &mut text, head_of(1), &put)?;
+    let waited = PutEvent {
+        to: b"b.bin",
+        queued: Some(3),
+        ..put
+    };
+    push_put_event(alloc, &mut text, head_of(2), &waited)?;
     assert_eq!(rt;
         text.as_str(),
         concat!(
             r#"{"at":"2026-11-26T12:00:00.000Z","number":1,"kind":"put","user":"ops","source":1,"seq":41,"#,
             r#""peer":2,"class":1,"file":"a.bin","to_hex":"c328","size":9}"#,
+            "\n",
+            r#"{"at":"2026-11-26T12:00:00.000Z","number":2,"kind":"put","user":"ops","source":1,"seq":41,"#,
+            r#""peer":2,"class":1,"file":"a.bin","to":"b.bin","size":9,"queued":3}"#,
+            "\n"
+        )
+    );
+    assert!(rt; are_json(alloc, text.as_str())?);
+    Ok(())
+}
+
+#[test]
+fn the_outbox_and_holds(rt: HostRuntime) -> Result<(), Fail> {
+    let alloc = rt.alloc();
+    let mut text = String::new(alloc);
+    let unsent = UnsentEvent {
+        queued: 3,
+        user: "ops",
+        destination: EntityId(7),
+        file: b"a\xff",
+        why: "read fault",
+    };
+    push_unsent_event(alloc, &mut text, head_of(1), &unsent)?;
+    push_hold_event(alloc, &mut text, head_of(2), EntityId(7))?;
+    push_release_event(alloc, &mut text, head_of(3), EntityId(u64::MAX))?;
+    assert_eq!(rt;
+        text.as_str(),
+        concat!(
+            r#"{"at":"2026-11-26T12:00:00.000Z","number":1,"kind":"unsent","queued":3,"user":"ops","#,
+            r#""destination":7,"file_hex":"61ff","why":"read fault"}"#,
+            "\n",
+            r#"{"at":"2026-11-26T12:00:00.000Z","number":2,"kind":"hold","id":7}"#,
+            "\n",
+            r#"{"at":"2026-11-26T12:00:00.000Z","number":3,"kind":"release","id":18446744073709551615,"#,
+            r#""id_text":"18446744073709551615"}"#,
             "\n"
         )
     );

@@ -3,9 +3,9 @@ use cfdp_types::{Class, Condition, Delivery, EntityId, FileStatus, Octets, TxnKe
 use indications::{Phase, Side};
 use lane_table::{Glance, GlancedFile};
 use station_lines::{
-    Counters, Datagram, Ending, EntityStatus, LogStatus, Moment, Notice, RefusedCase, RemoteStatus,
-    TransactionStatus, UserStatus, push_entity, push_log, push_refusal, push_remote,
-    push_transaction, push_user,
+    Counters, Datagram, Ending, EntityStatus, LogStatus, Moment, Notice, QueuedStatus, RefusedCase,
+    RemoteStatus, TransactionStatus, UserStatus, push_entity, push_log, push_queued, push_refusal,
+    push_remote, push_transaction, push_user,
 };
 use std::alloc::{AllocError, Global};
 use std::test::*;
@@ -55,6 +55,7 @@ fn the_entity(rt: HostRuntime) -> Result<(), Fail> {
             octets_out: 90,
             failed_sends: 5,
             failed_reads: 6,
+            ended_reads: 14,
             foreign_datagrams: 7,
             decode_faults: 8,
             refused: 9,
@@ -71,7 +72,7 @@ fn the_entity(rt: HostRuntime) -> Result<(), Fail> {
             r#"{"kind":"entity","id":2,"version":"0.1","started":"2026-11-26T12:00:00.000Z","#,
             r#""now":"2026-11-26T12:00:05.250Z","workers":4,"clients":2,"events":17,"#,
             r#""counters":{"datagrams_in":12,"octets_in":9000,"datagrams_out":3,"octets_out":90,"#,
-            r#""failed_sends":5,"failed_reads":6,"foreign_datagrams":7,"decode_faults":8,"#,
+            r#""failed_sends":5,"failed_reads":6,"ended_reads":14,"foreign_datagrams":7,"decode_faults":8,"#,
             r#""refused":9,"stored":10,"failed_stores":11,"dropped_clients":13}}"#,
             "\n"
         )
@@ -171,13 +172,49 @@ fn transactions(rt: HostRuntime) -> Result<(), Fail> {
 }
 
 #[test]
+fn the_outbox(rt: HostRuntime) -> Result<(), Fail> {
+    let alloc = rt.alloc();
+    let mut text = String::new(alloc);
+    let queued = QueuedStatus {
+        number: 3,
+        user: "ops",
+        class: Class::Two,
+        destination: EntityId(7),
+        file: b"a.bin",
+        to: b"b.bin",
+        since: NOON,
+    };
+    push_queued(alloc, &mut text, &queued)?;
+    let odd = QueuedStatus {
+        class: Class::One,
+        file: b"\xff\x00",
+        to: b"a b\"",
+        ..queued
+    };
+    push_queued(alloc, &mut text, &odd)?;
+    assert_eq!(rt;
+        text.as_str(),
+        concat!(
+            r#"{"kind":"queued","number":3,"user":"ops","class":2,"destination":7,"file":"a.bin","to":"b.bin","#,
+            r#""since":"2026-11-26T12:00:00.000Z"}"#,
+            "\n",
+            r#"{"kind":"queued","number":3,"user":"ops","class":1,"destination":7,"file_hex":"ff00","to":"a b\"","#,
+            r#""since":"2026-11-26T12:00:00.000Z"}"#,
+            "\n"
+        )
+    );
+    assert!(rt; are_json(alloc, text.as_str())?);
+    Ok(())
+}
+
+#[test]
 fn remotes(rt: HostRuntime) -> Result<(), Fail> {
     let alloc = rt.alloc();
     let mut text = String::new(alloc);
     let remote = RemoteStatus {
         id: EntityId(u64::MAX),
         address: Some("192.0.2.1:4556"),
-        held: false,
+        held_since: None,
         datagrams_in: 1,
         octets_in: 9_007_199_254_740_992,
         datagrams_out: 2,
@@ -188,7 +225,7 @@ fn remotes(rt: HostRuntime) -> Result<(), Fail> {
     let bare = RemoteStatus {
         id: EntityId(1),
         address: None,
-        held: true,
+        held_since: Some(NOON),
         ..remote
     };
     push_remote(alloc, &mut text, &bare)?;
@@ -199,8 +236,8 @@ fn remotes(rt: HostRuntime) -> Result<(), Fail> {
             r#""address":"192.0.2.1:4556","held":false,"datagrams_in":1,"octets_in":9007199254740992,"#,
             r#""datagrams_out":2,"octets_out":18,"failed_sends":3}"#,
             "\n",
-            r#"{"kind":"remote","id":1,"held":true,"datagrams_in":1,"octets_in":9007199254740992,"#,
-            r#""datagrams_out":2,"octets_out":18,"failed_sends":3}"#,
+            r#"{"kind":"remote","id":1,"held":true,"held_since":"2026-11-26T12:00:00.000Z","#,
+            r#""datagrams_in":1,"octets_in":9007199254740992,"datagrams_out":2,"octets_out":18,"failed_sends":3}"#,
             "\n"
         )
     );

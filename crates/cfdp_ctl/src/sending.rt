@@ -1,0 +1,219 @@
+//! Files for the outbox.
+use crate::asking::{Line, first_line};
+use crate::fault::CtlFault;
+use crate::following::ask_for_events;
+use crate::paths::{Folder, target_name, whole_path};
+use crate::screen::Screen;
+use crate::sent::{SentFiles, have_arrived, send_status};
+use crate::waiting::wait_for_ends;
+use ctl_views::{Page, StatusLine, Tone, read_status_line};
+use ctl_words::{SendCommand, SendWords, send_command};
+use std::alloc::{AllocError, Global};
+use std::env::Env;
+use std::fs;
+use std::io::Write;
+use std::rt::Files;
+use std::sync::Wait;
+use std::time::Clock;
+
+/// Whether each path leads to a plain file; a line says of each other that it doesn't.
+pub(crate) fn are_files<R, W, E>(
+    rt: &R,
+    alloc: Global,
+    screen: &mut Screen<W, E>,
+    paths: &[&str],
+) -> Result<bool, CtlFault>
+where
+    R: Files,
+    W: Write + Drop,
+    E: Write + Drop,
+{
+    let mut all = true;
+    for path in paths {
+        if !is_file(rt, path) {
+            let text = format!(in alloc; "cfdp_ctl: no such file: {path}")?;
+            screen.complain_line(alloc, text.as_str());
+            all = false;
+        }
+    }
+    Ok(all)
+}
+
+fn is_file<R: Files>(rt: &R, path: &str) -> bool {
+    match fs::metadata(rt, path) {
+        Ok(metadata) => metadata.is_file(),
+        Err(_) => false,
+    }
+}
+
+// Who sends, and the folder in which the program runs.
+#[derive(Drop)]
+struct Origin {
+    user: String,
+    folder: Folder,
+}
+
+/// Gives files to the outbox and, where that is asked for, waits for their ends. The exit status.
+pub(crate) fn send<R, W, E>(
+    rt: &R,
+    alloc: Global,
+    screen: &mut Screen<W, E>,
+    line: &mut Line,
+    words: &SendWords<'_>,
+) -> Result<u8, CtlFault>
+where
+    R: Clock + Wait + Env + AllocGlobal,
+    W: Write + Drop,
+    E: Write + Drop,
+{
+    let Some(user) = user_of(rt, alloc, screen, line, words)? else {
+        return Ok(2);
+    };
+    let folder = Folder::of(rt, alloc, words.files.as_slice())?;
+    let origin = Origin { user, folder };
+    if words.wait {
+        let status = ask_for_events(rt, alloc, screen, line)?;
+        if status != 0 {
+            return Ok(status);
+        }
+    }
+    let mut files = SentFiles::new(alloc);
+    let all_taken = queue_all(rt, alloc, screen, line, words, &origin, &mut files)?;
+    let is_reported = words.class != 1 || words.is_closed;
+    if words.wait {
+        wait_for_ends(rt, alloc, screen, line, is_reported, &mut files)?;
+    }
+    let all_arrived = have_arrived(is_reported, files.files.as_slice());
+    Ok(send_status(all_taken, words.wait, all_arrived))
+}
+
+// The user who sends: the one of the words, or the only one that the server has. None where it has others; a line names them.
+fn user_of<R, W, E>(
+    rt: &R,
+    alloc: Global,
+    screen: &mut Screen<W, E>,
+    line: &mut Line,
+    words: &SendWords<'_>,
+) -> Result<Option<String>, CtlFault>
+where
+    R: Clock + Wait,
+    W: Write + Drop,
+    E: Write + Drop,
+{
+    if let Some(name) = words.user {
+        return Ok(Some(String::from_str(alloc, name)?));
+    }
+    let answer = line.ask(rt, b"status")?;
+    let mut names = users_in(alloc, answer.as_slice())?;
+    if names.len() == 1 {
+        return Ok(names.pop());
+    }
+    let mut text = String::from_str(
+        alloc,
+        "cfdp_ctl: --user is missing, and the server's users are:",
+    )?;
+    for name in names.as_slice() {
+        text.push(' ')?;
+        text.push_str(name.as_str())?;
+    }
+    screen.complain_line(alloc, text.as_str());
+    Ok(None)
+}
+
+// The names of the users in a status.
+fn users_in(alloc: Global, answer: &[u8]) -> Result<Vec<String>, AllocError> {
+    let lines = String::from_utf8_lossy(alloc, answer)?;
+    let mut names = Vec::new(alloc);
+    for line in lines.as_str().split('\n') {
+        if let StatusLine::User(name) = read_status_line(alloc, line)?
+            && names.push(name).is_err()
+        {
+            return Err(AllocError);
+        }
+    }
+    Ok(names)
+}
+
+// Gives each file to the outbox; whether the server took each.
+fn queue_all<'a, R, W, E>(
+    rt: &R,
+    alloc: Global,
+    screen: &mut Screen<W, E>,
+    line: &mut Line,
+    words: &SendWords<'a>,
+    origin: &Origin,
+    files: &mut SentFiles<'a>,
+) -> Result<bool, CtlFault>
+where
+    R: Clock + Wait,
+    W: Write + Drop,
+    E: Write + Drop,
+{
+    let mut all = true;
+    for path in words.files.as_slice() {
+        let command = command_for(alloc, words, origin, path)?;
+        let answer = line.ask(rt, command.as_slice())?;
+        let answer = first_line(answer.as_slice());
+        match number_of(answer) {
+            Some(number) => {
+                files.add(path, number)?;
+                print_queued(alloc, screen, path, number)?;
+            }
+            None => {
+                all = false;
+                complain_of(alloc, screen, path, answer)?;
+            }
+        }
+    }
+    Ok(all)
+}
+
+// The number in an answer `queued N`.
+fn number_of(line: &[u8]) -> Option<u64> {
+    let text = str::from_utf8(line).ok()?;
+    text.strip_prefix("queued ")?.parse::<u64>().ok()
+}
+
+fn print_queued<W: Write + Drop, E: Write + Drop>(
+    alloc: Global,
+    screen: &mut Screen<W, E>,
+    path: &str,
+    number: u64,
+) -> Result<(), CtlFault> {
+    let text = format!(in alloc; "queued {number}: {path}")?;
+    let mut page = Page::new(alloc);
+    page.push_line(Tone::Plain, text.as_str())?;
+    screen.print_page(alloc, &page)
+}
+
+fn complain_of<W: Write + Drop, E: Write + Drop>(
+    alloc: Global,
+    screen: &mut Screen<W, E>,
+    path: &str,
+    answer: &[u8],
+) -> Result<(), CtlFault> {
+    let answer = String::from_utf8_lossy(alloc, answer)?;
+    let text = format!(in alloc; "cfdp_ctl: {path}: {answer}")?;
+    screen.complain_line(alloc, text.as_str());
+    Ok(())
+}
+
+// The command that gives a file to the outbox.
+fn command_for(
+    alloc: Global,
+    words: &SendWords<'_>,
+    origin: &Origin,
+    path: &str,
+) -> Result<Vec<u8>, AllocError> {
+    let source = whole_path(alloc, &origin.folder, path)?;
+    let target = target_name(alloc, words.into, path)?;
+    let send = SendCommand {
+        user: origin.user.as_str(),
+        class: words.class,
+        remote: words.remote,
+        source: source.as_str(),
+        target: target.as_str(),
+        is_closed: words.is_closed,
+    };
+    send_command(alloc, &send)
+}

@@ -1,0 +1,178 @@
+//! Files that were given to the outbox, and what became of them.
+ghost use Rattle.std.specs.Prelude.{◌≡◌};
+ghost use Rattle.std.specs.List.{list_all};
+ghost use Rattle.cfdp_ctl.specs.Exits.{has_arrived, is_good_end, send_status};
+
+use ctl_views::{End, Event, Progress, Step, Transaction};
+use std::alloc::{AllocError, Global};
+use std::collections::BTreeMap;
+
+/// What became of a file.
+#[derive(Clone, Copy)]
+pub(crate) enum Fate {
+    /// It waits for its turn.
+    Queued,
+    /// It is under way.
+    UnderWay,
+    /// It was taken out of the outbox, or can't be sent.
+    Unsent,
+    /// Its transaction has ended.
+    Ended(End),
+}
+
+/// A file that was given to the outbox.
+#[derive(Drop)]
+pub(crate) struct SentFile<'a> {
+    pub(crate) path: &'a str,
+    pub(crate) fate: Fate,
+    /// How many octets were sent, and how many there are.
+    pub(crate) octets: u64,
+    pub(crate) size: u64,
+}
+
+/// The files that were given to the outbox, found by their numbers there and by their transactions.
+#[derive(Drop)]
+pub(crate) struct SentFiles<'a> {
+    pub(crate) files: Vec<SentFile<'a>>,
+    by_number: BTreeMap<u64, usize>,
+    by_key: BTreeMap<(u64, u64), usize>,
+    /// How many have not ended.
+    pub(crate) open: usize,
+}
+
+impl<'a> SentFiles<'a> {
+    /// No file was given.
+    pub(crate) fn new(alloc: Global) -> SentFiles<'a> {
+        SentFiles {
+            files: Vec::new(alloc),
+            by_number: BTreeMap::new(alloc),
+            by_key: BTreeMap::new(alloc),
+            open: 0,
+        }
+    }
+
+    /// Adds a file that was queued under a number.
+    pub(crate) fn add(&mut self, path: &'a str, number: u64) -> Result<(), AllocError> {
+        let place = self.files.len();
+        let file = SentFile {
+            path,
+            fate: Fate::Queued,
+            octets: 0,
+            size: 0,
+        };
+        if self.files.push(file).is_err() || self.by_number.insert(number, place).is_err() {
+            return Err(AllocError);
+        }
+        self.open = self.open.saturating_add(1);
+        Ok(())
+    }
+
+    /// Takes an event; the place of the file that it ends, if it ends one.
+    pub(crate) fn take(&mut self, event: &Event) -> Result<Option<usize>, AllocError> {
+        match event.step {
+            Step::Started(number) => {
+                self.start(number, event.transaction)?;
+                Ok(None)
+            }
+            Step::Unsent(number) => {
+                let place = self.by_number.get(&number).copied();
+                Ok(self.end(place, Fate::Unsent))
+            }
+            Step::Ended(end) => {
+                let place = self.place_of(event.transaction);
+                Ok(self.end(place, Fate::Ended(end)))
+            }
+            Step::Other => Ok(None),
+        }
+    }
+
+    /// Notes how far a transaction is.
+    pub(crate) fn note(&mut self, progress: Progress) {
+        if let Some(place) = self.by_key.get(&(progress.source, progress.seq)).copied()
+            && let Some(file) = self.files.get_mut(place)
+        {
+            file.octets = progress.octets;
+            file.size = progress.size;
+        }
+    }
+
+    // The place of the file of a transaction.
+    fn place_of(&self, transaction: Option<Transaction>) -> Option<usize> {
+        let transaction = transaction?;
+        self.by_key
+            .get(&(transaction.source, transaction.seq))
+            .copied()
+    }
+
+    // The file with a number is under way as a transaction.
+    fn start(&mut self, number: u64, transaction: Option<Transaction>) -> Result<(), AllocError> {
+        let Some(transaction) = transaction else {
+            return Ok(());
+        };
+        let Some(place) = self.by_number.get(&number).copied() else {
+            return Ok(());
+        };
+        let key = (transaction.source, transaction.seq);
+        if self.by_key.insert(key, place).is_err() {
+            return Err(AllocError);
+        }
+        if let Some(file) = self.files.get_mut(place) {
+            file.fate = Fate::UnderWay;
+        }
+        Ok(())
+    }
+
+    // A file has ended; its place, where it had not ended before.
+    fn end(&mut self, place: Option<usize>, fate: Fate) -> Option<usize> {
+        let place = place?;
+        let file = self.files.get_mut(place)?;
+        if matches!(file.fate, Fate::Unsent | Fate::Ended(_)) {
+            return None;
+        }
+        file.fate = fate;
+        self.open = self.open.saturating_sub(1);
+        Some(place)
+    }
+}
+
+/// The exit status for files that were sent: by whether the server took all of them, whether their ends were awaited, and
+/// whether all have arrived.
+pub(crate) fn send_status(all_taken: bool, is_awaited: bool, all_arrived: bool) -> u8
+    ensures { result ≡ send_status all_taken is_awaited all_arrived }
+{
+    if !all_taken {
+        3
+    } else if is_awaited && !all_arrived {
+        4
+    } else {
+        0
+    }
+}
+
+/// Whether all files have arrived, as far as their sender can know.
+pub(crate) fn have_arrived(is_reported: bool, files: &[SentFile<'_>]) -> bool
+    ensures { result ≡ list_all (λ file. has_arrived is_reported file.fate) files.now }
+{
+    files.iter().all(|file| has_arrived(is_reported, file.fate))
+}
+
+/// Whether a file has arrived, as far as its sender can know.
+pub(crate) fn has_arrived(is_reported: bool, fate: Fate) -> bool
+    ensures { result ≡ has_arrived is_reported fate }
+{
+    match fate {
+        Fate::Ended(end) => is_good_end(is_reported, end),
+        _ => false,
+    }
+}
+
+// Whether an end is as good as it gets.
+fn is_good_end(is_reported: bool, end: End) -> bool
+    ensures { result ≡ is_good_end is_reported end }
+{
+    match end {
+        End::Kept => true,
+        End::Unreported => !is_reported,
+        End::Lost => false,
+    }
+}

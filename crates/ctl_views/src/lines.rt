@@ -1,0 +1,66 @@
+//! Lines of a status, one by one.
+use crate::fields::{number_in, text_in};
+use json::{Error, Scratch, Value};
+use std::alloc::{AllocError, Global};
+
+/// What a line of a status says to one who sends files.
+#[derive(Drop)]
+pub enum StatusLine {
+    /// The name of a user.
+    User(String),
+    /// How far a file is that is sent.
+    Sending(Progress),
+    /// Anything else.
+    Other,
+}
+
+/// How far a file is that is sent.
+#[derive(Clone, Copy)]
+pub struct Progress {
+    pub source: u64,
+    pub seq: u64,
+    pub octets: u64,
+    pub size: u64,
+}
+
+/// Reads a line of a status.
+pub fn read_status_line(alloc: Global, line: &str) -> Result<StatusLine, AllocError> {
+    let mut scratch = Scratch::new(alloc);
+    scratch.reserve(line.len())?;
+    match Value::parse(alloc, line, &mut scratch) {
+        Ok(value) => line_of(alloc, &value),
+        Err(Error::OutOfMemory) => Err(AllocError),
+        Err(_) => Ok(StatusLine::Other),
+    }
+}
+
+fn line_of(alloc: Global, value: &Value<'_>) -> Result<StatusLine, AllocError> {
+    match text_in(value, "kind") {
+        Some("user") => user_in(alloc, value),
+        Some("transaction") => Ok(sending_in(value).unwrap_or(StatusLine::Other)),
+        _ => Ok(StatusLine::Other),
+    }
+}
+
+fn user_in(alloc: Global, value: &Value<'_>) -> Result<StatusLine, AllocError> {
+    match text_in(value, "name") {
+        Some(name) => Ok(StatusLine::User(String::from_str(alloc, name)?)),
+        None => Ok(StatusLine::Other),
+    }
+}
+
+fn sending_in(value: &Value<'_>) -> Option<StatusLine> {
+    if text_in(value, "role") != Some("sender") {
+        return None;
+    }
+    let source = number_in(value, "source")?;
+    let seq = number_in(value, "seq")?;
+    let octets = number_in(value, "octets")?;
+    let size = number_in(value, "size")?;
+    Some(StatusLine::Sending(Progress {
+        source,
+        seq,
+        octets,
+        size,
+    }))
+}

@@ -1,0 +1,42 @@
+-- Worked calls at a seat.
+use Rattle.std.proofs.Common.{◌≡◌, true, false, [], ◌∷◌, refl, arith}
+use Rattle.program_seats.specs.declared.outbox.Way.TheVariants.{Open}
+use Rattle.program_seats.specs.declared.seat.Given.TheVariants.{Taken, Dropped, Gone}
+use Rattle.program_seats.specs.Seating.{SeatValue, IsAnswered, IsTold, cut, followed, free_seat, is_here, left, may_sit, sat}
+
+-- the third client of a seat, who has asked
+abbrev third : SeatValue
+third = record (sat free_seat) { visits = 3; is_asking = true }
+
+-- an answer to the third visit stands behind what waits, and the client may ask again
+answers_third : IsAnswered 9 (7 ∷ []) 3 third Taken (record third { is_asking = false; outbox = record { waiting = 7 ∷ []; way = Open } })
+answers_third = record { was_open = refl; has_room = omega arith; new_is = refl }
+
+-- an answer to the second comes late and changes nothing
+late_changes_nothing : IsAnswered 9 (7 ∷ []) 2 third Gone third
+late_changes_nothing = (refl, refl)
+
+-- an answer without room cuts the client off, who isn't waiting for it any more
+full_is_cut : IsAnswered 0 (7 ∷ []) 3 third Dropped (cut third)
+full_is_cut = (refl, refl)
+
+-- who doesn't read events receives none
+no_reader_no_event : IsTold 9 (7 ∷ []) third Gone third
+no_reader_no_event = (refl, refl)
+
+-- who follows in an earlier visit doesn't now
+late_follow : followed 2 third ≡ third
+late_follow = refl
+
+-- a seat is taken until its client leaves, and the next one doesn't follow
+taken : may_sit third ≡ false
+taken = refl
+
+free_again : may_sit (left third) ≡ true
+free_again = refl
+
+next_reads_no_events : (sat (left (followed 3 third))).follows ≡ false
+next_reads_no_events = refl
+
+left_is_gone : is_here 3 (left third) ≡ false
+left_is_gone = refl

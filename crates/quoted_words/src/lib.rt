@@ -1,0 +1,11 @@
+//! The words of a line in which double quotes may hold a word together.
+#![tactic(auto)]
+
+mod digits;
+mod splitter;
+#[cfg(test)]
+mod tests;
+mod words;
+
+pub use splitter::{Mode, WordList, quoted_words};
+pub use words::{Words, has_quote, is_ascii};
