@@ -24,7 +24,7 @@ use Rattle.sender_table.specs.Sending as sendings
 use Rattle.receiver_core.specs.Core as receiver
 use Rattle.receiver_table.specs.Answers as received_answers
 use Rattle.receiver_table.specs.Reception as receptions
-use Rattle.lane_table.specs.Logs.{Transaction, receives, body_opens, opened_by, Log, sent, received, to_sender, answered_behind, extended, image_in}
+use Rattle.lane_table.specs.Logs.{Transaction, receives, body_opens, opened_by, Log, sent, received, to_sender, has_ended, answered_behind, extended, image_in}
 use Rattle.txn_lane.specs.Transactions.{StandsAfter, IsPlanOf, IsWhy, plan_answer}
 use Rattle.txn_lane.specs.declared.transaction.TransactionCore.{TransactionCore}
 use Rattle.txn_lane.specs.declared.transaction.TransactionCore.TheVariants as core
@@ -46,11 +46,12 @@ answered_planned (core.Receiver c) (plan.Receiver p) (sent sending log) (On key 
 answered_planned (core.Sender c) (plan.Sender p) (received reception log) event stands planned = absurd stands
 answered_planned (core.Sender c) (plan.Receiver p) log event stands planned = absurd planned
 answered_planned (core.Receiver c) (plan.Sender p) log event stands planned = absurd planned
+answered_planned (core.Ended glance) p log event stands planned = absurd planned
 
--- two logs that a transaction stands after say the same
-pub answered_same : (c : TransactionCore) (one other : Log) (event : Event) → StandsAfter c one → StandsAfter c other
+-- two logs that a transaction stands after say the same, where it goes on
+pub answered_same : (c : TransactionCore) (one other : Log) (event : Event) → has_ended one ≡ false → StandsAfter c one → StandsAfter c other
     → answered_behind one event ≡ answered_behind other event
-answered_same (core.Sender c) (sent first one) (sent second other) event stood stands =
+answered_same (core.Sender c) (sent first one) (sent second other) event runs stood stands =
     subst (λ s. sent_answers.answer_at s (sendings.state_of s one) (to_sender event) ≡ answered_behind (sent second other) event) stood.0
     (subst (λ s. sent_answers.answer_at (sender.sending_of c) (sendings.state_of (sender.sending_of c) one) (to_sender event)
     ≡ sent_answers.answer_at s (sendings.state_of s other) (to_sender event)) stands.0
@@ -58,7 +59,7 @@ answered_same (core.Sender c) (sent first one) (sent second other) event stood s
     ≡ sent_answers.answer_at (sender.sending_of c) (sendings.state_of (sender.sending_of c) other) (to_sender event)) stood.1
     (subst (λ state. sent_answers.answer_at (sender.sending_of c) (sender.shown c) (to_sender event)
     ≡ sent_answers.answer_at (sender.sending_of c) state (to_sender event)) stands.1 refl)))
-answered_same (core.Receiver c) (received first one) (received second other) (On key event) stood stands =
+answered_same (core.Receiver c) (received first one) (received second other) (On key event) runs stood stands =
     subst (λ r. received_answers.answer_at r (receptions.state_of one) event ≡ answered_behind (received second other) (On key event)) stood.0
     (subst (λ r. received_answers.answer_at (receiver.reception_of c) (receptions.state_of one) event
     ≡ received_answers.answer_at r (receptions.state_of other) event) stands.0
@@ -66,11 +67,12 @@ answered_same (core.Receiver c) (received first one) (received second other) (On
     ≡ received_answers.answer_at (receiver.reception_of c) (receptions.state_of other) event) stood.1
     (subst (λ state. received_answers.answer_at (receiver.reception_of c) (receiver.shown c) event
     ≡ received_answers.answer_at (receiver.reception_of c) state event) stands.1 refl)))
-answered_same (core.Receiver c) (received first one) (received second other) (Put request params) stood stands = refl
-answered_same (core.Sender c) (sent first one) (received second other) event stood stands = absurd stands
-answered_same (core.Sender c) (received first one) other event stood stands = absurd stood
-answered_same (core.Receiver c) (received first one) (sent second other) event stood stands = absurd stands
-answered_same (core.Receiver c) (sent first one) other event stood stands = absurd stood
+answered_same (core.Receiver c) (received first one) (received second other) (Put request params) runs stood stands = refl
+answered_same (core.Sender c) (sent first one) (received second other) event runs stood stands = absurd stands
+answered_same (core.Sender c) (received first one) other event runs stood stands = absurd stood
+answered_same (core.Receiver c) (received first one) (sent second other) event runs stood stands = absurd stands
+answered_same (core.Receiver c) (sent first one) other event runs stood stands = absurd stood
+answered_same (core.Ended glance) one other event runs stood stands = absurd (false≢true (sym runs ∙ stood.ended))
 
 -- ---- each end's own clauses, over the logs of both
 

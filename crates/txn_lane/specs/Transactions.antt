@@ -1,21 +1,31 @@
 -- Of the code. What the code's transaction stands at, and what it plans, over the logs of both ends.
-use Rattle.std.specs.Prelude.{◌≡◌, [], Option, Some, None}
+use Rattle.std.specs.Prelude.{◌≡◌, ℕ, true, [], Option, Some, None, Err}
 use Rattle.txn_events.specs.declared.answer.Answer.{Answer}
 use Rattle.txn_events.specs.declared.event.Event.{Event}
 use Rattle.txn_events.specs.declared.event.Event.TheVariants.{On}
 pub use Rattle.txn_events.specs.Logs.{IsWhy}
 use Rattle.sender_core.specs.Core as sender
 use Rattle.receiver_core.specs.Core as receiver
-use Rattle.lane_table.specs.Logs.{Transaction, Log, sent, received, to_sender, log_by}
+use Rattle.txn_events.specs.declared.refusal.Refusal.TheVariants.{StaleStored}
+use Rattle.lane_table.specs.declared.glance.Glance.{Glance}
+use Rattle.lane_table.specs.Glances.{glance_in}
+use Rattle.lane_table.specs.Logs.{Transaction, Log, sent, received, to_sender, has_ended, image_in, log_by}
 use Rattle.txn_lane.specs.declared.transaction.TransactionCore.{TransactionCore}
 use Rattle.txn_lane.specs.declared.transaction.TransactionCore.TheVariants as core
 use Rattle.txn_lane.specs.declared.transaction.TransactionPlan.{TransactionPlan}
 use Rattle.txn_lane.specs.declared.transaction.TransactionPlan.TheVariants as plan
 
+-- a log has ended, a look at it shows this, and no deposit waits
+pub record IsOver (log : Log) (glance : Glance) : Type 0 where
+  pub ended : has_ended log ≡ true
+  pub glanced : glance ≡ glance_in log
+  pub lends_nothing : (stamp : ℕ) → image_in log stamp ≡ Err StaleStored
+
 -- what the transaction holds is what the log of its end gives
 abbrev pub StandsAfter : TransactionCore → Log → Type 0
 StandsAfter (core.Sender c) (sent sending log) = (sender.sending_of c ≡ sending) × sender.StandsAfter c log
 StandsAfter (core.Receiver c) (received reception log) = (receiver.reception_of c ≡ reception) × receiver.StandsAfter c log
+StandsAfter (core.Ended glance) log = IsOver log glance
 StandsAfter c log = ⊥
 
 -- the answer of a plan

@@ -28,6 +28,7 @@ impl TransactionCore {
         match self {
             TransactionCore::Sender(core) => glance_at_sender(core),
             TransactionCore::Receiver(core) => glance_at_receiver(core),
+            TransactionCore::Ended(glance) => copied(glance),
         }
     }
 }
@@ -87,6 +88,21 @@ fn glance_at_receiver(core: &ReceiverCore) -> Result<Glance, AllocError>
         entries: core.entries(),
         file,
     })
+}
+
+// A copy of a look, with memory of its own.
+fn copied(glance: &Glance) -> Result<Glance, AllocError>
+    ensures { IfOk result (λ copy. copy ≡ glance.now) }
+{
+    let file = match &glance.file {
+        None => None,
+        Some(file) => Some(GlancedFile {
+            size: file.size,
+            source_name: file.source_name.copy()?,
+            destination_name: file.destination_name.copy()?,
+        }),
+    };
+    Ok(Glance { file, ..*glance })
 }
 
 // The file that Metadata describes, if it came.

@@ -31,7 +31,7 @@ impl Running {
     ghost use Rattle.lane_table.specs.Logs.{Log, IsOfKey, opened_by, first_answer, answered_behind, extended};
     ghost use Rattle.txn_lane.specs.Transactions.{StandsAfter, IsWhy, plan_answer};
     ghost use Rattle.txn_lane.specs.Handing.{bundle_for};
-    ghost use Rattle.txn_lane.specs.RunningCode.{IsStepOf, IsOpenedBy, IsUnmoved, MayCommit, IsDoneBy};
+    ghost use Rattle.txn_lane.specs.RunningCode.{IsStepOf, IsGoing, IsOpenedBy, IsUnmoved, MayCommit, IsDoneBy};
 
     /// The transaction that an event opens, before its first event, and that event, with the bundle
     /// of what it tells.
@@ -67,6 +67,7 @@ impl Running {
         key: TxnKey,
         what: &What,
     ) -> Result<(Step, Option<Bundle>), Refusal>
+        requires goes { IsGoing self.old }
         ensures same { IsUnmoved self.old self.new }
         ensures planned { IfOk result (λ planned. IsStepOf self.new (On key what.now) planned.0) }
         ensures bundle { IfOk result
@@ -81,7 +82,8 @@ impl Running {
         Ok((Step { event, plan }, bundle))
     }
 
-    /// Carries out a step under a key that was planned in the present state, and says what is to be done.
+    /// Carries out a step under a key that was planned in the present state, and says what is to be done. What is not
+    /// needed behind an end is let go with it.
     pub(crate) fn commit(&mut self, key: TxnKey, step: Step) -> Done
         requires { MayCommit self.old step }
         ensures done { IsDoneBy key (plan_answer step.plan) result }
@@ -97,6 +99,7 @@ impl Running {
             timers,
             deposit,
         } = self.core.commit(plan);
+        self.core.settle();
         self.journal.push_reserved(event);
         append_reserved(&mut self.trace, inds.into_vec());
         Done {

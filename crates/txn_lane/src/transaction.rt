@@ -1,4 +1,6 @@
 use cfdp_types::Image;
+use indications::Phase;
+use lane_table::Glance;
 use receiver_core::ReceiverCore;
 use sender_core::SenderCore;
 use std::alloc::Global;
@@ -11,6 +13,8 @@ pub(crate) enum TransactionCore {
     Sender(SenderCore),
     /// Its file is received.
     Receiver(ReceiverCore),
+    /// It has ended, and no deposit of it waits: only the look at it is left.
+    Ended(Glance),
 }
 
 /// An event that the transaction takes, with its answer and all memory that carrying it out needs. It
@@ -52,12 +56,14 @@ impl TransactionCore {
         match self {
             TransactionCore::Sender(core) => core.has_ended(),
             TransactionCore::Receiver(core) => core.has_ended(),
+            TransactionCore::Ended(_) => true,
         }
     }
 
     /// Plans an event in the present state, which stays as it is: the plan holds all memory that the
     /// event takes, and room is made for the octets that it brings.
     pub(crate) fn plan(&mut self, alloc: Global, what: &What) -> Result<TransactionPlan, Refusal>
+        requires { (log : Log) × StandsAfter self.old log × (has_ended log ≡ false) }
         ensures same { (log : Log) → StandsAfter self.old log → StandsAfter self.new log }
         ensures planned { (key : KeyValue) → IfOk result (λ plan. IsPlanOf self.new plan (On key what.now)) }
         ensures refused { (key : KeyValue) (log : Log) → StandsAfter self.old log
@@ -72,6 +78,7 @@ impl TransactionCore {
                 let plan = core.plan(what)?;
                 Ok(TransactionPlan::Receiver(Box::new(alloc, plan)?))
             }
+            TransactionCore::Ended(_) => unreachable!(),
         }
     }
 
@@ -100,8 +107,23 @@ impl TransactionCore {
         ensures refused { (log : Log) → StandsAfter self.now log → IfErr result (λ why. IsWhy (image_in log stamp) why) }
     {
         match self {
-            TransactionCore::Sender(_) => Err(Refusal::StaleStored),
+            TransactionCore::Sender(_) | TransactionCore::Ended(_) => Err(Refusal::StaleStored),
             TransactionCore::Receiver(core) => core.image(stamp),
+        }
+    }
+
+    /// Lets go of all but the look at it, once it has ended and no deposit waits: the file with its gaps, or the
+    /// request. Where there is no memory for the names that a look shows, it stays whole.
+    pub(crate) fn settle(&mut self)
+        ensures { (log : Log) → StandsAfter self.old log → StandsAfter self.new log }
+    {
+        if !self.has_ended() {
+            return;
+        }
+        if let Ok(glance) = self.glance() {
+            if glance.phase != Phase::Storing {
+                *self = TransactionCore::Ended(glance);
+            }
         }
     }
 }

@@ -23,7 +23,7 @@ advance-requires-clause-may g c log answer stood is =
     let event = On c.args.key c.args.what.now in
     let going = goes_on_by i.side i.user i.lane i.source i.last i.before i.running c.in-Some.running c.args.self.now c.args.key c.args.what.now
     (sym c.self.view_is) c.self.invariant c.in-Some.is c.requires.later in
-    let same = answered_same c.in-Some.running.core going.found.log log event going.found.stood stood in
+    let same = answered_same c.in-Some.running.core going.found.log log event going.found.runs going.found.stood stood in
     may_then c.args.self.now event c.args.key going.found.log answer going.meets (same ∙ is)
     c.requires.outlet.kept.0 (g.O.Outlet.stands c.args.outlet.now) c.requires.outlet.kept.2 c.requires.outlet.kept.1
     (g.O.Outlet.user c.args.outlet.now) (g.O.Outlet.lane c.args.outlet.now) c.address-address.result.user c.address-address.result.lane
