@@ -6,6 +6,7 @@ use Rattle.txn_events.specs.declared.event.Event.TheVariants.{On}
 pub use Rattle.txn_events.specs.Logs.{IsWhy}
 use Rattle.sender_core.specs.Core as sender
 use Rattle.receiver_core.specs.Core as receiver
+use Rattle.indications.specs.declared.indication.Phase.TheVariants as phase
 use Rattle.txn_events.specs.declared.refusal.Refusal.TheVariants.{StaleStored}
 use Rattle.lane_table.specs.declared.glance.Glance.{Glance}
 use Rattle.lane_table.specs.Glances.{glance_in}
@@ -15,7 +16,7 @@ use Rattle.txn_lane.specs.declared.transaction.TransactionCore.TheVariants as co
 use Rattle.txn_lane.specs.declared.transaction.TransactionPlan.{TransactionPlan}
 use Rattle.txn_lane.specs.declared.transaction.TransactionPlan.TheVariants as plan
 
--- a log has ended, a look at it shows this, and no deposit waits
+-- a transaction with this log has ended, this is the look at it, and it lends no file
 pub record IsOver (log : Log) (glance : Glance) : Type 0 where
   pub ended : has_ended log ≡ true
   pub glanced : glance ≡ glance_in log
@@ -27,6 +28,10 @@ StandsAfter (core.Sender c) (sent sending log) = (sender.sending_of c ≡ sendin
 StandsAfter (core.Receiver c) (received reception log) = (receiver.reception_of c ≡ reception) × receiver.StandsAfter c log
 StandsAfter (core.Ended glance) log = IsOver log glance
 StandsAfter c log = ⊥
+
+-- behind an end nothing but the look is left, unless a deposit waits
+abbrev pub IsSettled : TransactionCore → Log → Type 0
+IsSettled c log = has_ended log ≡ true → ((glance_in log).phase ≡ phase.Storing → ⊥) → c ≡ core.Ended (glance_in log)
 
 -- the answer of a plan
 abbrev pub plan_answer : TransactionPlan → Answer

@@ -99,7 +99,8 @@ impl Running {
             timers,
             deposit,
         } = self.core.commit(plan);
-        self.core.settle();
+        // Where there is no memory for the look, the lane holds it whole until the next one opens.
+        let _settled = self.core.settle();
         self.journal.push_reserved(event);
         append_reserved(&mut self.trace, inds.into_vec());
         Done {

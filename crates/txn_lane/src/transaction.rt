@@ -3,7 +3,7 @@ use indications::Phase;
 use lane_table::Glance;
 use receiver_core::ReceiverCore;
 use sender_core::SenderCore;
-use std::alloc::Global;
+use std::alloc::{AllocError, Global};
 use txn_events::{Answer, Refusal, What};
 
 /// The transaction of a lane.
@@ -42,12 +42,12 @@ impl TransactionPlan {
 }
 
 impl TransactionCore {
-    ghost use Rattle.std.specs.Prelude.{◌≡◌, false, Ok, IfOk, IfErr};
+    ghost use Rattle.std.specs.Prelude.{◌≡◌, false, Ok, IfOk, IfErr, OnOk, OnErr};
     ghost use Rattle.txn_events.specs.declared.event.Event.{Event};
     ghost use Rattle.txn_events.specs.declared.event.Event.TheVariants.{On};
     ghost use Rattle.cfdp_types.specs.declared.key.TxnKey.{TxnKey as KeyValue};
     ghost use Rattle.lane_table.specs.Logs.{Log, has_ended, answered_behind, extended, image_in};
-    ghost use Rattle.txn_lane.specs.Transactions.{StandsAfter, IsPlanOf, IsWhy, plan_answer};
+    ghost use Rattle.txn_lane.specs.Transactions.{StandsAfter, IsPlanOf, IsSettled, IsWhy, plan_answer};
 
     /// Whether the user was told that the transaction is over: no event follows.
     pub(crate) fn has_ended(&self) -> bool
@@ -112,18 +112,19 @@ impl TransactionCore {
         }
     }
 
-    /// Lets go of all but the look at it, once it has ended and no deposit waits: the file with its gaps, or the
-    /// request. Where there is no memory for the names that a look shows, it stays whole.
-    pub(crate) fn settle(&mut self)
-        ensures { (log : Log) → StandsAfter self.old log → StandsAfter self.new log }
+    /// Lets go of all but the look at it, where it has ended and no deposit waits: of the file with its gaps, or of
+    /// the request. An error says that there is no memory for the names that the look shows.
+    pub(crate) fn settle(&mut self) -> Result<(), AllocError>
+        ensures stands { (log : Log) → StandsAfter self.old log → StandsAfter self.new log }
+        ensures settled { (log : Log) → StandsAfter self.old log → OnOk result (IsSettled self.new log) }
+        ensures same { OnErr result (self.new ≡ self.old) }
     {
-        if !self.has_ended() {
-            return;
-        }
-        if let Ok(glance) = self.glance() {
+        if self.has_ended() {
+            let glance = self.glance()?;
             if glance.phase != Phase::Storing {
                 *self = TransactionCore::Ended(glance);
             }
         }
+        Ok(())
     }
 }
