@@ -1,7 +1,8 @@
 //! Lanes with their user's queue, line by line. A line is what the lane takes and what the step gives: a
 //! PDU, "put" with a class and a file, or a key and what happens to it. "take" is what the user takes,
 //! "image" asks for a file, and "last" says which transaction it is, how many events it took, and how much
-//! it told.
+//! it told. "look" says whether it has ended, how many events it took, how far the file came, and what is
+//! known of the file.
 ghost use Rattle.std.specs.Prelude.{◌≡◌, IfSome};
 ghost use Rattle.txn_tests.specs.Desks.{Fits};
 ghost use Rattle.lane_table.specs.Lane.{idle};
@@ -11,7 +12,7 @@ use crate::desk::{Desk, new_desk, step, take};
 use crate::ends::{request, row_of};
 use crate::events::{event_of, pdu_of};
 use crate::setting::params;
-use crate::texts::{check_lines, push_image, push_step};
+use crate::texts::{check_lines, push_image, push_octets, push_step};
 use answer_texts::{push_bundle, push_refusal, push_refused};
 use cfdp_types::{Class, EntityId, TxnKey};
 use indications::Bundle;
@@ -19,7 +20,7 @@ use std::alloc::{AllocError, Global};
 use std::process::Abort;
 use std::test::*;
 use txn_events::{Event, What};
-use txn_lane::{Done, Lane, Numbers, Refused};
+use txn_lane::{Done, Glance, Lane, Numbers, Refused};
 use user_queues::ListQueue;
 
 const NO_LINE: &str = "the line is none of a lane";
@@ -174,6 +175,30 @@ pub(crate) fn push_last(text: &mut String, lane: &Lane) -> Result<(), AllocError
     }
 }
 
+// A look: whether the transaction runs, its events, its progress, and its file's size and names.
+fn push_glance(alloc: Global, text: &mut String, glance: &Glance) -> Result<(), AllocError> {
+    let (entries, progress) = (glance.entries, glance.progress);
+    text.push_str(if glance.has_ended { "ended" } else { "runs" })?;
+    write!(text, " {entries} {progress}")?;
+    match &glance.file {
+        None => Ok(()),
+        Some(file) => {
+            let size = file.size;
+            write!(text, " {size}")?;
+            push_octets(alloc, text, &file.source_name)?;
+            push_octets(alloc, text, &file.destination_name)
+        }
+    }
+}
+
+// What a look at a lane shows.
+fn push_look(alloc: Global, text: &mut String, lane: &Lane) -> Option<()> {
+    match &lane.glance().ok()? {
+        None => text.push_str("none").ok(),
+        Some(glance) => push_glance(alloc, text, glance).ok(),
+    }
+}
+
 // What the user takes.
 fn push_take(alloc: Global, text: &mut String, desk: &mut Desk) -> Option<()>
     requires { Fits desk.old.lane desk.old.number desk.old.queue }
@@ -209,6 +234,9 @@ fn push_line(alloc: Global, text: &mut String, desk: &mut Desk, line: &str) -> O
     }
     if line == "last" {
         return push_last(text, &desk.lane).ok();
+    }
+    if line == "look" {
+        return push_look(alloc, text, &desk.lane);
     }
     match line.strip_prefix("image ") {
         Some(words) => push_file(alloc, text, &desk.lane, words),
@@ -298,8 +326,11 @@ fn a_lane_that_receives(rt: HostRuntime) -> Result<(), Fail> {
         image 1 5 1: refused 6 StaleStored
         image 1 6 2: refused 6 StaleStored
         image 3 5 2: refused 6 StaleStored
+        look: runs 3 3 3 61 62
         1 5 stored 2 yes: ok
         last: 5 4 4
+        look: ended 4 3 3 61 62
+        image 1 5 2: refused 6 StaleStored
         take: user 1 5 Metadata-Recv 1 3 61 62
         take: user 1 5 File-Segment-Recv 0 3
         take: user 1 5 EOF-Recv
@@ -396,6 +427,7 @@ fn a_lane_that_sends(rt: HostRuntime) -> Result<(), Fail> {
         last: 4 8 3
         pdu 280002000204010502: refused 2 OldTransaction; echo 20000300020401065102
         2 4 pump: refused 2 OldTransaction
+        look: ended 8 3 3 61 62
         image 2 4 0: refused 6 StaleStored
         put 1 -: ok
         last: 8 1 1

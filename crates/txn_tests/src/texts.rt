@@ -133,8 +133,12 @@ pub(crate) fn push_image(
     push_octets(alloc, text, &image.octets)
 }
 
-// A space and octets in hex, or a dash for none.
-fn push_octets(alloc: Global, text: &mut String, octets: &Octets) -> Result<(), AllocError> {
+/// A space and octets in hex, or a dash for none.
+pub(crate) fn push_octets(
+    alloc: Global,
+    text: &mut String,
+    octets: &Octets,
+) -> Result<(), AllocError> {
     if octets.as_slice().is_empty() {
         return text.push_str(" -");
     }
