@@ -5,7 +5,7 @@ usage: tests/scripts.py PROGRAM
 
 The scripts of `tests/scripts/*.rows` are written out: `== TITLE`, and below it a line of the script for each row with, behind a colon,
 the lines that it prints, with semicolons between. What is printed was worked out by hand from the tables. Below are those that are too
-long to be written out: full journals, many gaps, long lines and names.
+long to be written out: full journals, many gaps, long lines and names; and those that end in a bad line.
 """
 import pathlib
 import subprocess
@@ -17,7 +17,7 @@ SECONDS = 120
 
 def play(program, title, script, printed, status=0):
     """Plays a script, and fails where it prints something else, ends with another status, or has something to say of errors."""
-    run = subprocess.run([program], input=script.encode("ascii"), capture_output=True, timeout=SECONDS, check=False)
+    run = subprocess.run([program], input=script.encode(), capture_output=True, timeout=SECONDS, check=False)
     given, wanted = run.stdout.decode("ascii").splitlines(), printed.splitlines()
     for place, line in enumerate(wanted + ["nothing more"]):
         answer = given[place] if place < len(given) else "nothing more"
@@ -97,8 +97,44 @@ def long_words():
     yield "the longest line", "#" + "x" * 131_199 + "\ntake alice", "none"
 
 
+# Lines of which each is bad, as a script's first one.
+BAD_LINES = [
+    "set capacity 0", "set capacity 1025", "set checksum crc", "set checksum 15", "set first 9223372036854775808",
+    "set ack_limit 0", "set ack_limit 256", "set nak_limit 0", "set nak_limit 256", "set check_limit 0", "set check_limit 256",
+    "set check_limit -1", "set segment 512", "set capacity", "set capacity 2 3",
+    "set recv1 8 suspend", "set recv1 4 ignore", "set recv2 5 suspend", "set send 11 ignore", "set send 0 cancel",
+    "set send 2 cancel", "set recv2 15 abandon", "set recv2 16 cancel", "set recv2 263 cancel", "set recv3 8 cancel",
+    "set recv2 8 stop", "set recv2 8",
+    "pdu", "pdu ", "pdu 2", "pdu 2g", "pdu 24 00", " pdu 24", "pdu  24", "PDU 24", "pdu 24 ", "take", "take carol", "take Alice",
+    "take alice bob", "take alice\r", "take 0", " ", " # remark",
+    "cancel carol 1 5", "cancel alice 1", "cancel alice 1 5 6", "cancel alice +1 5", "suspend alice 1 -5", "resume alice 1 0x5",
+    "report alice 1 18446744073709551616", "abandon alice 18446744073709551616 1", "abort alice 1 5", "pump 2", "pump alice 2 4",
+    "timer 1 5 nak", "timer 1 5 never 1", "timer 1 5 nak 4294967296", "stored 1 5 2", "stored 1 5 2 maybe",
+    "stored 1 5 4294967296 yes",
+    "put alice 0 1 1 a ", "put alice 0 1 1 a b - -", "put alice 0 1 1 a b - ", "put alice 0 1 1 a b ", "put alice 0 1 1 a b 616",
+    "put alice 0 1 1 a b --", "put alice 0 1 1  b -", "put alice 0 1 1 a ä -", "put alice 2 1 1 a b -", "put alice 0 0 1 a b -",
+    "put alice 0 3 1 a b -", "put alice 0 1 18446744073709551616 a b -", "put carol 0 1 1 a b -",
+]
+
+
+def ends():
+    """Remarks alone, and a last line without a line feed."""
+    yield "nothing", "", ""
+    yield "remarks", "\n\n# take alice\n#", ""
+    yield "no line feed at the end", "\ntake alice\n\n#\ntake bob", "none\nnone"
+
+
 def bad_lines():
     """Each with status 1."""
+    for line in BAD_LINES:
+        yield repr(line), line, "line 1: bad line"
+    yield "a word that is not known", "take alice\npud 24\ntake alice\n", "none\nline 2: bad line"
+    yield (
+        "a setting too late",
+        "# settings come first\n\nset capacity 2\n#\nset first 2\n\ntake alice\nset first 2\n",
+        "none\nline 8: bad line",
+    )
+    yield "a setting behind a refusal", "pdu 24\nset capacity 2\n", "refused 20 DecodeFault 1\nline 2: bad line"
     yield "too long a name", "take alice\nput alice 0 1 1 a " + "x" * 256 + " -\n", "none\nline 2: bad line"
     yield "too long a source", "put alice 0 1 1 " + "x" * 256 + " b -\n", "line 1: bad line"
     yield "too long a line", "take alice\n#" + "x" * 131_200 + "\ntake alice", "none\nline 2: bad line"
@@ -111,7 +147,8 @@ def main():
     written = [one for path in sorted(ROWS.glob("*.rows")) for one in rows_of(path)]
     if not written:
         sys.exit("tests/scripts has no scripts")
-    for scripts, status in ((written, 0), (full_journals(), 0), (many_gaps(), 0), (long_words(), 0), (bad_lines(), 1)):
+    good = (written, full_journals(), many_gaps(), long_words(), ends())
+    for scripts, status in [*((scripts, 0) for scripts in good), (bad_lines(), 1)]:
         for title, script, printed in scripts:
             play(program, title, script, printed, status)
             count += 1

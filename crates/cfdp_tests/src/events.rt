@@ -1,7 +1,6 @@
-use cfdp_types::limits::FILE_OCTETS;
-use cfdp_types::{Class, Condition, EntityId, Octets, TimerKind, TimerLengths, TimerOp, TxnKey};
+use cfdp_types::{Class, EntityId, TimerKind, TimerLengths, TimerOp, TxnKey};
 use indications::Indication;
-use pdu_values::{Body, Direction, Eof, FileData, Header, KeepAlive, Pdu};
+use pdu_values::{Body, Direction, Header, KeepAlive, Pdu};
 use std::alloc::{AllocError, Global};
 use std::test::*;
 use txn_events::{
@@ -36,80 +35,17 @@ fn pdus_in_order(alloc: Global) -> Result<bool, AllocError> {
     Ok(pdus.as_slice().len() == 1)
 }
 
-// Whether an event is a PDU, is one of the other class in class 1 and in class 2, and needs room.
-fn asked(event: What) -> [bool; 4] {
-    let other = [
-        is_of_other_class(Class::One, &event),
-        is_of_other_class(Class::Two, &event),
-    ];
-    [is_pdu(&event), other[0], other[1], needs_room(&event)]
+fn asked_of_a_pdu() -> bool {
+    let event = What::Pdu(keep_alive());
+    is_pdu(&event)
+        && is_of_other_class(Class::One, &event)
+        && needs_room(&event)
+        && !is_too_large(&event)
 }
 
-fn asked_of_events() -> bool {
-    let answers = [
-        asked(What::Pdu(keep_alive())),
-        asked(What::Report),
-        asked(What::Abandon),
-        asked(What::Stored(3, true)),
-    ];
-    let expected = [
-        [true, true, false, true],
-        [false, false, false, true],
-        [false; 4],
-        [false; 4],
-    ];
-    answers == expected
-}
-
-// An EOF of a file that is too large.
-fn large_eof(condition: Condition) -> Body {
-    Body::Eof(Eof {
-        condition,
-        checksum: 0,
-        size: u64::from(FILE_OCTETS) + 1,
-        location: None,
-    })
-}
-
-// Whether a body opens a reception, and is too large.
-fn asked_of(body: Body) -> [bool; 2] {
-    [body_opens(&body), is_body_too_large(&body)]
-}
-
-fn asked_of_bodies() -> bool {
-    let answers = [
-        asked_of(large_eof(Condition::NO_ERROR)),
-        asked_of(large_eof(Condition::CANCEL_REQUEST)),
-        asked_of(Body::KeepAlive(KeepAlive { progress: 3 })),
-        asked_of(Body::KeepAlive(KeepAlive { progress: u64::MAX })),
-    ];
-    answers == [[true, true], [true, false], [false, false], [false, false]]
-}
-
-// Whether a part of a file is too large, which ends at the limit or behind it, or past all numbers of eight octets.
-fn asked_of_parts(alloc: Global) -> Result<[bool; 4], AllocError> {
-    let limit = u64::from(FILE_OCTETS);
-    Ok([
-        is_part_too_large(alloc, limit - 3)?,
-        is_part_too_large(alloc, limit - 2)?,
-        is_part_too_large(alloc, limit + 1)?,
-        is_part_too_large(alloc, u64::MAX)?,
-    ])
-}
-
-fn is_part_too_large(alloc: Global, offset: u64) -> Result<bool, AllocError> {
-    let octets = Octets::from_slice(alloc, b"abc")?;
-    Ok(is_body_too_large(&Body::FileData(FileData { offset, octets })))
-}
-
-#[test]
-fn parts_at_the_limit(rt: HostRuntime) -> Result<(), Fail> {
-    assert!(rt; asked_of_parts(rt.alloc())? == [false, true, true, true]);
-    Ok(())
-}
-
-fn a_size_that_fits() -> bool {
-    !is_too_large(&What::Pdu(keep_alive()))
+fn asked_of_a_body() -> bool {
+    let body = Body::KeepAlive(KeepAlive { progress: 3 });
+    !body_opens(&body) && !is_body_too_large(&body)
 }
 
 fn refusals() -> bool {
@@ -130,66 +66,9 @@ fn answered(event: &Event) -> Option<(u64, u32, bool)> {
     }
 }
 
-// Whether the expiration of a timer is that of the NAK timer, and is stale where that runs since stamp 4.
-fn asked_of_timer(kind: TimerKind, stamp: u32) -> [bool; 2] {
-    let armed = Stamps {
-        nak: Some(4),
-        ..Stamps::NONE
-    };
-    let event = What::Timer(kind, stamp);
-    [
-        is_expiration(TimerKind::Nak, &event),
-        is_stale_timer(&armed, &event),
-    ]
-}
-
-fn asked_of_timers() -> bool {
-    let answers = [
-        asked_of_timer(TimerKind::Nak, 4),
-        asked_of_timer(TimerKind::Nak, 3),
-        asked_of_timer(TimerKind::Ack, 4),
-    ];
-    answers == [[true, false], [true, true], [false, true]]
-}
-
-fn stamps_of_timers() -> bool {
-    let armed = Stamps {
-        nak: Some(4),
-        ..Stamps::NONE
-    };
-    armed.of(TimerKind::Nak) == Some(4) && armed.of(TimerKind::Ack).is_none()
-}
-
-// Whether what is told suspends a transaction that was not suspended, or was, and tells of a fault or of
-// a resumption.
-fn asked_of_telling(told: Indication) -> [bool; 4] {
-    let told = [told];
-    let paused = [paused_after(false, &told), paused_after(true, &told)];
-    [paused[0], paused[1], has_fault(&told), has_resumed(&told)]
-}
-
-fn asked_of_indications() -> bool {
-    let answers = [
-        asked_of_telling(Indication::Suspended {
-            condition: Condition::SUSPEND_REQUEST,
-        }),
-        asked_of_telling(Indication::Fault {
-            condition: Condition::NAK_LIMIT,
-            progress: 3,
-        }),
-        asked_of_telling(Indication::Resumed { progress: 3 }),
-    ];
-    let expected = [
-        [true, true, false, false],
-        [false, true, true, false],
-        [false, false, false, true],
-    ];
-    answers == expected
-}
-
-const ONCE: Tries = Tries {
-    nak: 1,
-    ..Tries::NONE
+const ARMED: Stamps = Stamps {
+    nak: Some(4),
+    ..Stamps::NONE
 };
 
 const NO_RESETS: CountResets = CountResets {
@@ -197,27 +76,17 @@ const NO_RESETS: CountResets = CountResets {
     nak: false,
 };
 
-// Whether NAK expired so often, and no other timer.
-fn has_counted(tries: Tries, nak: u32) -> bool {
-    (tries.ack, tries.nak) == (0, nak) && (tries.check, tries.inactivity) == (0, 0)
+fn asked_of_a_timer() -> bool {
+    let event = What::Timer(TimerKind::Nak, 4);
+    is_expiration(TimerKind::Nak, &event)
+        && !is_stale_timer(&ARMED, &event)
+        && ARMED.of(TimerKind::Nak) == Some(4)
+        && Tries::NONE.after(&event, &[], NO_RESETS).nak == 1
 }
 
-fn counts() -> bool {
-    let expired = What::Timer(TimerKind::Nak, 4);
-    has_counted(Tries::NONE.after(&expired, &[], NO_RESETS), 1)
-}
-
-fn counts_begin_again() -> bool {
-    let resets = CountResets {
-        nak: true,
-        ..NO_RESETS
-    };
-    has_counted(ONCE.after(&What::Report, &[], resets), 0)
-}
-
-fn counts_after_a_resumption() -> bool {
-    let resumed = [Indication::Resumed { progress: 3 }];
-    has_counted(ONCE.after(&What::Resume, &resumed, NO_RESETS), 0)
+fn asked_of_indications() -> bool {
+    let told = [Indication::Resumed { progress: 3 }];
+    !paused_after(true, &told) && !has_fault(&told) && has_resumed(&told)
 }
 
 const ARM: TimerOp = TimerOp::Arm {
@@ -276,13 +145,8 @@ fn operations_in_order(alloc: Global) -> Result<bool, AllocError> {
 
 #[test]
 fn calls(rt: HostRuntime) -> Result<(), Fail> {
-    assert!(rt;
-        pdus_in_order(rt.alloc())? && asked_of_events() && asked_of_bodies() && a_size_that_fits()
-    );
-    assert!(rt; refusals() && copies()? && asked_of_timers() && stamps_of_timers());
-    assert!(rt;
-        asked_of_indications() && counts() && counts_begin_again() && counts_after_a_resumption()
-    );
+    assert!(rt; pdus_in_order(rt.alloc())? && asked_of_a_pdu() && asked_of_a_body());
+    assert!(rt; refusals() && copies()? && asked_of_a_timer() && asked_of_indications());
     assert!(rt;
         stamps_after_a_step() && timers_of_a_step(rt.alloc())? && operations_in_order(rt.alloc())?
     );

@@ -50,30 +50,21 @@ fn numbers(rt: HostRuntime) {
     assert!(rt; are_codes(&CODES) && are_made_of_numbers());
 }
 
-fn are_octets(octets: &Octets, expected: &[u8]) -> bool {
-    octets.as_slice() == expected
+// Octets that were copied twice, in a vector.
+fn copied(alloc: Global) -> Result<Vec<u8>, AllocError> {
+    Ok(
+        Octets::from_slice(alloc, b"abc")?
+            .copy()?
+            .clone()?
+            .into_vec(),
+    )
 }
 
 #[test]
 fn octets(rt: HostRuntime) -> Result<(), Fail> {
-    let octets = Octets::from_slice(rt.alloc(), b"abc")?;
-    assert!(rt; are_octets(&octets, b"abc"));
-    assert!(rt; octets.into_vec().as_slice() == b"abc".as_slice());
-    assert!(rt; are_octets(&Octets::new(rt.alloc()), b""));
-    Ok(())
-}
-
-#[test]
-fn copies_of_octets(rt: HostRuntime) -> Result<(), Fail> {
-    let copy = Octets::from_slice(rt.alloc(), b"abc")?.copy()?.clone()?;
-    assert!(rt; are_octets(&copy, b"abc"));
-    Ok(())
-}
-
-#[test]
-fn octets_of_a_vector(rt: HostRuntime) -> Result<(), Fail> {
-    let octets = Octets::from_vec(vec![in rt.alloc(); 97, 98, 100]?);
-    assert!(rt; are_octets(&octets, b"abd"));
+    let octets = Octets::from_vec(copied(rt.alloc())?);
+    assert!(rt; octets.as_slice() == b"abc".as_slice());
+    assert!(rt; Octets::new(rt.alloc()).as_slice().is_empty());
     Ok(())
 }
 
@@ -83,26 +74,21 @@ fn push_both(alloc: Global, messages: &mut Messages) -> Result<(), AllocError> {
 }
 
 #[test]
-fn messages_in_order(rt: HostRuntime) -> Result<(), Fail> {
-    let mut messages = Messages::with_capacity(rt.alloc(), 3)?;
+fn messages(rt: HostRuntime) -> Result<(), Fail> {
+    let mut messages = Messages::with_capacity(rt.alloc(), 2)?;
     push_both(rt.alloc(), &mut messages)?;
     assert!(rt; are_both(&messages));
-    assert!(rt; Messages::new(rt.alloc()).as_slice().is_empty());
-    Ok(())
-}
-
-#[test]
-fn copies_of_messages(rt: HostRuntime) -> Result<(), Fail> {
     let copy = Messages::from_slices(rt.alloc(), &[b"abc", b""])?
         .copy()?
         .clone()?;
     assert!(rt; are_both(&copy));
+    assert!(rt; Messages::new(rt.alloc()).as_slice().is_empty());
     Ok(())
 }
 
 fn are_both(messages: &Messages) -> bool {
     match messages.as_slice() {
-        [first, second] => are_octets(first, b"abc") && are_octets(second, b""),
+        [first, second] => { first.as_slice() == b"abc".as_slice() && second.as_slice().is_empty() }
         _ => false,
     }
 }
@@ -201,25 +187,12 @@ fn parameters(rt: HostRuntime) -> Result<(), Fail> {
     Ok(())
 }
 
-fn has_copy(put: &PutRequest) -> bool {
-    match put.copy() {
-        Ok(copy) => has_its_parts(&copy),
-        Err(_) => false,
-    }
-}
-
 #[test]
 fn puts(rt: HostRuntime) -> Result<(), Fail> {
     let put = put_of(rt.alloc())?;
-    assert!(rt; has_its_parts(&put) && has_copy(&put));
-    Ok(())
-}
-
-#[test]
-fn puts_with_closure(rt: HostRuntime) -> Result<(), Fail> {
-    let put = put_of(rt.alloc())?.with_closure(true);
-    assert!(rt; put.closure() && put.copy()?.closure());
-    assert!(rt; has_its_parts(&put.with_closure(false)));
+    assert!(rt; has_its_parts(&put));
+    assert!(rt; has_its_parts(&put.copy()?));
+    assert!(rt; put.with_closure(true).closure());
     Ok(())
 }
 
@@ -244,30 +217,4 @@ fn put_of(alloc: Global) -> Result<PutRequest, PutFault> {
         &messages,
         b"abc",
     )
-}
-
-// Where the first try is refused memory, the second goes well.
-#[test]
-fn memory_refused_to_a_put(rt: HostRuntime) {
-    let alloc = rt.alloc();
-    assert!(rt; put_of(alloc).is_ok() || put_of(alloc).is_ok());
-}
-
-// Where a growth is refused, nothing is added.
-#[test]
-fn memory_refused_to_messages(rt: HostRuntime) -> Result<(), Fail> {
-    let mut messages = Messages::new(rt.alloc());
-    for _ in 0..5 {
-        push_again(rt.alloc(), &mut messages)?;
-    }
-    assert_eq!(rt; messages.as_slice().len(), 5);
-    Ok(())
-}
-
-// Adds a message without octets, at the second try where the first is refused memory.
-fn push_again(alloc: Global, messages: &mut Messages) -> Result<(), AllocError> {
-    match messages.push(Octets::new(alloc)) {
-        Ok(()) => Ok(()),
-        Err(_) => messages.push(Octets::new(alloc)),
-    }
 }

@@ -4,8 +4,6 @@
 mod file;
 mod laws;
 mod rounds;
-#[cfg(test)]
-mod tests;
 
 pub use file::{NumberFile, NumbersFault};
 pub use laws::numbers;

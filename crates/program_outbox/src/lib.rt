@@ -2,7 +2,5 @@
 #![tactic(auto)]
 
 mod outbox;
-#[cfg(test)]
-mod tests;
 
 pub use outbox::{MOST_FILES, Outbox, OutboxFault, OutboxFile, Waiting};

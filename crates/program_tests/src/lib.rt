@@ -1,4 +1,5 @@
-//! Parts of the programs, as their callers see them: command lines, the agenda, the desk, seats, what is counted, events.
+//! Parts of the programs, as their callers see them: command lines, words in quotes, the agenda, the desk, seats, the outbox, what
+//! is counted, the file of numbers, and the lines of a station, octet for octet and as a reader of JSON has them.
 #![tactic(auto)]
 
 #[cfg(test)]
@@ -6,9 +7,23 @@ mod agenda;
 #[cfg(test)]
 mod desk;
 #[cfg(test)]
+mod event_lines;
+#[cfg(test)]
 mod events;
 #[cfg(test)]
+mod moments;
+#[cfg(test)]
+mod numbers;
+#[cfg(test)]
+mod outbox;
+#[cfg(test)]
+mod quoted;
+#[cfg(test)]
+mod reading;
+#[cfg(test)]
 mod seats;
+#[cfg(test)]
+mod status_lines;
 #[cfg(test)]
 mod tallies;
 #[cfg(test)]

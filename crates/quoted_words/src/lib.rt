@@ -3,8 +3,6 @@
 
 mod digits;
 mod splitter;
-#[cfg(test)]
-mod tests;
 mod words;
 
 pub use splitter::{Mode, WordList, quoted_words};

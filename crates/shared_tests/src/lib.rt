@@ -15,6 +15,8 @@ mod crowds;
 #[cfg(test)]
 mod deliveries;
 #[cfg(test)]
+mod looks;
+#[cfg(test)]
 mod narrow;
 #[cfg(test)]
 mod runs;

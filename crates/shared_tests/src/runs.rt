@@ -2,7 +2,7 @@
 ghost use Rattle.std.specs.Prelude.{◌≡◌, All};
 ghost use Rattle.shared_entity.specs.Opening.{AreQueuesFor};
 
-use crate::{apart, calls, crowd, deliveries, narrow, settings};
+use crate::{apart, calls, crowd, deliveries, looks, narrow, settings};
 use entity_config::Config;
 use shared_entity::{Entity, queues_of};
 use shared_lanes::Names;
@@ -15,8 +15,6 @@ use user_queues::{Queues, UserPort};
 /// What is played.
 #[derive(Clone, Copy)]
 pub(crate) enum Run {
-    /// Users ask, and are refused.
-    Asking,
     /// Each call is made once.
     Calls,
     /// Two threads deliver, and the entity is closed.
@@ -25,6 +23,8 @@ pub(crate) enum Run {
     Apart,
     /// Eight threads work on all lanes.
     Crowd,
+    /// A lane is looked at while transactions run there.
+    Looks,
     /// A queue is filled, and its user takes.
     Full,
     /// Two threads deliver to a queue that holds one bundle.
@@ -74,11 +74,11 @@ fn play_all<N: Names + Send + Sync, R: Threads + Wait + Copy + Send + Sync>(
     run: Run,
 ) -> Result<(), AllocError> {
     match run {
-        Run::Asking => calls::ask(rt, alloc, text, entity),
         Run::Calls => calls::call(rt, alloc, text, entity, ports),
         Run::Deliveries => Ok(()),
         Run::Apart => apart::hold_back(rt, alloc, text, entity),
         Run::Crowd => crowd::crowd(rt, alloc, text, entity, ports),
+        Run::Looks => looks::look_on(rt, alloc, text, entity),
         Run::Full => settings::fill(rt, alloc, text, entity, ports),
         Run::Narrow => narrow::squeeze(rt, alloc, text, entity, ports),
         Run::Sources => settings::listen(rt, text, entity),

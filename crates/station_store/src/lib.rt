@@ -7,8 +7,6 @@ mod names;
 mod prepared;
 mod settings;
 mod store;
-#[cfg(test)]
-mod tests;
 
 pub use prepared::Prepared;
 pub use settings::{Clash, Layout};

@@ -1,4 +1,4 @@
-//! Carriers that keep what workers are answered, and a store whose calls fail now and then.
+//! Carriers that keep what workers are answered, and a store of which each seventh call fails.
 ghost use Rattle.std.specs.Prelude.{◌≡◌, ◌≤◌};
 
 use cfdp_types::{Deposit, Octets};
@@ -74,45 +74,22 @@ fn is_step(answer: &Answered) -> bool {
     matches!(answer, Ok(Ok(_)))
 }
 
-/// Which calls of a store fail.
-#[derive(Clone, Copy, Debug, PartialEq, Eq)]
-pub(crate) enum Fails {
-    /// The first so many.
-    First(u64),
-    /// One of them.
-    Only(u64),
-    /// Each seventh.
-    Seventh,
-}
-
-impl Fails {
-    fn at(self, call: u64) -> bool {
-        match self {
-            Fails::First(calls) => call <= calls,
-            Fails::Only(failing) => call == failing,
-            Fails::Seventh => call % 7 == 0,
-        }
-    }
-}
-
-/// A store in memory that fails now and then.
+/// A store in memory of which each seventh call fails.
 #[derive(Drop)]
 pub(crate) struct Wayward {
     files: Vec<StoredFile>,
     calls: u64,
     failures: u64,
-    fails: Fails,
     alloc: Global,
     ghost fewer: { failures ≤ calls },
 }
 
 impl Wayward {
-    pub(crate) fn new(alloc: Global, fails: Fails) -> Wayward {
+    pub(crate) fn new(alloc: Global) -> Wayward {
         Wayward {
             files: Vec::new(alloc),
             calls: 0,
             failures: 0,
-            fails,
             alloc,
         }
     }
@@ -144,7 +121,7 @@ impl Filestore for Wayward {
 
     fn deposit(&mut self, name: &[u8], octets: &[u8]) -> Result<(), StoreFault> {
         self.calls += 1;
-        if self.fails.at(self.calls) || self.keep(name, octets).is_err() {
+        if self.calls % 7 == 0 || self.keep(name, octets).is_err() {
             self.failures += 1;
             return Err(StoreFault::Failed);
         }

@@ -1,10 +1,9 @@
-//! Workers receive a file, and a store takes it or not.
+//! Workers receive a file, and a store takes it.
 
 use crate::datagrams::{EOF, FILE_DATA, METADATA};
-use crate::keeping::{Fails, Keeper, Wayward, deposits_in, keepers, steps_in};
+use crate::keeping::{Keeper, deposits_in, keepers, steps_in};
 use crate::runs::{Run, play};
 use crate::told::{Words, take_all};
-use cfdp_types::{Deposit, EntityId, TxnKey};
 use entity_config::Config;
 use entity_workers::{
     DepositRest, Filestore, Intake, IntakeSend, MemoryStore, StoredFile, deposit_one, run_workers,
@@ -49,7 +48,6 @@ pub(crate) fn receive<N: Names + Send + Sync, R: Threads + Wait + Copy + Send + 
     text: &mut String,
     entity: &Entity<N, R>,
     ports: Vec<UserPort>,
-    failures: u64,
 ) -> Result<(), AllocError> {
     let Some(back) = deliver(rt, alloc, entity)? else {
         return text.push_str("fault\n");
@@ -57,7 +55,7 @@ pub(crate) fn receive<N: Names + Send + Sync, R: Threads + Wait + Copy + Send + 
     let workers = back.len();
     let steps = steps_in(&back);
     writeln!(text, "{workers} {steps}")?;
-    let mut store = Wayward::new(alloc, Fails::First(failures));
+    let mut store = MemoryStore::new(alloc);
     for deposit in deposits_in(&back, alloc)? {
         if store.calls() < 4 {
             push_deposit(text, deposit_one(rt, entity, &mut store, deposit))?;
@@ -98,52 +96,13 @@ pub(crate) fn push_files(text: &mut String, files: &[StoredFile]) -> Result<(), 
     Ok(())
 }
 
-/// Says what comes back of a deposit that no lane waits for, and what the store has.
-pub(crate) fn store_stale<N: Names, R: Wait + Copy>(
-    rt: &R,
-    alloc: Global,
-    text: &mut String,
-    entity: &Entity<N, R>,
-) -> Result<(), AllocError> {
-    let mut store = MemoryStore::new(alloc);
-    let key = TxnKey {
-        source: EntityId(1),
-        seq: 5,
-    };
-    let deposit = Deposit { key, stamp: 2 };
-    push_deposit(text, deposit_one(rt, entity, &mut store, deposit))?;
-    let calls = store.calls();
-    writeln!(text, "{calls}")
-}
-
 #[test]
 fn three_workers(rt: HostRuntime) -> Result<(), Fail> {
     let alloc = rt.alloc();
-    let run = Run::Receiving { failures: 0 };
-    let text = play(rt, alloc, Config::reference(alloc)?, run)?;
+    let text = play(rt, alloc, Config::reference(alloc)?, Run::Receiving)?;
     assert_eq!(rt;
         text.as_str(),
         "3 3\ntold\nb abc\n0 Complete Retained\nSome(1)\n"
     );
-    Ok(())
-}
-
-#[test]
-fn a_store_that_fails(rt: HostRuntime) -> Result<(), Fail> {
-    let alloc = rt.alloc();
-    let run = Run::Receiving { failures: 1 };
-    let text = play(rt, alloc, Config::reference(alloc)?, run)?;
-    assert_eq!(rt;
-        text.as_str(),
-        "3 3\ntold\n4 Incomplete Rejected\nSome(1)\n"
-    );
-    Ok(())
-}
-
-#[test]
-fn nothing_waits(rt: HostRuntime) -> Result<(), Fail> {
-    let alloc = rt.alloc();
-    let text = play(rt, alloc, Config::reference(alloc)?, Run::Stale)?;
-    assert_eq!(rt; text.as_str(), "None 6\n0\n");
     Ok(())
 }

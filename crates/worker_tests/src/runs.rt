@@ -9,19 +9,15 @@ use std::alloc::{AllocError, Global};
 use std::marker::Brand;
 use std::sync::Wait;
 use std::thread::Threads;
-use user_queues::Queues;
+use user_queues::{Queues, UserPort};
 
 /// What is played.
 #[derive(Clone, Copy)]
 pub(crate) enum Run {
-    /// Three workers receive a file, which a store takes, but for its first calls.
-    Receiving { failures: u64 },
-    /// A deposit that does not wait is made.
-    Stale,
+    /// Three workers receive a file, which a store takes.
+    Receiving,
     /// A file is stored before its user's queue has room to be told.
     Narrow,
-    /// Three files come to a store that fails at one of its calls.
-    Rejecting { call: u64 },
     /// Two workers are each to take a datagram before either goes on.
     Taken,
     /// Four workers receive many files, whose datagrams are lost, doubled and reordered.
@@ -51,15 +47,24 @@ fn play_named<N: Names + Send + Sync, R: Threads + Wait + Copy + Send + Sync>(
 {
     let mut text = String::new(alloc);
     let (entity, ports) = Entity::<N, R>::open(alloc, config, queues)?;
-    match run {
-        Run::Receiving { failures } => {
-            receiving::receive(&rt, alloc, &mut text, &entity, ports, failures)?
-        }
-        Run::Stale => receiving::store_stale(&rt, alloc, &mut text, &entity)?,
-        Run::Narrow => narrow::squeeze(&rt, alloc, &mut text, &entity, ports)?,
-        Run::Rejecting { call } => { narrow::reject(&rt, alloc, &mut text, &entity, ports, call)? }
-        Run::Taken => taken::meet(&rt, alloc, &mut text, &entity)?,
-        Run::Soak => soak::soak(&rt, alloc, &mut text, &entity, ports)?,
-    }
+    let played = play_all(&rt, alloc, &mut text, &entity, ports, run);
+    played?;
     Ok(text)
+}
+
+// Plays at an entity.
+fn play_all<N: Names + Send + Sync, R: Threads + Wait + Copy + Send + Sync>(
+    rt: &R,
+    alloc: Global,
+    text: &mut String,
+    entity: &Entity<N, R>,
+    ports: Vec<UserPort>,
+    run: Run,
+) -> Result<(), AllocError> {
+    match run {
+        Run::Receiving => receiving::receive(rt, alloc, text, entity, ports),
+        Run::Narrow => narrow::squeeze(rt, alloc, text, entity, ports),
+        Run::Taken => taken::meet(rt, alloc, text, entity),
+        Run::Soak => soak::soak(rt, alloc, text, entity, ports),
+    }
 }

@@ -2,7 +2,7 @@
 //! users take and a store fails now and then.
 
 use crate::datagrams::{DATAGRAMS, Sent};
-use crate::keeping::{Answered, Fails, Wayward};
+use crate::keeping::{Answered, Wayward};
 use crate::runs::{Run, play};
 use crate::told::{Words, end_in, pause};
 use cfdp_types::Deposit;
@@ -391,7 +391,7 @@ pub(crate) fn soak<N: Names + Send + Sync, R: Threads + Wait + Copy + Send + Syn
         doubled: 0,
     };
     let mut keeping = Keeping {
-        store: Wayward::new(alloc, Fails::Seventh),
+        store: Wayward::new(alloc),
         rests: Vec::new(alloc),
         words: Words::new(alloc),
     };
@@ -408,9 +408,37 @@ pub(crate) fn soak<N: Names + Send + Sync, R: Threads + Wait + Copy + Send + Syn
     kept?;
     let (workers, answers, refusals) = ran;
     let (is_fed, lost, doubled) = fed;
-    let is_each_answered = answers == yard.sent.load(Ordering::SeqCst);
+    let outcome = Outcome {
+        workers,
+        is_fed,
+        is_each_answered: answers == yard.sent.load(Ordering::SeqCst),
+        is_enough: answers > 800 && lost > 300 && doubled > 300 && refusals > 50,
+    };
+    push_outcome(alloc, text, &keeping, outcome)
+}
+
+// What came of the workers and of what was fed.
+#[derive(Clone, Copy)]
+struct Outcome {
+    workers: usize,
+    is_fed: bool,
+    is_each_answered: bool,
+    is_enough: bool,
+}
+
+fn push_outcome(
+    alloc: Global,
+    text: &mut String,
+    keeping: &Keeping,
+    outcome: Outcome,
+) -> Result<(), AllocError> {
+    let Outcome {
+        workers,
+        is_fed,
+        is_each_answered,
+        is_enough,
+    } = outcome;
     writeln!(text, "{workers} {is_fed} {is_each_answered}")?;
-    let is_enough = answers > 800 && lost > 300 && doubled > 300 && refusals > 50;
     writeln!(text, "{is_enough}")?;
     let (calls, failures) = (keeping.store.calls(), keeping.store.failures());
     let right = keeping.right(alloc)?;

@@ -1,6 +1,6 @@
 //! The two entities, and what one is told.
+ghost use Rattle.world_core.specs.Worlds.{MayCome};
 
-use crate::telling::tell;
 use cfdp_types::{Class, EntityId, Octets, PutFault, PutRequest, TimerKind, TxnKey};
 use entity_config::{Config, read_config};
 use lane_table::Done;
@@ -23,6 +23,13 @@ pub(crate) fn entity_two(alloc: Global) -> Option<World> {
         Ok(config) => World::open(alloc, config).ok(),
         Err(_) => None,
     }
+}
+
+// An entity is told of an event.
+fn tell(world: &mut World, event: WorldEvent) -> Result<Done, EntityRefusal>
+    requires { MayCome world.old.config event }
+{
+    world.step(&event)
 }
 
 /// A file for entity 1.

@@ -1,9 +1,8 @@
 //! The worked run: Metadata and data are lost at first, and asked for.
 
 use crate::entities::{deliver, entity_one, entity_two, file_for_one, pump, put, store};
-use crate::telling::octets_of;
 use answer_texts::{push_bundle, push_done, push_refused};
-use cfdp_types::{Class, EntityId, TxnKey};
+use cfdp_types::{Class, EntityId, Octets, TxnKey};
 use indications::Bundle;
 use lane_table::Done;
 use std::alloc::{AllocError, Global};
@@ -110,9 +109,9 @@ fn text_of(
 }
 
 fn given(alloc: Global, world: &mut World, digits: &str) -> Result<String, AllocError> {
-    match octets_of(alloc, digits) {
-        Some(octets) => text_of(alloc, false, &deliver(world, octets)),
-        None => String::from_str(alloc, "no hex"),
+    match hex::decode(alloc, digits) {
+        Ok(octets) => text_of(alloc, false, &deliver(world, Octets::from_vec(octets))),
+        Err(_) => String::from_str(alloc, "no hex"),
     }
 }
 

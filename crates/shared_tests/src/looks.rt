@@ -1,16 +1,15 @@
-ghost use Rattle.shared_entity.specs.Opening.{AreQueuesFor};
+//! Looks at a lane before, while and after a file comes, and one is put.
 
-use cfdp_types::{Class, EntityId, PutRequest, TxnKey};
+use crate::runs::{Run, play};
+use crate::told::{is_done, key, put};
 use entity_config::Config;
 use entity_routing::{Place, Request};
 use indications::{Phase, Side};
-use shared_entity::{Entity, EntityRefusal, Glance, queues_of};
+use shared_entity::{Entity, EntityRefusal, Glance};
 use shared_lanes::{Names, NoGate};
 use std::alloc::{AllocError, Global};
-use std::marker::Brand;
 use std::sync::Wait;
 use std::test::*;
-use user_queues::Queues;
 
 // Where alice's second transaction of entity 1 comes, and where she puts.
 const RECEIVES: Place = Place { user: 0, lane: 3 };
@@ -80,8 +79,8 @@ fn look<N: Names, R: Wait + Copy>(
     }
 }
 
-// A file comes, and is stored.
-fn receive<N: Names, R: Wait + Copy>(
+/// A file comes and is stored; then one is put, and suspended.
+pub(crate) fn look_on<N: Names, R: Wait + Copy>(
     rt: &R,
     alloc: Global,
     text: &mut String,
@@ -89,73 +88,40 @@ fn receive<N: Names, R: Wait + Copy>(
 ) -> Result<(), AllocError> {
     look(rt, text, entity, RECEIVES)?;
     for datagram in DATAGRAMS {
-        if let Ok(octets) = hex::decode(alloc, datagram) {
-            let _answer = entity.deliver(rt, &NoGate, octets.as_slice());
-        }
+        deliver(rt, alloc, entity, datagram);
         look(rt, text, entity, RECEIVES)?;
     }
-    let key = TxnKey {
-        source: EntityId(1),
-        seq: 5,
-    };
-    let _answer = entity.stored(rt, &NoGate, key, 2, true);
-    look(rt, text, entity, RECEIVES)
-}
-
-// A file is put, and suspended.
-fn put<N: Names, R: Wait + Copy>(
-    rt: &R,
-    alloc: Global,
-    text: &mut String,
-    entity: &Entity<N, R>,
-) -> Result<(), AllocError> {
+    is_done(entity.stored(rt, &NoGate, key(1, 5), 2, true));
+    look(rt, text, entity, RECEIVES)?;
     look(rt, text, entity, PUTS)?;
-    let request = PutRequest::new(alloc, EntityId(1), Class::Two, b"a", b"b", &[], b"abc");
-    if let Ok(request) = request {
-        ask(rt, entity, Request::Put(0, request));
+    if let Some(answer) = put(rt, alloc, entity, &NoGate, PUTS, 1) {
+        is_done(answer);
     }
     look(rt, text, entity, PUTS)?;
-    let key = TxnKey {
-        source: EntityId(2),
-        seq: 4,
-    };
-    ask(rt, entity, Request::Suspend(key));
-    look(rt, text, entity, PUTS)
+    suspend(rt, entity);
+    look(rt, text, entity, PUTS)?;
+    look(rt, text, entity, NOWHERE)
 }
 
-// Alice asks for something.
-fn ask<N: Names, R: Wait + Copy>(rt: &R, entity: &Entity<N, R>, request: Request) {
+// A datagram comes, in hex.
+fn deliver<N: Names, R: Wait + Copy>(rt: &R, alloc: Global, entity: &Entity<N, R>, digits: &str) {
+    if let Ok(octets) = hex::decode(alloc, digits) {
+        is_done(entity.deliver(rt, &NoGate, octets.as_slice()));
+    }
+}
+
+// The first user suspends the file.
+fn suspend<N: Names, R: Wait + Copy>(rt: &R, entity: &Entity<N, R>) {
+    let request = Request::Suspend(key(2, 4));
     if entity.may_request(0, &request) {
-        let _answer = entity.request(rt, &NoGate, 0, request);
+        is_done(entity.request(rt, &NoGate, 0, request));
     }
-}
-
-// What is seen of an entity over queues that `N` names.
-fn play_named<N: Names, R: Wait + Copy>(
-    rt: &R,
-    alloc: Global,
-    config: Config,
-    queues: Queues<R>,
-) -> Result<String, AllocError>
-    requires { AreQueuesFor N.queue N.lanes config queues }
-{
-    let mut text = String::new(alloc);
-    let (entity, _ports) = Entity::<N, R>::open(alloc, config, queues)?;
-    receive(rt, alloc, &mut text, &entity)?;
-    put(rt, alloc, &mut text, &entity)?;
-    look(rt, &mut text, &entity, NOWHERE)?;
-    Ok(text)
-}
-
-fn play<R: Wait + Copy>(rt: R, alloc: Global, config: Config) -> Result<String, AllocError> {
-    let queues = queues_of(rt, alloc, &config)?;
-    play_named::<Brand, R>(&rt, alloc, config, queues)
 }
 
 #[test]
 fn looks(rt: HostRuntime) -> Result<(), Fail> {
-    let config = Config::reference(rt.alloc())?;
-    let seen = play(rt, rt.alloc(), config)?;
+    let alloc = rt.alloc();
+    let seen = play(rt, alloc, Config::reference(alloc)?, Run::Looks)?;
     assert_eq!(rt; seen.as_str(), SEEN);
     Ok(())
 }

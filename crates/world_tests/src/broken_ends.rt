@@ -1,6 +1,6 @@
 //! A reader that fails at one of its calls, and a writer that does, each call in turn.
 
-use script_replay::{ReplayFault, replay};
+use script_replay::{AnswerPace, ReplayFault, play_to_end, replay};
 use std::alloc::{AllocError, Global};
 use std::io;
 use std::io::{Error, ErrorKind, Read, Write};
@@ -112,6 +112,22 @@ fn each_read_fails(rt: HostRuntime) -> Result<(), Fail> {
     assert_eq!(rt; ended, Ok(()));
     assert!(rt; is_printed);
     Ok(())
+}
+
+// A read that fails is told beside what is printed.
+#[test]
+fn what_is_told(rt: HostRuntime) {
+    let mut reader = FailingReader {
+        rest: SCRIPT,
+        calls: 0,
+        fails_at: READS,
+    };
+    let mut printed = Vec::new(rt.alloc());
+    let mut told = Vec::new(rt.alloc());
+    let pace = AnswerPace::ByBlocks;
+    let status = play_to_end(rt.alloc(), &mut reader, &mut printed, &mut told, pace);
+    assert_eq!(rt; status, 1);
+    assert!(rt; told.as_slice() == b"read fault\n".as_slice());
 }
 
 // Plays the script into a writer that fails at a call; how the run ends, and whether all before it was written.

@@ -1,4 +1,4 @@
-use crate::{NumberFile, NumbersFault};
+use number_file::{NumberFile, NumbersFault};
 use std::alloc::AllocError;
 use std::fs;
 use std::test::*;
