@@ -104,6 +104,7 @@ test:
 	@tests/station.py $(server) $(ctl)
 	@tests/stores.py $(server)
 	@tests/numbers.py $(server) $(put)
+	@tests/faults.py $(server) $(put)
 	@tests/ctl.py $(ctl)
 	@tests/web.py $(web)
 	@tests/manual.sh $(server) $(put) $(ctl) $(web)

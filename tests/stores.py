@@ -7,6 +7,7 @@ Each case has a server of its own on loopback, in a folder of its own, and ends 
 """
 import os
 import pathlib
+import resource
 import subprocess
 import sys
 import time
@@ -151,6 +152,42 @@ def a_folder_that_goes_away():
         want(time.monotonic() - begun < 1, True)
         counters = receiver.client.status()[0]["counters"]
         want((counters["stored"], counters["failed_stores"]), (1, 2))
+
+
+def virtual_octets(process):
+    """The address space that a process has taken."""
+    return int(pathlib.Path(f"/proc/{process}/statm").read_text().split()[0]) * os.sysconf("SC_PAGE_SIZE")
+
+
+@case
+def a_flood_behind_a_limit_of_memory():
+    """Copies of one part fill a lane up to the server's limit of memory; other lanes go on, and so does that one once its
+    transaction was abandoned."""
+    with station(SERVER) as (one, peer):
+        client = one.client()
+        want(client.ask("take alice"), ["none"])
+        limit = virtual_octets(one.run.pid) + 2**26
+        resource.prlimit(one.run.pid, resource.RLIMIT_AS, (limit, limit))
+        target = ("127.0.0.1", one.port)
+
+        def moves(seq, name):
+            """Sends a file once more; whether it is there."""
+            for datagram in (metadata(seq, 3, name), file_data(seq, 0, b"abc"), end_of_file(seq, b"abc")):
+                peer.sendto(datagram, target)
+            time.sleep(0.05)
+            return (one.received() / name.decode()).exists()
+
+        peer.sendto(metadata(1, 100_000, b"flooded"), target)
+        part = file_data(1, 0, bytes(60_000))
+        for copy in range(4_000):
+            peer.sendto(part, target)
+            if copy % 10 == 0:
+                time.sleep(0.002)
+        want((one.run.poll(), virtual_octets(one.run.pid) > limit - 2**24), (None, True))
+        until(lambda: moves(2, b"beside"), "a file through another lane")
+        until(lambda: client.ask("abandon alice 2 1") == ["ok"], "the end of the flooded transaction")
+        until(lambda: moves(9, b"behind"), "a file through the lane that was flooded")
+        want(client.ask("trace 2 2")[0].startswith("refused"), False)
 
 
 run_cases("stores", CASES)

@@ -12,13 +12,10 @@ fn main(rt: HostRuntime) -> ExitCode {
     let status = match line_of(&rt) {
         Ok(words) => {
             let errors = rt.stderr();
-            let progress = if errors.is_terminal() {
-                Some(rt.stderr())
-            } else {
-                None
-            };
+            let is_terminal = errors.is_terminal();
+            let progress = if is_terminal { Some(rt.stderr()) } else { None };
             let outputs = Outputs::new(io::writer(&rt), progress);
-            put_one(rt, words.as_slice(), outputs, &mut rt.stderr())
+            put_one(rt, words.as_slice(), outputs, &mut rt.stderr(), is_terminal)
         }
         Err(fault) => tell_words_fault(rt.alloc(), &mut rt.stderr(), fault),
     };

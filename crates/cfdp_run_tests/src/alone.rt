@@ -44,7 +44,7 @@ fn nobody(rt: HostRuntime) -> Result<(), Fail> {
         let mut errors = Vec::new(alloc);
         let mut shown = Vec::new(alloc);
         let outputs = Outputs::new(&mut written, Some(&mut shown));
-        let status = put_one(rt, line.as_slice(), outputs, &mut errors);
+        let status = put_one(rt, line.as_slice(), outputs, &mut errors, false);
         assert_eq!(rt; status, 2);
         assert_eq!(rt; str::from_utf8(shown.as_slice()), Ok(SHOWN));
         assert_eq!(rt; str::from_utf8(written.as_slice()), Ok(told));
@@ -136,7 +136,7 @@ fn faults(rt: HostRuntime) -> Result<(), Fail> {
         let mut written = Vec::new(alloc);
         let mut errors = Vec::new(alloc);
         let outputs = Outputs::new(&mut written, None::<Vec<u8>>);
-        let status = put_one(rt, line.as_slice(), outputs, &mut errors);
+        let status = put_one(rt, line.as_slice(), outputs, &mut errors, false);
         assert_eq!(rt; str::from_utf8(errors.as_slice()), Ok(text));
         assert_eq!(rt; status, 1);
         assert!(rt; written.is_empty());
@@ -156,7 +156,7 @@ fn help(rt: HostRuntime) -> Result<(), Fail> {
         let mut written = Vec::new(alloc);
         let mut errors = Vec::new(alloc);
         let outputs = Outputs::new(&mut written, None::<Vec<u8>>);
-        let status = put_one(rt, line.as_slice(), outputs, &mut errors);
+        let status = put_one(rt, line.as_slice(), outputs, &mut errors, false);
         assert_eq!(rt; status, 0);
         assert!(rt; errors.is_empty());
         assert!(rt; str::from_utf8(written.as_slice()).is_ok_and(|told| told.starts_with(text)));

@@ -84,7 +84,14 @@ fn run_server<R: Threads + Wait + Clock + Net + Files + AllocGlobal + Copy + Dro
     line: &[String],
 ) -> u8 {
     let mut errors = Vec::new(alloc);
-    let status = serve(*rt, line, pipes.reader(rt), pipes.writer(rt), &mut errors);
+    let status = serve(
+        *rt,
+        line,
+        pipes.reader(rt),
+        pipes.writer(rt),
+        &mut errors,
+        false,
+    );
     pipes.ended(rt);
     status
 }
@@ -101,7 +108,7 @@ fn put_and_ask<R: Threads + Wait + Clock + Net + Files + AllocGlobal + Copy + Dr
     let mut written = Vec::new(alloc);
     let mut errors = Vec::new(alloc);
     let outputs = Outputs::new(&mut written, None::<Vec<u8>>);
-    let status = put_one(*rt, sent.line.as_slice(), outputs, &mut errors);
+    let status = put_one(*rt, sent.line.as_slice(), outputs, &mut errors, false);
     if !pipes.ask_until(rt, alloc, sent.trace, " ended") {
         return None;
     }

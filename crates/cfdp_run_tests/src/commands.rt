@@ -45,7 +45,14 @@ fn run<R: Threads + Wait + Net + Clock + Files + AllocGlobal + Copy + Drop + Sen
     let words = words(alloc, line)?;
     let mut written = Vec::new(alloc);
     let mut errors = Vec::new(alloc);
-    let status = serve(rt, words.as_slice(), commands, &mut written, &mut errors);
+    let status = serve(
+        rt,
+        words.as_slice(),
+        commands,
+        &mut written,
+        &mut errors,
+        false,
+    );
     Ok(Ended {
         status,
         written,

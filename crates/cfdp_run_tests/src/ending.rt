@@ -37,7 +37,14 @@ fn run_server<R: Threads + Wait + Clock + Net + Files + AllocGlobal + Copy + Dro
     line: &[String],
 ) -> u8 {
     let mut errors = Vec::new(alloc);
-    let status = serve(*rt, line, pipes.reader(rt), pipes.writer(rt), &mut errors);
+    let status = serve(
+        *rt,
+        line,
+        pipes.reader(rt),
+        pipes.writer(rt),
+        &mut errors,
+        false,
+    );
     pipes.ended(rt);
     status
 }

@@ -5,10 +5,16 @@ use crate::threads::Wanted;
 use cfdp_types::{PutFault, PutRequest};
 use entity_config::{Config, Setting};
 use program_numbers::{HeldNumbers, Puts};
-use program_start::{ProgramFault, load_config, load_file, open_socket, tell_fault};
+use program_start::{
+    ProgramFault, Started, load_config, load_file, open_socket, push_explanation, tell_explanation,
+    tell_fault,
+};
 use program_station::Sources;
-use program_words::{PutWords, WordsFault, put_help, put_version, put_words};
-use std::alloc::Global;
+use program_words::{
+    PutWords, WordsFault, asks_for_check, check_words, push_check_complaint, push_put_complaint,
+    put_help, put_version, put_words,
+};
+use std::alloc::{AllocError, Global};
 use std::io::Write;
 use std::net::Net;
 use std::rt::Files;
@@ -18,20 +24,149 @@ use std::time::Clock;
 
 /// Puts one file from its user's first lane by the command line, whose first word is the program's own name, and prints what
 /// the user is told to the outputs until the transaction has ended. The result is the exit status: 0 where the receiver has the
-/// whole file, 2 after another end, and 1 where the program ended too early, which `errors` then tells.
+/// whole file, 2 after another end, and 1 where the program ended too early, which `errors` then tells. Where a person reads
+/// `errors`, a second line there explains the fault, as it does after a check of the configuration.
 pub fn put_one<
     R: Threads + Wait + Net + Clock + Files + AllocGlobal + Copy + Drop + Send + Sync,
     W: Write + Drop,
     P: Write + Drop,
     E: Write,
->(rt: R, words: &[String], outputs: Outputs<W, P>, errors: &mut E) -> u8 {
+>(rt: R, words: &[String], outputs: Outputs<W, P>, errors: &mut E, explains: bool) -> u8 {
     let alloc: Global = rt.alloc();
-    match start(&rt, alloc, words, outputs) {
+    let checks = asks_for_check(words);
+    let ended = if checks {
+        check(&rt, alloc, words, outputs)
+    } else {
+        start(&rt, alloc, words, outputs)
+    };
+    match ended {
         Ok(status) => status,
         Err(fault) => {
             tell_fault(alloc, errors, "cfdp_put", &fault);
+            if checks || explains {
+                explain(&rt, alloc, errors, words, &fault);
+            }
             1
         }
+    }
+}
+
+// Reads the configuration alone.
+fn check<R: Files, W: Write + Drop, P: Write + Drop>(
+    rt: &R,
+    alloc: Global,
+    words: &[String],
+    outputs: Outputs<W, P>,
+) -> Result<u8, ProgramFault> {
+    let mut outputs = outputs;
+    match check_words(alloc, words) {
+        Ok(path) => {
+            let _config = load_config(rt, alloc, path)?;
+            outputs.tell("ok\n")?;
+            Ok(0)
+        }
+        Err(fault) => Err(fault_of(fault)),
+    }
+}
+
+// Prints what a fault means, where there is memory for it.
+fn explain<R: Net + Files, E: Write>(
+    rt: &R,
+    alloc: Global,
+    errors: &mut E,
+    words: &[String],
+    fault: &ProgramFault,
+) {
+    let mut text = String::new(alloc);
+    if push_meaning(rt, alloc, &mut text, words, fault).is_ok() {
+        tell_explanation(errors, text.as_str());
+    }
+}
+
+// Adds what a fault of a command line means.
+fn push_meaning<R: Net + Files>(
+    rt: &R,
+    alloc: Global,
+    text: &mut String,
+    line: &[String],
+    fault: &ProgramFault,
+) -> Result<(), AllocError> {
+    if *fault == ProgramFault::Usage {
+        return push_usage(rt, alloc, text, line);
+    }
+    if let Ok(path) = check_words(alloc, line) {
+        let started = started_with(path);
+        return push_explanation(rt, alloc, text, &started, fault);
+    }
+    match put_words(alloc, line) {
+        Ok(words) => {
+            let started = started_by(&words);
+            push_explanation(rt, alloc, text, &started, fault)
+        }
+        Err(_) => Ok(()),
+    }
+}
+
+// Adds which word of a line is wrong.
+fn push_usage<R: Files>(
+    rt: &R,
+    alloc: Global,
+    text: &mut String,
+    line: &[String],
+) -> Result<(), AllocError> {
+    if asks_for_check(line) {
+        push_check_complaint(alloc, text, line)?;
+    } else {
+        match put_words(alloc, line) {
+            Ok(words) => push_unfit(rt, alloc, text, &words)?,
+            Err(_) => push_put_complaint(alloc, text, line)?,
+        }
+    }
+    writeln!(text, "`cfdp_put --help` has the options")
+}
+
+// Adds which word of a line that can be read doesn't fit the configuration.
+fn push_unfit<R: Files>(
+    rt: &R,
+    alloc: Global,
+    text: &mut String,
+    words: &PutWords<'_>,
+) -> Result<(), AllocError> {
+    match load_config(rt, alloc, words.config) {
+        Ok(config) if config.user_of(words.user).is_none() => {
+            writeln!(
+                text,
+                "{}: no user has the name `{}`",
+                words.config, words.user
+            )
+        }
+        _ => writeln!(
+            text,
+            "{}: it has more octets than a file may have",
+            words.source
+        ),
+    }
+}
+
+// What a check speaks of.
+fn started_with(config: &str) -> Started<'_> {
+    Started {
+        config,
+        bind: "",
+        control: None,
+        numbers: None,
+        source: None,
+    }
+}
+
+// What a put was started with.
+fn started_by<'a>(words: &PutWords<'a>) -> Started<'a> {
+    Started {
+        config: words.config,
+        bind: words.bind,
+        control: None,
+        numbers: words.numbers,
+        source: Some(words.source),
     }
 }
 

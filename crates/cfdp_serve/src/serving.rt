@@ -5,10 +5,16 @@ use entity_config::Config;
 use program_control::ControlSocket;
 use program_numbers::{HeldNumbers, Puts};
 use program_seats::Seats;
-use program_start::{ProgramFault, load_config, open_socket, print, tell_fault};
+use program_start::{
+    ProgramFault, Started, load_config, open_socket, print, push_explanation, tell_explanation,
+    tell_fault,
+};
 use program_threads::Control;
-use program_words::{ServerWords, WordsFault, server_help, server_version, server_words};
-use std::alloc::Global;
+use program_words::{
+    ServerWords, WordsFault, asks_for_check, check_words, push_check_complaint,
+    push_server_complaint, server_help, server_version, server_words,
+};
+use std::alloc::{AllocError, Global};
 use std::io::{Read, Write};
 use std::net::{Net, UdpSocket};
 use std::rt::Files;
@@ -19,20 +25,113 @@ use std::time::Clock;
 /// Runs the server by its command line, whose first word is the program's own name, until `quit` or the end of the commands
 /// that `reader` gives. The answers go to `writer`, and why it ended too early to `errors`. The result is the exit status: 0,
 /// or 1 where it ended too early. Where the output takes no more, it ends once the reader has given one more line or its end.
-/// With a control socket clients command it, and neither `reader` nor `writer` is used.
+/// With a control socket clients command it, and neither `reader` nor `writer` is used. Where a person reads `errors`, a second
+/// line there explains the fault, as it does after a check of the configuration.
 pub fn serve<
     R: Threads + Wait + Net + Clock + Files + AllocGlobal + Copy + Drop + Send + Sync,
     I: Read + Send + Drop,
     W: Write + Drop,
     E: Write,
->(rt: R, words: &[String], reader: I, writer: W, errors: &mut E) -> u8 {
+>(rt: R, words: &[String], reader: I, writer: W, errors: &mut E, explains: bool) -> u8 {
     let alloc: Global = rt.alloc();
-    match start(&rt, alloc, words, reader, writer) {
+    let checks = asks_for_check(words);
+    let ended = if checks {
+        check(&rt, alloc, words, writer)
+    } else {
+        start(&rt, alloc, words, reader, writer)
+    };
+    match ended {
         Ok(status) => status,
         Err(fault) => {
             tell_fault(alloc, errors, "cfdp_server", &fault);
+            if checks || explains {
+                explain(&rt, alloc, errors, words, &fault);
+            }
             1
         }
+    }
+}
+
+// Reads the configuration alone.
+fn check<R: Files, W: Write + Drop>(
+    rt: &R,
+    alloc: Global,
+    words: &[String],
+    writer: W,
+) -> Result<u8, ProgramFault> {
+    let mut writer = writer;
+    match check_words(alloc, words) {
+        Ok(path) => {
+            let _config = load_config(rt, alloc, path)?;
+            print(&mut writer, "ok\n")?;
+            Ok(0)
+        }
+        Err(fault) => Err(fault_of(fault)),
+    }
+}
+
+// Prints what a fault means, where there is memory for it.
+fn explain<R: Net + Files, E: Write>(
+    rt: &R,
+    alloc: Global,
+    errors: &mut E,
+    words: &[String],
+    fault: &ProgramFault,
+) {
+    let mut text = String::new(alloc);
+    if push_meaning(rt, alloc, &mut text, words, fault).is_ok() {
+        tell_explanation(errors, text.as_str());
+    }
+}
+
+// Adds what a fault of a command line means.
+fn push_meaning<R: Net + Files>(
+    rt: &R,
+    alloc: Global,
+    text: &mut String,
+    line: &[String],
+    fault: &ProgramFault,
+) -> Result<(), AllocError> {
+    if *fault == ProgramFault::Usage {
+        if asks_for_check(line) {
+            push_check_complaint(alloc, text, line)?;
+        } else {
+            push_server_complaint(alloc, text, line)?;
+        }
+        return writeln!(text, "`cfdp_server --help` has the options");
+    }
+    if let Ok(path) = check_words(alloc, line) {
+        let started = started_with(path);
+        return push_explanation(rt, alloc, text, &started, fault);
+    }
+    match server_words(alloc, line) {
+        Ok(words) => {
+            let started = started_by(&words);
+            push_explanation(rt, alloc, text, &started, fault)
+        }
+        Err(_) => Ok(()),
+    }
+}
+
+// What a check speaks of.
+fn started_with(config: &str) -> Started<'_> {
+    Started {
+        config,
+        bind: "",
+        control: None,
+        numbers: None,
+        source: None,
+    }
+}
+
+// What a server was started with.
+fn started_by<'a>(words: &ServerWords<'a>) -> Started<'a> {
+    Started {
+        config: words.config,
+        bind: words.bind,
+        control: words.control,
+        numbers: words.numbers,
+        source: None,
     }
 }
 

@@ -4,9 +4,10 @@
 use cfdp_serve::{serve, tell_words_fault};
 use program_words::line_of;
 use std::io;
+use std::io::IsTerminal;
 use std::process::ExitCode;
 
-// Serves by the words of the command line.
+// Serves by the words of the command line. Where somebody may look at the standard error, it explains why the server ended too early.
 fn main(rt: HostRuntime) -> ExitCode {
     let status = match line_of(&rt) {
         Ok(words) => serve(
@@ -15,6 +16,7 @@ fn main(rt: HostRuntime) -> ExitCode {
             rt.reader(),
             io::writer(&rt),
             &mut rt.stderr(),
+            rt.stderr().is_terminal(),
         ),
         Err(fault) => tell_words_fault(rt.alloc(), &mut rt.stderr(), fault),
     };

@@ -39,13 +39,22 @@ fn read_up_to<R: Files>(
 // How many octets a configuration's file may have: some hundred times what the largest configuration takes.
 const CONFIG_OCTETS: u64 = 16 * 1_024 * 1_024;
 
-/// The configuration that a file has. Octets that are no text are no TOML.
-pub fn load_config<R: Files>(rt: &R, alloc: Global, path: &str) -> Result<Config, ProgramFault> {
+/// What a file says as a configuration. Octets that are no text are no TOML.
+pub(crate) fn read_configuration<R: Files>(
+    rt: &R,
+    alloc: Global,
+    path: &str,
+) -> Result<Result<Config, ConfigFault>, ProgramFault> {
     let octets = read_up_to(rt, alloc, path, CONFIG_OCTETS)?;
-    let Ok(text) = str::from_utf8(octets.as_slice()) else {
-        return Err(ProgramFault::Config(ConfigFault::BadToml.number()));
-    };
-    match read_config(alloc, text) {
+    match str::from_utf8(octets.as_slice()) {
+        Ok(text) => Ok(read_config(alloc, text)),
+        Err(_) => Ok(Err(ConfigFault::BadToml)),
+    }
+}
+
+/// The configuration that a file has.
+pub fn load_config<R: Files>(rt: &R, alloc: Global, path: &str) -> Result<Config, ProgramFault> {
+    match read_configuration(rt, alloc, path)? {
         Ok(config) => Ok(config),
         Err(ConfigFault::NoMemory) => Err(ProgramFault::NoMemory),
         Err(fault) => Err(ProgramFault::Config(fault.number())),

@@ -17,6 +17,10 @@ use std::sync::Wait;
 use std::time::Clock;
 use timer_list::Armed;
 
+// Where a limit holds back what leaves, a turn waits at least so long, in milliseconds, so that several PDUs leave in the next
+// one. It is less than the grace of a pace, so the limit is reached all the same.
+const GATHERING_MS: u64 = 5;
+
 // How many PDUs of files leave in a turn at most, and how many timers expire.
 const PUMPS: usize = 16;
 
@@ -405,8 +409,9 @@ impl<'a, N: Names, R: Wait + Copy + Clock, S: Filestore + Preparing + Drop> Stat
             return soon;
         }
         let mut sending = self.agenda.soonest_sending();
-        if !self.links.has_paces() {
-            sending = sending.max(self.pace.free_moment());
+        if !self.links.has_paces() && !self.pace.is_free(now) {
+            let free = self.pace.free_moment();
+            sending = sending.max(free.max(now.saturating_add(GATHERING_MS)));
         }
         let until = self.agenda.soonest_timer().min(sending);
         if self.agenda.has_deposits() {

@@ -7,7 +7,7 @@ use Rattle.clap.specs.declared.parser.matches.ArgMatches.{ArgMatches}
 use Rattle.clap.specs.Words.{App, HasMatchesOf, Row, Text, all_of, first_of, found_of, is_simple, one_of, rows_of}
 use Rattle.clap.proofs.OnLiterals.{clap_on_literals}
 use Rattle.clap.proofs.WalkLemmas.{first_value-rows, one_text-rows, raw_values-rows}
-use Rattle.program_words.specs.Lines.{Givings, IsFlag, PutSays, ServerSays, found_in, given_by, put_program, server_program}
+use Rattle.program_words.specs.Lines.{Givings, IsFlag, PutSays, ServerSays, found_in, check_program, given_by, put_program, server_program}
 use Rattle.program_words.specs.Numbers.{class_of, first_number, limit_of, number_within, rates_of, seconds_of, workers_of}
 use Rattle.program_words.specs.declared.putting.PutWords.{PutWords}
 use Rattle.program_words.specs.declared.serving.ServerWords.{ServerWords}
@@ -19,6 +19,10 @@ put_simple = refl
 pub server_simple : is_simple server_program ≡ true
 unfolding clap_on_literals
 server_simple = refl
+
+pub check_simple : is_simple check_program ≡ true
+unfolding clap_on_literals
+check_simple = refl
 
 -- what rows give
 abbrev in_rows : List Row → Givings
@@ -71,6 +75,11 @@ pub put_line_says : (read : App) (line : List Text) (matches : ArgMatches) (word
 put_line_says read line matches words same has said =
     let found = subst (λ (p : App). HasMatchesOf p line matches) same has in
     subst (λ (rows : List Row). PutSays (in_rows rows) words) (found put_simple).0 (put_in_rows (found_of matches) words said)
+
+pub check_line_says : (read : App) (line : List Text) (matches : ArgMatches) (path : Text) → read ≡ check_program → HasMatchesOf read line matches → (found_in (found_of matches)).first (codes "config") ≡ Some path → (given_by check_program line).first (codes "config") ≡ Some path
+check_line_says read line matches path same has said =
+    let found = subst (λ (p : App). HasMatchesOf p line matches) same has in
+    subst (λ (rows : List Row). (in_rows rows).first (codes "config") ≡ Some path) (found check_simple).0 (sym (first_value-rows (found_of matches) (codes "config")) ∙ said)
 
 -- what holds of a value that there is holds of it as a result
 pub ok_or_some : {T E : Type 0} (o : Option T) (why : E) (r : Result T E) (P Q : T → Type 0) → r ≡ ok_or o why → IfSome o P → ((x : T) → P x → Q x) → IfOk r Q

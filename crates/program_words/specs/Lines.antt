@@ -46,6 +46,10 @@ server_program = program_of (codes "cfdp_server")
     ∷ flag (codes "known-sources") ∷ flag (codes "hold") ∷ flag (codes "tree") ∷ flag (codes "keep")
     ∷ valued (codes "retry") false ∷ [])
 
+-- what a check of the configuration takes
+abbrev pub check_program : App
+check_program = program_of (codes "check") (valued (codes "config") true ∷ flag (codes "check") ∷ [])
+
 -- what is given to an option or word, by its name: its first value as it stands and as it is read, and all its values
 pub record Givings : Type 0 where
   pub first : Text → Option Text

@@ -1,6 +1,8 @@
 //! The command lines of the server and of the program that puts a file.
 #![tactic(auto)]
 
+mod checking;
+mod complaints;
 mod fault;
 mod line;
 mod options;
@@ -8,6 +10,8 @@ mod putting;
 mod rates;
 mod serving;
 
+pub use checking::{asks_for_check, check_words};
+pub use complaints::{push_check_complaint, push_put_complaint, push_server_complaint};
 pub use fault::WordsFault;
 pub use line::line_of;
 pub use putting::{PutWords, put_help, put_version, put_words};

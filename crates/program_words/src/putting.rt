@@ -56,6 +56,7 @@ Usage: cfdp_put --config FILE --bind ADDR --user NAME --remote ID --class N [--c
   --known-sources drops datagrams from addresses that the configuration doesn't have
   SRC             the file to be sent
   DST             its name at the receiver
+  --check         with --config alone: reads the configuration, prints `ok` or what is wrong with it, and ends
   --help          prints this, and ends
   --version       prints the version, and ends
 
@@ -82,7 +83,7 @@ fn word<'a>(alloc: Global, name: &'static str) -> Arg<'a>
 }
 
 // The options and words of the program.
-fn command<'a>(alloc: Global) -> Result<Command<'a>, AllocError>
+pub(crate) fn command<'a>(alloc: Global) -> Result<Command<'a>, AllocError>
     ensures { IfOk result (λ command. app_of command ≡ put_program) }
 {
     let command = Command::new(alloc, "cfdp_put")

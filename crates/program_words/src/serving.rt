@@ -65,6 +65,7 @@ Usage: cfdp_server --config FILE --bind ADDR --folder DIR [--workers N] [--rate 
   --tree          slashes in a received file's name lead into folders
   --keep          a file that is there stays, and the new one gets `.1`, `.2` .. behind its name
   --retry N       tries for so many seconds to store a received file, 1 to 86400 (once where it is left out)
+  --check         with --config alone: reads the configuration, prints `ok` or what is wrong with it, and ends
   --help          prints this, and ends
   --version       prints the version, and ends
 
@@ -97,7 +98,7 @@ pub fn server_version() -> &'static str {
 }
 
 // The options of the server.
-fn command<'a>(alloc: Global) -> Result<Command<'a>, AllocError>
+pub(crate) fn command<'a>(alloc: Global) -> Result<Command<'a>, AllocError>
     ensures { IfOk result (λ command. app_of command ≡ server_program) }
 {
     let command = Command::new(alloc, "cfdp_server")

@@ -59,9 +59,9 @@ pub enum Command {
     Outbox,
     /// The file with this number in the outbox is to wait no more.
     Drop(u64),
-    /// Nothing of the outbox is to go to this entity.
+    /// Nothing is to leave for this entity, and its timers rest.
     Hold(EntityId),
-    /// What waits for this entity may go again.
+    /// The link to this entity is open again.
     Release(EntityId),
     /// The server is to end.
     Quit,

@@ -256,7 +256,7 @@ pub fn push_refused_event(
     line.end(text)
 }
 
-/// Adds the line of a hold: nothing of the outbox goes to a remote entity from now on.
+/// Adds the line of a hold: nothing leaves for a remote entity from now on.
 pub fn push_hold_event(
     alloc: Global,
     text: &mut String,

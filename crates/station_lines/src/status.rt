@@ -140,7 +140,7 @@ pub struct RemoteStatus<'a> {
     pub id: EntityId,
     /// Its address, where the configuration has one.
     pub address: Option<&'a str>,
-    /// Since when nothing of the outbox is sent to it, where it is held.
+    /// Since when nothing leaves for it, where it is held.
     pub held_since: Option<Moment>,
     /// Datagrams that came from its address.
     pub datagrams_in: u64,

@@ -1,0 +1,142 @@
+//! What a fault of a program means, for a person who reads it.
+use crate::fault::ProgramFault;
+use crate::files::read_configuration;
+use entity_config::{ConfigFault, Key};
+use script_io::write_whole;
+use std::alloc::{AllocError, Global};
+use std::fs;
+use std::io::Write;
+use std::net::{Net, UdpSocket};
+use std::rt::Files;
+
+/// What a program was started with, as far as its faults speak of it.
+#[derive(Clone, Copy)]
+pub struct Started<'a> {
+    /// The path of the configuration's file.
+    pub config: &'a str,
+    /// The address of the socket for datagrams.
+    pub bind: &'a str,
+    /// The path of the control socket.
+    pub control: Option<&'a str>,
+    /// The path of the file of numbers.
+    pub numbers: Option<&'a str>,
+    /// The path of the file that is sent.
+    pub source: Option<&'a str>,
+}
+
+/// Adds a line on a fault, where there is more to say than its name. What it speaks of is tried once more.
+pub fn push_explanation<R: Net + Files>(
+    rt: &R,
+    alloc: Global,
+    text: &mut String,
+    started: &Started<'_>,
+    fault: &ProgramFault,
+) -> Result<(), AllocError> {
+    match fault {
+        ProgramFault::Read => push_read(rt, text, started),
+        ProgramFault::Config(_) => push_config(rt, alloc, text, started.config),
+        ProgramFault::Bind => push_bind(rt, text, started),
+        ProgramFault::Numbers => push_numbers(text, started.numbers),
+        _ => Ok(()),
+    }
+}
+
+/// Prints an explanation. What the errors' writer doesn't take is lost.
+pub fn tell_explanation<E: Write>(errors: &mut E, text: &str) {
+    let _told = write_whole(errors, text.as_bytes());
+    let _flushed = errors.flush();
+}
+
+// Which file can't be read, and why.
+fn push_read<R: Files>(rt: &R, text: &mut String, started: &Started<'_>) -> Result<(), AllocError> {
+    if let Err(error) = fs::metadata(rt, started.config) {
+        return writeln!(text, "{}: {error}", started.config);
+    }
+    let Some(source) = started.source else {
+        return writeln!(text, "{}: it can't be read", started.config);
+    };
+    match fs::metadata(rt, source) {
+        Err(error) => writeln!(text, "{source}: {error}"),
+        Ok(found) if !found.is_file() => writeln!(text, "{source}: it is no plain file"),
+        Ok(_) => writeln!(text, "{source}: it can't be read"),
+    }
+}
+
+// What is wrong with a configuration, and what is allowed.
+fn push_config<R: Files>(
+    rt: &R,
+    alloc: Global,
+    text: &mut String,
+    path: &str,
+) -> Result<(), AllocError> {
+    match read_configuration(rt, alloc, path) {
+        Ok(Err(fault)) => {
+            let allowed = match fault {
+                ConfigFault::OutOfRange(key) | ConfigFault::WrongType(key) => allowed_at(key),
+                _ => remedy(fault),
+            };
+            writeln!(text, "{path}: {fault}{allowed}")
+        }
+        _ => Ok(()),
+    }
+}
+
+// Why a socket can't be opened.
+fn push_bind<R: Net>(rt: &R, text: &mut String, started: &Started<'_>) -> Result<(), AllocError> {
+    match (UdpSocket::bind(rt, started.bind), started.control) {
+        (Err(error), _) => writeln!(text, "{}: {error}", started.bind),
+        (Ok(_), Some(path)) => writeln!(
+            text,
+            "{path}: another server answers there, or it is no socket and stays as it is"
+        ),
+        (Ok(_), None) => Ok(()),
+    }
+}
+
+fn push_numbers(text: &mut String, path: Option<&str>) -> Result<(), AllocError> {
+    match path {
+        Some(path) => writeln!(
+            text,
+            "{path}: it says no number, can't be read or written, or another program uses it; or no number is left"
+        ),
+        None => Ok(()),
+    }
+}
+
+// What the value of a key may be.
+fn allowed_at(key: Key) -> &'static str {
+    match key {
+        Key::Id => "; allowed: 0 to 9223372036854775807, in `id_octets` octets",
+        Key::IdOctets | Key::SequenceOctets => "; allowed: 1 to 8",
+        Key::First => "; allowed: 0 to 9223372036854775807",
+        Key::PutLanes => "; allowed: 1 to 32",
+        Key::ReceiveLanes => "; allowed: 1 to 8",
+        Key::Capacity => "; allowed: 1 to 1024",
+        Key::Segment => "; allowed: 256 to 1400",
+        Key::Name => "; allowed: 1 to 32 of a to z and digits",
+        Key::User =>
+            "; allowed: 1 to 16 tables [[user]], and the name of one in a table [[remote]]",
+        Key::Remote => "; allowed: up to 128 tables [[remote]]",
+        Key::Address => "; allowed: \"A.B.C.D:PORT\"",
+        Key::Checksum => "; allowed: \"modular\" and \"null\"",
+        Key::AckMilliseconds
+        | Key::NakMilliseconds
+        | Key::CheckMilliseconds
+        | Key::InactivityMilliseconds => { "; allowed: 1 to 86400000" }
+        Key::AckLimit | Key::NakLimit | Key::CheckLimit => "; allowed: 1 to 255",
+        _ => "; allowed: a table",
+    }
+}
+
+// What helps against a fault.
+fn remedy(fault: ConfigFault) -> &'static str {
+    match fault {
+        ConfigFault::BadToml => "; look for a missing quote or bracket, or a key that stands twice",
+        ConfigFault::UnknownKey(_) => "; look for a misspelled key",
+        ConfigFault::UnknownUser => "; add a table [[user]], or correct the name",
+        ConfigFault::TooManySources => "; allowed: 8",
+        ConfigFault::BadAddress =>
+            "; allowed: \"A.B.C.D:PORT\", in decimal and without leading zeros",
+        _ => "",
+    }
+}

@@ -1,0 +1,54 @@
+//! The command line by which a configuration is read and nothing else is done.
+ghost use Rattle.std.specs.Prelude.{◌≡◌, IfOk, IfSome, Some, codes, map, string_bytes};
+ghost use Rattle.clap.specs.Words.{app_of, found_of};
+ghost use Rattle.program_words.specs.Lines.{check_program, found_in, given_by};
+
+use crate::fault::WordsFault;
+use crate::options::{fault_of, flag, required};
+use clap::{ArgMatches, Command};
+use std::alloc::{AllocError, Global};
+
+/// Whether a line asks for a check of the configuration.
+pub fn asks_for_check(line: &[String]) -> bool {
+    line.iter().any(|word| word.as_str() == "--check")
+}
+
+// The options of a check.
+pub(crate) fn command<'a>(alloc: Global) -> Result<Command<'a>, AllocError>
+    ensures { IfOk result (λ command. app_of command ≡ check_program) }
+{
+    let command = Command::new(alloc, "check")
+        .version("0.1")
+        .arg(required(alloc, "config"))?
+        .arg(flag(alloc, "check"))?;
+    Ok(command)
+}
+
+// The path that the matches of a line give.
+fn path_in<'a>(matches: &ArgMatches<'a>) -> Option<&'a str>
+    ensures { IfSome result (λ path. (found_in (found_of matches.now)).first (codes "config") ≡ Some path.now) }
+{
+    matches.get_str("config")
+}
+
+// What a line says to a command with the options of a check.
+fn path_by<'a>(command: Command<'a>, line: &'a [String]) -> Result<&'a str, WordsFault>
+    requires { app_of command ≡ check_program }
+    ensures { IfOk result (λ path. (given_by check_program (map string_bytes line.entry.now)).first (codes "config") ≡ Some path.now) }
+{
+    match command.try_get_matches_from(line) {
+        Ok(matches) => path_in(&matches).ok_or(WordsFault::Usage),
+        Err(error) => Err(fault_of(&error)),
+    }
+}
+
+/// The path of the configuration that a line asks to check; its first word is the program's own name. Such a line has no other
+/// option.
+pub fn check_words<'a>(alloc: Global, line: &'a [String]) -> Result<&'a str, WordsFault>
+    ensures { IfOk result (λ path. (given_by check_program (map string_bytes line.entry.now)).first (codes "config") ≡ Some path.now) }
+{
+    match command(alloc) {
+        Ok(command) => path_by(command, line),
+        Err(AllocError) => Err(WordsFault::NoMemory),
+    }
+}

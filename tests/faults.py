@@ -1,0 +1,124 @@
+#!/usr/bin/env python3
+"""What the server and the put say of a wrong start: one line where nobody reads it, a second one on a terminal, and both after
+`--check`.
+
+usage: tests/faults.py SERVER PUT
+"""
+import os
+import pathlib
+import pty
+import socket
+import subprocess
+import sys
+import tempfile
+
+SERVER, PUT = map(os.path.realpath, sys.argv[1:3])
+EXAMPLES = pathlib.Path(__file__).resolve().parent.parent / "examples" / "transfer"
+PATIENCE = 20
+
+
+def want(title, found, wanted):
+    if found != wanted:
+        sys.exit(f"{title}: {found!r} in place of {wanted!r}")
+
+
+def read_all(descriptor):
+    """What a terminal shows until the last program has let it go."""
+    held = b""
+    while True:
+        try:
+            octets = os.read(descriptor, 65_536)
+        except OSError:
+            return held
+        if not octets:
+            return held
+        held += octets
+
+
+def run(words):
+    """A program's output, errors and status, with its errors in a pipe."""
+    ended = subprocess.run(words, stdin=subprocess.DEVNULL, capture_output=True, text=True, timeout=PATIENCE, check=False)
+    return ended.stdout, ended.stderr, ended.returncode
+
+
+def shown(words):
+    """What a terminal shows of a program's errors, and the program's status."""
+    person, program = pty.openpty()
+    with subprocess.Popen(words, stdin=subprocess.DEVNULL, stdout=subprocess.DEVNULL, stderr=program) as running:
+        os.close(program)
+        status = running.wait(PATIENCE)
+    text = read_all(person).replace(b"\r\n", b"\n").decode()
+    os.close(person)
+    return text, status
+
+
+def configure(name, **changes):
+    """A configuration of the examples, with other values at some keys."""
+    text = (EXAMPLES / "ground.toml").read_text().replace("@PEER@", "4557")
+    for key, value in changes.items():
+        text = "\n".join(f"{key} = {value}" if line.startswith(f"{key} =") else line for line in text.split("\n"))
+    pathlib.Path(name).write_text(text)
+    return name
+
+
+def check_rows():
+    """Configurations, what a check prints of each behind the program's name, and the line that explains it."""
+    yield configure("good"), None, None
+    yield configure("lanes", put_lanes=99), "config fault 4", "lanes: the value of `put_lanes` is out of range; allowed: 1 to 32"
+    yield configure("typed", capacity='"8"'), "config fault 3", "typed: the value of `capacity` has the wrong type; allowed: 1 to 1024"
+    yield configure("named", user='"bob"'), "config fault 8", "named: the user of a remote entity is not one of the users; add a table [[user]], or correct the name"
+    pathlib.Path("bad").write_text("[entity\n")
+    yield "bad", "config fault 1", "bad: the text is not TOML; look for a missing quote or bracket, or a key that stands twice"
+    yield "missing", "read fault", None
+
+
+def checks(program):
+    name = os.path.basename(program)
+    for config, fault, why in check_rows():
+        told, errors, status = run([program, "--check", "--config", config])
+        if fault is None:
+            want(f"{name} --check {config}", (told, errors, status), ("ok\n", "", 0))
+            continue
+        lines = errors.splitlines()
+        want(f"{name} --check {config}", (told, lines[0], len(lines), status), ("", f"{name}: {fault}", 2, 1))
+        want(f"{name} --check {config}, the second line", lines[1] if why else lines[1].split(": ")[0], why or config)
+    told, errors, status = run([program, "--check"])
+    want(f"{name} --check alone", (told, errors.splitlines()[0], errors.splitlines()[-1], status),
+         ("", f"{name}: usage", f"`{name} --help` has the options", 1))
+    want(f"{name} --check alone, the second line", errors.splitlines()[1].split(": ")[1], "--config <config>")
+
+
+def start_rows(taken):
+    """Wrong starts of both programs: the words, the fault, and how the line that explains it begins."""
+    server = [SERVER, "--config", "good", "--folder", ".", "--bind"]
+    put = [PUT, "--config", "good", "--bind", "127.0.0.1:0", "--remote", "1", "--class"]
+    yield [*server, "127.0.0.1:0", "--workers", "17"], "usage", "--workers takes a number from 1 to 16"
+    yield [*server, "127.0.0.1:0", "--unknown"], "usage", "unexpected argument '--unknown'"
+    yield [*server, "localhost:1"], "usage", "--bind takes A.B.C.D:PORT"
+    yield [*server, taken], "bind fault", f"{taken}: "
+    yield [SERVER, "--config", "lanes", "--folder", ".", "--bind", "127.0.0.1:0"], "config fault 4", "lanes: the value of `put_lanes`"
+    yield [*put, "3", "--user", "alice", "good", "b"], "usage", "--class takes 1 or 2"
+    yield [*put, "2", "--user", "carol", "good", "b"], "usage", "good: no user has the name `carol`"
+    yield [*put, "2", "--user", "alice", "missing", "b"], "read fault", "missing: "
+    yield [*put, "2", "--user", "alice", ".", "b"], "read fault", ".: it is no plain file"
+
+
+def starts():
+    with socket.socket(socket.AF_INET, socket.SOCK_DGRAM) as holder:
+        holder.bind(("127.0.0.1", 0))
+        for words, fault, why in start_rows(f"127.0.0.1:{holder.getsockname()[1]}"):
+            name = os.path.basename(words[0])
+            want(f"{words}, in a pipe", run(words), ("", f"{name}: {fault}\n", 1))
+            text, status = shown(words)
+            lines = text.splitlines()
+            want(f"{words}, on a terminal", (lines[0], status), (f"{name}: {fault}", 1))
+            want(f"{words}, the second line", lines[1][:len(why)], why)
+
+
+with tempfile.TemporaryDirectory() as folder:
+    os.chdir(folder)
+    checks(SERVER)
+    checks(PUT)
+    starts()
+    os.chdir("/")
+print("wrong starts: one line where nobody reads it, and what is wrong on a terminal and after --check")
