@@ -99,6 +99,7 @@ test:
 	@examples/transfer.sh $(server) $(put) 2 4194304 7 11
 	@examples/transfer.sh $(server) $(put) 1 1048576 0 0
 	@examples/transfer.sh $(server) $(put) 1 4096 0 0 --closure
+	@tests/starts.py $(server) $(put)
 	@tests/server.py $(server)
 	@tests/control.py $(server)
 	@tests/station.py $(server) $(ctl)

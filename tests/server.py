@@ -298,6 +298,17 @@ def commands_that_end_within_a_line():
 
 
 @case
+def odd_lines():
+    """Lines that are too long or no text are bad commands, and what follows them is read."""
+    with server() as one:
+        one.say(b"x" * 300_000 + b"\ntake alice\n\xff\xfe\ntake \xc3\xa9\ntake alice\n" + b"y" * 131_201)
+        one.run.stdin.close()
+        for answer in ("bad command", "none", "bad command", "bad command", "none", "bad command"):
+            want(one.line(), answer)
+        want(one.ended(), (0, ""))
+
+
+@case
 def an_output_that_is_closed():
     reading, writing = os.pipe()
     with server(output=writing) as one:

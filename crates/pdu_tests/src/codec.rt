@@ -136,38 +136,3 @@ fn datagrams_that_are_cut(rt: HostRuntime) {
         assert!(rt; is_refused_cut(rt.alloc(), octets), "{octets:?}");
     }
 }
-
-// Metadata with closure, and the messages "hi" and "x" behind an option of another type.
-const MESSAGES: &[u8] = b"\x24\x00\x13\x00\x01\x05\x02\x07\x40\x00\x00\x00\x03\x01\x61\x01\x62\
-    \x05\x00\x02\x02\x68\x69\x02\x01\x78";
-
-// What is written for it, behind a front.
-const MESSAGES_BEHIND: &[u8] = b"front\x24\x00\x11\x00\x01\x05\x02\x07\x40\x00\x00\x00\x03\x01\x61\
-    \x01\x62\x02\x02\x68\x69\x02\x01\x78";
-
-// Memory may run out anywhere here, and is there again at the next call: to be run with each
-// allocation refused in turn.
-#[test]
-fn memory(rt: HostRuntime) -> Result<(), Fail> {
-    let pdu = read_again(rt.alloc())?;
-    let mut out = Vec::from_slice(rt.alloc(), b"front")?;
-    assert!(rt; is_appended(&pdu, &mut out));
-    Ok(())
-}
-
-fn read_again(alloc: Global) -> Result<Pdu, DecodeFault> {
-    match decode(alloc, MESSAGES) {
-        Err(DecodeFault::NoMemory) => decode(alloc, MESSAGES),
-        other => other,
-    }
-}
-
-// Whether the PDU is written behind the front, at the second try where the first leaves it as it was.
-fn is_appended(pdu: &Pdu, out: &mut Vec<u8>) -> bool {
-    if encode(pdu, out).is_err()
-        && (out.as_slice() != b"front".as_slice() || encode(pdu, out).is_err())
-    {
-        return false;
-    }
-    out.as_slice() == MESSAGES_BEHIND
-}

@@ -1,5 +1,4 @@
 use number_file::{NumberFile, NumbersFault};
-use std::alloc::AllocError;
 use std::fs;
 use std::test::*;
 
@@ -15,26 +14,56 @@ fn open(rt: &HostRuntime, file: &str, first: u64) -> Result<NumberFile, NumbersF
     NumberFile::open(rt, rt.alloc(), path, first, 10, 4)
 }
 
-// A run begins where the file of the one before says, and never below its own first round.
-#[test]
-fn runs(rt: HostRuntime) -> Result<(), Fail> {
-    let Ok(mut file) = open(&rt, RUNS, 7) else {
-        return Err(AllocError.into());
-    };
-    assert!(rt; file.cover(&rt).is_ok());
-    file.note_given(7);
-    assert_eq!(rt; fs::read_to_string(&rt, RUNS)?.as_str(), "110\n");
-    file.note_given(10);
-    assert!(rt; file.cover(&rt).is_ok());
-    assert_eq!(rt; fs::read_to_string(&rt, RUNS)?.as_str(), "150\n");
-    assert!(rt; open(&rt, RUNS, 3).is_ok_and(|file| file.rounds.next == 15));
-    assert!(rt; open(&rt, RUNS, 20).is_ok_and(|file| file.rounds.next == 20));
-    Ok(())
+fn says(rt: &HostRuntime, file: &str, text: &str) -> bool {
+    fs::read_to_string(rt, file).is_ok_and(|found| found.as_str() == text)
 }
 
-// What is no number is a fault, and stays.
+// Whether the next round is covered, and the file says this then.
+fn covers(rt: &HostRuntime, file: &mut NumberFile, text: &str) -> bool {
+    file.cover(rt).is_ok() && says(rt, RUNS, text)
+}
+
+// Two rounds are given, of which the second is not covered yet.
+fn runs_on(rt: &HostRuntime, file: &mut NumberFile) -> bool {
+    let begins = covers(rt, file, "110\n");
+    file.note_given(7);
+    file.note_given(10);
+    begins && covers(rt, file, "150\n")
+}
+
+// Whether a run that begins at the round 7 goes on so.
+fn first_run(rt: &HostRuntime) -> bool {
+    match open(rt, RUNS, 7) {
+        Ok(mut file) => runs_on(rt, &mut file),
+        Err(_) => false,
+    }
+}
+
+// Where a run begins whose own first round this is.
+fn next_run(rt: &HostRuntime, first: u64) -> Option<u64> {
+    match &open(rt, RUNS, first) {
+        Ok(file) => Some(file.rounds.next),
+        Err(_) => None,
+    }
+}
+
+// A run begins where the file of the one before says, and never below its own first round.
 #[test]
-fn no_numbers(rt: HostRuntime) -> Result<(), Fail> {
+fn runs(rt: HostRuntime) {
+    assert!(rt; first_run(&rt));
+    assert_eq!(rt; next_run(&rt, 3), Some(15));
+    assert_eq!(rt; next_run(&rt, 20), Some(20));
+}
+
+// Whether a file that says this is a fault, and stays.
+fn is_refused(rt: &HostRuntime, text: &str) -> bool {
+    fs::write(rt, NO_NUMBERS, text).is_ok()
+        && open(rt, NO_NUMBERS, 3).err() == Some(NumbersFault::Unreadable)
+        && says(rt, NO_NUMBERS, text)
+}
+
+#[test]
+fn no_numbers(rt: HostRuntime) {
     for text in [
         "",
         "\n",
@@ -44,12 +73,6 @@ fn no_numbers(rt: HostRuntime) -> Result<(), Fail> {
         "5\n\n",
         "00000000000000000000000000000000",
     ] {
-        fs::write(&rt, NO_NUMBERS, text)?;
-        assert_eq!(rt;
-            open(&rt, NO_NUMBERS, 3).err(),
-            Some(NumbersFault::Unreadable)
-        );
-        assert_eq!(rt; fs::read_to_string(&rt, NO_NUMBERS)?.as_str(), text);
+        assert!(rt; is_refused(&rt, text), "{text}");
     }
-    Ok(())
 }

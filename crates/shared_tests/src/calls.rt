@@ -1,7 +1,7 @@
 //! What is answered to each call.
 
 use crate::runs::{Run, play};
-use crate::told::{Answered, key, push_answer, push_answer_or, push_line, push_put, taken};
+use crate::told::{Answered, key, push_answer, push_answer_or, push_count, push_line, push_put};
 use cfdp_types::{Image, TimerKind, TxnKey};
 use entity_config::Config;
 use entity_routing::{Place, Request};
@@ -57,18 +57,6 @@ pub(crate) fn call<N: Names, R: Wait + Copy>(
     push_request(rt, text, entity, 0, Request::Report(key(2, 4)))?;
     push_request(rt, text, entity, 0, Request::Abandon(key(2, 4)))?;
     push_request(rt, text, entity, 0, Request::Cancel(key(2, 4)))
-}
-
-// Adds a line for how much a user takes.
-fn push_count<R: Wait>(
-    rt: &R,
-    alloc: Global,
-    text: &mut String,
-    port: UserPort,
-) -> Result<(), AllocError> {
-    let mut port = port;
-    let count = taken(rt, alloc, &mut port)?.len();
-    writeln!(text, "{count}")
 }
 
 // A file comes, and is kept.

@@ -171,7 +171,7 @@ pub(crate) fn crowd<N: Names + Send + Sync, R: Threads + Wait + Copy + Send + Sy
     )?;
     let mut ended = Vec::new(alloc);
     for came in all {
-        push_came(alloc, text, &mut ended, came?)?;
+        push_came(alloc, text, &mut ended, came)?;
     }
     Ok(())
 }
@@ -182,9 +182,9 @@ fn push_came(
     alloc: Global,
     text: &mut String,
     ended: &mut Vec<Ended>,
-    came: Came,
+    came: Result<Came, AllocError>,
 ) -> Result<(), AllocError> {
-    match came {
+    match came? {
         Came::Worked(well, mut more) => {
             ended.append(&mut more)?;
             push_line(text, if well { "worked" } else { "failed" })

@@ -2,7 +2,7 @@
 ghost use Rattle.std.specs.Prelude.{◌≡◌, All};
 
 use crate::runs::{Run, play};
-use crate::told::{is_done, push_line, push_told, taken};
+use crate::told::{is_done, push_both, push_line, taken};
 use entity_config::Config;
 use shared_entity::Entity;
 use shared_lanes::{Names, NoGate};
@@ -51,13 +51,11 @@ pub(crate) fn deliver_two<N: Names + Send + Sync, R: Threads + Wait + Copy + Sen
         || deliver_both(rt, &entity, 5),
         || deliver_both(rt, &entity, 6),
     );
-    if !five || !six {
-        return push_line(text, "refused");
-    }
     let mut port = port;
-    push_taken(rt, alloc, text, &mut port)?;
+    let told = push_taken(rt, alloc, text, &mut port);
     admit_own::<N, R>(&mut port, entity.into_lanes());
-    if port.is_complete() {
+    told?;
+    if five && six && port.is_complete() {
         push_line(text, "complete")?;
     }
     push_taken(rt, alloc, text, &mut port)
@@ -74,10 +72,7 @@ fn push_taken<R: Wait>(
     ensures user { port.new.knows.user ≡ port.old.knows.user }
 {
     let bundles = taken(rt, alloc, port)?;
-    let count = bundles.len();
-    writeln!(text, "{count}")?;
-    push_told(text, bundles.as_slice(), 5)?;
-    push_told(text, bundles.as_slice(), 6)
+    push_both(text, bundles.as_slice())
 }
 
 // Gives a user's port the outlets of the user's lanes back.

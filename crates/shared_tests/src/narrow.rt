@@ -4,7 +4,7 @@
 use crate::acts::{Act, Outcome, TURNS, tell};
 use crate::deliveries::{eof_of, metadata_of};
 use crate::runs::{Run, play};
-use crate::told::{pause, push_line, push_told};
+use crate::told::{pause, push_both, push_line};
 use entity_config::{Config, Setting};
 use indications::Bundle;
 use shared_entity::Entity;
@@ -95,11 +95,7 @@ fn squeeze_first<N: Names + Send + Sync, R: Threads + Wait + Copy + Send + Sync>
     if !five || !six {
         return push_line(text, "refused");
     }
-    let bundles = bundles?;
-    let count = bundles.len();
-    writeln!(text, "{count}")?;
-    push_told(text, bundles.as_slice(), 5)?;
-    push_told(text, bundles.as_slice(), 6)
+    push_both(text, bundles?.as_slice())
 }
 
 #[test]

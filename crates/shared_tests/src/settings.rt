@@ -1,7 +1,7 @@
 //! What a configuration says is what its lanes do: how much a queue holds, and the parameters of each source.
 
 use crate::runs::{Run, play};
-use crate::told::{Answered, is_done, push_line, push_put, put, taken};
+use crate::told::{Answered, is_done, push_count, push_line, push_put, put};
 use cfdp_types::{TimerKind, TimerOp, TxnKey};
 use entity_config::{Config, read_config};
 use entity_routing::Place;
@@ -37,9 +37,7 @@ pub(crate) fn fill<N: Names, R: Wait + Copy>(
     push_put(rt, alloc, text, entity, PLACE, 1)?;
     push_put(rt, alloc, text, entity, PLACE, 1)?;
     for port in ports {
-        let mut port = port;
-        let count = taken(rt, alloc, &mut port)?.len();
-        writeln!(text, "{count}")?;
+        push_count(rt, alloc, text, port)?;
     }
     push_put(rt, alloc, text, entity, PLACE, 1)
 }

@@ -118,6 +118,18 @@ pub(crate) fn taken<R: Wait>(
     Ok(bundles)
 }
 
+/// Adds a line for how much a user takes.
+pub(crate) fn push_count<R: Wait>(
+    rt: &R,
+    alloc: Global,
+    text: &mut String,
+    port: UserPort,
+) -> Result<(), AllocError> {
+    let mut port = port;
+    let count = taken(rt, alloc, &mut port)?.len();
+    writeln!(text, "{count}")
+}
+
 fn word_of(indication: &Indication) -> &'static str {
     match indication {
         Indication::Transaction => "Transaction",
@@ -134,8 +146,16 @@ fn word_of(indication: &Indication) -> &'static str {
     }
 }
 
-/// Adds a line for each indication of a transaction, bundle by bundle.
-pub(crate) fn push_told(text: &mut String, bundles: &[Bundle], seq: u64) -> Result<(), AllocError> {
+/// Adds a line for how many bundles there are, and lines for those of the transactions 5 and 6.
+pub(crate) fn push_both(text: &mut String, bundles: &[Bundle]) -> Result<(), AllocError> {
+    let count = bundles.len();
+    writeln!(text, "{count}")?;
+    push_told(text, bundles, 5)?;
+    push_told(text, bundles, 6)
+}
+
+// Adds a line for each indication of a transaction, bundle by bundle.
+fn push_told(text: &mut String, bundles: &[Bundle], seq: u64) -> Result<(), AllocError> {
     for bundle in bundles {
         if bundle.key.seq == seq {
             push_bundle(text, bundle)?;

@@ -3,7 +3,6 @@ ghost use Rattle.std.specs.Prelude.{◌≡◌, ◌<◌};
 ghost use Rattle.txn_tests.specs.Desks.{SharedFits};
 ghost use Rattle.lane_table.specs.Lane.{idle};
 
-use crate::ends::row_of;
 use crate::lanes::{
     event, play_at, push_last, push_stepped, push_taken, receiving, receiving_lane, sending,
     sending_lane,
@@ -75,7 +74,7 @@ fn play_row<R: AllocGlobal + Abort + Wait + Copy>(
     requires { SharedFits desk.old.lane desk.old.outlet }
     ensures { SharedFits desk.new.lane desk.new.outlet }
 {
-    let (_, event, answer) = row_of(row).ok_or(NO_LINE)?;
+    let (event, answer) = row.split_once(": ").ok_or(NO_LINE)?;
     let mut given = String::new(rt.alloc());
     push_line(rt, rt.alloc(), &mut given, desk, event).ok_or(NO_LINE)?;
     check_lines(rt, "a shared queue", event, given.as_str(), "", answer);

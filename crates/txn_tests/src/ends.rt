@@ -1,5 +1,5 @@
 //! How a script is played at either end. Each of its lines is an event and what it is answered, with a
-//! colon between; after `N times` it stands for so many. Entity 1 sends the file "a" to entity 2, to be
+//! colon between. Entity 1 sends the file "a" to entity 2, to be
 //! kept as "b", as transaction 5; entity 2 puts its own to entity 1, as transaction 4.
 use crate::events::{event_of, pdu_of};
 use crate::setting::{Acts, params};
@@ -14,14 +14,14 @@ use std::process::Abort;
 use std::test::*;
 use txn_events::{Refusal, What};
 
-/// The transaction that is received.
-pub(crate) const RECEIVED: TxnKey = TxnKey {
+// The transaction that is received.
+const RECEIVED: TxnKey = TxnKey {
     source: EntityId(1),
     seq: 5,
 };
 
-/// The transaction that is sent.
-pub(crate) const SENT: TxnKey = TxnKey {
+// The transaction that is sent.
+const SENT: TxnKey = TxnKey {
     source: EntityId(2),
     seq: 4,
 };
@@ -32,9 +32,9 @@ const NO_BEGINNING: &str = "the first event opens a transaction";
 // What to say of a line that is none.
 const NO_ROW: &str = "the line is no event and its answer";
 
-/// One end of a transaction.
+// One end of a transaction.
 #[derive(Drop)]
-pub(crate) enum End {
+enum End {
     Receives(ReceiverCore),
     Sends(SenderCore),
 }
@@ -106,15 +106,6 @@ fn push_line(alloc: Global, text: &mut String, end: &mut End, line: &str) -> Opt
     }
 }
 
-/// A line of a script: how often, which event, and the answer.
-pub(crate) fn row_of(line: &str) -> Option<(u32, &str, &str)> {
-    let (event, answer) = line.split_once(": ")?;
-    match event.split_once(" times ") {
-        None => Some((1, event, answer)),
-        Some((count, event)) => Some((count.parse().ok()?, event, answer)),
-    }
-}
-
 // The lines of a script, in their order.
 fn play<R: AllocGlobal + Abort>(
     rt: &R,
@@ -137,20 +128,7 @@ fn play_line<R: AllocGlobal + Abort>(
     title: &str,
     line: &str,
 ) -> Result<(), Fail> {
-    let (count, event, answer) = row_of(line).ok_or(NO_ROW)?;
-    for _ in 0..count {
-        play_event(rt, end, title, event, answer)?;
-    }
-    Ok(())
-}
-
-fn play_event<R: AllocGlobal + Abort>(
-    rt: &R,
-    end: &mut End,
-    title: &str,
-    event: &str,
-    answer: &str,
-) -> Result<(), Fail> {
+    let (event, answer) = line.split_once(": ").ok_or(NO_ROW)?;
     let mut given = String::new(rt.alloc());
     push_line(rt.alloc(), &mut given, end, event).ok_or(NO_ROW)?;
     check_lines(rt, title, event, given.as_str(), head_of(end), answer);
@@ -178,13 +156,8 @@ fn play_from<R: AllocGlobal + Abort>(
     }
 }
 
-/// The reception that a PDU opens. What that is answered goes to the text.
-pub(crate) fn reception(
-    alloc: Global,
-    text: &mut String,
-    pdu: &Pdu,
-    params: Params,
-) -> Result<End, Refusal> {
+// The reception that a PDU opens. What that is answered goes to the text.
+fn reception(alloc: Global, text: &mut String, pdu: &Pdu, params: Params) -> Result<End, Refusal> {
     if !ReceiverCore::may_open(RECEIVED, pdu) {
         return Err(Refusal::NoTransaction);
     }
@@ -226,7 +199,7 @@ pub(crate) fn receives_with<R: AllocGlobal + Abort>(
 // The PDU of a script's first line, what that is answered, and the lines behind it.
 fn parts_of(script: &str) -> Option<(&str, &str, &str)> {
     let (first, rest) = script.trim().split_once('\n')?;
-    let (_, event, answer) = row_of(first)?;
+    let (event, answer) = first.split_once(": ")?;
     Some((event.strip_prefix("pdu ")?, answer, rest))
 }
 
@@ -235,8 +208,8 @@ pub(crate) fn request(alloc: Global, class: Class, file: &[u8]) -> Result<PutReq
     PutRequest::new(alloc, EntityId(1), class, b"a", b"b", &[], file)
 }
 
-/// The sender that a Put opens. What that is answered goes to the text.
-pub(crate) fn sending(
+// The sender that a Put opens. What that is answered goes to the text.
+fn sending(
     alloc: Global,
     text: &mut String,
     request: &PutRequest,
@@ -273,9 +246,4 @@ pub(crate) fn sends<R: AllocGlobal + Abort>(
         "ok; Transaction",
     );
     play_from(rt, end, title, script)
-}
-
-/// Whether nothing is opened, since a file is too large.
-pub(crate) fn is_too_large(opened: &Result<End, Refusal>) -> bool {
-    matches!(opened, Err(Refusal::TooLarge))
 }

@@ -9,7 +9,7 @@ ghost use Rattle.lane_table.specs.Lane.{idle};
 ghost use Rattle.lane_table.specs.Steps.{IsKeyed};
 
 use crate::desk::{Desk, new_desk, step, take};
-use crate::ends::{request, row_of};
+use crate::ends::request;
 use crate::events::{event_of, pdu_of};
 use crate::setting::params;
 use crate::texts::{check_lines, push_image, push_octets, push_step};
@@ -261,22 +261,7 @@ fn play_row<R: AllocGlobal + Abort>(rt: &R, desk: &mut Desk, row: &str) -> Resul
     requires { Fits desk.old.lane desk.old.number desk.old.queue }
     ensures { Fits desk.new.lane desk.new.number desk.new.queue }
 {
-    let (count, event, answer) = row_of(row).ok_or(NO_LINE)?;
-    for _ in 0..count {
-        play_event(rt, desk, event, answer)?;
-    }
-    Ok(())
-}
-
-fn play_event<R: AllocGlobal + Abort>(
-    rt: &R,
-    desk: &mut Desk,
-    event: &str,
-    answer: &str,
-) -> Result<(), Fail>
-    requires { Fits desk.old.lane desk.old.number desk.old.queue }
-    ensures { Fits desk.new.lane desk.new.number desk.new.queue }
-{
+    let (event, answer) = row.split_once(": ").ok_or(NO_LINE)?;
     let mut given = String::new(rt.alloc());
     push_line(rt.alloc(), &mut given, desk, event).ok_or(NO_LINE)?;
     check_lines(rt, "a lane", event, given.as_str(), "", answer);
@@ -452,26 +437,6 @@ fn the_last_number(rt: HostRuntime) -> Result<(), Fail> {
         take: user 2 252 Transaction-Finished 15 incomplete unreported
         put 1 -: refused 9 SeqExhausted
         last: 252 2 2
-        ",
-    )
-}
-
-// After 262,142 events only Abandon is taken.
-#[test]
-fn a_full_journal(rt: HostRuntime) -> Result<(), Fail> {
-    play_at(
-        &rt,
-        sending(rt.alloc(), 262_141, 1),
-        "
-        put 2 616263: ok
-        take: user 2 4 Transaction
-        262141 times 2 4 report: ok
-        262141 times take: user 2 4 Report active 0
-        2 4 pump: refused 11 JournalFull
-        2 4 report: refused 11 JournalFull
-        2 4 abandon: ok
-        take: user 2 4 Abandoned 15 0
-        last: 4 262143 262143
         ",
     )
 }

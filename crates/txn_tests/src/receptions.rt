@@ -1,9 +1,6 @@
 //! Receptions, line by line.
-use crate::ends::{RECEIVED, is_too_large, receives, reception};
-use crate::events::pdu_of;
-use crate::setting::params;
-use receiver_core::ReceiverCore;
-use std::alloc::{AllocError, Global};
+use crate::ends::receives;
+use std::alloc::AllocError;
 use std::test::*;
 
 // Each with what it is about: the first PDU opens the reception.
@@ -173,21 +170,6 @@ const SCRIPTS: &[(&str, &str)] = &[
         report: ok; Report active 0
         ",
     ),
-    // After 262,142 entries only the file store's answer and Abandon are taken.
-    (
-        "a full journal",
-        "
-        pdu 20000a0001050207000000000301610162: ok; Metadata-Recv 1 3 61 62; arm inactivity 0 4000
-        pdu 3000070001050200000000616263: ok; File-Segment-Recv 0 3; arm inactivity 1 4000
-        pdu 20000a0001050204006162630000000003: ok; pdu 28000300010502064001; deposit 2; EOF-Recv; disarm inactivity 2
-        262139 times report: ok; Report storing 3
-        report: refused 11 JournalFull
-        stored 2 yes: ok; pdu 280002000105020502; arm ack 262142 1000
-        timer ack 262142: refused 11 JournalFull
-        abandon: ok; Abandoned 15 3; disarm ack 262143
-        abandon: ended
-        ",
-    ),
 ];
 
 #[test]
@@ -233,42 +215,4 @@ fn write_nak(script: &mut String) -> Result<(), AllocError> {
         write!(script, "{start:08x}{end:08x}")?;
     }
     Ok(())
-}
-
-// Metadata of a file that is too large opens nothing.
-#[test]
-fn too_large_a_file(rt: HostRuntime) {
-    let refused = is_refused(rt.alloc(), "24000a0001050207000100000101610162");
-    assert!(rt; refused == Some(true));
-}
-
-// Whether a PDU is refused, since its file is too large.
-fn is_refused(alloc: Global, hex: &str) -> Option<bool> {
-    let params = params(&[], &[])?;
-    let pdu = pdu_of(alloc, hex)?;
-    let mut text = String::new(alloc);
-    Some(is_too_large(&reception(alloc, &mut text, &pdu, params)))
-}
-
-// Metadata, File Data and EOF of the key alone open a reception: not of another sequence number or source,
-// no Prompt, and no ACK.
-#[test]
-fn what_opens(rt: HostRuntime) {
-    for (hex, expected) in [
-        ("24000a0001050207000000000301610162", true),
-        ("3400070001050200000000616263", true),
-        ("20000d0001050204f00000000000000000060101", true),
-        ("24000a0001060207000000000301610162", false),
-        ("24000a0003050207000000000301610162", false),
-        ("200002000105020900", false),
-        ("20000300010502065102", false),
-    ] {
-        assert!(rt; opens(rt.alloc(), hex) == Some(expected), "at {hex}");
-    }
-}
-
-// Whether a PDU opens the reception.
-fn opens(alloc: Global, hex: &str) -> Option<bool> {
-    let pdu = pdu_of(alloc, hex)?;
-    Some(ReceiverCore::may_open(RECEIVED, &pdu))
 }

@@ -1,8 +1,6 @@
 //! Senders: what follows the Put of a file.
-use crate::ends::{is_too_large, request, sending, sends};
-use crate::setting::params;
+use crate::ends::sends;
 use cfdp_types::Class;
-use std::alloc::Global;
 use std::test::*;
 
 // Each with what it is about and its class: the Put of three octets is answered, and this follows.
@@ -90,18 +88,6 @@ const SCRIPTS: &[(&str, Class, &str)] = &[
         abandon: ended
         ",
     ),
-    // After 262,142 entries only Abandon is taken.
-    (
-        "a full journal",
-        Class::Two,
-        "
-        262141 times report: ok; Report active 0
-        pump: refused 11 JournalFull
-        report: refused 11 JournalFull
-        abandon: ok; Abandoned 15 0
-        abandon: ended
-        ",
-    ),
 ];
 
 #[test]
@@ -122,19 +108,4 @@ fn the_greatest_file(rt: HostRuntime) -> Result<(), Fail> {
         file.as_slice(),
         "pump: ok; pdu 24000a0002040107000100000001610162",
     )
-}
-
-#[test]
-fn too_large_a_file(rt: HostRuntime) -> Result<(), Fail> {
-    let file = vec![in rt.alloc(); 0; 16_777_217]?;
-    assert!(rt; is_refused(rt.alloc(), file.as_slice()) == Some(true));
-    Ok(())
-}
-
-// Whether the Put of a file is refused, since that is too large.
-fn is_refused(alloc: Global, file: &[u8]) -> Option<bool> {
-    let params = params(&[], &[])?;
-    let request = request(alloc, Class::One, file).ok()?;
-    let mut text = String::new(alloc);
-    Some(is_too_large(&sending(alloc, &mut text, &request, params)))
 }

@@ -4,8 +4,6 @@
 #[cfg(test)]
 mod datagrams;
 #[cfg(test)]
-mod intake;
-#[cfg(test)]
 mod keeping;
 #[cfg(test)]
 mod narrow;
