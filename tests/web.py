@@ -6,6 +6,7 @@ import http.client
 import json
 import os
 import re
+import signal
 import socket
 import subprocess
 import sys
@@ -124,9 +125,13 @@ def routes(port):
     found = wait_for(lambda: b"data: " in ask(port, "/events")[2])
     status, headers, body = ask(port, "/events")
     check("/events: server-sent events", found and status == 200 and headers["content-type"] == "text/event-stream"
-          and body.startswith(b"retry: 1000\n\nid: 1\ndata: {"))
-    check("/events: none behind the last", b"data:" not in ask(port, "/events", more=[("Last-Event-ID", "1")])[2])
-    check("/events: all, for the events of another run", b"id: 1\n" in ask(port, "/events", more=[("Last-Event-ID", "999")])[2])
+          and body.startswith(b"retry: 1000\n\nid: "))
+    ids = event_ids(port)
+    run = json.loads(ask(port, "/status.json")[2])["entities"][0]["started"]
+    check("/events: the IDs", ids == [f"{run}-{number + 1}" for number in range(len(ids))])
+    check("/events: none behind the last", event_ids(port, ids[-1]) == [])
+    for last in ("999", f"{run}-999", f"{run}-", "-1", "x" * 5000):
+        check(f"/events: all behind {last[:40]}", event_ids(port, last) == ids)
     status, headers, body = ask(port, "/", method="HEAD")
     check("HEAD: no body", status == 200 and body == b"")
 
@@ -197,6 +202,59 @@ def many(port):
     [thread.start() for thread in threads]
     [thread.join() for thread in threads]
     check(f"500 requests over 20 connections ({time.time() - begun:.2f} s)", not wrong)
+
+
+def fill_backlog():
+    """Clients that wait to be let in by the station, until no other can."""
+    waiting = []
+    while len(waiting) < 10_000:
+        client = socket.socket(socket.AF_UNIX)
+        client.setblocking(False)
+        waiting.append(client)
+        try:
+            client.connect(control)
+        except BlockingIOError:
+            break
+    return waiting
+
+
+def stopped(port, station):
+    """A station that stands still, and lets nobody in any more: each route is answered in time, however many ask."""
+    station.send_signal(signal.SIGSTOP)
+    time.sleep(0.6)
+    for title, waiting in (("a station that stands still", []), ("a station that lets nobody in", fill_backlog())):
+        seen = []
+
+        def visit(target, wanted, most):
+            begun = time.time()
+            status = ask(port, target)[0]
+            took = time.time() - begun
+            if status != wanted or took > most:
+                seen.append((target, status, took))
+        asked = [("/healthz", 503, 2)] * 8 + [("/status.json", 503, 2)] * 8 + [("/metrics", 200, 2)] * 4 \
+            + [("/", 200, 0.7), ("/events", 200, 0.7)] * 4
+        threads = [threading.Thread(target=visit, args=row) for row in asked]
+        [thread.start() for thread in threads]
+        [thread.join() for thread in threads]
+        check(f"{title}: {len(asked)} answers in time {seen}", not seen)
+        time.sleep(0.6)
+        [client.close() for client in waiting]
+    station.send_signal(signal.SIGCONT)
+    check("a station that goes on", wait_for(lambda: ask(port, "/healthz")[0] == 200))
+
+
+def event_ids(port, *last):
+    """The IDs of the events behind one, or of all."""
+    body = ask(port, "/events", more=[("Last-Event-ID", one) for one in last])[2].decode()
+    return re.findall("^id: (.*)$", body, re.M)
+
+
+def restarted(port, old):
+    """The ID of an event of a former run hides none of this one."""
+    check("another run's events", wait_for(lambda: event_ids(port)[:1] not in ([], old[:1])))
+    now = event_ids(port)
+    check("each run's IDs are its own", not set(old) & set(now) and now[0].endswith("-1"))
+    check("the ID of another run: all events", event_ids(port, old[-1]) == now)
 
 
 def slow(port):
@@ -275,10 +333,13 @@ def main():
     routes(port)
     refusals(port)
     many(port)
+    stopped(port, station)
+    old = event_ids(port)
     stop(station)
     check("the station goes", wait_for(lambda: ask(port, "/healthz")[0] == 503))
     station = start_station("--transactions", "4")
     check("the station comes back", wait_for(lambda: ask(port, "/status.json")[0] == 200))
+    restarted(port, old)
     slow(port)
     stop(console)
     token_file = os.path.join(folder.name, "token")

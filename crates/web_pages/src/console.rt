@@ -7,10 +7,11 @@ ghost use Rattle.web_pages.specs.Headers.{IsGuarded};
 ghost use Rattle.web_pages.specs.Settings.{token_of};
 
 use crate::command::is_command;
-use crate::guard::{Names, Verdict, is_for, is_same, judge};
+use crate::guard::{Names, Verdict, is_for, judge};
 use crate::headers::{POLICY, add_headers};
 use crate::page::PAGE;
 use crate::route::Route;
+use crate::secret::is_same_secret;
 use crate::source::{Found, Source};
 use bytes::{BufMut, Bytes};
 use http::{HeaderValue, Request, StatusCode, header};
@@ -110,7 +111,7 @@ impl<'a, S: Source> Console<'a, S> {
             return response.body.put_slice(PAGE.as_bytes());
         }
         let mut text = Vec::new(self.alloc);
-        if self.source.fill(route, after_of(request), &mut text)? == Found::Away {
+        if self.source.fill(route, last_id(request), &mut text)? == Found::Away {
             response.status = StatusCode::SERVICE_UNAVAILABLE;
         }
         response.body.push(Bytes::from_vec(text)?)
@@ -139,7 +140,8 @@ impl<'a, S: Source> Console<'a, S> {
         ensures { IsTrue result → HasToken (token_of self.now) request.now }
     {
         match (&self.settings.token, given_token(request)) {
-            (Some(token), Some(given)) => !given.is_empty() && is_same(given, token.as_slice()),
+            (Some(token), Some(given)) => !given.is_empty()
+                && is_same_secret(given, token.as_slice()),
             _ => false,
         }
     }
@@ -155,14 +157,11 @@ fn given_token(request: &Request<Bytes>) -> Option<&[u8]>
     }
 }
 
-// The number of the last event that the reader has: 0 where it has none.
-fn after_of(request: &Request<Bytes>) -> u64 {
+// The ID of the last event that the reader has: empty where it has none.
+fn last_id(request: &Request<Bytes>) -> &[u8] {
     match request.headers().get("last-event-id") {
-        Some(value) => match str::from_utf8(value.as_bytes()) {
-            Ok(text) => text.parse::<u64>().unwrap_or(0),
-            Err(_) => 0,
-        },
-        None => 0,
+        Some(value) => value.as_bytes(),
+        None => b"".as_slice(),
     }
 }
 

@@ -1,18 +1,18 @@
-use crate::{event_number, no_metrics, to_document, to_metrics};
 use std::test::Fail;
+use web_lines::{event_number, no_metrics, start_moment, to_document, to_metrics};
 
 const LINES: &str =
-    "{\"kind\":\"entity\",\"id\":2,\"version\":\"0.1\",\"counters\":{\"datagrams_in\":12}}\n\
+    "{\"kind\":\"entity\",\"id\":2,\"version\":\"0.1\",\"started\":\"now\",\"counters\":{\"datagrams_in\":12}}\n\
 {\"kind\":\"user\",\"name\":\"a\\\"b\",\"waiting\":3,\"capacity\":8}\nno JSON\n{\"kind\":\"unknown\"}\n\
 {\"kind\":\"transaction\",\"seq\":9007199254740993,\"state\":\"active\"}\n\
 {\"kind\":\"refusal\",\"name\":\"DecodeFault\",\"fault\":3,\"count\":5}\n";
 
 #[test]
-fn document_has_the_lines(rt: HostRuntime) -> Result<(), Fail> {
+fn a_document_has_the_lines(rt: HostRuntime) -> Result<(), Fail> {
     let document = to_document(rt.alloc(), LINES)?;
     let wanted =
-        "{\"entities\":[{\"kind\":\"entity\",\"id\":2,\"version\":\"0.1\",\"counters\":{\"datagrams_in\":12}}],\"logs\":[],\
-\"users\":[{\"kind\":\"user\",\"name\":\"a\\\"b\",\"waiting\":3,\"capacity\":8}],\
+        "{\"entities\":[{\"kind\":\"entity\",\"id\":2,\"version\":\"0.1\",\"started\":\"now\",\"counters\":{\"datagrams_in\":12}}],\
+\"logs\":[],\"users\":[{\"kind\":\"user\",\"name\":\"a\\\"b\",\"waiting\":3,\"capacity\":8}],\
 \"transactions\":[{\"kind\":\"transaction\",\"seq\":9007199254740993,\"state\":\"active\"}],\"remotes\":[],\
 \"refusals\":[{\"kind\":\"refusal\",\"name\":\"DecodeFault\",\"fault\":3,\"count\":5}],\"outbox\":[]}\n";
     assert_eq!(rt; str::from_utf8(document.as_slice())?, wanted);
@@ -39,12 +39,13 @@ fn metrics_have_the_numbers(rt: HostRuntime) -> Result<(), Fail> {
 }
 
 #[test]
-fn events_have_numbers(rt: HostRuntime) -> Result<(), Fail> {
+fn lines_say_when_and_which(rt: HostRuntime) -> Result<(), Fail> {
+    let moment = start_moment(rt.alloc(), LINES)?.ok_or("no moment")?;
+    assert_eq!(rt; moment.as_str(), "now");
     assert_eq!(rt;
         event_number(rt.alloc(), "{\"number\":7,\"kind\":\"end\"}")?,
         Some(7)
     );
     assert_eq!(rt; event_number(rt.alloc(), "{\"number\":\"7\"}")?, None);
-    assert_eq!(rt; event_number(rt.alloc(), "7")?, None);
     Ok(())
 }
