@@ -138,8 +138,10 @@ def routes(port):
 
 def refusals(port):
     own = f"127.0.0.1:{port}"
-    check("localhost is its name", ask(port, "/", host=f"localhost:{port}")[0] == 200)
-    for host in ("evil.example", "127.0.0.1", f"evil.example:{port}", f"127.0.0.1.evil.example:{port}"):
+    for host in (f"localhost:{port}", f"LocalHost:{port}"):
+        check(f"{host} is its name", ask(port, "/", host=host)[0] == 200)
+    for host in ("evil.example", "127.0.0.1", "127.0.0.1:80", f"127.0.0.2:{port}", f"evil.example:{port}",
+                 f"127.0.0.1.evil.example:{port}"):
         status, headers, body = ask(port, "/status.json", host=host)
         check(f"Host {host}: 403 and nothing more", status == 403 and body == b"" and "content-type" not in headers)
     check("no Host: refused", ask(port, "/", host=None)[0] in (400, 403))
@@ -161,6 +163,36 @@ def refusals(port):
         check("no HTTP: 400", raw.recv(100).startswith(b"HTTP/1.1 400"))
     status, _, body = ask(port, "/command", method="POST", body=b"cancel ops 1 1", more=[("X-Console-Token", TOKEN)])
     check("without --commands no command is taken", status == 403 and body == b"")
+
+
+def names():
+    """A name of another host, with or without the port 80, in any case."""
+    for name in ("Console.example:80", "console.example"):
+        console, port = start_console("--name", name)
+        for host, status in (("console.example", 200), ("CONSOLE.example:80", 200), (f"127.0.0.1:{port}", 200),
+                             ("console.example:81", 403), ("consolexexample", 403), (f"localhost:{port}", 403)):
+            check(f"--name {name}, Host {host}: {status}", ask(port, "/healthz", host=host)[0] in ((200, 503) if status == 200 else (403,)))
+        stop(console)
+
+
+def token_files():
+    """The first line of a token's file, without its end; no token where it is empty or too long."""
+    path = os.path.join(folder.name, "tokens")
+    for text in (b"", b"\n" + TOKEN.encode(), b"\r\n", b"x" * 4097, b"x" * 4097 + b"\r\n", b"x" * 10_000 + b"\n"):
+        with open(path, "wb") as file:
+            file.write(text)
+        ended = subprocess.run([web, "--control", control, "--listen", f"127.0.0.1:{free_port()}", "--commands", "--token-file", path],
+                               capture_output=True, timeout=20)
+        check(f"a token's file {text[:20]} of {len(text)} octets: 1", ended.returncode == 1 and b"no token" in ended.stderr)
+    for text in (TOKEN.encode(), TOKEN.encode() + b"\r\nmore", b"x" * 4096 + b"\r\n"):
+        with open(path, "wb") as file:
+            file.write(text)
+        console, port = start_console("--commands", "--token-file", path)
+        token = text.split(b"\r\n")[0].decode()
+        for given, status in ((token, 200), (token[:-1] + "y", 403), (token[:-1], 403), (token + "x", 403), ("", 403)):
+            found = ask(port, "/command", method="POST", body=b"hold 5", more=[("X-Console-Token", given)])[0]
+            check(f"a token's file of {len(text)} octets, a token of {len(given)}: {status}", found == status)
+        stop(console)
 
 
 def commands(port):
@@ -348,6 +380,8 @@ def main():
     console, port = start_console("--commands", "--token-file", token_file)
     commands(port)
     stop(console)
+    names()
+    token_files()
     console, port = start_console("--commands")
     console.stdout.readline()
     made = console.stdout.readline().decode().split()[-1]
