@@ -8,10 +8,9 @@ mod kind;
 mod labels;
 mod lines;
 mod metrics;
-mod named;
 mod numbers;
-mod report;
-mod sheet;
+mod place;
+mod series;
 mod text;
 mod told;
 
