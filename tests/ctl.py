@@ -9,6 +9,8 @@ import os
 import pty
 import select
 import shutil
+import signal
+import socket
 import subprocess
 import sys
 import tempfile
@@ -47,6 +49,20 @@ def station(*options):
     finally:
         run.kill()
         run.wait()
+
+
+def fill_backlog():
+    """Clients that wait to be let in, until no other can."""
+    waiting = []
+    while len(waiting) < 10_000:
+        client = socket.socket(socket.AF_UNIX)
+        client.setblocking(False)
+        waiting.append(client)
+        try:
+            client.connect(SOCKET)
+        except BlockingIOError:
+            break
+    return waiting
 
 
 def ctl(*words, given=b"", environment=None, control=True):
@@ -128,6 +144,15 @@ def no_answers():
         run = ctl("status")
         check("half an answer", run, 1, b"")
         want("half an answer, how long it took", 3 < run.took < 15, run.took)
+    with station() as stopped:
+        stopped.send_signal(signal.SIGSTOP)
+        for title, waiting in (("a server that stands still", []), ("a server that lets nobody in", fill_backlog())):
+            for words in (["status"], ["send", "--to", "5", FILE], ["--wait-for-server", "1", "status"]):
+                run = ctl(*words)
+                check(f"{title}, {words}", run, 1, b"", b"no server answers" if waiting else b"")
+                want(f"{title}, {words}, how long it took", run.took < 7, run.took)
+            for client in waiting:
+                client.close()
     with station("--busy"):
         check("no seat", ctl("status"), 1, b"", b"seat")
     with station("--old"):

@@ -6,6 +6,7 @@ import http.client
 import json
 import os
 import re
+import signal
 import socket
 import subprocess
 import sys
@@ -124,17 +125,23 @@ def routes(port):
     found = wait_for(lambda: b"data: " in ask(port, "/events")[2])
     status, headers, body = ask(port, "/events")
     check("/events: server-sent events", found and status == 200 and headers["content-type"] == "text/event-stream"
-          and body.startswith(b"retry: 1000\n\nid: 1\ndata: {"))
-    check("/events: none behind the last", b"data:" not in ask(port, "/events", more=[("Last-Event-ID", "1")])[2])
-    check("/events: all, for the events of another run", b"id: 1\n" in ask(port, "/events", more=[("Last-Event-ID", "999")])[2])
+          and body.startswith(b"retry: 1000\n\nid: "))
+    ids = event_ids(port)
+    run = json.loads(ask(port, "/status.json")[2])["entities"][0]["started"]
+    check("/events: the IDs", ids == [f"{run}-{number + 1}" for number in range(len(ids))])
+    check("/events: none behind the last", event_ids(port, ids[-1]) == [])
+    for last in ("999", f"{run}-999", f"{run}-", "-1", "x" * 5000):
+        check(f"/events: all behind {last[:40]}", event_ids(port, last) == ids)
     status, headers, body = ask(port, "/", method="HEAD")
     check("HEAD: no body", status == 200 and body == b"")
 
 
 def refusals(port):
     own = f"127.0.0.1:{port}"
-    check("localhost is its name", ask(port, "/", host=f"localhost:{port}")[0] == 200)
-    for host in ("evil.example", "127.0.0.1", f"evil.example:{port}", f"127.0.0.1.evil.example:{port}"):
+    for host in (f"localhost:{port}", f"LocalHost:{port}"):
+        check(f"{host} is its name", ask(port, "/", host=host)[0] == 200)
+    for host in ("evil.example", "127.0.0.1", "127.0.0.1:80", f"127.0.0.2:{port}", f"evil.example:{port}",
+                 f"127.0.0.1.evil.example:{port}"):
         status, headers, body = ask(port, "/status.json", host=host)
         check(f"Host {host}: 403 and nothing more", status == 403 and body == b"" and "content-type" not in headers)
     check("no Host: refused", ask(port, "/", host=None)[0] in (400, 403))
@@ -156,6 +163,36 @@ def refusals(port):
         check("no HTTP: 400", raw.recv(100).startswith(b"HTTP/1.1 400"))
     status, _, body = ask(port, "/command", method="POST", body=b"cancel ops 1 1", more=[("X-Console-Token", TOKEN)])
     check("without --commands no command is taken", status == 403 and body == b"")
+
+
+def names():
+    """A name of another host, with or without the port 80, in any case."""
+    for name in ("Console.example:80", "console.example"):
+        console, port = start_console("--name", name)
+        for host, status in (("console.example", 200), ("CONSOLE.example:80", 200), (f"127.0.0.1:{port}", 200),
+                             ("console.example:81", 403), ("consolexexample", 403), (f"localhost:{port}", 403)):
+            check(f"--name {name}, Host {host}: {status}", ask(port, "/healthz", host=host)[0] in ((200, 503) if status == 200 else (403,)))
+        stop(console)
+
+
+def token_files():
+    """The first line of a token's file, without its end; no token where it is empty or too long."""
+    path = os.path.join(folder.name, "tokens")
+    for text in (b"", b"\n" + TOKEN.encode(), b"\r\n", b"x" * 4097, b"x" * 4097 + b"\r\n", b"x" * 10_000 + b"\n"):
+        with open(path, "wb") as file:
+            file.write(text)
+        ended = subprocess.run([web, "--control", control, "--listen", f"127.0.0.1:{free_port()}", "--commands", "--token-file", path],
+                               capture_output=True, timeout=20)
+        check(f"a token's file {text[:20]} of {len(text)} octets: 1", ended.returncode == 1 and b"no token" in ended.stderr)
+    for text in (TOKEN.encode(), TOKEN.encode() + b"\r\nmore", b"x" * 4096 + b"\r\n"):
+        with open(path, "wb") as file:
+            file.write(text)
+        console, port = start_console("--commands", "--token-file", path)
+        token = text.split(b"\r\n")[0].decode()
+        for given, status in ((token, 200), (token[:-1] + "y", 403), (token[:-1], 403), (token + "x", 403), ("", 403)):
+            found = ask(port, "/command", method="POST", body=b"hold 5", more=[("X-Console-Token", given)])[0]
+            check(f"a token's file of {len(text)} octets, a token of {len(given)}: {status}", found == status)
+        stop(console)
 
 
 def commands(port):
@@ -197,6 +234,59 @@ def many(port):
     [thread.start() for thread in threads]
     [thread.join() for thread in threads]
     check(f"500 requests over 20 connections ({time.time() - begun:.2f} s)", not wrong)
+
+
+def fill_backlog():
+    """Clients that wait to be let in by the station, until no other can."""
+    waiting = []
+    while len(waiting) < 10_000:
+        client = socket.socket(socket.AF_UNIX)
+        client.setblocking(False)
+        waiting.append(client)
+        try:
+            client.connect(control)
+        except BlockingIOError:
+            break
+    return waiting
+
+
+def stopped(port, station):
+    """A station that stands still, and lets nobody in any more: each route is answered in time, however many ask."""
+    station.send_signal(signal.SIGSTOP)
+    time.sleep(0.6)
+    for title, waiting in (("a station that stands still", []), ("a station that lets nobody in", fill_backlog())):
+        seen = []
+
+        def visit(target, wanted, most):
+            begun = time.time()
+            status = ask(port, target)[0]
+            took = time.time() - begun
+            if status != wanted or took > most:
+                seen.append((target, status, took))
+        asked = [("/healthz", 503, 2)] * 8 + [("/status.json", 503, 2)] * 8 + [("/metrics", 200, 2)] * 4 \
+            + [("/", 200, 0.7), ("/events", 200, 0.7)] * 4
+        threads = [threading.Thread(target=visit, args=row) for row in asked]
+        [thread.start() for thread in threads]
+        [thread.join() for thread in threads]
+        check(f"{title}: {len(asked)} answers in time {seen}", not seen)
+        time.sleep(0.6)
+        [client.close() for client in waiting]
+    station.send_signal(signal.SIGCONT)
+    check("a station that goes on", wait_for(lambda: ask(port, "/healthz")[0] == 200))
+
+
+def event_ids(port, *last):
+    """The IDs of the events behind one, or of all."""
+    body = ask(port, "/events", more=[("Last-Event-ID", one) for one in last])[2].decode()
+    return re.findall("^id: (.*)$", body, re.M)
+
+
+def restarted(port, old):
+    """The ID of an event of a former run hides none of this one."""
+    check("another run's events", wait_for(lambda: event_ids(port)[:1] not in ([], old[:1])))
+    now = event_ids(port)
+    check("each run's IDs are its own", not set(old) & set(now) and now[0].endswith("-1"))
+    check("the ID of another run: all events", event_ids(port, old[-1]) == now)
 
 
 def slow(port):
@@ -275,10 +365,13 @@ def main():
     routes(port)
     refusals(port)
     many(port)
+    stopped(port, station)
+    old = event_ids(port)
     stop(station)
     check("the station goes", wait_for(lambda: ask(port, "/healthz")[0] == 503))
     station = start_station("--transactions", "4")
     check("the station comes back", wait_for(lambda: ask(port, "/status.json")[0] == 200))
+    restarted(port, old)
     slow(port)
     stop(console)
     token_file = os.path.join(folder.name, "token")
@@ -287,6 +380,8 @@ def main():
     console, port = start_console("--commands", "--token-file", token_file)
     commands(port)
     stop(console)
+    names()
+    token_files()
     console, port = start_console("--commands")
     console.stdout.readline()
     made = console.stdout.readline().decode().split()[-1]

@@ -27,7 +27,7 @@ impl Line {
         let usual = Duration::from_millis(PATIENCE_MILLIS);
         match awaited {
             None => Ok(Line {
-                station: Station::connect(rt, alloc, path)?,
+                station: Station::connect(rt, alloc, path, usual)?,
                 limit: usual,
             }),
             Some(seconds) => {

@@ -60,7 +60,7 @@ fn serve<
     let Ok(token) = token_for(rt, words) else {
         return fail(
             errors,
-            "there is no token: its file can't be read, or has none",
+            "there is no token: its file can't be read, or its first line is empty or longer than 4096 octets",
         );
     };
     let Ok(names) = names_of(rt.alloc(), words) else {

@@ -1,6 +1,6 @@
 //! The token that commands have to bring.
 use crate::words::Words;
-use std::alloc::Global;
+use std::alloc::{AllocError, Global};
 use std::fs::File;
 use std::io;
 use std::io::{ErrorKind, Read};
@@ -10,8 +10,11 @@ use std::rt::Files;
 // How many random octets a token has.
 const RANDOM_OCTETS: usize = 16;
 
-// The most octets of a token's file.
-const FILE_OCTETS: u64 = 4096;
+// The most octets of a token.
+const TOKEN_OCTETS: usize = 4096;
+
+// How many octets of its file are read: those of the longest token, and of the end of its line.
+const FILE_OCTETS: u64 = 4098;
 
 // The digits of a token.
 const DIGITS: [u8; 16] = *b"0123456789abcdef";
@@ -30,21 +33,32 @@ pub(crate) fn token_for<R: Files + RandomSource + AllocGlobal>(
     }
 }
 
-// The first line of a file: an empty one is none.
+// The first line of a file. An empty one is no token, nor is one that is too long.
 fn read_token<R: Files>(rt: &R, alloc: Global, path: &str) -> io::Result<Vec<u8>> {
     let mut text = Vec::new(alloc);
     File::open(rt, path)?
         .take(FILE_OCTETS)
         .read_to_end(&mut text)?;
-    let end = text
-        .iter()
-        .position(|octet| *octet == b'\n')
-        .unwrap_or(text.len());
-    text.truncate(end);
-    if text.is_empty() {
+    let line = first_line(text.as_slice());
+    if line.is_empty() || line.len() > TOKEN_OCTETS {
         return Err(ErrorKind::InvalidData.into());
     }
-    Ok(text)
+    match Vec::from_slice(alloc, line) {
+        Ok(token) => Ok(token),
+        Err(AllocError) => Err(ErrorKind::OutOfMemory.into()),
+    }
+}
+
+// All before the first line feed, without the carriage return that may stand before it.
+fn first_line(text: &[u8]) -> &[u8] {
+    let line = match text.iter().position(|octet| *octet == b'\n') {
+        Some(at) => &text[..at],
+        None => text,
+    };
+    match line.strip_suffix(b"\r".as_slice()) {
+        Some(line) => line,
+        None => line,
+    }
 }
 
 // A token of random digits.

@@ -39,7 +39,8 @@ Usage: cfdp_web --control PATH [--listen ADDR] [--name HOST:PORT] [--commands] [
 
   --control PATH     the server's control socket
   --listen ADDR      where the console listens: A.B.C.D:PORT (127.0.0.1:4580 where it is left out)
-  --name HOST:PORT   another name by which browsers reach it (localhost and its port where it is left out)
+  --name HOST:PORT   another name by which browsers reach it, of which :80 may be left out (localhost and its port where
+                     there is none)
   --commands         takes commands, too, from who has the token
   --token-file FILE  the token, the first line of a file (one is made up and printed where it is left out)
   --help             prints this, and ends

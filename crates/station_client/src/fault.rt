@@ -3,7 +3,7 @@ use std::alloc::AllocError;
 /// Why a station doesn't answer.
 #[derive(Clone, Copy, Debug, PartialEq, Eq)]
 pub enum StationFault {
-    /// Nobody listens at the path.
+    /// Nobody listens at the path, or lets anybody in.
     NoServer,
     /// The path isn't one that a socket can have, or it isn't ours to use.
     BadPath,

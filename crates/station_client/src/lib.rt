@@ -1,12 +1,11 @@
 //! A station's control socket from the client's side: commands, answers, events.
 #![tactic(auto)]
 
+mod connecting;
 mod exchange;
 mod fault;
 mod lines;
 mod station;
-#[cfg(test)]
-mod tests;
 
 pub use exchange::{ANSWER_OCTETS, Exchange};
 pub use fault::StationFault;

@@ -1,4 +1,5 @@
 //! The control socket itself.
+use crate::connecting::{connect_socket, fault_of};
 use crate::exchange::Exchange;
 use crate::fault::StationFault;
 use crate::lines::{Incoming, LINE_OCTETS, LineKind};
@@ -7,8 +8,8 @@ use std::io::{ErrorKind, Read, Write};
 use std::net::Net;
 use std::os::unix::net::UnixStream;
 use std::sync::Wait;
+use std::thread;
 use std::time::{Clock, Duration};
-use std::{io, thread};
 
 // How many octets are asked of the system at once.
 const BLOCK_OCTETS: usize = 16 * 1024;
@@ -30,10 +31,15 @@ pub struct Station {
 }
 
 impl Station {
-    /// Connects to the control socket at a path. It asks for nothing yet, so a station without a free seat says so at the
-    /// first `ask` or `next_event`.
-    pub fn connect<R: Net>(rt: &R, alloc: Global, path: &str) -> Result<Station, StationFault> {
-        let stream = UnixStream::connect(rt, path).map_err(|error| fault_of_connect(&error))?;
+    /// Connects to the control socket at a path. A station that lets nobody in for the limit of time counts as none. It asks
+    /// for nothing yet, so a station without a free seat says so at the first `ask` or `next_event`.
+    pub fn connect<R: Net>(
+        rt: &R,
+        alloc: Global,
+        path: &str,
+        limit: Duration,
+    ) -> Result<Station, StationFault> {
+        let stream = connect_socket(rt, path, limit)?;
         Ok(Station {
             alloc,
             stream,
@@ -54,7 +60,7 @@ impl Station {
     ) -> Result<Station, StationFault> {
         let until = moment_behind(rt, limit)?;
         for _ in rt.forever() {
-            match Station::connect(rt, alloc, path) {
+            match Station::connect(rt, alloc, path, left_until(rt, until)?) {
                 Err(StationFault::NoServer) if !left_until(rt, until)?.is_zero() => {
                     thread::sleep(rt, Duration::from_millis(REST_MILLIS));
                 }
@@ -62,6 +68,19 @@ impl Station {
             }
         }
         Err(StationFault::NoServer)
+    }
+
+    /// Connects, asks one command and leaves: the answer, all within the limit of time.
+    pub fn ask_once<R: Net + Clock + Wait>(
+        rt: &R,
+        alloc: Global,
+        path: &str,
+        command: &[u8],
+        limit: Duration,
+    ) -> Result<Vec<u8>, StationFault> {
+        let until = moment_behind(rt, limit)?;
+        let mut station = Station::connect(rt, alloc, path, limit)?;
+        station.ask(rt, command, left_until(rt, until)?)
     }
 
     /// Sends a command, a line without its line feed, and gives the lines of its answer, each with its line feed and without
@@ -210,27 +229,4 @@ fn moment_behind<R: Clock>(rt: &R, limit: Duration) -> Result<Duration, StationF
 fn left_until<R: Clock>(rt: &R, until: Duration) -> Result<Duration, StationFault> {
     let now = rt.monotonic().map_err(|_| StationFault::System)?;
     Ok(until.saturating_sub(now))
-}
-
-// Why there is no connection.
-fn fault_of_connect(error: &io::Error) -> StationFault {
-    match error.kind() {
-        ErrorKind::NotFound | ErrorKind::ConnectionRefused => StationFault::NoServer,
-        ErrorKind::PermissionDenied | ErrorKind::InvalidInput | ErrorKind::NotADirectory => {
-            StationFault::BadPath
-        }
-        _ => fault_of(error),
-    }
-}
-
-// Why reading or writing failed.
-fn fault_of(error: &io::Error) -> StationFault {
-    match error.kind() {
-        ErrorKind::WouldBlock | ErrorKind::TimedOut => StationFault::TimedOut,
-        ErrorKind::BrokenPipe | ErrorKind::ConnectionReset | ErrorKind::UnexpectedEof => {
-            StationFault::Gone
-        }
-        ErrorKind::OutOfMemory => StationFault::NoMemory,
-        _ => StationFault::System,
-    }
 }

@@ -15,9 +15,13 @@ struct Event {
     json: Vec<u8>,
 }
 
-/// The last events of a station, the oldest first.
+// The most octets of a run's start.
+const START_OCTETS: usize = 64;
+
+/// The last events of one run of a station, the oldest first. An event's ID is the run's start, a dash and the event's number.
 #[derive(Drop)]
 pub struct Events {
+    start: Vec<u8>,
     kept: VecDeque<Event>,
     octets: usize,
 }
@@ -26,25 +30,40 @@ impl Events {
     /// No event was seen.
     pub fn new(alloc: Global) -> Events {
         Events {
+            start: Vec::new(alloc),
             kept: VecDeque::new(alloc),
             octets: 0,
         }
     }
 
-    /// Keeps an event, and forgets the oldest ones where there are too many. A number that doesn't rise is of a station that
-    /// started anew, or was asked again: then all others are forgotten. An event with a carriage return isn't kept.
-    pub fn push(&mut self, number: u64, json: Vec<u8>) -> Result<(), AllocError> {
-        if json.as_slice().contains(&b'\r') {
-            return Ok(());
-        }
-        if self.newest() >= Some(number) {
+    /// The events that come next are of the run with this start, and those of another run are forgotten. A start that has no
+    /// place in an ID is no start, and of no start all events are forgotten.
+    pub fn begin(&mut self, start: &[u8]) -> Result<(), AllocError> {
+        let start = if is_plain(start) {
+            start
+        } else {
+            b"".as_slice()
+        };
+        if start.is_empty() || self.start.as_slice() != start {
             self.kept.clear();
             self.octets = 0;
+            self.start.clear();
+            self.start.extend_from_slice(start)?;
         }
-        self.octets = self.octets.saturating_add(json.len());
+        Ok(())
+    }
+
+    /// Keeps an event of the run, and forgets the oldest ones where there are too many. One whose number doesn't rise was told
+    /// before, and isn't kept again; nor is one with a carriage return.
+    pub fn push(&mut self, number: u64, json: Vec<u8>) -> Result<(), AllocError> {
+        if json.as_slice().contains(&b'\r') || self.newest() >= Some(number) {
+            return Ok(());
+        }
+        let more = json.len();
         if self.kept.push_back(Event { number, json }).is_err() {
             return Err(AllocError);
         }
+        self.octets = self.octets.saturating_add(more);
         if self.kept.len() > EVENTS {
             self.forget_oldest();
         }
@@ -69,28 +88,45 @@ impl Events {
         Some(self.kept.back()?.number)
     }
 
-    /// Adds the events behind a number, as server-sent events; all of them where the last one's number is less. The reader is
-    /// asked to come again after a second.
-    pub fn append_to(&self, after: u64, text: &mut Vec<u8>) -> Result<(), AllocError> {
-        let after = if self.newest() < Some(after) {
-            0
-        } else {
-            after
-        };
+    // The number of the event with this ID; 0 where it is none of this run's, or newer than all that came.
+    fn number_of(&self, id: &[u8]) -> u64 {
+        match number_in(id, self.start.as_slice()) {
+            Some(number) if self.newest() >= Some(number) => number,
+            _ => 0,
+        }
+    }
+
+    /// Adds the events behind the one with this ID, as server-sent events; all of them where the ID is none of this run's. The
+    /// reader is asked to come again after a second.
+    pub fn append_to(&self, last: &[u8], text: &mut Vec<u8>) -> Result<(), AllocError> {
+        let after = self.number_of(last);
         text.extend_from_slice(b"retry: 1000\n\n".as_slice())?;
         for event in self.kept.iter() {
             if event.number > after {
-                append_event(event, text)?;
+                append_event(self.start.as_slice(), event, text)?;
             }
         }
         Ok(())
     }
 }
 
+// Whether a run's start can stand in an ID.
+fn is_plain(start: &[u8]) -> bool {
+    start.len() <= START_OCTETS && start.iter().all(|octet| octet.is_ascii_graphic())
+}
+
+// The number of an ID that begins with this start.
+fn number_in(id: &[u8], start: &[u8]) -> Option<u64> {
+    let digits = id.strip_prefix(start)?.strip_prefix(b"-".as_slice())?;
+    str::from_utf8(digits).ok()?.parse::<u64>().ok()
+}
+
 // Adds one event.
-fn append_event(event: &Event, text: &mut Vec<u8>) -> Result<(), AllocError> {
+fn append_event(start: &[u8], event: &Event, text: &mut Vec<u8>) -> Result<(), AllocError> {
     let mut digits = itoa::Buffer::new();
     text.extend_from_slice(b"id: ".as_slice())?;
+    text.extend_from_slice(start)?;
+    text.extend_from_slice(b"-".as_slice())?;
     text.extend_from_slice(digits.format(event.number).as_bytes())?;
     text.extend_from_slice(b"\ndata: ".as_slice())?;
     text.extend_from_slice(event.json.as_slice())?;

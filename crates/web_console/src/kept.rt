@@ -1,31 +1,63 @@
 //! The last answer to `status`.
+use std::alloc::Global;
+use std::sync::Arc;
 use std::time::Duration;
 
 /// For how many milliseconds an answer is used again.
-pub(crate) const FRESH_MILLIS: u64 = 500;
+const FRESH_MILLIS: u64 = 500;
 
-/// The last answer to `status`, and when it came.
+/// The lines of an answer, or none where the station couldn't be asked.
+pub(crate) type Lines = Option<Arc<Vec<u8>, Global>>;
+
+/// The last answer to `status`, when it came, and whether somebody asks for the next one.
 #[derive(Drop)]
 pub(crate) struct Kept {
-    /// The moment, on the system's own clock; none where nothing was asked yet.
-    pub(crate) at: Option<Duration>,
-    /// The answer's lines, or none where the station couldn't be asked.
-    pub(crate) lines: Option<Vec<u8>>,
+    // on the system's own clock; none where nothing was asked yet
+    at: Option<Duration>,
+    lines: Lines,
+    is_asking: bool,
 }
 
 impl Kept {
+    /// Nothing was asked.
     pub(crate) fn new() -> Kept {
         Kept {
             at: None,
             lines: None,
+            is_asking: false,
         }
     }
 
-    /// Whether it can still be used at a moment.
+    /// Whether somebody asks.
+    pub(crate) fn is_asking(&self) -> bool {
+        self.is_asking
+    }
+
+    /// Whether the answer can still be used at a moment.
     pub(crate) fn is_fresh(&self, now: Duration) -> bool {
         match self.at {
             Some(at) => now.saturating_sub(at) < Duration::from_millis(FRESH_MILLIS),
             None => false,
         }
+    }
+
+    /// The answer's lines.
+    pub(crate) fn lines(&self) -> Lines {
+        match &self.lines {
+            Some(lines) => Arc::try_clone(lines).ok(),
+            None => None,
+        }
+    }
+
+    /// From now on somebody asks.
+    pub(crate) fn begin(&mut self) {
+        self.is_asking = true;
+    }
+
+    /// Keeps the answer that came at a moment.
+    pub(crate) fn keep(&mut self, at: Option<Duration>, lines: Lines) {
+        self.at = at;
+        self.lines = lines;
+        self.is_asking = false;
     }
 }

@@ -3,8 +3,6 @@
 
 mod events;
 mod kept;
-#[cfg(test)]
-mod tests;
 mod visits;
 mod watch;
 

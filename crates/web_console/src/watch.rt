@@ -1,20 +1,23 @@
 //! What the console knows of its station.
 use crate::events::Events;
-use crate::kept::Kept;
+use crate::kept::{Kept, Lines};
 use station_client::{Station, StationFault};
 use std::alloc::{AllocError, Global};
 use std::net::Net;
-use std::sync::{Mutex, Wait};
+use std::sync::{Arc, Condvar, CondvarTimeouts, Mutex, Wait};
 use std::thread;
 use std::time::{Clock, Duration};
-use web_lines::{event_number, no_metrics, to_document, to_metrics};
+use web_lines::{event_number, no_metrics, start_moment, to_document, to_metrics};
 use web_pages::{Found, Route, Source};
 
 // For how many milliseconds it rests before the station is asked for events again.
 const REST_MILLIS: u64 = 500;
 
-// How many milliseconds the station may take to answer.
+// How many milliseconds the station may take to let the console in and to answer.
 const ANSWER_MILLIS: u64 = 1000;
+
+// For how many milliseconds one waits for the answer that another one asks for.
+const OTHERS_MILLIS: u64 = 1500;
 
 // How many milliseconds it may take for a command.
 const COMMAND_MILLIS: u64 = 5000;
@@ -23,12 +26,14 @@ const COMMAND_MILLIS: u64 = 5000;
 const EVENT_MILLIS: u64 = 60_000;
 
 /// What the console knows of its station: it is asked one `status` at a time, and an answer is used again for half a second.
+/// No lock is held while the station is asked.
 #[derive(Drop)]
 pub struct Watch<'a, R> {
     rt: &'a R,
     alloc: Global,
     path: &'a str,
     kept: Mutex<Kept>,
+    answered: Condvar,
     events: Mutex<Events>,
 }
 
@@ -40,6 +45,7 @@ impl<'a, R: Wait + Net + Clock> Watch<'a, R> {
             alloc,
             path,
             kept: Mutex::new(Kept::new()),
+            answered: Condvar::new(),
             events: Mutex::new(Events::new(alloc)),
         }
     }
@@ -54,12 +60,11 @@ impl<'a, R: Wait + Net + Clock> Watch<'a, R> {
 
     // Keeps events until the station goes.
     fn follow_once(&self) -> Result<(), StationFault> {
-        let mut station = Station::connect(self.rt, self.alloc, self.path)?;
-        let _ok = station.ask(
-            self.rt,
-            b"follow 1024".as_slice(),
-            Duration::from_millis(COMMAND_MILLIS),
-        )?;
+        let patience = Duration::from_millis(COMMAND_MILLIS);
+        let mut station = Station::connect(self.rt, self.alloc, self.path, patience)?;
+        let status = station.ask(self.rt, b"status".as_slice(), patience)?;
+        let _ok = station.ask(self.rt, b"follow 1024".as_slice(), patience)?;
+        self.begin_run(status.as_slice())?;
         for _ in self.rt.forever() {
             let limit = Duration::from_millis(EVENT_MILLIS);
             if let Some(json) = station.next_event(self.rt, limit)? {
@@ -67,6 +72,19 @@ impl<'a, R: Wait + Net + Clock> Watch<'a, R> {
             }
         }
         Ok(())
+    }
+
+    // The events that come next are of the run that the status speaks of.
+    fn begin_run(&self, status: &[u8]) -> Result<(), AllocError> {
+        let moment = match str::from_utf8(status) {
+            Ok(lines) => start_moment(self.alloc, lines)?,
+            Err(_) => None,
+        };
+        let start = match &moment {
+            Some(moment) => moment.as_bytes(),
+            None => b"".as_slice(),
+        };
+        self.events.lock(self.rt).begin(start)
     }
 
     // Keeps an event, if it is one.
@@ -83,25 +101,57 @@ impl<'a, R: Wait + Net + Clock> Watch<'a, R> {
 
     // Asks the station one command.
     fn ask(&self, line: &[u8], millis: u64) -> Result<Vec<u8>, StationFault> {
-        let mut station = Station::connect(self.rt, self.alloc, self.path)?;
-        station.ask(self.rt, line, Duration::from_millis(millis))
+        let limit = Duration::from_millis(millis);
+        Station::ask_once(self.rt, self.alloc, self.path, line, limit)
     }
 
-    // Adds what is made of the status.
-    fn fill_status(&self, route: Route, text: &mut Vec<u8>) -> Result<Found, AllocError> {
-        let mut kept = self.kept.lock(self.rt);
-        let now = self.rt.monotonic().unwrap_or(Duration::ZERO);
-        if !kept.is_fresh(now) {
-            kept.lines = self.ask(b"status".as_slice(), ANSWER_MILLIS).ok();
-            kept.at = self.rt.monotonic().ok();
+    // The lines of a status that is fresh enough. Who finds another one asking waits for what that one hears.
+    fn status(&self) -> Lines {
+        if let Some(lines) = self.kept_status() {
+            return lines;
         }
-        push_status(self.alloc, route, lines_of(&kept), text)
+        let lines = match self.ask(b"status".as_slice(), ANSWER_MILLIS) {
+            Ok(lines) => Arc::new(self.alloc, lines).ok(),
+            Err(_) => None,
+        };
+        self.keep_status(lines)
+    }
+
+    // The answer that is kept; none where the caller has to ask, and to keep what it hears.
+    fn kept_status(&self) -> Option<Lines> {
+        let limit = Duration::from_millis(OTHERS_MILLIS);
+        let (mut kept, _late) = self.answered.wait_timeout_while(
+            self.rt,
+            self.kept.lock(self.rt),
+            limit,
+            |kept| kept.is_asking(),
+        );
+        if kept.is_asking() {
+            return Some(None);
+        }
+        let now = self.rt.monotonic().unwrap_or(Duration::ZERO);
+        if kept.is_fresh(now) {
+            return Some(kept.lines());
+        }
+        kept.begin();
+        None
+    }
+
+    // Keeps an answer, and gives it.
+    fn keep_status(&self, lines: Lines) -> Lines {
+        let now = self.rt.monotonic().ok();
+        let mut kept = self.kept.lock(self.rt);
+        kept.keep(now, lines);
+        let given = kept.lines();
+        drop(kept);
+        self.answered.notify_all();
+        given
     }
 }
 
 // The lines of an answer, where there is one and it is text.
-fn lines_of(kept: &Kept) -> Option<&str> {
-    match &kept.lines {
+fn text_of(lines: &Lines) -> Option<&str> {
+    match lines {
         Some(lines) => str::from_utf8(lines.as_slice()).ok(),
         None => None,
     }
@@ -129,12 +179,13 @@ fn push_status(
 }
 
 impl<'a, R: Wait + Net + Clock> Source for Watch<'a, R> {
-    fn fill(&self, route: Route, after: u64, text: &mut Vec<u8>) -> Result<Found, AllocError> {
+    fn fill(&self, route: Route, last: &[u8], text: &mut Vec<u8>) -> Result<Found, AllocError> {
         if route == Route::Events {
-            self.events.lock(self.rt).append_to(after, text)?;
+            self.events.lock(self.rt).append_to(last, text)?;
             Ok(Found::Here)
         } else {
-            self.fill_status(route, text)
+            let lines = self.status();
+            push_status(self.alloc, route, text_of(&lines), text)
         }
     }
 

@@ -1,9 +1,9 @@
 -- Meaning. Text for Prometheus.
-use Rattle.std.specs.Prelude.{◌==◌, ℕ, if◌then◌else◌, List, [], ◌∷◌, ◌++◌, flat_map, codes, decimal}
+use Rattle.std.specs.Prelude.{◌≡◌, ◌==◌, ℕ, if◌then◌else◌, List, [], ◌∷◌, ◌++◌, flat_map, map, codes, decimal}
 use Rattle.web_lines.specs.declared.labels.Label.{Label}
 use Rattle.web_lines.specs.declared.labels.Labels.{Labels}
 use Rattle.web_lines.specs.declared.labels.Labels.TheVariants.{Bare, One, Two}
-use Rattle.web_lines.specs.declared.families.Family.{Family}
+use Rattle.web_lines.specs.Families.{Head}
 
 -- an octet of a label's value: a backslash, a quote and a line feed have a backslash in front
 abbrev pub escaped_octet : ℕ → List ℕ
@@ -29,13 +29,41 @@ unfoldable pub sample_text : List ℕ → Labels → ℕ → List ℕ
 sample_text name labels number = name ++ labels_text labels ++ codes " " ++ decimal number ++ codes "\n"
 
 -- the two lines above a family's numbers
-unfoldable pub head_text : Family → List ℕ
-head_text family =
-    codes "# HELP " ++ family.name.now ++ codes " " ++ family.help.now ++ codes "\n# TYPE " ++ family.name.now ++ codes " "
-    ++ family.form.now ++ codes "\n"
+unfoldable pub head_text : Head → List ℕ
+head_text head =
+    codes "# HELP " ++ head.name ++ codes " " ++ head.help ++ codes "\n# TYPE " ++ head.name ++ codes " " ++ head.form
+    ++ codes "\n"
 
--- a report: nothing but heads of families, and lines of numbers whose labels have escaped values
-pub data IsReport : List ℕ → Type 0 where
-  nothing : IsReport []
-  more_head : (text : List ℕ) → IsReport text → (family : Family) → IsReport (text ++ head_text family)
-  more_sample : (text : List ℕ) → IsReport text → (name : List ℕ) → (labels : Labels) → (number : ℕ) → IsReport (text ++ sample_text name labels number)
+-- a number with its labels
+pub record Sample : Type 0 where
+  pub labels : Labels
+  pub number : ℕ
+
+-- the lines of a family's numbers, whose labels have escaped values
+abbrev pub samples_text : List ℕ → List Sample → List ℕ
+samples_text name samples = flat_map (λ sample. sample_text name sample.labels sample.number) samples
+
+-- a family with its numbers
+pub record Block : Type 0 where
+  pub head : Head
+  pub samples : List Sample
+
+-- its lines
+abbrev pub block_text : Block → List ℕ
+block_text block = head_text block.head ++ samples_text block.head.name block.samples
+
+-- a report of these families: each with its numbers, in order, and nothing else
+abbrev pub IsReport : List Head → List ℕ → Type 0
+IsReport heads text = (blocks : List Block) × (map (λ block. block.head) blocks ≡ heads) × (text ≡ flat_map block_text blocks)
+
+-- lines of a family's numbers come behind a text
+abbrev pub AddsSamples : List ℕ → List ℕ → List ℕ → Type 0
+AddsSamples name old new = (samples : List Sample) × (new ≡ old ++ samples_text name samples)
+
+-- a family comes behind a text
+abbrev pub AddsFamily : Head → List ℕ → List ℕ → Type 0
+AddsFamily head old new = (samples : List Sample) × (new ≡ old ++ block_text (record { head = head; samples = samples }))
+
+-- a report of these families comes behind a text
+abbrev pub AddsReport : List Head → List ℕ → List ℕ → Type 0
+AddsReport heads old new = (more : List ℕ) × IsReport heads more × (new ≡ old ++ more)

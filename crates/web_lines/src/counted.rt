@@ -1,10 +1,12 @@
 //! Families that count lines.
-use crate::families::Family;
+ghost use Rattle.std.specs.Prelude.{OnOk};
+ghost use Rattle.web_lines.specs.Families.{counted_heads, outbox_head, states_head};
+ghost use Rattle.web_lines.specs.Metrics.{AddsFamily, AddsReport, AddsSamples};
+
+use crate::families::{Family, push_head};
 use crate::kind::Kind;
-use crate::labels::{Label, Labels};
+use crate::labels::{Label, Labels, push_sample};
 use crate::lines::Line;
-use crate::report::Report;
-use crate::sheet::Sheet;
 use json::{Scratch, Value};
 use std::alloc::{AllocError, Global};
 
@@ -41,46 +43,70 @@ impl States {
             _ => {}
         }
     }
+
+    // Each state with its count.
+    fn rows(self) -> [(&'static str, u64); 5] {
+        [
+            ("active", self.active),
+            ("suspended", self.suspended),
+            ("storing", self.storing),
+            ("closing", self.closing),
+            ("ended", self.ended),
+        ]
+    }
 }
 
-impl Sheet {
-    /// Adds how many transactions are in each state.
-    pub(crate) fn add_states(&mut self, lines: &[Line<'_>]) -> Result<(), AllocError> {
-        let states = self.count_states(lines)?;
-        self.report.add_head(Family::gauge(
+/// Adds how many transactions are in each state, and how many files wait.
+pub(crate) fn push_counted(
+    alloc: Global,
+    text: &mut Vec<u8>,
+    lines: &[Line<'_>],
+) -> Result<(), AllocError>
+    ensures { OnOk result (AddsReport counted_heads text.old.items text.new.items) }
+{
+    let states = count_states(alloc, lines)?;
+    push_states(text, states)?;
+    push_outbox(text, lines)
+}
+
+// Adds how many transactions are in each state.
+fn push_states(text: &mut Vec<u8>, states: States) -> Result<(), AllocError>
+    ensures { OnOk result (AddsFamily states_head text.old.items text.new.items) }
+{
+    push_head(
+        text,
+        Family::Gauge(
             "cfdp_transactions",
             "Transactions by state: of each lane, the one that it runs or ran last.",
-        ))?;
-        add_state(&mut self.report, "active", states.active)?;
-        add_state(&mut self.report, "suspended", states.suspended)?;
-        add_state(&mut self.report, "storing", states.storing)?;
-        add_state(&mut self.report, "closing", states.closing)?;
-        add_state(&mut self.report, "ended", states.ended)
+        ),
+    )?;
+    for (state, count) in states.rows() {
+        push_state(text, state, count)?;
     }
+    Ok(())
+}
 
-    // Counts transactions by their state.
-    fn count_states(&mut self, lines: &[Line<'_>]) -> Result<States, AllocError> {
-        let mut states = States::new();
-        for line in lines {
-            if line.kind == Kind::Transaction {
-                count_line(self.alloc, line.text, &mut self.scratch, &mut states)?;
-            }
-        }
-        Ok(states)
-    }
+// Adds how many transactions are in a state.
+fn push_state(text: &mut Vec<u8>, state: &str, count: u64) -> Result<(), AllocError>
+    ensures { OnOk result (AddsSamples states_head.name text.old.items text.new.items) }
+{
+    let label = Label {
+        name: "state",
+        value: state,
+    };
+    push_sample(text, "cfdp_transactions", Labels::One(label), count)
+}
 
-    /// Adds how many files wait in the outbox.
-    pub(crate) fn add_outbox(&mut self, lines: &[Line<'_>]) -> Result<(), AllocError> {
-        let mut waiting = 0u64;
-        for line in lines {
-            if line.kind == Kind::Queued {
-                waiting = waiting.saturating_add(1);
-            }
+// Counts transactions by their state.
+fn count_states(alloc: Global, lines: &[Line<'_>]) -> Result<States, AllocError> {
+    let mut scratch = Scratch::new(alloc);
+    let mut states = States::new();
+    for line in lines {
+        if line.kind == Kind::Transaction {
+            count_line(alloc, line.text, &mut scratch, &mut states)?;
         }
-        self.report.add_head(Family::gauge("cfdp_outbox_files", "Files that wait in the outbox."))?;
-        self.report
-            .add_sample("cfdp_outbox_files", Labels::Bare, waiting)
     }
+    Ok(states)
 }
 
 // Counts a transaction by its line.
@@ -102,11 +128,19 @@ fn count_line(
     Ok(())
 }
 
-// Adds how many transactions are in a state.
-fn add_state(report: &mut Report, state: &str, count: u64) -> Result<(), AllocError> {
-    let label = Label {
-        name: "state",
-        value: state,
-    };
-    report.add_sample("cfdp_transactions", Labels::One(label), count)
+// Adds how many files wait in the outbox.
+fn push_outbox(text: &mut Vec<u8>, lines: &[Line<'_>]) -> Result<(), AllocError>
+    ensures { OnOk result (AddsFamily outbox_head text.old.items text.new.items) }
+{
+    let mut waiting = 0u64;
+    for line in lines {
+        if line.kind == Kind::Queued {
+            waiting = waiting.saturating_add(1);
+        }
+    }
+    push_head(
+        text,
+        Family::Gauge("cfdp_outbox_files", "Files that wait in the outbox."),
+    )?;
+    push_sample(text, "cfdp_outbox_files", Labels::Bare, waiting)
 }

@@ -1,35 +1,46 @@
 //! Families of numbers.
 ghost use Rattle.std.specs.Prelude.{◌≡◌, ◌++◌, OnOk};
+ghost use Rattle.web_lines.specs.Families.{head_of};
 ghost use Rattle.web_lines.specs.Metrics.{head_text};
 
 use crate::text::push_text;
 use std::alloc::AllocError;
 
-/// A family of numbers.
+/// A family of numbers: its name and its help.
 #[derive(Clone, Copy, Debug)]
-pub(crate) struct Family {
-    pub(crate) name: &'static str,
-    /// `counter` or `gauge`.
-    pub(crate) form: &'static str,
-    pub(crate) help: &'static str,
+pub(crate) enum Family {
+    /// Numbers that only rise.
+    Counter(&'static str, &'static str),
+    /// Numbers that rise and fall.
+    Gauge(&'static str, &'static str),
 }
 
 impl Family {
-    /// Numbers that only rise.
-    pub(crate) fn counter(name: &'static str, help: &'static str) -> Family {
-        Family {
-            name,
-            form: "counter",
-            help,
+    /// Its name.
+    pub(crate) fn name(self) -> &'static str
+        ensures { result.now ≡ (head_of self).name }
+    {
+        match self {
+            Family::Counter(name, _) | Family::Gauge(name, _) => name,
         }
     }
 
-    /// Numbers that rise and fall.
-    pub(crate) fn gauge(name: &'static str, help: &'static str) -> Family {
-        Family {
-            name,
-            form: "gauge",
-            help,
+    // What it is about.
+    fn help(self) -> &'static str
+        ensures { result.now ≡ (head_of self).help }
+    {
+        match self {
+            Family::Counter(_, help) | Family::Gauge(_, help) => help,
+        }
+    }
+
+    // How its type is called.
+    fn form(self) -> &'static str
+        ensures { result.now ≡ (head_of self).form }
+    {
+        match self {
+            Family::Counter(_, _) => "counter",
+            Family::Gauge(_, _) => "gauge",
         }
     }
 }
@@ -37,15 +48,16 @@ impl Family {
 /// Adds the two lines above a family's numbers.
 #[tactic(auto, unfolding(crate::specs::Metrics::head_text))]
 pub(crate) fn push_head(text: &mut Vec<u8>, family: Family) -> Result<(), AllocError>
-    ensures { OnOk result (text.new.items ≡ text.old.items ++ head_text family) }
+    ensures { OnOk result (text.new.items ≡ text.old.items ++ head_text (head_of family)) }
 {
+    let name = family.name();
     push_text(text, "# HELP ")?;
-    push_text(text, family.name)?;
+    push_text(text, name)?;
     push_text(text, " ")?;
-    push_text(text, family.help)?;
+    push_text(text, family.help())?;
     push_text(text, "\n# TYPE ")?;
-    push_text(text, family.name)?;
+    push_text(text, name)?;
     push_text(text, " ")?;
-    push_text(text, family.form)?;
+    push_text(text, family.form())?;
     push_text(text, "\n")
 }

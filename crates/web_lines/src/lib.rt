@@ -8,16 +8,13 @@ mod kind;
 mod labels;
 mod lines;
 mod metrics;
-mod named;
 mod numbers;
-mod report;
-mod sheet;
-#[cfg(test)]
-mod tests;
+mod place;
+mod series;
 mod text;
 mod told;
 
 pub use document::to_document;
 pub use kind::Kind;
 pub use metrics::{no_metrics, to_metrics};
-pub use numbers::event_number;
+pub use numbers::{event_number, start_moment};

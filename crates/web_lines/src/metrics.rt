@@ -1,53 +1,44 @@
 //! The lines as numbers for Prometheus.
-ghost use Rattle.std.specs.Prelude.{IfOk};
-ghost use Rattle.web_lines.specs.Metrics.{IsReport};
+ghost use Rattle.std.specs.Prelude.{◌∷◌, [], IfOk, OnOk};
+ghost use Rattle.web_lines.specs.Families.{all_heads, up_head};
+ghost use Rattle.web_lines.specs.Metrics.{AddsFamily, IsReport};
 
-use crate::families::Family;
-use crate::labels::Labels;
-use crate::lines::{Line, read_lines};
-use crate::report::Report;
-use crate::sheet::Sheet;
+use crate::counted::push_counted;
+use crate::families::{Family, push_head};
+use crate::labels::{Labels, push_sample};
+use crate::lines::read_lines;
+use crate::series::push_told;
 use std::alloc::{AllocError, Global};
 
 /// The numbers of a station's status, in Prometheus' text format. A line that is no JSON object of a known kind counts for
 /// nothing.
 pub fn to_metrics(alloc: Global, status: &str) -> Result<Vec<u8>, AllocError>
-    ensures { IfOk result (λ text. IsReport text.items) }
+    ensures { IfOk result (λ text. IsReport all_heads text.items) }
 {
     let lines = read_lines(alloc, status)?;
-    let mut sheet = Sheet::new(alloc);
-    add_all(&mut sheet, lines.as_slice())?;
-    Ok(sheet.report.into_text())
+    let mut text = Vec::new(alloc);
+    push_up(&mut text, 1)?;
+    push_told(alloc, &mut text, lines.as_slice())?;
+    push_counted(alloc, &mut text, lines.as_slice())?;
+    Ok(text)
 }
 
 /// What `to_metrics` gives where the station can't be asked: that it isn't up.
 pub fn no_metrics(alloc: Global) -> Result<Vec<u8>, AllocError>
-    ensures { IfOk result (λ text. IsReport text.items) }
+    ensures { IfOk result (λ text. IsReport (up_head ∷ []) text.items) }
 {
-    let mut report = Report::new(alloc);
-    add_up(&mut report, 0)?;
-    Ok(report.into_text())
-}
-
-// Adds all families.
-fn add_all(sheet: &mut Sheet, lines: &[Line<'_>]) -> Result<(), AllocError> {
-    add_up(&mut sheet.report, 1)?;
-    sheet.add_info(lines)?;
-    sheet.add_entity(lines)?;
-    sheet.add_traffic(lines)?;
-    sheet.add_faults(lines)?;
-    sheet.add_stores(lines)?;
-    sheet.add_log(lines)?;
-    sheet.add_users(lines)?;
-    sheet.add_states(lines)?;
-    sheet.add_remotes(lines)?;
-    sheet.add_remote_sends(lines)?;
-    sheet.add_refusals(lines)?;
-    sheet.add_outbox(lines)
+    let mut text = Vec::new(alloc);
+    push_up(&mut text, 0)?;
+    Ok(text)
 }
 
 // Adds whether the station answers.
-fn add_up(report: &mut Report, is_up: u64) -> Result<(), AllocError> {
-    report.add_head(Family::gauge("cfdp_up", "Whether the station answers."))?;
-    report.add_sample("cfdp_up", Labels::Bare, is_up)
+fn push_up(text: &mut Vec<u8>, is_up: u64) -> Result<(), AllocError>
+    ensures { OnOk result (AddsFamily up_head text.old.items text.new.items) }
+{
+    push_head(
+        text,
+        Family::Gauge("cfdp_up", "Whether the station answers."),
+    )?;
+    push_sample(text, "cfdp_up", Labels::Bare, is_up)
 }

@@ -1,4 +1,6 @@
-//! Numbers of lines.
+//! What a line says of a station or an event.
+use crate::kind::Kind;
+use crate::lines::read_lines;
 use json::{Error, Scratch, Value};
 use std::alloc::{AllocError, Global};
 
@@ -16,4 +18,31 @@ pub fn event_number(alloc: Global, line: &str) -> Result<Option<u64>, AllocError
 /// The whole number of a member.
 pub(crate) fn number_in(value: &Value<'_>, name: &str) -> Option<u64> {
     value.get(name)?.as_u64()
+}
+
+/// The moment at which a station started, as the entity's line of a status says it; none where no line does.
+pub fn start_moment(alloc: Global, status: &str) -> Result<Option<String>, AllocError> {
+    let lines = read_lines(alloc, status)?;
+    for line in lines.as_slice() {
+        if line.kind == Kind::Entity {
+            return started_in(alloc, line.text);
+        }
+    }
+    Ok(None)
+}
+
+// The member `started` of a line.
+fn started_in(alloc: Global, line: &str) -> Result<Option<String>, AllocError> {
+    let mut scratch = Scratch::new(alloc);
+    scratch.reserve(line.len())?;
+    let Ok(value) = Value::parse(alloc, line, &mut scratch) else {
+        return Err(AllocError);
+    };
+    match value.get("started") {
+        Some(member) => match member.as_str() {
+            Some(moment) => Ok(Some(String::from_str(alloc, moment)?)),
+            None => Ok(None),
+        },
+        None => Ok(None),
+    }
 }

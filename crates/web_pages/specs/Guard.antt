@@ -1,5 +1,7 @@
 -- Meaning. Whom a request is meant for, and which requests are taken.
-use Rattle.std.specs.Prelude.{◌≡◌, ◌≢◌, ◌⊎◌, ◌≤◌, ℕ, List, [], Option, Some, None, option_map, length, codes}
+use Rattle.std.specs.Prelude.{◌≡◌, ◌≢◌, ◌⊎◌, ◌≤◌, ◌-◌, ℕ, if◌then◌else◌, List, [], Option, Some, None, option_map, length, take, drop, map, codes}
+use Rattle.std.specs.Char.{to_ascii_lowercase}
+use Rattle.std.specs.Str.{bytes_eq}
 use Rattle.http.specs.declared.request.Request.{Request}
 use Rattle.http.specs.Request.{head_of}
 use Rattle.http_header.specs.HeaderMap.{get, get_all}
@@ -12,10 +14,21 @@ use Rattle.web_pages.specs.declared.guard.Verdict.TheVariants.{Read, Command, Ot
 abbrev pub value_of : List ℕ → Request (List ℕ) → Option (List ℕ)
 value_of name request = option_map (λ value. value.bytes) (get (head_of request).headers name)
 
--- the request's Host, the first of them, is one of these two names
+-- a host without the port 80, which browsers leave out
+abbrev pub bare_host : List ℕ → List ℕ
+bare_host host = if bytes_eq (drop (length host - 3) host) (codes ":80") then take (length host - 3) host else host
+
+-- what two hosts have to have in common to be the same
+abbrev pub host_key : List ℕ → List ℕ
+host_key host = map to_ascii_lowercase (bare_host host)
+
+-- what is compared of the request's Host, the first of them
+abbrev pub key_of : Request (List ℕ) → Option (List ℕ)
+key_of request = option_map host_key (value_of (codes "host") request)
+
+-- the request's Host is one of these two names
 abbrev pub IsFor : List ℕ → List ℕ → Request (List ℕ) → Type 0
-IsFor first second request =
-    (value_of (codes "host") request ≡ Some first) ⊎ (value_of (codes "host") request ≡ Some second)
+IsFor first second request = (key_of request ≡ Some (host_key first)) ⊎ (key_of request ≡ Some (host_key second))
 
 -- a browser says that a page of another site asks
 abbrev pub IsFromOtherSite : Request (List ℕ) → Type 0

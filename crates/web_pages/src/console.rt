@@ -1,16 +1,17 @@
 //! The service: each request's answer.
-ghost use Rattle.std.specs.Prelude.{◌≡◌, ◌⊎◌, ◌≤◌, [], OnOk, IsTrue, codes};
+ghost use Rattle.std.specs.Prelude.{◌≡◌, ◌↔◌, ◌⊎◌, ◌≤◌, [], OnOk, IsTrue, codes};
 ghost use Rattle.std.specs.Option.{option_copied};
 ghost use Rattle.http_server.specs.Response.{IsResponse, IsBlank};
 ghost use Rattle.web_pages.specs.Guard.{IsFor, IsTaken, HasToken, IsRefusal, value_of};
-ghost use Rattle.web_pages.specs.Headers.{IsGuarded};
+ghost use Rattle.web_pages.specs.Headers.{IsServed, asked_route};
 ghost use Rattle.web_pages.specs.Settings.{token_of};
 
 use crate::command::is_command;
-use crate::guard::{Names, Verdict, is_for, is_same, judge};
+use crate::guard::{Names, Verdict, is_for, judge};
 use crate::headers::{POLICY, add_headers};
 use crate::page::PAGE;
 use crate::route::Route;
+use crate::secret::is_same_secret;
 use crate::source::{Found, Source};
 use bytes::{BufMut, Bytes};
 use http::{HeaderValue, Request, StatusCode, header};
@@ -46,7 +47,7 @@ impl<'a, S: Source> Console<'a, S> {
     // Answers a request that is for the console.
     fn answer(&self, request: &Request<Bytes>, response: &mut Response) -> Result<(), AllocError>
         requires { IsBlank response.old }
-        ensures { OnOk result ((IsTaken (token_of self.now) request.now × IsGuarded POLICY.now response.new) ⊎ IsRefusal response.new) }
+        ensures { OnOk result ((IsTaken (token_of self.now) request.now × IsServed POLICY.now request.now response.new) ⊎ IsRefusal response.new) }
     {
         match judge(request) {
             Verdict::OtherSite => refuse(response, StatusCode::FORBIDDEN),
@@ -64,7 +65,7 @@ impl<'a, S: Source> Console<'a, S> {
         response: &mut Response,
     ) -> Result<(), AllocError>
         requires { IsBlank response.old }
-        ensures { OnOk result (IsGuarded POLICY.now response.new ⊎ IsRefusal response.new) }
+        ensures { OnOk result (IsServed POLICY.now request.now response.new ⊎ IsRefusal response.new) }
     {
         match Route::at(request.uri().path()) {
             None => refuse(response, StatusCode::NOT_FOUND),
@@ -80,7 +81,7 @@ impl<'a, S: Source> Console<'a, S> {
         response: &mut Response,
     ) -> Result<(), AllocError>
         requires { IsBlank response.old }
-        ensures { OnOk result ((HasToken (token_of self.now) request.now × IsGuarded POLICY.now response.new) ⊎ IsRefusal response.new) }
+        ensures { OnOk result ((HasToken (token_of self.now) request.now × IsServed POLICY.now request.now response.new) ⊎ IsRefusal response.new) }
     {
         match Route::at(request.uri().path()) {
             None => refuse(response, StatusCode::NOT_FOUND),
@@ -102,15 +103,16 @@ impl<'a, S: Source> Console<'a, S> {
         route: Route,
         response: &mut Response,
     ) -> Result<(), AllocError>
-        requires { IsBlank response.old }
-        ensures { OnOk result (IsGuarded POLICY.now response.new) }
+        requires blank { IsBlank response.old }
+        requires route { asked_route request.now ≡ Some route }
+        ensures { OnOk result (IsServed POLICY.now request.now response.new) }
     {
         add_headers(route, response)?;
         if route == Route::Page {
             return response.body.put_slice(PAGE.as_bytes());
         }
         let mut text = Vec::new(self.alloc);
-        if self.source.fill(route, after_of(request), &mut text)? == Found::Away {
+        if self.source.fill(route, last_id(request), &mut text)? == Found::Away {
             response.status = StatusCode::SERVICE_UNAVAILABLE;
         }
         response.body.push(Bytes::from_vec(text)?)
@@ -119,8 +121,9 @@ impl<'a, S: Source> Console<'a, S> {
     // Passes a command on.
     fn pass_on(&self, request: &Request<Bytes>, response: &mut Response) -> Result<(), AllocError>
         requires blank { IsBlank response.old }
+        requires route { asked_route request.now ≡ Some Route.Command }
         requires token { HasToken (token_of self.now) request.now }
-        ensures { OnOk result (IsGuarded POLICY.now response.new ⊎ IsRefusal response.new) }
+        ensures { OnOk result (IsServed POLICY.now request.now response.new ⊎ IsRefusal response.new) }
     {
         let line = request.body().as_slice();
         if !is_command(line) {
@@ -136,10 +139,11 @@ impl<'a, S: Source> Console<'a, S> {
 
     // Whether commands are taken and the request has the token.
     fn has_token(&self, request: &Request<Bytes>) -> bool
-        ensures { IsTrue result → HasToken (token_of self.now) request.now }
+        ensures { IsTrue result ↔ HasToken (token_of self.now) request.now }
     {
         match (&self.settings.token, given_token(request)) {
-            (Some(token), Some(given)) => !given.is_empty() && is_same(given, token.as_slice()),
+            (Some(token), Some(given)) => !given.is_empty()
+                && is_same_secret(given, token.as_slice()),
             _ => false,
         }
     }
@@ -155,14 +159,11 @@ fn given_token(request: &Request<Bytes>) -> Option<&[u8]>
     }
 }
 
-// The number of the last event that the reader has: 0 where it has none.
-fn after_of(request: &Request<Bytes>) -> u64 {
+// The ID of the last event that the reader has: empty where it has none.
+fn last_id(request: &Request<Bytes>) -> &[u8] {
     match request.headers().get("last-event-id") {
-        Some(value) => match str::from_utf8(value.as_bytes()) {
-            Ok(text) => text.parse::<u64>().unwrap_or(0),
-            Err(_) => 0,
-        },
-        None => 0,
+        Some(value) => value.as_bytes(),
+        None => b"".as_slice(),
     }
 }
 
@@ -201,10 +202,10 @@ impl<'a, S: Source> Service for Console<'a, S> {
     ghost use Rattle.web_pages.specs.declared.headers.TheConstants.{POLICY};
 
     // The console stays as it is. A request that is not for one of its names gets 403, with no header and no body. Only a
-    // request that is taken gets more than a refusal, and what it gets is guarded.
+    // request that is taken gets more than a refusal, and what it gets has the headers of its route.
     ghost answers = { λ old request response new. (new ≡ old)
         × (IsFor old.settings.now.names.first.items old.settings.now.names.second.items request ⊎ IsResponse 403 [] [] response)
-        × ((IsTaken (token_of old) request × IsGuarded POLICY.now response) ⊎ IsRefusal response) };
+        × ((IsTaken (token_of old) request × IsServed POLICY.now request response) ⊎ IsRefusal response) };
 
     fn call(
         &mut self,

@@ -1,13 +1,13 @@
 //! Which requests are taken at all.
 ghost use Rattle.std.specs.Prelude.{◌≡◌, ◌↔◌, IsTrue, codes};
 ghost use Rattle.std.specs.Option.{option_copied};
-ghost use Rattle.web_pages.specs.Guard.{IsFor, IsFromOtherSite, HasPlainTarget, IsJudged, IsReading, value_of};
+ghost use Rattle.web_pages.specs.Guard.{IsFor, IsFromOtherSite, HasPlainTarget, IsJudged, IsReading, bare_host, host_key, value_of};
 
 use bytes::Bytes;
 use http::Request;
 
-/// The names by which the console is reached, as a request's `Host` has them. A page of another site that has its own name
-/// lead here is refused by it.
+/// The names by which the console is reached, as a request's `Host` has them, but for case, and for a port 80 that is left out.
+/// A page of another site that has its own name lead here is refused by it.
 #[derive(Debug, Drop)]
 pub struct Names {
     /// The address with its port.
@@ -58,13 +58,31 @@ fn site_of(request: &Request<Bytes>) -> Option<&[u8]>
     }
 }
 
+// A host without the port that browsers leave out.
+fn bare_host(host: &[u8]) -> &[u8]
+    ensures { result.now ≡ bare_host host.now }
+{
+    match host.strip_suffix(b":80".as_slice()) {
+        Some(bare) => bare,
+        None => host,
+    }
+}
+
+// Whether two hosts are the same.
+fn is_same_host(one: &[u8], other: &[u8]) -> bool
+    ensures { IsTrue result ↔ (host_key one.now ≡ host_key other.now) }
+{
+    bare_host(one).eq_ignore_ascii_case(bare_host(other))
+}
+
 /// Whether a request is for one of the names.
 pub(crate) fn is_for(names: &Names, request: &Request<Bytes>) -> bool
     ensures { IsTrue result ↔ IsFor names.now.first.items names.now.second.items request.now }
 {
     match host_of(request) {
         Some(host) => {
-            is_same(host, names.first.as_slice()) || is_same(host, names.second.as_slice())
+            is_same_host(host, names.first.as_slice())
+                || is_same_host(host, names.second.as_slice())
         }
         None => false,
     }

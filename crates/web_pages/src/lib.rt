@@ -7,9 +7,8 @@ mod guard;
 mod headers;
 mod page;
 mod route;
+mod secret;
 mod source;
-#[cfg(test)]
-mod tests;
 
 pub use command::is_command;
 pub use console::{Console, Settings};

@@ -300,29 +300,51 @@ async function status() {
   }
   asking = false;
 }
-let last = 0, kept = [];
+let lastId = "", kept = [], asksEvents = false;
+const runOf = id => id.slice(0, Math.max(0, id.lastIndexOf("-")));
+const numberIn = id => Number(id.slice(id.lastIndexOf("-") + 1));
+function eventIn(json) {
+  try {
+    const e = JSON.parse(json);
+    return e !== null && typeof e === "object" ? e : null;
+  } catch (fault) { return null; }
+}
 const told = e => {
   const rest = Object.entries(e).filter(([k]) => !["at", "number", "kind", "user", "source", "seq", "seq_text", "name"].includes(k)).map(([k, v]) => k + " " + (k === "condition" ? condition(v) : Array.isArray(v) ? v.join(" ") : v));
   return [String(e.at || "").replace("T", " "), e.kind === "indication" ? e.name : e.kind + (e.name ? " " + e.name : ""), e.user || "", e.source === undefined ? "" : key(e), rest.join(", ")].filter(w => w !== "").join("  ");
 };
+function shown(e) {
+  try { return told(e); } catch (fault) { return "an event that can't be shown"; }
+}
 function list() {
   const user = at("by-user").value.trim(), txn = at("by-txn").value.trim();
   const wanted = kept.filter(e => (user === "" || e.user === user) && (txn === "" || (e.source !== undefined && key(e) === txn)));
-  at("events").replaceChildren(...wanted.slice(-1024).reverse().map(e => { const li = document.createElement("li"); li.textContent = told(e); return li; }));
+  at("events").replaceChildren(...wanted.slice(-1024).reverse().map(e => { const li = document.createElement("li"); li.textContent = shown(e); return li; }));
   at("shown").textContent = wanted.length + " of " + kept.length + " events" + (at("still").checked ? ", held still" : "");
 }
+// Keeps the events of an answer. Those of another run are no continuation of what is kept.
+function take(answer) {
+  const fresh = [];
+  let id = lastId;
+  for (const line of answer.split("\n")) {
+    if (line.startsWith("id: ")) id = line.slice(4);
+    else if (line.startsWith("data: ")) { const e = eventIn(line.slice(6)); if (e !== null) fresh.push(e); }
+  }
+  if (id === lastId) return;
+  const isGoingOn = runOf(id) === runOf(lastId), seen = numberIn(lastId);
+  kept = (isGoingOn ? kept.concat(fresh.filter(e => !(e.number <= seen))) : fresh).slice(-1024);
+  lastId = id;
+  if (!at("still").checked) list();
+}
 async function events() {
+  if (asksEvents) return;
+  asksEvents = true;
   try {
-    const answer = await fetch("/events", { cache: "no-store", headers: { "Last-Event-ID": String(last) }, signal: AbortSignal.timeout(4000) });
-    if (!answer.ok) return;
-    const fresh = [];
-    for (const line of (await answer.text()).split("\n")) if (line.startsWith("data: ")) { try { fresh.push(JSON.parse(line.slice(6))); } catch (fault) { continue; } }
-    if (fresh.length === 0) return;
-    if (fresh[0].number <= last) kept = [];
-    last = fresh[fresh.length - 1].number;
-    kept = kept.concat(fresh).slice(-1024);
-    if (!at("still").checked) list();
-  } catch (fault) { return; }
+    const headers = lastId === "" ? {} : { "Last-Event-ID": lastId };
+    const answer = await fetch("/events", { cache: "no-store", headers, signal: AbortSignal.timeout(4000) });
+    if (answer.ok) take(await answer.text());
+  } catch (fault) { at("shown").textContent = "The events can't be asked for."; }
+  asksEvents = false;
 }
 function quote(word) {
   if (/^[\x21\x23-\x5b\x5d-\x7e]+$/.test(word)) return word;

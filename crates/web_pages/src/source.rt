@@ -14,9 +14,9 @@ pub enum Found {
 
 /// Where the console's answers come from.
 pub trait Source {
-    /// Adds what is at a route to a text. Of events those whose number is greater than `after`, and all where that is none of
+    /// Adds what is at a route to a text. Of events those behind the one with the ID `last`, and all where that is none of
     /// theirs.
-    fn fill(&self, route: Route, after: u64, text: &mut Vec<u8>) -> Result<Found, AllocError>;
+    fn fill(&self, route: Route, last: &[u8], text: &mut Vec<u8>) -> Result<Found, AllocError>;
 
     /// Gives a command to the station and adds its answer to a text.
     fn command(&self, line: &[u8], text: &mut Vec<u8>) -> Result<Found, AllocError>

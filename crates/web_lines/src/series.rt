@@ -1,0 +1,79 @@
+//! Families with the numbers that stand in lines.
+ghost use Rattle.std.specs.Prelude.{OnOk, map};
+ghost use Rattle.web_lines.specs.Families.{told_head, told_heads};
+ghost use Rattle.web_lines.specs.Metrics.{AddsFamily, AddsReport, AddsSamples};
+
+use crate::families::push_head;
+use crate::labels::push_sample;
+use crate::lines::Line;
+use crate::place::labels_in;
+use crate::told::{TOLD, Told};
+use json::{Scratch, Value};
+use std::alloc::{AllocError, Global};
+
+/// Adds all families whose numbers stand in lines.
+pub(crate) fn push_told(
+    alloc: Global,
+    text: &mut Vec<u8>,
+    lines: &[Line<'_>],
+) -> Result<(), AllocError>
+    ensures { OnOk result (AddsReport told_heads text.old.items text.new.items) }
+{
+    push_families(alloc, text, lines, TOLD.as_slice())
+}
+
+// Adds these families.
+fn push_families(
+    alloc: Global,
+    text: &mut Vec<u8>,
+    lines: &[Line<'_>],
+    rows: &[Told],
+) -> Result<(), AllocError>
+    ensures { OnOk result (AddsReport (map told_head rows.now) text.old.items text.new.items) }
+{
+    let mut scratch = Scratch::new(alloc);
+    for told in rows {
+        push_family(alloc, text, lines, *told, &mut scratch)?;
+    }
+    Ok(())
+}
+
+// Adds a family with a number for each line of its kind that has one.
+fn push_family(
+    alloc: Global,
+    text: &mut Vec<u8>,
+    lines: &[Line<'_>],
+    told: Told,
+    scratch: &mut Scratch,
+) -> Result<(), AllocError>
+    ensures { OnOk result (AddsFamily (told_head told) text.old.items text.new.items) }
+{
+    push_head(text, told.0)?;
+    for line in lines {
+        push_number(alloc, text, *line, told, scratch)?;
+    }
+    Ok(())
+}
+
+// Adds the number of a line, if the line is of the family's kind and has one.
+fn push_number(
+    alloc: Global,
+    text: &mut Vec<u8>,
+    line: Line<'_>,
+    told: Told,
+    scratch: &mut Scratch,
+) -> Result<(), AllocError>
+    ensures { OnOk result (AddsSamples (told_head told).name text.old.items text.new.items) }
+{
+    if line.kind != told.1 {
+        return Ok(());
+    }
+    scratch.reserve(line.text.len())?;
+    let Ok(value) = Value::parse(alloc, line.text, scratch) else {
+        return Err(AllocError);
+    };
+    match (told.2.number_in(&value), labels_in(&value, told.1, told.2)) {
+        (Some(number), Some(labels)) => push_sample(text, told.0.name(), labels, number),
+        _ => Ok(()),
+    }
+}
