@@ -150,7 +150,7 @@ def no_answers():
             for words in (["status"], ["send", "--to", "5", FILE], ["--wait-for-server", "1", "status"]):
                 run = ctl(*words)
                 check(f"{title}, {words}", run, 1, b"", b"no server answers" if waiting else b"")
-                want(f"{title}, {words}, how long it took", run.took < 7, run.took)
+                want(f"{title}, {words}, how long it took", run.took < 6, run.took)
             for client in waiting:
                 client.close()
     with station("--busy"):
@@ -361,7 +361,7 @@ def bad_ends():
         with station(option, "1", "--step", "30"):
             run = ctl("send", "--to", "5", "--wait", "1.bin")
             check("a station that goes away", run, 1, b"queued 1", b"cfdp_ctl: ")
-            want("a station that goes away, how long it took", run.took < 7, run.took)
+            want("a station that goes away, how long it took", run.took < 6, run.took)
 
 
 def outbox():

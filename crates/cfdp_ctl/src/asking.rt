@@ -6,8 +6,11 @@ use std::net::Net;
 use std::sync::Wait;
 use std::time::{Clock, Duration};
 
-// How many milliseconds an answer may take where nobody says how long a server is awaited.
-const PATIENCE_MILLIS: u64 = 4_500;
+// How many milliseconds a server may take to let the program in, and then to answer, where nobody says how long it is awaited:
+// less than five seconds in all.
+const ENTRY_MILLIS: u64 = 400;
+
+const PATIENCE_MILLIS: u64 = 4_400;
 
 /// A connected server, and how long it may take to answer.
 #[derive(Drop)]
@@ -27,7 +30,7 @@ impl Line {
         let usual = Duration::from_millis(PATIENCE_MILLIS);
         match awaited {
             None => Ok(Line {
-                station: Station::connect(rt, alloc, path, usual)?,
+                station: Station::connect(rt, alloc, path, Duration::from_millis(ENTRY_MILLIS))?,
                 limit: usual,
             }),
             Some(seconds) => {
