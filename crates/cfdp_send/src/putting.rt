@@ -65,8 +65,21 @@ fn check<R: Files, W: Write + Drop, P: Write + Drop>(
             outputs.tell("ok\n")?;
             Ok(0)
         }
-        Err(fault) => Err(fault_of(fault)),
+        Err(fault) => tell_about(&mut outputs, fault),
     }
+}
+
+// Prints the help or the version, where a line asks for it.
+fn tell_about<W: Write + Drop, P: Write + Drop>(
+    outputs: &mut Outputs<W, P>,
+    fault: WordsFault,
+) -> Result<u8, ProgramFault> {
+    match fault {
+        WordsFault::Help => outputs.tell(put_help())?,
+        WordsFault::Version => outputs.tell(put_version())?,
+        _ => return Err(fault_of(fault)),
+    }
+    Ok(0)
 }
 
 // Prints what a fault means, where there is memory for it.
@@ -140,11 +153,7 @@ fn push_unfit<R: Files>(
                 words.config, words.user
             )
         }
-        _ => writeln!(
-            text,
-            "{}: it has more octets than a file may have",
-            words.source
-        ),
+        _ => Ok(()),
     }
 }
 
@@ -200,15 +209,7 @@ fn start<
             }
             put_named(rt, alloc, config, &socket, wanted, outputs)
         }
-        Err(WordsFault::Help) => {
-            outputs.tell(put_help())?;
-            Ok(0)
-        }
-        Err(WordsFault::Version) => {
-            outputs.tell(put_version())?;
-            Ok(0)
-        }
-        Err(fault) => Err(fault_of(fault)),
+        Err(fault) => tell_about(&mut outputs, fault),
     }
 }
 

@@ -66,8 +66,18 @@ fn check<R: Files, W: Write + Drop>(
             print(&mut writer, "ok\n")?;
             Ok(0)
         }
-        Err(fault) => Err(fault_of(fault)),
+        Err(fault) => tell_about(&mut writer, fault),
     }
+}
+
+// Prints the help or the version, where a line asks for it.
+fn tell_about<W: Write>(writer: &mut W, fault: WordsFault) -> Result<u8, ProgramFault> {
+    match fault {
+        WordsFault::Help => print(writer, server_help())?,
+        WordsFault::Version => print(writer, server_version())?,
+        _ => return Err(fault_of(fault)),
+    }
+    Ok(0)
 }
 
 // Prints what a fault means, where there is memory for it.
@@ -96,7 +106,7 @@ fn push_meaning<R: Net + Files>(
         if asks_for_check(line) {
             push_check_complaint(alloc, text, line)?;
         } else {
-            push_server_complaint(alloc, text, line)?;
+            push_complaint(alloc, text, line)?;
         }
         return writeln!(text, "`cfdp_server --help` has the options");
     }
@@ -111,6 +121,19 @@ fn push_meaning<R: Net + Files>(
         }
         Err(_) => Ok(()),
     }
+}
+
+// Adds which word of the server's line is wrong. Where each is taken, the configuration doesn't have what one names.
+fn push_complaint(alloc: Global, text: &mut String, line: &[String]) -> Result<(), AllocError> {
+    let before = text.len();
+    push_server_complaint(alloc, text, line)?;
+    if text.len() == before {
+        return writeln!(
+            text,
+            "--rate has a limit for an entity that is not in the configuration"
+        );
+    }
+    Ok(())
 }
 
 // What a check speaks of.
@@ -170,15 +193,7 @@ fn start<
             };
             serve_at(rt, alloc, config, &socket, &words, given)
         }
-        Err(WordsFault::Help) => {
-            print(&mut writer, server_help())?;
-            Ok(0)
-        }
-        Err(WordsFault::Version) => {
-            print(&mut writer, server_version())?;
-            Ok(0)
-        }
-        Err(fault) => Err(fault_of(fault)),
+        Err(fault) => tell_about(&mut writer, fault),
     }
 }
 

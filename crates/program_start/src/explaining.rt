@@ -5,6 +5,7 @@ use entity_config::{ConfigFault, Key};
 use script_io::write_whole;
 use std::alloc::{AllocError, Global};
 use std::fs;
+use std::fs::File;
 use std::io::Write;
 use std::net::{Net, UdpSocket};
 use std::rt::Files;
@@ -47,18 +48,40 @@ pub fn tell_explanation<E: Write>(errors: &mut E, text: &str) {
     let _flushed = errors.flush();
 }
 
-// Which file can't be read, and why.
+// Which file can't be read, and why: the configuration is looked at first, as it is read first.
 fn push_read<R: Files>(rt: &R, text: &mut String, started: &Started<'_>) -> Result<(), AllocError> {
-    if let Err(error) = fs::metadata(rt, started.config) {
-        return writeln!(text, "{}: {error}", started.config);
+    let before = text.len();
+    push_unread(rt, text, started.config)?;
+    if text.len() > before {
+        return Ok(());
     }
     let Some(source) = started.source else {
         return writeln!(text, "{}: it can't be read", started.config);
     };
     match fs::metadata(rt, source) {
-        Err(error) => writeln!(text, "{source}: {error}"),
         Ok(found) if !found.is_file() => writeln!(text, "{source}: it is no plain file"),
-        Ok(_) => writeln!(text, "{source}: it can't be read"),
+        _ => push_unread(rt, text, source),
+    }
+}
+
+// Adds why a file can't be read; nothing where it can. What may wait for somebody to write, as a pipe, isn't opened.
+fn push_unread<R: Files>(rt: &R, text: &mut String, path: &str) -> Result<(), AllocError> {
+    match fs::metadata(rt, path) {
+        Err(error) => writeln!(text, "{path}: {error}"),
+        Ok(found) if found.is_dir() => writeln!(text, "{path}: it is a folder"),
+        Ok(found) if !found.is_file() => Ok(()),
+        Ok(_) => match File::open(rt, path) {
+            Err(error) => writeln!(text, "{path}: {error}"),
+            Ok(_) => Ok(()),
+        },
+    }
+}
+
+// Whether a file can be read a second time, and says the same then.
+fn is_plain<R: Files>(rt: &R, path: &str) -> bool {
+    match fs::metadata(rt, path) {
+        Ok(found) => found.is_file(),
+        Err(_) => false,
     }
 }
 
@@ -69,6 +92,9 @@ fn push_config<R: Files>(
     text: &mut String,
     path: &str,
 ) -> Result<(), AllocError> {
+    if !is_plain(rt, path) {
+        return Ok(());
+    }
     match read_configuration(rt, alloc, path) {
         Ok(Err(fault)) => {
             let allowed = match fault {
@@ -87,7 +113,7 @@ fn push_bind<R: Net>(rt: &R, text: &mut String, started: &Started<'_>) -> Result
         (Err(error), _) => writeln!(text, "{}: {error}", started.bind),
         (Ok(_), Some(path)) => writeln!(
             text,
-            "{path}: another server answers there, or it is no socket and stays as it is"
+            "{path}: another server answers there, it is no socket, or no socket can be made there"
         ),
         (Ok(_), None) => Ok(()),
     }
@@ -124,7 +150,8 @@ fn allowed_at(key: Key) -> &'static str {
         | Key::CheckMilliseconds
         | Key::InactivityMilliseconds => { "; allowed: 1 to 86400000" }
         Key::AckLimit | Key::NakLimit | Key::CheckLimit => "; allowed: 1 to 255",
-        _ => "; allowed: a table",
+        Key::Entity | Key::Send | Key::ReceiveOne | Key::ReceiveTwo => "; allowed: a table",
+        _ => "; allowed: \"cancel\", \"suspend\", \"ignore\" and \"abandon\"",
     }
 }
 
@@ -135,6 +162,8 @@ fn remedy(fault: ConfigFault) -> &'static str {
         ConfigFault::UnknownKey(_) => "; look for a misspelled key",
         ConfigFault::UnknownUser => "; add a table [[user]], or correct the name",
         ConfigFault::TooManySources => "; allowed: 8",
+        ConfigFault::HandlerNotAllowed(_) =>
+            "; the manual of the configuration has a table of handlers",
         ConfigFault::BadAddress =>
             "; allowed: \"A.B.C.D:PORT\", in decimal and without leading zeros",
         _ => "",

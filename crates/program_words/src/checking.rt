@@ -8,9 +8,16 @@ use crate::options::{fault_of, flag, required};
 use clap::{ArgMatches, Command};
 use std::alloc::{AllocError, Global};
 
-/// Whether a line asks for a check of the configuration.
+/// Whether a line asks for a check of the configuration: before the word `--`, behind which names stand.
 pub fn asks_for_check(line: &[String]) -> bool {
-    line.iter().any(|word| word.as_str() == "--check")
+    for word in line {
+        match word.as_str() {
+            "--check" => return true,
+            "--" => return false,
+            _ => {}
+        }
+    }
+    false
 }
 
 // The options of a check.

@@ -13,6 +13,9 @@ const UNIX: u16 = 1;
 
 const PATH_OCTETS: usize = 107;
 
+// How often a connect that was interrupted is made again, as where the program was stopped and goes on.
+const INTERRUPTIONS: u32 = 8;
+
 /// Connects to a path. Where the queue of those who listen is full, it waits for a place until the limit of time is over.
 pub(crate) fn connect_socket<R: Net>(
     rt: &R,
@@ -33,11 +36,17 @@ pub(crate) fn connect_socket<R: Net>(
     address[..2].copy_from_slice(&UNIX.to_ne_bytes());
     address[2..2 + path.len()].copy_from_slice(path);
     let length = path.len() as u32 + 3;
-    // the call reads the first octets of the address, and changes nothing of the program's
-    if unsafe { c::connect(stream.as_raw_fd(), &address, length) } == 0 {
-        return Ok(stream);
+    for _ in 0..INTERRUPTIONS {
+        // the call reads the first octets of the address, and changes nothing of the program's
+        if unsafe { c::connect(stream.as_raw_fd(), &address, length) } == 0 {
+            return Ok(stream);
+        }
+        let error = io::Error::from_raw_os_error(os::errno());
+        if error.kind() != ErrorKind::Interrupted {
+            return Err(fault_of_connect(&error));
+        }
     }
-    Err(fault_of_connect(&io::Error::from_raw_os_error(os::errno())))
+    Err(StationFault::NoServer)
 }
 
 // Why there is no connection.

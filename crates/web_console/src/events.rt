@@ -118,6 +118,9 @@ fn is_plain(start: &[u8]) -> bool {
 // The number of an ID that begins with this start.
 fn number_in(id: &[u8], start: &[u8]) -> Option<u64> {
     let digits = id.strip_prefix(start)?.strip_prefix(b"-".as_slice())?;
+    if digits.first() == Some(&b'+') {
+        return None;
+    }
     str::from_utf8(digits).ok()?.parse::<u64>().ok()
 }
 

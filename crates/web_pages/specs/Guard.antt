@@ -8,6 +8,8 @@ use Rattle.http_header.specs.HeaderMap.{get, get_all}
 use Rattle.http_uri.specs.Uri.{uri_scheme, uri_authority}
 use Rattle.http_server.specs.declared.response.Response.{Response}
 use Rattle.web_pages.specs.declared.guard.Verdict.{Verdict}
+use Rattle.web_pages.specs.declared.route.Route.TheVariants as route
+use Rattle.web_pages.specs.Routes.{asked_route}
 use Rattle.web_pages.specs.declared.guard.Verdict.TheVariants.{Read, Command, OtherSite, NotAllowed, BadTarget}
 
 -- the first value of a header
@@ -66,10 +68,11 @@ IsJudged BadTarget request = ¬ HasPlainTarget request
 abbrev pub HasToken : Option (List ℕ) → Request (List ℕ) → Type 0
 HasToken token request = (value_of (codes "x-console-token") request ≡ token) × (token ≢ None) × (token ≢ Some [])
 
--- a request that is answered with more than a status: one that reads, or a command with the token
+-- a request that is answered with more than a status: one that reads what is shown, or a command with the token
 abbrev pub IsTaken : Option (List ℕ) → Request (List ℕ) → Type 0
 IsTaken token request =
-    IsOwn request × (IsReading request ⊎ (HasMethod (codes "POST") request × HasToken token request))
+    IsOwn request × ((IsReading request × (asked_route request ≢ Some route.Command))
+    ⊎ (HasMethod (codes "POST") request × (asked_route request ≡ Some route.Command) × HasToken token request))
 
 -- a refusal has a status from 400 on, and no body
 abbrev pub IsRefusal : Response → Type 0

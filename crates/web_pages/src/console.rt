@@ -1,9 +1,10 @@
 //! The service: each request's answer.
-ghost use Rattle.std.specs.Prelude.{◌≡◌, ◌↔◌, ◌⊎◌, ◌≤◌, [], OnOk, IsTrue, codes};
+ghost use Rattle.std.specs.Prelude.{◌≡◌, ◌≢◌, ◌↔◌, ◌⊎◌, ◌≤◌, [], OnOk, IsTrue, Some, codes};
 ghost use Rattle.std.specs.Option.{option_copied};
 ghost use Rattle.http_server.specs.Response.{IsResponse, IsBlank};
 ghost use Rattle.web_pages.specs.Guard.{IsFor, IsTaken, HasToken, IsRefusal, value_of};
-ghost use Rattle.web_pages.specs.Headers.{IsServed, asked_route};
+ghost use Rattle.web_pages.specs.Headers.{IsServed};
+ghost use Rattle.web_pages.specs.Routes.{asked_route};
 ghost use Rattle.web_pages.specs.Settings.{token_of};
 
 use crate::command::is_command;
@@ -65,7 +66,7 @@ impl<'a, S: Source> Console<'a, S> {
         response: &mut Response,
     ) -> Result<(), AllocError>
         requires { IsBlank response.old }
-        ensures { OnOk result (IsServed POLICY.now request.now response.new ⊎ IsRefusal response.new) }
+        ensures { OnOk result (((asked_route request.now ≢ Some Route.Command) × IsServed POLICY.now request.now response.new) ⊎ IsRefusal response.new) }
     {
         match Route::at(request.uri().path()) {
             None => refuse(response, StatusCode::NOT_FOUND),
@@ -81,7 +82,7 @@ impl<'a, S: Source> Console<'a, S> {
         response: &mut Response,
     ) -> Result<(), AllocError>
         requires { IsBlank response.old }
-        ensures { OnOk result ((HasToken (token_of self.now) request.now × IsServed POLICY.now request.now response.new) ⊎ IsRefusal response.new) }
+        ensures { OnOk result (((asked_route request.now ≡ Some Route.Command) × HasToken (token_of self.now) request.now × IsServed POLICY.now request.now response.new) ⊎ IsRefusal response.new) }
     {
         match Route::at(request.uri().path()) {
             None => refuse(response, StatusCode::NOT_FOUND),

@@ -300,7 +300,7 @@ async function status() {
   }
   asking = false;
 }
-let lastId = "", kept = [], asksEvents = false;
+let lastId = "", kept = [], asksEvents = false, missed = "";
 const runOf = id => id.slice(0, Math.max(0, id.lastIndexOf("-")));
 const numberIn = id => Number(id.slice(id.lastIndexOf("-") + 1));
 function eventIn(json) {
@@ -330,11 +330,18 @@ function take(answer) {
     if (line.startsWith("id: ")) id = line.slice(4);
     else if (line.startsWith("data: ")) { const e = eventIn(line.slice(6)); if (e !== null) fresh.push(e); }
   }
-  if (id === lastId) return;
-  const isGoingOn = runOf(id) === runOf(lastId), seen = numberIn(lastId);
-  kept = (isGoingOn ? kept.concat(fresh.filter(e => !(e.number <= seen))) : fresh).slice(-1024);
-  lastId = id;
+  if (id !== lastId) {
+    const isGoingOn = runOf(id) === runOf(lastId), seen = numberIn(lastId);
+    kept = (isGoingOn ? kept.concat(fresh.filter(e => !(e.number <= seen))) : fresh).slice(-1024);
+    lastId = id;
+  } else if (missed === "") return;
+  missed = "";
   if (!at("still").checked) list();
+  else at("shown").textContent = kept.length + " events, held still";
+}
+function miss() {
+  missed = "The events can't be asked for.";
+  at("shown").textContent = missed;
 }
 async function events() {
   if (asksEvents) return;
@@ -343,7 +350,8 @@ async function events() {
     const headers = lastId === "" ? {} : { "Last-Event-ID": lastId };
     const answer = await fetch("/events", { cache: "no-store", headers, signal: AbortSignal.timeout(4000) });
     if (answer.ok) take(await answer.text());
-  } catch (fault) { at("shown").textContent = "The events can't be asked for."; }
+    else miss();
+  } catch (fault) { miss(); }
   asksEvents = false;
 }
 function quote(word) {
