@@ -69,7 +69,10 @@ def check_rows():
     yield configure("named", user='"bob"'), "config fault 8", "named: the user of a remote entity is not one of the users; add a table [[user]], or correct the name"
     pathlib.Path("bad").write_text("[entity\n")
     yield "bad", "config fault 1", "bad: the text is not TOML; look for a missing quote or bracket, or a key that stands twice"
+    yield configure("handled", **{"check_limit": '20\nsend = { positive_ack_limit = "pause" }'}), "config fault 10", "handled: a handler in `send` is not known or not allowed there; the manual of the configuration has a table of handlers"
     yield "missing", "read fault", None
+    pathlib.Path("folder").mkdir()
+    yield "folder", "read fault", "folder: it is a folder"
 
 
 def checks(program):
@@ -82,6 +85,14 @@ def checks(program):
         lines = errors.splitlines()
         want(f"{name} --check {config}", (told, lines[0], len(lines), status), ("", f"{name}: {fault}", 2, 1))
         want(f"{name} --check {config}, the second line", lines[1] if why else lines[1].split(": ")[0], why or config)
+    want(f"{name} --check --version", run([program, "--check", "--version"]), run([program, "--version"]))
+    read, write = os.pipe()
+    os.write(write, pathlib.Path("lanes").read_bytes())
+    os.close(write)
+    ended = subprocess.run([program, "--check", "--config", f"/dev/fd/{read}"], pass_fds=[read], capture_output=True, text=True,
+                           timeout=PATIENCE, check=False)
+    os.close(read)
+    want(f"{name} --check of a pipe", (ended.stderr, ended.returncode), (f"{name}: config fault 4\n", 1))
     told, errors, status = run([program, "--check"])
     want(f"{name} --check alone", (told, errors.splitlines()[0], errors.splitlines()[-1], status),
          ("", f"{name}: usage", f"`{name} --help` has the options", 1))
@@ -95,12 +106,15 @@ def start_rows(taken):
     yield [*server, "127.0.0.1:0", "--workers", "17"], "usage", "--workers takes a number from 1 to 16"
     yield [*server, "127.0.0.1:0", "--unknown"], "usage", "unexpected argument '--unknown'"
     yield [*server, "localhost:1"], "usage", "--bind takes A.B.C.D:PORT"
+    yield [*server, "127.0.0.1:0", "--rate", "99=5"], "usage", "--rate has a limit for an entity"
     yield [*server, taken], "bind fault", f"{taken}: "
+    yield [*server, "127.0.0.1:0", "--control", "missing/control"], "bind fault", "missing/control: another server answers there, it is"
     yield [SERVER, "--config", "lanes", "--folder", ".", "--bind", "127.0.0.1:0"], "config fault 4", "lanes: the value of `put_lanes`"
     yield [*put, "3", "--user", "alice", "good", "b"], "usage", "--class takes 1 or 2"
     yield [*put, "2", "--user", "carol", "good", "b"], "usage", "good: no user has the name `carol`"
     yield [*put, "2", "--user", "alice", "missing", "b"], "read fault", "missing: "
     yield [*put, "2", "--user", "alice", ".", "b"], "read fault", ".: it is no plain file"
+    yield [PUT, "--config", "folder", "--bind", "127.0.0.1:0", "--remote", "1", "--class", "1", "--user", "alice", "good", "b"], "read fault", "folder: it is a folder"
 
 
 def starts():

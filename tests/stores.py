@@ -11,6 +11,7 @@ import resource
 import subprocess
 import sys
 import time
+from unittest import mock
 
 from support import Wrong, end_of_file, file_data, metadata, run_cases, station, until, want
 
@@ -162,10 +163,9 @@ def virtual_octets(process):
 @case
 def a_flood_behind_a_limit_of_memory():
     """Copies of one part fill a lane up to the server's limit of memory; other lanes go on, and so does that one once its
-    transaction was abandoned."""
-    with station(SERVER) as (one, peer):
+    transaction was abandoned. All threads take memory from one place, as under `examples/cfdp_server.service`."""
+    with mock.patch.dict(os.environ, MALLOC_ARENA_MAX="1"), station(SERVER) as (one, peer):
         client = one.client()
-        want(client.ask("take alice"), ["none"])
         limit = virtual_octets(one.run.pid) + 2**26
         resource.prlimit(one.run.pid, resource.RLIMIT_AS, (limit, limit))
         target = ("127.0.0.1", one.port)
