@@ -71,7 +71,7 @@ def check_rows():
     yield "bad", "config fault 1", "bad: the text is not TOML; look for a missing quote or bracket, or a key that stands twice"
     yield configure("handled", **{"check_limit": '20\nsend = { positive_ack_limit = "pause" }'}), "config fault 10", "handled: a handler in `send` is not known or not allowed there; the manual of the configuration has a table of handlers"
     yield "missing", "read fault", None
-    pathlib.Path("folder").mkdir()
+    pathlib.Path("folder").mkdir(exist_ok=True)
     yield "folder", "read fault", "folder: it is a folder"
 
 
