@@ -10,11 +10,12 @@ import pty
 import select
 import shutil
 import signal
-import socket
 import subprocess
 import sys
 import tempfile
 import time
+
+from support import fill_backlog
 
 PROGRAM = os.path.abspath(sys.argv[1])
 STATION = os.path.join(os.path.dirname(os.path.abspath(__file__)), "fake_station.py")
@@ -49,20 +50,6 @@ def station(*options):
     finally:
         run.kill()
         run.wait()
-
-
-def fill_backlog():
-    """Clients that wait to be let in, until no other can."""
-    waiting = []
-    while len(waiting) < 10_000:
-        client = socket.socket(socket.AF_UNIX)
-        client.setblocking(False)
-        waiting.append(client)
-        try:
-            client.connect(SOCKET)
-        except BlockingIOError:
-            break
-    return waiting
 
 
 def ctl(*words, given=b"", environment=None, control=True):
@@ -146,7 +133,7 @@ def no_answers():
         want("half an answer, how long it took", 3 < run.took < 15, run.took)
     with station() as stopped:
         stopped.send_signal(signal.SIGSTOP)
-        for title, waiting in (("a server that stands still", []), ("a server that lets nobody in", fill_backlog())):
+        for title, waiting in (("a server that stands still", []), ("a server that lets nobody in", fill_backlog(SOCKET))):
             for words in (["status"], ["send", "--to", "5", FILE], ["--wait-for-server", "1", "status"]):
                 run = ctl(*words)
                 check(f"{title}, {words}", run, 1, b"", b"no server answers" if waiting else b"")

@@ -34,6 +34,20 @@ def until(holds, what, seconds=20):
         time.sleep(0.02)
 
 
+def fill_backlog(path):
+    """Clients that wait to be let in at a socket, until no other can."""
+    waiting = []
+    while len(waiting) < 10_000:
+        client = socket.socket(socket.AF_UNIX)
+        client.setblocking(False)
+        waiting.append(client)
+        try:
+            client.connect(path)
+        except BlockingIOError:
+            break
+    return waiting
+
+
 class Client:
     """A client of the socket, with its answers and its events."""
 

@@ -14,6 +14,8 @@ import tempfile
 import threading
 import time
 
+from support import fill_backlog
+
 web = sys.argv[1]
 here = os.path.dirname(os.path.abspath(__file__))
 folder = tempfile.TemporaryDirectory()
@@ -236,25 +238,11 @@ def many(port):
     check(f"500 requests over 20 connections ({time.time() - begun:.2f} s)", not wrong)
 
 
-def fill_backlog():
-    """Clients that wait to be let in by the station, until no other can."""
-    waiting = []
-    while len(waiting) < 10_000:
-        client = socket.socket(socket.AF_UNIX)
-        client.setblocking(False)
-        waiting.append(client)
-        try:
-            client.connect(control)
-        except BlockingIOError:
-            break
-    return waiting
-
-
 def stopped(port, station):
     """A station that stands still, and lets nobody in any more: each route is answered in time, however many ask."""
     station.send_signal(signal.SIGSTOP)
     time.sleep(0.6)
-    for title, waiting in (("a station that stands still", []), ("a station that lets nobody in", fill_backlog())):
+    for title, waiting in (("a station that stands still", []), ("a station that lets nobody in", fill_backlog(control))):
         seen = []
 
         def visit(target, wanted, most):
