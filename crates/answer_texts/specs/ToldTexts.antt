@@ -1,4 +1,4 @@
--- Meaning. What is printed for what a user is told.
+-- Meaning. The text that is printed for a user's indications.
 use Rattle.std.specs.Prelude.{ℕ, ◌==◌, if◌then◌else◌, List, [], ◌++◌, codes, decimal, length}
 use Rattle.std.specs.List.{flat_map}
 use Rattle.hex.specs.Hex.{encode_lower}

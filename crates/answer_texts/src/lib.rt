@@ -1,4 +1,4 @@
-//! What is printed of an entity's answers: lines for what its users are told, and for events that were taken or
+//! What is printed of an entity's answers: lines for the indications of its users, and for events that were taken or
 //! refused.
 #![tactic(auto)]
 

@@ -1,4 +1,4 @@
-//! The texts of what a user is told. Each function adds to a text; after an `Err` the text is no answer.
+//! The texts of a user's indications. Each function adds to a text; after an `Err` the text is no answer.
 ghost use Rattle.std.specs.Prelude.{◌≡◌, ◌++◌, IfOk, OnOk, string_bytes, codes, decimal};
 ghost use Rattle.answer_texts.specs.ToldTexts.{bundle_text, line_head, indication_text, operands_text, finished_text, metadata_text, segment_text, report_text, fault_text, messages_text, hex_word};
 

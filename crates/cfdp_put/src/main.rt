@@ -1,4 +1,4 @@
-//! Sends one file by CFDP over UDP, and prints what its user is told.
+//! Sends one file by CFDP over UDP, and prints the indications of its user.
 #![tactic(auto)]
 
 use cfdp_send::{Outputs, put_one, tell_words_fault};

@@ -21,13 +21,13 @@ const SOON: EntityText<'static> = EntityText {
     ..ENTITY_ONE
 };
 
-// What is shown of a file that nobody answers: a line that is written over, and one more below what its user is told meanwhile.
+// What is shown of a file that nobody answers: a line that is written over, and one more below the indications so far.
 const SHOWN: &str = "\r3 of 3 octets sent, the end is awaited
 \r3 of 3 octets sent, the end is awaited
 ";
 
 // Puts that nobody at the remote's address answers: in class 2 the file is not acknowledged, and in class 1 with closure nobody
-// says what became of it. What the user is told of each.
+// says what became of it. The user's indications of each.
 const UNANSWERED: [(&str, &str); 2] = [
     (
         "cfdp_put --config nobody --bind 127.0.0.1:0 --user alice --remote 2 --class 2 n b",

@@ -25,7 +25,7 @@ struct Sent {
     trace: &'static [u8],
 }
 
-// The exit status of a put, and what the server's user was told of it, as the server printed it.
+// The exit status of a put, and its indications to the server's user, as the server printed them.
 #[derive(Drop)]
 struct Went {
     status: u8,
@@ -134,7 +134,7 @@ fn put_each<R: Threads + Wait + Clock + Net + Files + AllocGlobal + Copy + Drop 
     Some(went)
 }
 
-// The exit status of each put, and what the server's user is told last.
+// The exit status of each put, and the last indication to the server's user.
 const ENDS: [(u8, &str); 3] = [
     (0, "alice 1 4 Transaction-Finished 0 complete retained\n"),
     (2, "alice 1 8 Transaction-Finished 0 complete retained\n"),

@@ -19,7 +19,7 @@ const PDUS: [&[u8]; 3] = [
     b"\x24\x00\x0a\x00\x01\x05\x02\x04\x00abc\x00\x00\x00\x00\x03",
 ];
 
-// All three came, and its end was not told.
+// All three came, and its end was not indicated.
 const TRACE: &[u8] = b"trace 1 5\n";
 
 const OPEN: &str = "trace 3 open";
@@ -73,8 +73,8 @@ fn await_file<R: Files + Clock + AllocGlobal>(rt: &R, path: &str, octets: &[u8])
     false
 }
 
-// A user's queue is full, so the end of a file that is in the folder can't be told, and is tried again and again: the server
-// ends all the same.
+// A user's queue is full, so the end of a file that is in the folder can't be indicated, and is tried again and again:
+// the server ends all the same.
 #[test]
 fn quit_before_an_end_is_told(rt: HostRuntime) -> Result<(), Fail> {
     let alloc: Global = rt.alloc();

@@ -1,4 +1,4 @@
--- Meaning. What the program ends with, by what its user is told.
+-- Meaning. What the program ends with, by the indications of its user.
 use Rattle.std.specs.Prelude.{ℕ, ◌==◌, ◌&&◌, Bool, true, false, if◌then◌else◌, List, [], ◌∷◌, Option, Some, None}
 use Rattle.std.specs.Option.{option_or}
 use Rattle.cfdp_types.specs.declared.key.TxnKey.{TxnKey}
@@ -19,7 +19,7 @@ end_status (told.TransactionFinished condition delivery status) = Some (if (cond
 end_status (told.Abandoned condition progress) = Some 2
 end_status _ = None
 
--- by the first end that is told
+-- by the first end that is indicated
 abbrev pub status_in : List Indication → Option ℕ
 status_in [] = None
 status_in (first ∷ later) = option_or (end_status first) (status_in later)

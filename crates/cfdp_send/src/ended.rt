@@ -1,4 +1,4 @@
-//! What the program ends with, by what its user is told.
+//! What the program ends with, by the indications of its user.
 ghost use Rattle.std.specs.Prelude.{◌≡◌};
 ghost use Rattle.cfdp_send.specs.Ended.{end_status, status_in, status_of};
 

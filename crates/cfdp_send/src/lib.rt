@@ -1,4 +1,4 @@
-//! One put: an entity over datagrams that sends one file, and prints what its user is told.
+//! One put: an entity over datagrams that sends one file, and prints the indications of its user.
 #![tactic(auto)]
 
 mod ended;

@@ -1,4 +1,4 @@
-//! What the program prints while it works: what its user is told, and how far the file is.
+//! What the program prints while it works: the indications of its user, and how far the file is.
 ghost use Rattle.std.specs.Prelude.{◌≡◌, ◌++◌, OnOk};
 ghost use Rattle.std.specs.String.{string_bytes};
 ghost use Rattle.cfdp_send.specs.Progress.{awaited_text, percent_of, progress_text};
@@ -7,8 +7,8 @@ use program_start::{ProgramFault, print};
 use std::alloc::{AllocError, Global};
 use std::io::Write;
 
-/// Where a run prints what its user is told, and, where that is wanted, a line of how far the file is. That line is written over
-/// until something else is to be printed.
+/// Where a run prints its user's indications, and, where that is wanted, a line of how far the file is. That line is
+/// written over until something else is to be printed.
 #[derive(Drop)]
 pub struct Outputs<W: Drop, P: Drop> {
     writer: W,
@@ -27,7 +27,7 @@ impl<W: Write + Drop, P: Write + Drop> Outputs<W, P> {
         }
     }
 
-    /// Prints what the user is told, below the line of progress.
+    /// Prints the user's indications below the line of progress.
     pub(crate) fn tell(&mut self, text: &str) -> Result<(), ProgramFault> {
         if !text.is_empty() {
             self.end_line();

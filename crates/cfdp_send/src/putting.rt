@@ -22,10 +22,10 @@ use std::sync::Wait;
 use std::thread::Threads;
 use std::time::Clock;
 
-/// Puts one file from its user's first lane by the command line, whose first word is the program's own name, and prints what
-/// the user is told to the outputs until the transaction has ended. The result is the exit status: 0 where the receiver has the
-/// whole file, 2 after another end, and 1 where the program ended too early, which `errors` then tells. Where a person reads
-/// `errors`, a second line there explains the fault, as it does after a check of the configuration.
+/// Puts one file from its user's first lane by the command line, whose first word is the program's own name. Prints the
+/// user's indications to the outputs until the transaction has ended. The result is the exit status: 0 where the
+/// receiver has the whole file, 2 after another end, and 1 where the program ended too early, which `errors` tells.
+/// Where a person reads `errors`, a second line there explains the fault, as after a check of the configuration.
 pub fn put_one<
     R: Threads + Wait + Net + Clock + Files + AllocGlobal + Copy + Drop + Send + Sync,
     W: Write + Drop,
@@ -246,12 +246,12 @@ fn wanted_by<R: Files>(
         words.source.as_bytes(),
         words.target.as_bytes(),
         &[],
-        file.as_slice(),
+        &[],
     );
     match put {
         Ok(put) => Ok(Wanted {
             user,
-            put: put.with_closure(words.closure),
+            put: put.with_file(file).with_closure(words.closure),
             octets_a_second: words.rate,
             sources: if words.known_sources {
                 Sources::KnownAlone

@@ -233,7 +233,7 @@ impl<
             }
         };
         let size = file.as_slice().len() as u64;
-        match self.request_for(put, file.as_slice()) {
+        match self.request_for(put, file) {
             Ok(request) => self.put_covered(put, size, queued, request, text),
             Err(PutFault::NoMemory) => {
                 push_no_memory(text)?;
@@ -247,7 +247,7 @@ impl<
     }
 
     // What the entity is asked for a Put, with room for its file.
-    fn request_for(&mut self, put: &PutCommand, file: &[u8]) -> Result<Request, PutFault> {
+    fn request_for(&mut self, put: &PutCommand, file: Octets) -> Result<Request, PutFault> {
         let request = PutRequest::new(
             self.alloc,
             put.destination,
@@ -255,8 +255,9 @@ impl<
             put.source.as_slice(),
             put.target.as_slice(),
             &[],
-            file,
-        )?;
+            &[],
+        )?
+        .with_file(file);
         match self.station.reserve() {
             Ok(()) => Ok(Request::Put(put.lane, request.with_closure(put.closure))),
             Err(AllocError) => Err(PutFault::NoMemory),

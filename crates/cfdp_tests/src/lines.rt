@@ -209,8 +209,8 @@ fn writes(rt: HostRuntime) {
     }
 }
 
-// Whether the writer gets this at the end of a run, this is told beside it, and this is the exit status. Both writers take two
-// octets at a time.
+// Whether the writer gets this at the end of a run, this is written beside it, and this is the exit status. Both
+// writers take two octets at a time.
 fn ends_so(
     alloc: Global,
     ended: Result<(), ReplayFault>,

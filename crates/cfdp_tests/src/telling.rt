@@ -15,7 +15,7 @@ fn metadata(alloc: Global) -> Result<Indication, AllocError> {
         source: EntityId(1),
         size: 3,
         source_name,
-        destination_name: Octets::new(alloc),
+        destination_name: Octets::new(),
         messages: Messages::new(alloc),
     })
 }

@@ -62,15 +62,15 @@ fn copied(alloc: Global) -> Result<Vec<u8>, AllocError> {
 
 #[test]
 fn octets(rt: HostRuntime) -> Result<(), Fail> {
-    let octets = Octets::from_vec(copied(rt.alloc())?);
+    let octets = Octets::from_vec(copied(rt.alloc())?)?;
     assert!(rt; octets.as_slice() == b"abc".as_slice());
-    assert!(rt; Octets::new(rt.alloc()).as_slice().is_empty());
+    assert!(rt; Octets::new().as_slice().is_empty());
     Ok(())
 }
 
 fn push_both(alloc: Global, messages: &mut Messages) -> Result<(), AllocError> {
     messages.push(Octets::from_slice(alloc, b"abc")?)?;
-    messages.push(Octets::new(alloc))
+    messages.push(Octets::new())
 }
 
 #[test]

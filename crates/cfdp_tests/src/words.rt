@@ -76,8 +76,8 @@ fn receiver_of_a_whole_file(rt: HostRuntime) -> Result<(), Fail> {
     let metadata = Indication::MetadataRecv {
         source: EntityId(1),
         size: 12,
-        source_name: Octets::new(rt.alloc()),
-        destination_name: Octets::new(rt.alloc()),
+        source_name: Octets::new(),
+        destination_name: Octets::new(),
         messages: Messages::new(rt.alloc()),
     };
     assert!(rt; reader.next(&metadata) == Ok(()));

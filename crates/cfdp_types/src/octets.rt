@@ -3,14 +3,15 @@ ghost use Rattle.std.proofs.lemmas.Cmp.{nat_list_eq_equiv};
 ghost use Rattle.std.specs.Cmp as Cmp;
 ghost use lib.Pointwise.{pointwise};
 
+use bytes::Bytes;
 use std::alloc::{AllocError, Global};
 use std::marker::Model;
 
-/// Octets without a meaning of their own, such as a name or a part of a file. Contracts see their
-/// list.
+/// Octets without a meaning of their own, such as a name or a part of a file. Copies and parts
+/// share one block of memory, which is given back with the last of them. Contracts see their list.
 #[derive(Debug, Drop)]
 pub struct Octets {
-    items: Vec<u8>,
+    items: Bytes<Global>,
 }
 
 impl Model for Octets {
@@ -18,43 +19,56 @@ impl Model for Octets {
 
     ghost Value = { List ℕ };
 
-    ghost view = { λ o. o.items.items };
+    ghost view = { λ o. o.items };
 }
 
 impl Octets {
-    pub fn new(alloc: Global) -> Octets
+    ghost use Rattle.std.specs.Prelude.{◌≤◌, slice_range};
+
+    pub fn new() -> Octets
         ensures { result ≡ [] }
     {
         Octets {
-            items: Vec::new(alloc),
+            items: Bytes::new(),
         }
     }
 
+    /// Copies the octets into memory of their own.
     pub fn from_slice(alloc: Global, octets: &[u8]) -> Result<Octets, AllocError>
         ensures { IfOk result (λ o. o ≡ octets.now) }
     {
         Ok(Octets {
-            items: Vec::from_slice(alloc, octets)?,
+            items: Bytes::copy_from_slice(alloc, octets)?,
         })
     }
 
-    pub fn from_vec(items: Vec<u8>) -> Octets
-        ensures { result ≡ items.items }
+    /// Takes the octets without copying them.
+    pub fn from_vec(items: Vec<u8>) -> Result<Octets, AllocError>
+        ensures { IfOk result (λ o. o ≡ items.items) }
     {
-        Octets { items }
+        Ok(Octets {
+            items: Bytes::from_vec(items)?,
+        })
     }
 
-    pub fn into_vec(self) -> Vec<u8>
-        ensures { result.items ≡ self }
-    {
-        self.items
-    }
-
-    /// A copy, with memory of its own.
+    /// The same octets once more, in the same memory.
     pub fn copy(&self) -> Result<Octets, AllocError>
         ensures { IfOk result (λ copy. copy ≡ self.now) }
     {
-        Octets::from_slice(*self.items.allocator(), &self.items)
+        Ok(Octets {
+            items: self.items.clone()?,
+        })
+    }
+
+    /// The octets from one up to another, in the same memory.
+    pub fn part(&self, start: usize, end: usize) -> Result<Octets, AllocError>
+        requires ordered { start ≤ end }
+        requires inside { end ≤ length self.now }
+        ensures { IfOk result (λ part. part ≡ slice_range self.now start end) }
+    {
+        Ok(Octets {
+            items: self.items.slice(start..end)?,
+        })
     }
 
     pub fn as_slice(&self) -> &[u8]
@@ -67,7 +81,6 @@ impl Octets {
 impl Clone for Octets {
     ghost is_clone = { λ octets copy. copy ≡ octets };
 
-    // In one piece: a derived one goes octet by octet.
     fn clone(&self) -> Result<Octets, AllocError> {
         self.copy()
     }

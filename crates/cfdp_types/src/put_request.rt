@@ -159,7 +159,7 @@ impl PutRequest {
         })
     }
 
-    /// A copy, with memory of its own.
+    /// A copy, which shares the octets.
     pub fn copy(&self) -> Result<PutRequest, AllocError>
         ensures { IfOk result (λ copy. copy ≡ self.now) }
     {
@@ -187,6 +187,21 @@ impl PutRequest {
             destination_name: self.destination_name,
             messages: self.messages,
             file: self.file,
+        }
+    }
+
+    /// This request, with another file. The octets are taken as they are, not copied.
+    pub fn with_file(self, file: Octets) -> PutRequest
+        ensures { result ≡ record self { file = file } }
+    {
+        PutRequest {
+            destination: self.destination,
+            class: self.class,
+            closure: self.closure,
+            source_name: self.source_name,
+            destination_name: self.destination_name,
+            messages: self.messages,
+            file,
         }
     }
 

@@ -25,7 +25,7 @@ use cfdp_types::limits::{REMOTES, USERS};
 use std::alloc::Global;
 use toml::Table;
 
-/// Reads the parts of a configuration, a text in TOML. The first fault in the order of the keys is told, whatever their
+/// Reads the parts of a configuration, a text in TOML. Reports the first fault in the order of the keys, whatever their
 /// order in the text; `NoMemory` says nothing of the text.
 pub fn read_parts(alloc: Global, text: &str) -> Result<ConfigParts, ConfigFault>
     ensures ok { IfOk result (λ parts. config_of text.now ≡ Ok (parts_shown parts)) }

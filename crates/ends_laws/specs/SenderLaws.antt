@@ -32,7 +32,7 @@ pub record IsFinished (event : Event) (condition : ℕ) (status : FileStatus) : 
     body = body.Finished (record { condition = condition; delivery = Complete; status = status; location = location });
   }))
 
--- the user is told of a complete delivery only at such an event
+-- a complete delivery is indicated only at such an event
 abbrev pub TellsWhatCame : Type 0
 TellsWhatCame = (sending : Sending) (entry : Entry) (front : List Entry) (condition : ℕ) (status : FileStatus) → IsLegal sending (entry ∷ front)
     → Contains entry.answer.inds (told.TransactionFinished condition Complete status)

@@ -1,4 +1,4 @@
--- Rows. A worked run in class 1 whose sender asks to be told at the end what became of the file.
+-- Rows. A worked run in class 1 whose sender asks the receiver to report at the end what became of the file.
 use Rattle.std.specs.Prelude.{◌≡◌, true, Contains, List, [], ◌∷◌, ◌++◌, None, refl}
 use Rattle.std.proofs.Common.{arith}
 use Rattle.cfdp_types.specs.declared.names.Class.TheVariants.{One}

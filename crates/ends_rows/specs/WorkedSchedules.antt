@@ -175,7 +175,7 @@ pub third_pump_refused : sender_answers.answer_at sending (sender.state_of sendi
 unfolding sender.initial sender.step sender.state_of sender_answers.answer_at receiver.initial receiver.step receiver.state_of runs_of runs_from
 third_pump_refused = refl
 
--- what the users are told
+-- the users' indications
 pub sender_told : sender.issued (sender_log (after whole)) ≡ told.Transaction ∷ told.EofSent ∷ told.TransactionFinished 0 Complete Retained ∷ []
 unfolding sender.initial sender.step sender.state_of receiver.initial receiver.step receiver.state_of runs_of runs_from
 sender_told = refl

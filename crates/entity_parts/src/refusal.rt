@@ -8,7 +8,7 @@ use txn_events::Refusal;
 /// Why an entity does not take an event, which then changes nothing.
 #[derive(Debug, Drop)]
 pub enum EntityRefusal {
-    /// No lane is told of it.
+    /// No lane gets it.
     Route(RouteRefusal),
     /// Its lane refuses it. Where memory runs out before there is a lane, this says so too.
     Lane(Refused),

@@ -43,9 +43,9 @@ NumbersTellLanes = (config : ConfigValue) (key : TxnKey) (place : Place) → IsT
     → (place_of config key ≡ Some place)
     ↔ (key.seq % config.entity.receive_lanes ≡ (place.lane - config.entity.put_lanes) % config.entity.receive_lanes)
 
--- ---- what a lane is told
+-- ---- what a lane gets
 
--- of a PDU, a lane is told under the PDU's own key
+-- a lane gets a PDU under the PDU's own key
 abbrev pub PdusKeepKeys : Type 0
 PdusKeepKeys = (config : ConfigValue) (pdu : PduValue) (routed : Routed) → routed_pdu config pdu ≡ Ok routed
     → routed.event ≡ On (key_of_header pdu.header) (what.Pdu pdu)

@@ -1,4 +1,4 @@
--- Meaning. Which lane is told of what happens to an entity, and what it is told; or why none is.
+-- Meaning. Which lane gets what happens to an entity, and as which event; or why none does.
 use Rattle.std.specs.Prelude.{ℕ, Bool, true, false, not, ◌==◌, ◌&&◌, if◌then◌else◌, find, Option, Some, None, Result, Ok, Err}
 use Rattle.cfdp_types.specs.declared.key.TxnKey.{TxnKey}
 use Rattle.cfdp_types.specs.declared.key.EntityId.{EntityId}
@@ -25,7 +25,7 @@ use Rattle.entity_routing.specs.declared.world_event.WorldEvent.{WorldEvent}
 use Rattle.entity_routing.specs.declared.world_event.WorldEvent.TheVariants as events
 use Rattle.entity_routing.specs.Places.{is_local, place_of}
 
--- a lane, and the event that it is told
+-- a lane, and the event that it gets
 pub record Routed : Type 0 where
   pub place : Place
   pub event : Event
@@ -131,7 +131,7 @@ routed_request config user (requests.Abandon key) = routed_own config user key w
 abbrev pub routed_key : ConfigValue → TxnKey → What → Result Routed RouteRefusal
 routed_key config key happens = routed_on key happens (key_place config key)
 
--- the lane that is told of what happens, and what it is told
+-- the lane that gets what happens, and the event that it gets
 abbrev pub route : ConfigValue → WorldEvent → Result Routed RouteRefusal
 route config (events.Request user request) = routed_request config user request
 route config (events.Deliver octets) = routed_reading config (reading octets)

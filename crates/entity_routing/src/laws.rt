@@ -28,7 +28,7 @@ pub fn ways()
     ensures { PdusGoTheirWay }
 {}
 
-/// A lane is told of a PDU under the PDU's own key.
+/// A lane gets a PDU under the PDU's own key.
 pub fn keys()
     ensures { PdusKeepKeys }
 {}

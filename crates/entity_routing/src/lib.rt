@@ -1,4 +1,4 @@
-//! Where what happens to an entity goes: which lane of which user is told of it, or why none is.
+//! Where what happens to an entity goes: which lane of which user gets it, or why none does.
 #![tactic(auto)]
 
 pub mod laws;

@@ -3,7 +3,7 @@ ghost use Rattle.entity_routing.specs.Refusal.{refusal_name, refusal_number};
 
 use pdu_reading::DecodeFault;
 
-/// Why no lane is told of what happens: the first that applies. It then changes nothing.
+/// Why no lane gets what happens: the first that applies. It then changes nothing.
 #[derive(Clone, Copy, Debug, PartialEq, Eq)]
 pub enum RouteRefusal {
     /// The octets are no PDU that the entity takes.

@@ -1,4 +1,4 @@
-//! Which lane is told of what happens to a transaction, and what a caller takes from an event to tell it.
+//! Which lane gets what happens to a transaction, and what a caller takes from an event to tell it.
 ghost use Rattle.std.specs.Prelude.{◌≡◌, ◌<◌};
 ghost use Rattle.std.specs.Option.{option_map};
 ghost use Rattle.cfdp_types.specs.declared.limits.TheConstants.{REMOTES};

@@ -24,13 +24,13 @@ abbrev pub MayBeTold : (ℕ → TableId) → ConfigValue → Deposit → Bool �
 MayBeTold queue config deposit kept result =
     MayAnswer queue HasStepped (routed_key config deposit.key (what.Stored deposit.stamp kept)) result
 
--- why a lane is not told: the call is refused, or its lane refuses the event
+-- why a lane is not notified: the call is refused, or its lane refuses the event
 abbrev pub IsNotTold : (ℕ → TableId) → ConfigValue → Deposit → Bool → EntityRefusal → Type 0
 IsNotTold queue config deposit kept why =
     MayBeTold queue config deposit kept (Err why)
     ⊎ ((refused : Refused) × (why ≡ answer.Lane refused) × MayBeTold queue config deposit kept (Ok (Err refused)))
 
--- the lane of a deposit was told whether its file is kept, or that is left to be done
+-- the lane of a deposit was notified whether its file is kept, or that is left to be done
 abbrev pub IsHandedIn : (ℕ → TableId) → ConfigValue → Deposit → Bool → Result Done DepositRest → Type 0
 IsHandedIn queue config deposit kept (Ok done) = MayBeTold queue config deposit kept (Ok (Ok done))
 IsHandedIn queue config deposit kept (Err rest) =
@@ -61,7 +61,7 @@ IsBegun queue config asks deposit before after None why =
 IsBegun queue config asks deposit before after (Some kept) why =
     HasAnswered queue config asks deposit kept before after × IsNotTold queue config deposit kept why
 
--- a deposit was made: the store was asked and the lane was told what it answered; or the rest says what is left
+-- a deposit was made: the store was asked and the lane got the store's answer; or the rest says what is left
 abbrev pub IsDeposited : {S : Type 0} → (ℕ → TableId) → ConfigValue → Asking S → Deposit → S → Result Done DepositRest → S → Type 0
 IsDeposited queue config asks deposit before (Ok done) after =
     (kept : Bool) × HasAnswered queue config asks deposit kept before after × MayBeTold queue config deposit kept (Ok (Ok done))

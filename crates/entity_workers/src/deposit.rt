@@ -1,4 +1,4 @@
-//! A received file goes into a store, and its lane is told whether the store keeps it.
+//! A received file goes into a store, and its lane is notified whether the store keeps it.
 ghost use Rattle.std.specs.Prelude.{◌≡◌, ◌<◌, MatchOption, MatchResult};
 ghost use Rattle.entity_workers.specs.Depositing.{IsAskedOnce, HasAnswered, IsHandedIn, IsDeposited};
 ghost use Rattle.entity_routing.specs.Routes.{key_place};

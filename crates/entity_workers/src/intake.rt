@@ -37,8 +37,8 @@ impl Intake {
 }
 
 impl IntakeSend {
-    /// Takes a datagram, and waits for room. What octets are not read as a PDU is told first, then want of memory, and last
-    /// that no worker is left to receive.
+    /// Takes a datagram, and waits for room. Octets that are not read as a PDU are reported first, then want of memory,
+    /// and last that no worker is left to receive.
     pub fn send<R: Wait>(&self, rt: &R, octets: &[u8]) -> Result<(), IntakeFault>
         ensures why { IfErr result (IsNotTaken (reading octets.now)) }
         ensures unread { IsErr (reading octets.now) → IsErr result }

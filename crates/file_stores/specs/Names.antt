@@ -32,7 +32,7 @@ pub record IsFileName (name : List ℕ) : Type 0 where
   pub plain : IsTrue (is_plain_name name)
   pub text : IsUtf8 name
 
--- a bad name fails as such; what a folder holds isn't told
+-- a bad name fails as such; nothing is said of what a folder holds
 pub record FolderDeposits (before : Counts) (name octets : List ℕ) (result : Result (Unit {0}) StoreFault) (after : Counts) : Type 0 where
   pub ok : OnOk result (IsFileName name)
   pub bad_name : (result ≡ Err BadName) ↔ ¬ (IsFileName name)

@@ -21,7 +21,7 @@ const REFUSALS: &[u8] = &[1, 2, 3, 20, 21, 22, 23];
 
 const RARE_REFUSALS: &[u8] = &[4, 8, 10, 13];
 
-// How many datagrams an entity is told of before another begins.
+// How many datagrams an entity gets before another begins.
 const TURNS: u32 = 200;
 
 /// Reads so many. One that is read has to be read again from what is written for it.
@@ -86,7 +86,7 @@ fn sending(alloc: Global) -> Result<World, Fault> {
     Ok(world)
 }
 
-// A datagram comes; a file that is whole is kept, and users take what they are told.
+// A datagram comes; a file that is whole is kept, and users take their indications.
 fn deliver(
     alloc: Global,
     seen: &mut Seen,

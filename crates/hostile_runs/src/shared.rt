@@ -43,7 +43,7 @@ const EMPTY_FILES: [(&str, &[u8]); 4] = [
 // How many bundles the first user may take, and one more.
 const TAKES: u32 = 8;
 
-/// Opens queues, and an entity over them, which is told of files.
+/// Opens queues, and an entity over them, which gets events of files.
 pub(crate) fn play<R: Threads + Wait + Copy + Send + Sync>(
     rt: R,
     alloc: Global,

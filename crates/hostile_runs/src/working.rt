@@ -92,7 +92,7 @@ fn filled<R: Wait>(rt: &R, alloc: Global) -> Result<IntakeEnd, Fault> {
     Ok(end)
 }
 
-/// A worker brings the datagram to its lane. A thread that finds no memory is not started, and that is told as such.
+/// A worker brings the datagram to its lane. A thread that finds no memory is not started, which is reported as such.
 pub(crate) fn carry<N: Names + Send + Sync, R: Threads + Wait + Copy + Send + Sync>(
     rt: &R,
     alloc: Global,

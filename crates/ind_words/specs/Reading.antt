@@ -14,7 +14,7 @@ abbrev pub room_left : Option Segments → ℕ
 room_left None = 0
 room_left (Some segments) = segments.left
 
--- whether an offset was told of
+-- whether an offset was indicated
 abbrev pub covers : Option Segments → ℕ → Bool
 covers None i = false
 covers (Some segments) i = covered segments.offsets i

@@ -6,7 +6,7 @@ ghost use Rattle.ind_words.specs.Marks.{marks_of};
 use cfdp_types::Delivery;
 use indications::{Indication, IndicationKind};
 
-/// What the kinds of the indications that were told say of what may be told next.
+/// What the kinds of the issued indications say of what may be issued next.
 #[derive(Clone, Copy)]
 pub struct Marks {
     pub opened: bool,
@@ -65,7 +65,7 @@ impl Marks {
         }
     }
 
-    /// Whether a sender that has told no end may tell the indication next.
+    /// Whether a sender that has issued no end may issue the indication next.
     pub fn allow_sender(self, indication: &Indication) -> bool
         ensures exact { (before : List Indication) → self ≡ marks_of before
             → (IsTrue result ↔ IsNextOfSender before indication.now) }
@@ -82,7 +82,7 @@ impl Marks {
         }
     }
 
-    /// Whether a receiver that has told no end may tell the indication next, if it is no segment:
+    /// Whether a receiver that has issued no end may issue the indication next, if it is no segment:
     /// the caller says whether the segments are all offsets below some size.
     pub fn allow_receiver(self, indication: &Indication, initial: bool) -> bool
         ensures exact { (before : List Indication) → self ≡ marks_of before → (IsTrue initial ↔ IsFilled before)

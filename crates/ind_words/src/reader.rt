@@ -98,7 +98,7 @@ impl WordReader {
         true
     }
 
-    // Whether a side that has told no end may tell the indication. The offsets of a segment are
+    // Whether a side that has issued no end may issue the indication. The offsets of a segment are
     // taken at once, and no mark is.
     fn allow(&mut self, indication: &Indication) -> bool
         ensures exact { (side : Side) (room : ℕ) (before : List Indication) → Knows self.old side room before

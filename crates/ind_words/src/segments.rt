@@ -1,4 +1,4 @@
-//! The file segments that were told of, as a set of offsets in reserved room.
+//! The file segments that were indicated, as a set of offsets in reserved room.
 ghost use Rattle.std.specs.Prelude.{◌≡◌, ℕ, ◌+◌, ◌<◌, ◌≤◌, ◌↔◌, true, false, IsTrue, IfOk};
 ghost use Rattle.gap_list.specs.Covered.{covered};
 ghost use Rattle.gap_list.specs.Runs.{SameSet, with_range, IsFree};

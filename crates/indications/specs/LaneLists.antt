@@ -41,16 +41,16 @@ tells bundle = not (length bundle.inds == 0)
 abbrev pub side_by : Indication → Side
 side_by first = if is_transaction first then Sender else Receiver
 
--- the side of a transaction here, by what it told first
+-- the side of a transaction here, by its first indication
 abbrev pub side_of : List Indication → Side
 side_of [] = Receiver
 side_of (first ∷ rest) = side_by first
 
--- what a transaction has told so far is the beginning of its side's word
+-- a transaction's indications so far are the beginning of its side's word
 abbrev pub IsBegunGroup : List Indication → Type 0
 IsBegunGroup told = IsBegunOf (side_of told) told
 
--- what a transaction has told is a word of its side
+-- a transaction's indications are a word of its side
 abbrev pub IsWordGroup : List Indication → Type 0
 IsWordGroup told = IsWordOf (side_of told) told
 

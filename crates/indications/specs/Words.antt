@@ -12,11 +12,11 @@ use Rattle.indications.specs.declared.side.Side.{Side}
 use Rattle.indications.specs.declared.side.Side.TheVariants.{Sender, Receiver}
 use Rattle.indications.specs.Kinds.{kind_of, is_ending, is_complete_end, is_opening, is_eof_sending, is_metadata_reception, is_eof_reception, is_segment_reception, is_resumption, has_octet, suspended_behind}
 
--- the user is told that the transaction is over
+-- indicates that the transaction is over
 abbrev pub is_end : Indication → Bool
 is_end indication = is_ending (kind_of indication)
 
--- the user is told that the file is complete
+-- indicates that the file is complete
 abbrev pub is_complete : Indication → Bool
 is_complete indication = is_complete_end (kind_of indication)
 
@@ -49,25 +49,25 @@ is_fault _ = false
 abbrev pub is_segment : Indication → Bool
 is_segment indication = is_segment_reception (kind_of indication)
 
--- the user is told of the octet at this offset
+-- indicates the octet at this offset
 abbrev pub tells_of : ℕ → Indication → Bool
 tells_of i indication = has_octet i (kind_of indication)
 
--- of Suspended and Resumed the last was Suspended; what was told stands newest first
+-- of Suspended and Resumed the last was Suspended; the issued indications stand newest first
 abbrev pub is_paused : List Indication → Bool
 is_paused [] = false
 is_paused (indication ∷ before) = suspended_behind (kind_of indication) (is_paused before)
 
--- whether it is suspended once these are told too, which stand oldest first
+-- whether it is suspended once these are issued too, which stand oldest first
 abbrev pub paused_after : Bool → List Indication → Bool
 paused_after paused [] = paused
 paused_after paused (indication ∷ later) = paused_after (suspended_behind (kind_of indication) paused) later
 
--- no octet of these offsets was told of before
+-- no octet of these offsets was indicated before
 abbrev pub IsNew : List Indication → ℕ → ℕ → Type 0
 IsNew before offset length = (i : ℕ) → offset ≤ i → i < offset + length → list_any (tells_of i) before ≡ false
 
--- the segments told of are all offsets below some size
+-- the indicated segments are all offsets below some size
 abbrev pub IsFilled : List Indication → Type 0
 IsFilled before = (size : ℕ) × ((i : ℕ) → IsTrue (list_any (tells_of i) before) ↔ (i < size))
 
@@ -76,7 +76,7 @@ abbrev pub MayFinish : List Indication → Delivery → Type 0
 MayFinish before Incomplete = Unit {0}
 MayFinish before Complete = IsTrue (list_any is_metadata before) × IsTrue (list_any is_eof before) × IsFilled before
 
--- what kind a receiver may tell next, where it has not told an end; what was told before stands newest first
+-- what kind a receiver may issue next, where it has issued no end; the indications before stand newest first
 abbrev pub IsNextKind : List Indication → IndicationKind → Type 0
 IsNextKind before kind.Opening = ⊥
 IsNextKind before kind.EofSent = ⊥
@@ -97,7 +97,7 @@ IsNext before next = IsNextKind before (kind_of next)
 abbrev pub IsOpened : List Indication → Type 0
 IsOpened before = IsTrue (list_any is_transaction before)
 
--- what kind a sender may tell next, where it has not told an end: Transaction at the start, and nothing before it
+-- what kind a sender may issue next, where it has issued no end: Transaction at the start, and nothing before it
 abbrev pub IsNextKindOfSender : List Indication → IndicationKind → Type 0
 IsNextKindOfSender before kind.Opening = list_any is_transaction before ≡ false
 IsNextKindOfSender before kind.EofSent = IsOpened before × (list_any is_eof_sent before ≡ false)
@@ -113,17 +113,17 @@ IsNextKindOfSender before kind.Notice = IsOpened before
 abbrev pub IsNextOfSender : List Indication → Indication → Type 0
 IsNextOfSender before next = IsNextKindOfSender before (kind_of next)
 
--- what a side may tell next, where it has not told an end
+-- what a side may issue next, where it has issued no end
 abbrev pub IsNextOf : Side → List Indication → Indication → Type 0
 IsNextOf Sender = IsNextOfSender
 IsNextOf Receiver = IsNext
 
--- what was told, newest first, and then what is told, oldest first
+-- what was issued, newest first, and then what is issued, oldest first
 abbrev pub told_onto : List Indication → List Indication → List Indication
 told_onto before [] = before
 told_onto before (next ∷ rest) = told_onto (next ∷ before) rest
 
--- each of these may be told after those before it, which stand newest first, and nothing after an end
+-- each of these may be issued after those before it, which stand newest first, and nothing after an end
 abbrev pub MayFollowOf : Side → List Indication → List Indication → Type 0
 MayFollowOf side before [] = Unit {0}
 MayFollowOf side before (next ∷ rest) =

@@ -20,7 +20,7 @@ pub enum Phase {
     Closing,
 }
 
-/// What a local user is told of a transaction (CCSDS 727.0-B-5, 3.4).
+/// An indication of a transaction to a local user (CCSDS 727.0-B-5, 3.4).
 #[derive(Clone, Debug, Drop, PartialEq, Eq)]
 pub enum Indication {
     Transaction,

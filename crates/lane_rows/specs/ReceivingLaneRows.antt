@@ -274,7 +274,7 @@ pub eof_again_is_echoed : echoed (refusal_at (after fresh whole) (eof Two 5)) â‰
 unfolding initial step state_of runs_of runs_from written spelling digits width_from
 eof_again_is_echoed = refl
 
--- what is echoed, and how, is told by the PDU alone: a Finished PDU has its echo here too
+-- the PDU alone says what is echoed, and how: a Finished PDU has its echo here too
 abbrev pub finished : Event
 finished = on 5 (what.Pdu (record {
   header = record (header Two) { direction = TowardSender };

@@ -156,7 +156,7 @@ pub finished_again_is_echoed : echoed (refusal_at (after fresh whole) (on 4 (wha
 unfolding initial step state_of runs_of runs_from written spelling digits width_from
 finished_again_is_echoed = refl
 
--- what is echoed, and how, is told by the PDU alone: an EOF has its echo here too
+-- the PDU alone says what is echoed, and how: an EOF has its echo here too
 pub eof_is_echoed : echoed (refusal_at (after fresh whole) (sent_back 4 (body.Eof (eof_value 0 0x6162_6300 3)))) ≡ digits 10 0x28000300020401064002 ∷ []
 unfolding initial step state_of runs_of runs_from written spelling digits width_from
 eof_is_echoed = refl

@@ -17,21 +17,21 @@ abbrev pub IsUpTo : Option ℕ → ℕ → Type 0
 IsUpTo None number = ⊥
 IsUpTo (Some last) number = number ≤ last
 
--- what a transaction told, if it told anything, began as a transaction of this end begins
+-- a transaction's indications, if it issued any, began as a transaction of this end begins
 abbrev pub IsOfSide : Side → List Indication → Type 0
 IsOfSide side [] = Unit {0}
 IsOfSide side (first ∷ rest) = side ≡ side_by first
 
--- bundles of one lane, where of the last transaction these indications were told
+-- bundles of one lane, where the last transaction issued these indications
 pub record AreSent (side : Side) (user lane : ℕ) (source : EntityId) (last before : Option ℕ) (told : List Indication) (bundles : List Bundle) : Type 0 where
   pub list : IsLaneList user lane source bundles
   -- every transaction is one of the lane's end
   pub sided : (number : ℕ) → IsOfSide side (told_of number bundles)
-  -- what was told of the last transaction
+  -- the indications of the last transaction
   pub current : (number : ℕ) → last ≡ Some number → told_of number bundles ≡ told
   -- no number is above the last
   pub reached : All (λ bundle. IsUpTo last (number_of bundle)) bundles
-  -- every other number is at or below the one before, and what was told of it is a word
+  -- every other number is at or below the one before, and its indications are a word
   pub others : (number : ℕ) → has_number number bundles ≡ true → (last ≡ Some number → ⊥)
       → IsUpTo before number × IsWordGroup (told_of number bundles)
 

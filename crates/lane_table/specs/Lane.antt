@@ -80,7 +80,7 @@ goes_on (Some log) = not (has_ended log)
 abbrev pub is_running : State → Bool
 is_running state = goes_on (log_of state)
 
--- all that its user was told of it, in order
+-- all indications of it, in order
 abbrev pub issued_in : Option Log → List Indication
 issued_in None = []
 issued_in (Some log) = issued log

@@ -80,12 +80,12 @@ abbrev pub side_of : Log → Side
 side_of (sent sending log) = Sender
 side_of (received reception log) = Receiver
 
--- all that the user was told, in order
+-- all indications to the user, in order
 abbrev pub issued : Log → List Indication
 issued (sent sending log) = sender.issued log
 issued (received reception log) = receiver.issued log
 
--- the user was told an end
+-- an end was indicated
 abbrev pub has_ended : Log → Bool
 has_ended (sent sending log) = (sender.state_of sending log).ended
 has_ended (received reception log) = (receiver.state_of log).ended

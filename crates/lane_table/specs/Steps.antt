@@ -145,14 +145,14 @@ answer_in (Some log) = last_answer log
 abbrev pub answer_of : State → Answer
 answer_of state = answer_in (log_of state)
 
--- what a step gives, but for what the user is told
+-- what a step gives, but for the user's indications
 pub record IsDone (state : State) (done : Done) : Type 0 where
   pub key : key_of state ≡ Some done.key
   pub pdus : done.pdus ≡ (answer_of state).pdus
   pub timers : done.timers ≡ (answer_of state).timers
   pub deposit : done.deposit ≡ (answer_of state).deposit
 
--- what the user is told
+-- the user's indications
 pub record IsBundle (state : State) (bundle : Bundle) : Type 0 where
   pub user : bundle.user ≡ state.user
   pub lane : bundle.lane ≡ state.lane

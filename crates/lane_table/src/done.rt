@@ -1,7 +1,7 @@
 use cfdp_types::{Deposit, TxnKey};
 use txn_events::{Pdus, TimerOps};
 
-/// What a step gives, but for what its user is told.
+/// What a step gives, but for its user's indications.
 #[derive(Debug, Drop)]
 pub struct Done {
     /// The transaction that the step is of.

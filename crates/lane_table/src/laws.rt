@@ -10,7 +10,7 @@ pub fn words()
     ensures { TellsWords }
 {}
 
-/// A user is told of a complete delivery by a receiver only where Metadata and EOF came, every octet
+/// A receiver indicates a complete delivery only where Metadata and EOF came, every octet
 /// below the EOF's size was received and none above it, and the modular checksum agrees, unless the file has none.
 pub fn complete()
     ensures { CompletesGood }

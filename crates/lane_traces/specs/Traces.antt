@@ -15,11 +15,11 @@ abbrev pub is_end_told : Option Indication → Bool
 is_end_told None = false
 is_end_told (Some indication) = is_end indication
 
--- the last that a user was told is an end
+-- the user's last indication is an end
 abbrev pub is_over : List Indication → Bool
 is_over told = is_end_told (slice_get told (length told - 1))
 
--- how far a transaction is, by its events and by what its user was told
+-- how far a transaction is, by its events and by its indications
 abbrev pub traced_by : List Event → List Indication → Traced
 traced_by journal told = record { entries = length journal; ended = is_over told }
 
@@ -31,7 +31,7 @@ is_same_key one other = one.source.0 == other.source.0 && one.seq == other.seq
 abbrev pub is_older_than : TxnKey → TxnKey → Bool
 is_older_than last key = last.source.0 == key.source.0 && nat_lt key.seq last.seq
 
--- how far the transaction of a key is, by the key of the last transaction, its events and what its user was told
+-- how far the transaction of a key is, by the key of the last transaction, its events and its indications
 abbrev pub how_far_by : Option TxnKey → List Event → List Indication → TxnKey → Result Traced Refusal
 how_far_by None journal told key = Err NoTransaction
 how_far_by (Some last) journal told key =
@@ -43,7 +43,7 @@ how_far_by (Some last) journal told key =
 abbrev pub how_far : State → TxnKey → Result Traced Refusal
 how_far state key = how_far_by (key_of state) state.journal (issued_by state) key
 
--- what is told of how far a transaction is holds of the log that a lane stands at, which is legal, under a key
+-- what is reported of how far a transaction is holds of the log that a lane stands at, which is legal, under a key
 pub record IsHowFar (state : State) (key : TxnKey) (traced : Traced) : Type 0 where
   pub log : Log
   pub log_is : log_of state ≡ Some log

@@ -12,12 +12,12 @@ use txn_events::{Event, Refusal};
 pub struct Traced {
     /// The number of its events that were taken.
     pub entries: u32,
-    /// Whether its user was told its end.
+    /// Whether its end was indicated.
     pub ended: bool,
 }
 
 /// How far the transaction of a key is at a lane, by the key of the lane's last transaction, that transaction's events, of
-/// which a lane has no more than a journal may have, and all that its user was told of it. It looks at the last indication
+/// which a lane has no more than a journal may have, and all its indications. It looks at the last indication
 /// alone. A number above the last is refused with `NoTransaction`, one below with `OldTransaction`.
 pub fn how_far(
     last: Option<TxnKey>,
@@ -38,7 +38,7 @@ pub fn how_far(
     }
 }
 
-// How far a transaction is, by its events and by what its user was told.
+// How far a transaction is, by its events and by its indications.
 fn told_by(journal: &[Event], told: &[Indication]) -> Traced
     requires { length journal.now ≤ JOURNAL_ENTRIES }
     ensures { result ≡ traced_by journal.now told.now }
@@ -49,7 +49,7 @@ fn told_by(journal: &[Event], told: &[Indication]) -> Traced
     }
 }
 
-// Whether the last that a user was told is an end.
+// Whether the user's last indication is an end.
 fn is_over(told: &[Indication]) -> bool
     ensures { result ≡ is_over told.now }
 {

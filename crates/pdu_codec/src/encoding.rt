@@ -66,7 +66,7 @@ fn field_size(width: u8, entity_octets: u8, body: &Body) -> usize
         Body::Nak(nak) => { 1 + 2 * wide + 2 * wide * nak.requests.as_slice().len() }
         Body::Prompt(_) => 2,
         Body::KeepAlive(_) => 1 + wide,
-        Body::FileData(part) => wide + part.octets.as_slice().len(),
+        Body::FileData(segment) => wide + segment.octets.as_slice().len(),
     }
 }
 
@@ -260,17 +260,17 @@ fn put_prompt(out: &mut Vec<u8>, prompt: Prompt)
     }
 }
 
-fn put_file_data(out: &mut Vec<u8>, width: u8, part: &FileData)
+fn put_file_data(out: &mut Vec<u8>, width: u8, segment: &FileData)
     requires short { width ≤ 8 }
-    requires fits { spelling.FileDataFits width part.now }
-    requires room { HasRoom out.old (spelling.file_data width part.now) }
-    ensures { Writes out.old out.new (spelling.file_data width part.now) }
+    requires fits { spelling.FileDataFits width segment.now }
+    requires room { HasRoom out.old (spelling.file_data width segment.now) }
+    ensures { Writes out.old out.new (spelling.file_data width segment.now) }
 {
-    put_number(out, width, part.offset);
-    put_octets(out, part.octets.as_slice());
+    put_number(out, width, segment.offset);
+    put_octets(out, segment.octets.as_slice());
 }
 
-// The data field: a directive's code and its fields, or a part of a file.
+// The data field: a directive's code and its fields, or a file segment.
 fn put_field(out: &mut Vec<u8>, width: u8, entity_octets: u8, body: &Body)
     requires short { width ≤ 8 }
     requires fits { FieldFits width entity_octets body.now }
@@ -306,7 +306,7 @@ fn put_field(out: &mut Vec<u8>, width: u8, entity_octets: u8, body: &Body)
             put_octet(out, 12);
             put_number(out, width, keep_alive.progress);
         }
-        Body::FileData(part) => put_file_data(out, width, part),
+        Body::FileData(segment) => put_file_data(out, width, segment),
     }
 }
 

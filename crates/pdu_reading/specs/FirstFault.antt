@@ -1,5 +1,5 @@
--- Meaning. Which fault a datagram has: the first that applies. The first six are told by the octets at their
--- places; the others by what the datagram spells.
+-- Meaning. Which fault a datagram has: the first that applies. The first six show in the octets at their
+-- places; the others in what the datagram spells.
 use Rattle.std.specs.Prelude.{◌≡◌, ℕ, ◌+◌, ◌*◌, ◌/◌, Bool, true, false, ◌⊎◌, ◌&&◌, ◌||◌, not, List, [], ◌∷◌, length, drop, Option, Some, None, is_none, nat_lt, ◌==◌, if◌then◌else◌}
 use Rattle.pdu_reading.specs.declared.fault.DecodeFault.{DecodeFault}
 use Rattle.pdu_reading.specs.declared.fault.DecodeFault.TheVariants.{TooShort, BadVersion, CrcPresent, LengthMismatch, UnknownDirective, FieldCut, NoFileName, NoMemory}

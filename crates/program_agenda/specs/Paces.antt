@@ -3,7 +3,7 @@ use Rattle.std.specs.Prelude.{ℕ, ◌+◌, ◌-◌, ◌*◌, ◌/◌, min, max,
 use Rattle.std.specs.Int.{div_ceil}
 use Rattle.program_agenda.specs.declared.pace.Pace.{Pace}
 
--- a number, or the last that can be told
+-- a number, or the last that 64 bits hold
 abbrev pub told : ℕ → ℕ
 told number = min number 18446744073709551615
 

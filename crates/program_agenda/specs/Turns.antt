@@ -50,7 +50,7 @@ forgotten key sendings = without_place (key_place key sendings) sendings
 abbrev pub begun : TxnKey → List Sending → List Sending
 begun key sendings = sendings ++ record { key = key; rests_until = 0 } ∷ []
 
--- the first moment at which a file is not at rest, or the last that can be told
+-- the first moment at which a file is not at rest, or the last that 64 bits hold
 abbrev pub least_rest : List Sending → ℕ
 least_rest sendings = fold (λ least sending. min least sending.rests_until) 18446744073709551615 sendings
 

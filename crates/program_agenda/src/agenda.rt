@@ -170,7 +170,7 @@ impl<D: Drop> Agenda<D> {
         self.timers.soonest()
     }
 
-    /// The first moment at which a file is not at rest, or the last that can be told where none is under way.
+    /// The first moment at which a file is not at rest, or the last that 64 bits hold where none is under way.
     pub fn soonest_sending(&self) -> u64
         ensures { result ≡ least_rest self.now.sendings }
     {

@@ -52,7 +52,7 @@ impl Rotation {
         }
     }
 
-    /// The first file that is not at rest goes behind all others, and its transaction is told.
+    /// Puts the first file that is not at rest behind all others, and gives its transaction.
     pub fn next(&mut self, now: u64) -> Option<TxnKey>
         ensures next { result ≡ next_key now self.old }
         ensures order { self.new ≡ turned now self.old }
@@ -91,7 +91,7 @@ impl Rotation {
         }
     }
 
-    /// The first moment at which a file is not at rest, or the last that can be told where none is under way.
+    /// The first moment at which a file is not at rest, or the last that 64 bits hold where none is under way.
     pub fn soonest(&self) -> u64
         ensures { result ≡ least_rest self.now }
     {

@@ -3,7 +3,7 @@ use Rattle.std.specs.Prelude.{ℕ, ◌+◌, min, List, [], ◌∷◌}
 use Rattle.cfdp_types.specs.declared.timer_op.TimerOp.{TimerOp}
 use Rattle.cfdp_types.specs.declared.timer_op.TimerOp.TheVariants as op
 
--- the last moment that can be told
+-- the last moment that 64 bits hold
 abbrev pub last_moment : ℕ
 last_moment = 18446744073709551615
 

@@ -82,12 +82,12 @@ impl Desk {
         self.end_with(rt, LinesEnd::Over);
     }
 
-    /// No more lines come, since there was no memory for one. It is told once all lines before it were taken.
+    /// No more lines come, since there was no memory for one. It is reported once all lines before it were taken.
     pub fn fail_lines<R: Wait>(&self, rt: &R) {
         self.end_with(rt, LinesEnd::NoMemory);
     }
 
-    /// Workers could not be started, which is told once all lines that came before were taken, unless no more lines come anyway.
+    /// Workers could not be started. Reported once all earlier lines were taken, unless no more lines come anyway.
     pub fn desert<R: Wait>(&self, rt: &R) {
         self.end_with(rt, LinesEnd::Deserted);
     }

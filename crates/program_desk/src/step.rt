@@ -48,7 +48,7 @@ impl Step {
         }
     }
 
-    /// The first moment at which a timer that the step arms expires, or the last that can be told where it arms none.
+    /// The first moment at which a timer that the step arms expires, or the last that 64 bits hold where it arms none.
     pub fn soonest(&self) -> u64
         ensures { result ≡ soonest_of self.now.at self.now.timers }
     {

@@ -2,6 +2,7 @@
 ghost use Rattle.std.specs.Prelude.{◌≡◌, ◌≤◌, ◌+◌, IfOk, vec_len};
 
 use crate::fault::ProgramFault;
+use cfdp_types::Octets;
 use cfdp_types::limits::FILE_OCTETS;
 use entity_config::{Config, ConfigFault, read_config};
 use std::alloc::Global;
@@ -62,9 +63,12 @@ pub fn load_config<R: Files>(rt: &R, alloc: Global, path: &str) -> Result<Config
 }
 
 /// The octets of a plain file that is to be sent: all of them, or one more than an entity sends, which it then refuses.
-pub fn load_file<R: Files>(rt: &R, alloc: Global, path: &str) -> Result<Vec<u8>, ProgramFault> {
+pub fn load_file<R: Files>(rt: &R, alloc: Global, path: &str) -> Result<Octets, ProgramFault> {
     match fs::metadata(rt, path) {
-        Ok(found) if found.is_file() => read_up_to(rt, alloc, path, FILE_OCTETS as u64 + 1),
+        Ok(found) if found.is_file() => {
+            let octets = read_up_to(rt, alloc, path, FILE_OCTETS as u64 + 1)?;
+            Ok(Octets::from_vec(octets)?)
+        }
         Ok(_) => Err(ProgramFault::Read),
         Err(error) => Err(fault_of(&error)),
     }

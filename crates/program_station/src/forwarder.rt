@@ -138,7 +138,7 @@ pub fn forwarders_of<'a, R>(
 }
 
 /// Runs a worker for each forwarder until no datagram comes any more, or tells why not all could be started. Those that were go on
-/// as long, and the desk is told in the end.
+/// as long, and the desk learns of it in the end.
 pub fn run_forwarders<N: Names + Send + Sync, R: Threads + Wait + Clock + Copy + Send + Sync>(
     rt: &R,
     alloc: Global,

@@ -324,7 +324,7 @@ impl<'a, N: Names, R: Wait + Copy + Clock, S: Filestore + Preparing + Drop> Stat
         self.tell_expired(timer, now)
     }
 
-    // The entity is told that a timer has expired.
+    // Notifies the entity that a timer has expired.
     fn tell_expired(&mut self, timer: Armed, now: u64) -> bool {
         let Armed {
             key,

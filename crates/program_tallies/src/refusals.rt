@@ -15,7 +15,7 @@ pub const SHOWN_OCTETS: usize = 64;
 /// A kind of refusal.
 #[derive(Clone, Copy, Debug, PartialEq, Eq)]
 pub enum RefusalKind {
-    /// No lane is told.
+    /// No lane gets it.
     Route(RouteRefusal),
     /// The lane refuses.
     Lane(Refusal),

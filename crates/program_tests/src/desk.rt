@@ -77,7 +77,7 @@ fn askers(rt: HostRuntime) -> Result<(), Fail> {
     Ok(())
 }
 
-// Who leaves something at a closed desk is told that nothing more is wanted, and does not wait.
+// Who leaves something at a closed desk learns that nothing more is wanted, and does not wait.
 #[test]
 fn closed(rt: HostRuntime) -> Result<(), Fail> {
     let alloc = rt.alloc();

@@ -41,7 +41,7 @@ fn fault_beside(ended: Result<u8, ProgramFault>, fault: WorkersFault) -> Result<
 }
 
 /// Runs the main thread's work beside the workers, which end with it. Where not all
-/// workers could be started, that is told at the end, unless the work ended for another reason.
+/// workers could be started, that is reported at the end, unless the work ended for another reason.
 pub fn run_beside<
     'x,
     N: Names + Send + Sync,

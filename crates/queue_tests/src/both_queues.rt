@@ -222,12 +222,12 @@ fn shared<R: Wait + Copy>(
     Ok(told)
 }
 
-// Whether a queue of one thread told this.
+// Whether a queue of one thread gave this.
 fn is_listed(alloc: Global, capacity: usize, expected: &[Told]) -> Result<bool, AllocError> {
     Ok(are_same(listed(alloc, capacity)?.as_slice(), expected))
 }
 
-// Whether a queue that threads share told this.
+// Whether a queue that threads share gave this.
 fn is_shared<R: Wait + Copy>(
     rt: R,
     alloc: Global,

@@ -45,7 +45,7 @@ impl ReceiverCore {
         }
     }
 
-    // The look at the file so far, once the user was told something.
+    // The look at the file so far, once something was indicated.
     fn examine(
         &self,
         inds: Indications,
@@ -64,7 +64,7 @@ impl ReceiverCore {
         self.answers_finding(inds, now, finding)
     }
 
-    // What the user is told of the first Metadata.
+    // What is indicated of the first Metadata.
     fn metadata_told(&self, metadata: &Metadata) -> Result<Indications, AllocError>
         ensures { IfOk result (λ inds. inds ≡ (if is_some self.now.metadata then [] else told.MetadataRecv
             self.now.key.source metadata.now.size metadata.now.source_name metadata.now.destination_name
@@ -97,7 +97,7 @@ impl ReceiverCore {
         self.examine(inds, now, change)
     }
 
-    // What the user is told of the new octets of a change.
+    // What is indicated of the new octets of a change.
     fn part_told(&self, change: &FileChange) -> Result<Indications, AllocError>
         requires { All (λ run. run.start < run.end) (runs_in change.now) }
         ensures { IfOk result (λ inds. inds ≡ map segment_told (runs_in change.now)) }
@@ -108,7 +108,7 @@ impl ReceiverCore {
         }
     }
 
-    // The user is told of each run of new octets.
+    // Indicates each run of new octets.
     fn on_file_data(&self, now: &ControlBlock, change: &FileChange) -> Result<Response, AllocError>
         requires ready { IsReady self.now.file now.now change.now }
         requires filled { All (λ run. run.start < run.end) (runs_in change.now) }
@@ -129,7 +129,7 @@ impl ReceiverCore {
         }
     }
 
-    // What the user is told of the first EOF without an error.
+    // What is indicated of the first EOF without an error.
     fn eof_told(&self) -> Result<Indications, AllocError>
         ensures { IfOk result (λ inds. inds ≡ (if is_some self.now.control.eof then [] else told.EofRecv ∷ [])) }
     {
@@ -205,7 +205,7 @@ impl ReceiverCore {
         response
     }
 
-    // The user is told the values of the Finished PDU.
+    // Indicates the values of the Finished PDU.
     fn ends_as_finished(&self) -> Result<Response, AllocError>
         ensures { IfOk result (λ response. IsResponse response (table.ends_as_finished (shown self.now))) }
     {
@@ -406,7 +406,7 @@ impl ReceiverCore {
     }
 }
 
-// What the user is told of runs of new octets.
+// What is indicated of runs of new octets.
 fn segments_told(alloc: Global, runs: &[Run]) -> Result<Indications, AllocError>
     requires { All (λ run. run.start < run.end) runs.now }
     ensures { IfOk result (λ inds. inds ≡ map segment_told runs.now) }

@@ -24,7 +24,7 @@ impl ReceiverCore {
         Ok(Image {
             source_name: metadata.source_name.copy()?,
             destination_name: metadata.destination_name.copy()?,
-            octets: Octets::from_vec(self.file.below(size)?),
+            octets: Octets::from_vec(self.file.below(size)?)?,
         })
     }
 

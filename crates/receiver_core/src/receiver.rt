@@ -34,7 +34,7 @@ impl ReceiverCore {
     ghost use Rattle.receiver_table.specs.Reception.{Entry};
     ghost use Rattle.receiver_core.specs.Core.{shown, reception_of, IsPlanOf, StandsAfter, plan_answer};
 
-    /// Whether the user was told that the transaction is over: no event follows.
+    /// Whether the end of the transaction was indicated: no event follows.
     pub fn has_ended(&self) -> bool
         ensures { result ≡ (shown self.now).ended }
     {

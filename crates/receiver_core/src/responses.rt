@@ -33,7 +33,7 @@ impl ReceiverCore {
         }
     }
 
-    /// The end of the file's delivery, once the user was told something.
+    /// The end of the file's delivery, once something was indicated.
     pub(crate) fn finish_response(
         &self,
         inds: Indications,
@@ -103,7 +103,7 @@ impl ReceiverCore {
             .action(condition)
     }
 
-    /// A fault, by its handler, once the user was told something.
+    /// A fault, by its handler, once something was indicated.
     pub(crate) fn fault_response(
         &self,
         inds: Indications,
@@ -162,7 +162,7 @@ impl ReceiverCore {
         response
     }
 
-    /// What a look at the file finds, once the user was told something.
+    /// What a look at the file finds, once something was indicated.
     pub(crate) fn answers_finding(
         &self,
         inds: Indications,

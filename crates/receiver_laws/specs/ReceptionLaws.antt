@@ -15,7 +15,7 @@ abbrev pub TellsWords : Type 0
 TellsWords = (reception : Reception) (log : List Entry) → IsLegal reception log
     → IsBegun (issued log) × ((state_of log).ended ≡ true → IsWord (issued log))
 
--- where the user is told of a complete delivery, the file is there as its Metadata and its EOF describe it
+-- where a complete delivery is indicated, the file is there as its Metadata and its EOF describe it
 abbrev pub CompletesGood : Type 0
 CompletesGood = (reception : Reception) (log : List Entry) (condition : ℕ) (status : FileStatus) → IsLegal reception log
     → Contains (issued log) (told.TransactionFinished condition Complete status) → IsGood (state_of log)

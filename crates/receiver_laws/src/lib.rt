@@ -10,7 +10,7 @@ pub fn words()
     ensures { TellsWords }
 {}
 
-/// A user is told of a complete delivery only where Metadata and EOF came, every octet below the EOF's
+/// A complete delivery is indicated only where Metadata and EOF came, every octet below the EOF's
 /// size was received and none at or above it, and the modular checksum agrees, unless the file has none.
 pub fn complete()
     ensures { CompletesGood }

@@ -7,7 +7,7 @@ use Rattle.indications.specs.declared.indication.Indication.{Indication}
 use Rattle.receiver_table.specs.Answers as table
 use Rattle.receiver_parts.specs.declared.response.Response as response_type
 
--- the user is told this, and nothing else
+-- the user gets these indications, and nothing else
 abbrev pub only : List Indication → response_type.Response
 only inds = record {
   inds = inds;

@@ -11,7 +11,7 @@ pub struct ControlBlock {
     pub entries: u32,
     /// One more than the greatest offset that came, 0 if none did.
     pub progress: u32,
-    /// Whether the first Metadata asks that the sender is told at the end what became of the file.
+    /// Whether the first Metadata asks the receiver to report at the end what became of the file.
     pub closure: Option<bool>,
     /// The first EOF without an error.
     pub eof: Option<Eof>,
@@ -19,9 +19,9 @@ pub struct ControlBlock {
     pub waiting: Option<u32>,
     /// The last Finished PDU that was sent.
     pub finished: Option<Finished>,
-    /// Whether the user was told of a suspension, and of no resumption since.
+    /// Whether a suspension was indicated, and no resumption since.
     pub paused: bool,
-    /// Whether the user was told an end.
+    /// Whether an end was indicated.
     pub ended: bool,
     pub armed: Stamps,
     pub tries: Tries,
@@ -52,14 +52,14 @@ impl ControlBlock {
         }
     }
 
-    /// Whether the sender is to be told at the end what became of the file.
+    /// Whether the receiver is to report at the end what became of the file.
     pub fn asks_closure(&self) -> bool
         ensures { result ≡ asks_closure (bare self.now) }
     {
         self.closure.unwrap_or(false)
     }
 
-    /// Whether a Finished PDU was sent, and the end was not told.
+    /// Whether a Finished PDU was sent, and the end was not indicated.
     pub fn is_closing(&self) -> bool
         ensures { result ≡ is_closing (bare self.now) }
     {

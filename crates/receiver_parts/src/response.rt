@@ -8,7 +8,7 @@ use std::alloc::{AllocError, Global};
 /// What a response of the table gives.
 #[derive(Drop)]
 pub struct Response {
-    /// What the user is told.
+    /// The user's indications.
     pub inds: Indications,
     /// The condition of an EOF that is acknowledged.
     pub ack: Option<Condition>,
@@ -28,7 +28,7 @@ impl Response {
     ghost use Rattle.std.specs.Prelude.{◌≡◌, ◌∷◌, ◌++◌, [], IfOk};
     ghost use Rattle.receiver_parts.specs.Response.{only};
 
-    /// The user is told this, and nothing else is done.
+    /// The user gets these indications, and nothing else is done.
     pub fn of(inds: Indications) -> Response
         ensures { result ≡ only inds }
     {
@@ -44,7 +44,7 @@ impl Response {
         }
     }
 
-    /// The user is told one thing more, and nothing else is done.
+    /// The user gets one indication more, and nothing else is done.
     pub fn telling_more(
         mut inds: Indications,
         indication: Indication,
@@ -55,7 +55,7 @@ impl Response {
         Ok(Response::of(inds))
     }
 
-    /// The user is told one thing.
+    /// The user gets one indication.
     pub fn telling(alloc: Global, indication: Indication) -> Result<Response, AllocError>
         ensures { IfOk result (λ response. response ≡ only (indication ∷ [])) }
     {

@@ -1,4 +1,4 @@
--- Rows. Rows on a class 1 reception whose sender asks to be told at the end what became of the file.
+-- Rows. Rows on a class 1 reception whose sender asks the receiver to report at the end what became of the file.
 use Rattle.std.specs.Prelude.{◌≡◌, true, List, [], ◌∷◌, Some, refl}
 use Rattle.cfdp_types.specs.declared.names.Class.TheVariants.{One, Two}
 use Rattle.cfdp_types.specs.declared.names.Delivery.TheVariants.{Complete, Incomplete}

@@ -158,7 +158,7 @@ pub nak_limit_reached : sends (last class_two (part Two ∷ eof Two ∷ what.Tim
 unfolding initial step state_of answer_at runs_of runs_from written spelling digits width_from
 nak_limit_reached = refl
 
--- ---- handler Ignore: the fault is told with the progress
+-- ---- handler Ignore: the fault is indicated with the progress
 
 -- at the limit, and its count begins again
 pub below_the_check_limit : tells (last (one_with 10 Ignore) (eof One ∷ []) (what.Timer Check 0)) ≡ Some []

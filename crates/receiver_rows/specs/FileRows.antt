@@ -1,4 +1,4 @@
--- Rows. Rows on the file: what of it the user is told, when it is handed out, and what is kept of what comes twice.
+-- Rows. Rows on the file: what of it is indicated, when it is handed out, and what is kept of what comes twice.
 use Rattle.std.specs.Prelude.{◌≡◌, true, List, [], ◌∷◌, ◌++◌, Some, Ok, Err, refl}
 use Rattle.cfdp_types.specs.declared.names.Class.{Class}
 use Rattle.cfdp_types.specs.declared.names.Class.TheVariants.{One, Two}
@@ -85,9 +85,9 @@ pub not_handed_out_without_the_last_octet_in_class_two : hands_out (last class_t
 unfolding initial step state_of answer_at runs_of runs_from digits
 not_handed_out_without_the_last_octet_in_class_two = refl
 
--- ---- told
+-- ---- indications
 
--- the user is told of new octets alone: of the gap between two parts, and of what lies on both sides of one
+-- new octets alone are indicated: those of the gap between two parts, and those of what lies on both sides of one
 pub gap_told : tells (last class_one (file_data One 0 (some_octets 4) ∷ file_data One 8 (some_octets 4) ∷ []) (file_data One 2 (some_octets 8)))
     ≡ Some (told.FileSegmentRecv 4 4 ∷ [])
 unfolding initial step state_of answer_at runs_of runs_from digits
@@ -107,7 +107,7 @@ pub no_octets : tells (last class_one [] (file_data One 0 [])) ≡ Some []
 unfolding initial step state_of answer_at runs_of runs_from digits
 no_octets = refl
 
--- Metadata is told with its messages to the user
+-- Metadata is indicated with its messages to the user
 pub messages_told : tells (last class_two [] (pdu Two (body.Metadata (record (metadata_value 0 3) { closure = true; messages = (109 ∷ []) ∷ [] ∷ [] }))))
     ≡ Some (told.MetadataRecv (record { 0 = 1 }) 3 (97 ∷ []) (98 ∷ []) ((109 ∷ []) ∷ [] ∷ []) ∷ [])
 unfolding initial step state_of answer_at runs_of runs_from digits
@@ -131,7 +131,7 @@ reported_after_no_octets = refl
 
 -- ---- what comes twice
 
--- Metadata and EOF are told once, whatever comes later
+-- Metadata and EOF are indicated once, whatever comes later
 pub told_once : issued (after class_two (metadata Two ∷ metadata_of Two 1 9 ∷ eof Two ∷ eof Two ∷ []))
     ≡ told.MetadataRecv (record { 0 = 1 }) 3 (97 ∷ []) (98 ∷ []) [] ∷ told.EofRecv ∷ []
 unfolding initial step state_of runs_of runs_from
@@ -180,7 +180,7 @@ pub image_given : image_at (state_of (after class_one (metadata One ∷ part One
 unfolding initial step state_of runs_of runs_from
 image_given = refl
 
--- up to the size of the EOF, where Metadata told a greater one or a lower one
+-- up to the size of the EOF, where Metadata gave a greater one or a lower one
 pub image_of_the_eof_size : image_at (state_of (after class_one (metadata_of One 0 9 ∷ part One ∷ eof One ∷ []))) 2
     ≡ Ok (record { source_name = 97 ∷ []; destination_name = 98 ∷ []; octets = abc })
 unfolding initial step state_of runs_of runs_from

@@ -67,7 +67,7 @@ pub no_sum_agrees : hands_out (last class_one (metadata_of One 15 3 ∷ part One
 unfolding initial step state_of answer_at runs_of runs_from
 no_sum_agrees = refl
 
--- the last octets of a file as large as may be are told of, and none behind them
+-- the last octets of a file as large as may be are indicated, and none behind them
 pub last_octets_told : IsNext [] (told.FileSegmentRecv 16777212 4)
 last_octets_told = (omega (arith), omega (arith), λ i from below. refl)
 

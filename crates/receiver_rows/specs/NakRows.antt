@@ -49,7 +49,7 @@ pub cancelling_eof_acknowledged : sends (last class_two [] (eof_of Two 15 0 0)) 
 unfolding initial step state_of answer_at runs_of runs_from written spelling digits width_from
 cancelling_eof_acknowledged = refl
 
--- an EOF with another code than that of Cancel: its ACK has that code, and the user is told it too
+-- an EOF with another code than that of Cancel: its ACK has that code, and the indication too
 pub eof_of_inactivity_acknowledged : sends (last class_two (metadata Two ∷ []) (eof_of Two 8 0 0)) ≡ Some (digits 10 0x28000300010502064082 ∷ [])
 unfolding initial step state_of answer_at runs_of runs_from written spelling digits width_from
 eof_of_inactivity_acknowledged = refl
@@ -59,7 +59,7 @@ pub eof_of_inactivity_told : tells (last class_two (metadata Two ∷ []) (eof_of
 unfolding initial step state_of answer_at runs_of runs_from digits
 eof_of_inactivity_told = refl
 
--- class 1 sends nothing, and the user is told the same
+-- class 1 sends nothing, and the indication is the same
 pub eof_of_inactivity_in_class_one : sends (last class_one (metadata One ∷ []) (eof_of One 8 0 0)) ≡ Some []
 unfolding initial step state_of answer_at runs_of runs_from written spelling digits width_from
 eof_of_inactivity_in_class_one = refl
@@ -69,7 +69,7 @@ pub eof_of_inactivity_in_class_one_told : tells (last class_one (metadata One �
 unfolding initial step state_of answer_at runs_of runs_from digits
 eof_of_inactivity_in_class_one_told = refl
 
--- whatever the code, the file is told as discarded
+-- whatever the code, the file is indicated as discarded
 pub eof_of_rejection_told : tells (last class_two (metadata Two ∷ []) (eof_of Two 4 0 0))
     ≡ Some (told.TransactionFinished 4 Incomplete Discarded ∷ [])
 unfolding initial step state_of answer_at runs_of runs_from digits
@@ -129,7 +129,7 @@ pub keep_alive_prompted_while_suspended : sends (last class_two (metadata Two �
 unfolding initial step state_of answer_at runs_of runs_from written spelling digits width_from
 keep_alive_prompted_while_suspended = refl
 
--- with the progress, also where an EOF told the size
+-- with the progress, also where an EOF gave the size
 pub keep_alive_prompted_after_eof : sends (last class_two (part Two ∷ eof_of Two 0 0 9 ∷ []) (prompted prompt.KeepAlive))
     ≡ Some (digits 12 0x280005000105020c00000003 ∷ [])
 unfolding initial step state_of answer_at runs_of runs_from written spelling digits width_from
@@ -275,7 +275,7 @@ pub ack_counted_on_with_eof : tells (last class_two (metadata Two ∷ part Two �
 unfolding initial step state_of answer_at runs_of runs_from digits
 ack_counted_on_with_eof = refl
 
--- the user is told what the Finished PDU said, also where the ACK says otherwise
+-- the indication says what the Finished PDU said, also where the ACK says otherwise
 pub finished_acknowledged_told : tells (last class_two (metadata Two ∷ part Two ∷ eof Two ∷ what.Stored 2 true ∷ []) (finished_acknowledged 0))
     ≡ Some (told.TransactionFinished 0 Complete Retained ∷ [])
 unfolding initial step state_of answer_at runs_of runs_from digits

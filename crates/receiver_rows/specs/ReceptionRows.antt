@@ -151,7 +151,7 @@ last r events event = answer_at r (state_of (after r events)) event
 
 -- ---- what an answer shows: None where the event is refused
 
--- what the user is told
+-- the user's indications
 abbrev pub tells : Result Answer Refusal → Option (List Indication)
 tells (Ok answer) = Some answer.inds
 tells (Err why) = None
@@ -189,7 +189,7 @@ echoes (what.Pdu pdu) = Some (spelled (echo_of pdu))
     spelled (Some echo) = written echo ∷ []
 echoes _ = None
 
--- ---- class 1: whole transactions, with all that the user is told
+-- ---- class 1: whole transactions, with all indications
 
 -- the file comes and is kept
 abbrev pub complete_one : List What
@@ -204,7 +204,7 @@ pub complete_one_legal : IsLegal class_one (after class_one complete_one)
 unfolding initial step state_of answer_at runs_of runs_from
 complete_one_legal = (refl, tt, refl, (refl, tt, refl, (refl, tt, refl, (refl, (refl, refl, refl, refl), refl, tt))))
 
--- an empty file: nothing of it is told, and it is kept
+-- an empty file: nothing of it is indicated, and it is kept
 abbrev pub empty_one : List What
 empty_one = metadata_of One 0 0 ∷ eof_of One 0 0 0 ∷ what.Stored 1 true ∷ []
 

@@ -35,7 +35,7 @@ pub cancelled_while_suspended : sends (last class_two (metadata Two ∷ what.Sus
 unfolding initial step state_of answer_at runs_of runs_from written spelling digits width_from
 cancelled_while_suspended = refl
 
--- Suspend and Resume are told, the latter with the progress
+-- Suspend and Resume are indicated, the latter with the progress
 pub suspended : tells (last class_two (metadata Two ∷ []) what.Suspend) ≡ Some (told.Suspended 14 ∷ [])
 unfolding initial step state_of answer_at runs_of runs_from digits
 suspended = refl

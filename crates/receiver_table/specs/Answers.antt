@@ -70,7 +70,7 @@ pub record Response : Type 0 where
 abbrev pub nothing : Response
 nothing = record { inds = []; ack = None; nak = false; keep_alive = false; finished = None; deposit = false; arms = [] }
 
--- the user is told this
+-- the user gets these indications
 abbrev pub tells : List Indication → Response
 tells inds = record nothing { inds = inds }
 
@@ -107,7 +107,7 @@ abbrev pub location_of : Reception → ℕ → Option EntityId
 location_of reception code =
     if code == condition.no_error || code == condition.unsupported_checksum_type then None else Some reception.params.local
 
--- the first Metadata asks that the sender is told at the end what became of the file
+-- the first Metadata asks the receiver to report at the end what became of the file
 abbrev pub asks_closure : State → Bool
 asks_closure state = unwrap_or state.closure false
 
@@ -208,18 +208,18 @@ examines reception state =
 
 -- ---- what is answered to PDUs; `front` is the state before the event, `now` the state with it
 
--- what the user is told of a run of new octets
+-- what is indicated of a run of new octets
 abbrev pub segment_told : Run → Indication
 segment_told run = told.FileSegmentRecv run.start (run.end - run.start)
 
--- Metadata: the user is told of the first
+-- Metadata: the first is indicated
 abbrev pub on_metadata : Reception → State → State → Metadata → Response
 on_metadata reception front now m =
     (if is_some front.metadata then nothing
     else tells (told.MetadataRecv reception.key.source m.size m.source_name m.destination_name m.messages ∷ []))
     and_then examines reception now
 
--- File Data: the user is told of each run of new octets
+-- File Data: each run of new octets is indicated
 abbrev pub on_file_data : Reception → State → State → FileData → Response
 on_file_data reception front now d = tells (map segment_told (added_runs front (Some d))) and_then examines reception now
 
@@ -227,7 +227,7 @@ on_file_data reception front now d = tells (map segment_told (added_runs front (
 abbrev pub acknowledges : Reception → ℕ → Response
 acknowledges reception code = if is_two reception.header.class then record nothing { ack = Some code } else nothing
 
--- EOF: the user is told of the first without an error; one with an error ends the reception; in the
+-- EOF: the first without an error is indicated; one with an error ends the reception; in the
 -- closing phase it is acknowledged and nothing else
 abbrev pub on_eof : Reception → State → State → Eof → Response
 on_eof reception front now e =
@@ -241,7 +241,7 @@ abbrev pub on_prompt : State → Prompt → Response
 on_prompt now prompt.Nak = if is_suspended now then nothing else record nothing { nak = true }
 on_prompt now prompt.KeepAlive = record nothing { keep_alive = true }
 
--- the Finished PDU is acknowledged, or is no longer waited for: the user is told its values
+-- the Finished PDU is acknowledged, or is no longer waited for: its values are indicated
 abbrev pub ends_as_finished : State → Response
 ends_as_finished state = by_finished state.finished
   where

@@ -47,7 +47,7 @@ pub record State : Type 0 where
   pub progress : ℕ
   -- the first Metadata
   pub metadata : Option Metadata
-  -- whether the first Metadata asks that the sender is told at the end what became of the file
+  -- whether the first Metadata asks the receiver to report at the end what became of the file
   pub closure : Option Bool
   -- the first EOF without an error
   pub eof : Option Eof
@@ -55,18 +55,18 @@ pub record State : Type 0 where
   pub waiting : Option ℕ
   -- the last Finished PDU that was sent
   pub finished : Option Finished
-  -- of Suspended and Resumed the last that was told is Suspended
+  -- of Suspended and Resumed the last that was issued is Suspended
   pub paused : Bool
   -- for each timer that runs, the place of the entry that armed it
   pub armed : TimerKind → Option ℕ
   -- for each timer, its expirations since their count began
   pub tries : TimerKind → ℕ
-  -- whether the user was told an end
+  -- whether an end was indicated
   pub ended : Bool
 
 -- ---- phases
 
--- a Finished PDU was sent, and the end was not told
+-- a Finished PDU was sent, and the end was not indicated
 abbrev pub is_closing : State → Bool
 is_closing state = is_some state.finished && not state.ended
 
@@ -74,7 +74,7 @@ is_closing state = is_some state.finished && not state.ended
 abbrev pub is_storing : State → Bool
 is_storing state = is_some state.waiting
 
--- Suspended was told last of the two, and neither was a Finished PDU sent nor an end told
+-- Suspended was issued last of the two, and neither was a Finished PDU sent nor an end indicated
 abbrev pub is_suspended : State → Bool
 is_suspended state = state.paused && not (is_some state.finished) && not state.ended
 

@@ -15,7 +15,6 @@ use Rattle.cfdp_types.specs.declared.names.Role.TheVariants.{Send, RecvOne, Recv
 use Rattle.cfdp_types.specs.declared.names.TimerKind.{TimerKind}
 use Rattle.cfdp_types.specs.declared.names.TimerKind.TheVariants.{Ack, Nak, Check, Inactivity}
 use Rattle.entity_config.specs.declared.setting.Setting.TheVariants as setting
-use Rattle.entity_routing.specs.declared.world_event.Request.{Request}
 use Rattle.entity_routing.specs.declared.world_event.Request.TheVariants as requests
 use Rattle.entity_routing.specs.declared.world_event.WorldEvent.TheVariants as events
 use Rattle.script_lines.specs.declared.command.Command.{Command}

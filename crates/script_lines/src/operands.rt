@@ -41,7 +41,7 @@ pub(crate) fn octets_of(alloc: Global, word: &[u8]) -> Result<Option<Octets>, Al
         return Ok(None);
     }
     match hex::decode(alloc, word) {
-        Ok(octets) => Ok(Some(Octets::from_vec(octets))),
+        Ok(octets) => Ok(Some(Octets::from_vec(octets)?)),
         Err(FromHexError::OutOfMemory) => Err(AllocError),
         Err(_) => Ok(None),
     }
@@ -52,7 +52,7 @@ pub(crate) fn file_of(alloc: Global, word: &[u8]) -> Result<Option<Octets>, Allo
     ensures { IfOk result (λ octets. octets ≡ file_of word.now) }
 {
     if word == b"-".as_slice() {
-        return Ok(Some(Octets::from_vec(Vec::new(alloc))));
+        return Ok(Some(Octets::new()));
     }
     octets_of(alloc, word)
 }

@@ -112,7 +112,7 @@ fn put_from(
             class,
             source_name,
             destination_name,
-            &file,
+            file,
         ),
         None => Ok(None),
     }
@@ -124,21 +124,13 @@ fn put_made(
     class: Class,
     source_name: &[u8],
     destination_name: &[u8],
-    file: &Octets,
+    file: Octets,
 ) -> Result<Option<PutRequest>, AllocError>
-    ensures { IfOk result (λ put. put ≡ put_made destination class source_name.now destination_name.now file.now) }
+    ensures { IfOk result (λ put. put ≡ put_made destination class source_name.now destination_name.now file) }
 {
     let to = EntityId(destination);
-    match PutRequest::new(
-        alloc,
-        to,
-        class,
-        source_name,
-        destination_name,
-        &[],
-        file.as_slice(),
-    ) {
-        Ok(request) => Ok(Some(request)),
+    match PutRequest::new(alloc, to, class, source_name, destination_name, &[], &[]) {
+        Ok(request) => Ok(Some(request.with_file(file))),
         Err(PutFault::NoMemory) => Err(AllocError),
         Err(_) => Ok(None),
     }

@@ -75,8 +75,8 @@ pub record Replays (ended : Result ⊤ ReplayFault) (lines : List (List ℕ)) (o
   pub plays : PlaysUntil ended lines text
   pub written : Writes ended old new text
 
--- a run has ended with this exit status, and what it wrote and told of its end stands at the writer of the answers and
--- beside it
+-- a run has ended with this exit status, and what it wrote and reported of its end stands at the writer of the answers
+-- and beside it
 pub record EndsRun (status : ℕ) (lines : List (List ℕ)) (old new old_errors new_errors : Option (List ℕ)) : Type 0 where
   pub ended : Result ⊤ ReplayFault
   pub status_is : status ≡ (if is_ok ended then 0 else 1)

@@ -49,7 +49,7 @@ abbrev pub is_put : WorldEvent → Bool
 is_put (events.Request user (requests.Put lane put)) = true
 is_put event = false
 
--- the entity is told of an event, takes or refuses it, and that is printed
+-- the entity gets an event, takes or refuses it, and that is printed
 pub record IsTold (session : Session) (event : WorldEvent) (after : Session) (text : List ℕ) : Type 0 where
   pub may : MayCome session.config event
   pub result : Result Done EntityRefusal

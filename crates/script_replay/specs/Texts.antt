@@ -16,7 +16,7 @@ use Rattle.pdu_reading.specs.Fault.{fault_number}
 abbrev pub user_name : ℕ → List ℕ
 user_name user = if user == 0 then codes "alice" else codes "bob"
 
--- why no lane is told of an event; of what is no PDU, the fault
+-- why no lane gets an event; of what is no PDU, the fault
 abbrev pub route_text : RouteRefusal → List ℕ
 route_text (DecodeFault fault) = fault_line (fault_number fault)
 route_text why = refusal_text (refusal_number why) (refusal_name why)

@@ -18,9 +18,9 @@ pub(crate) struct ControlBlock {
     pub(crate) eof: Option<Eof>,
     /// Whether the EOF without an error was acknowledged.
     pub(crate) acknowledged: bool,
-    /// Whether the user was told of a suspension, and of no resumption since.
+    /// Whether a suspension was indicated, and no resumption since.
     pub(crate) paused: bool,
-    /// Whether the user was told an end.
+    /// Whether an end was indicated.
     pub(crate) ended: bool,
     pub(crate) armed: Stamps,
     pub(crate) tries: Tries,
@@ -59,7 +59,7 @@ impl ControlBlock {
         }
     }
 
-    /// Whether an EOF with an error was sent, and the end was not told.
+    /// Whether an EOF with an error was sent, and the end was not indicated.
     pub(crate) fn is_closing(&self) -> bool
         ensures { result ≡ is_closing (state_from self.now nowhere) }
     {

@@ -66,9 +66,8 @@ pub(crate) fn metadata(
 
 /// The PDU with so many of the octets of a file, from one on.
 pub(crate) fn file_data(
-    alloc: Global,
     header: Header,
-    file: &[u8],
+    file: &Octets,
     start: u32,
     count: u32,
 ) -> Result<Pdu, AllocError>
@@ -82,7 +81,7 @@ pub(crate) fn file_data(
     }) }
 {
     let from = start as usize;
-    let octets = Octets::from_slice(alloc, &file[from..from + count as usize])?;
+    let octets = file.part(from, from + count as usize)?;
     let offset = u64::from(start);
     Ok(Pdu::file_data(header, FileData { offset, octets }))
 }

@@ -22,7 +22,7 @@ impl SenderCore {
         }
         match self.first_run() {
             None => Remainder::Same,
-            Some(run) => Remainder::SentTo(run.start + self.part_of(run)),
+            Some(run) => Remainder::SentTo(run.start + self.segment_of(run)),
         }
     }
 

@@ -5,7 +5,7 @@ use indications::{Indication, Indications};
 use pdu_values::Pdu;
 use std::alloc::{AllocError, Global};
 
-/// What a response of the table gives: what the user is told, the PDU that is sent, and the timer that it
+/// What a response of the table gives: the user's indications, the PDU that is sent, and the timer that it
 /// arms.
 #[derive(Drop)]
 pub(crate) struct Response {
@@ -28,7 +28,7 @@ impl Response {
         }
     }
 
-    /// The user is told something.
+    /// The user gets one indication.
     pub(crate) fn telling(alloc: Global, indication: Indication) -> Result<Response, AllocError>
         ensures { IfOk result (λ response. response ≡ record { inds = indication ∷ []; pdu = None; arms = None }) }
     {

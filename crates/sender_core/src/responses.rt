@@ -162,9 +162,9 @@ impl SenderCore {
         self.remaining.first(self.size())
     }
 
-    // What to send of the lowest run: as many octets as a part may hold.
-    pub(crate) fn part_of(&self, run: Run) -> u32
-        ensures part { result ≡ min self.now.params.segment_octets (run.end - run.start) }
+    // What to send of the lowest run: as many octets as a segment may hold.
+    pub(crate) fn segment_of(&self, run: Run) -> u32
+        ensures segment { result ≡ min self.now.params.segment_octets (run.end - run.start) }
         ensures most { result ≤ SEGMENT_OCTETS_MOST }
     {
         u32::from(self.params.segment_octets()).min(run.end.saturating_sub(run.start))
@@ -179,11 +179,10 @@ impl SenderCore {
             None => self.sends_eof(),
             Some(run) => {
                 let pdu = pdus::file_data(
-                    self.alloc,
                     self.header,
-                    self.request.file().as_slice(),
+                    self.request.file(),
                     run.start,
-                    self.part_of(run),
+                    self.segment_of(run),
                 )?;
                 Ok(Response::sending(self.alloc, pdu))
             }
@@ -226,7 +225,7 @@ impl SenderCore {
         }
     }
 
-    // The receiver says how it went, and in class 2 is told that this came.
+    // The receiver says how it went. In class 2 the sender acknowledges that.
     fn on_finished(&self, finished: Finished) -> Result<Response, AllocError>
         ensures { IfOk result (λ response. IsResponse (sending_of self.now) response
             (on_body (sending_of self.now) (shown self.now) (body.Finished finished))) }
@@ -366,7 +365,7 @@ ghost use Rattle.indications.specs.declared.indication.Indication.TheVariants as
 ghost use Rattle.cfdp_types.specs.declared.names.Delivery.TheVariants.{Incomplete};
 ghost use Rattle.cfdp_types.specs.declared.names.FileStatus.TheVariants.{Unreported};
 
-// The end is told, and not what became of the file.
+// The end is indicated, and not what became of the file.
 fn unreported(condition: Condition) -> Indication
     ensures { result ≡ told.TransactionFinished condition Incomplete Unreported }
 {

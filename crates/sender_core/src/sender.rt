@@ -39,7 +39,7 @@ impl SenderCore {
     ghost use Rattle.sender_table.specs.Sending.{Event, Entry};
     ghost use Rattle.sender_core.specs.Core.{shown, sending_of, IsPlanOf, StandsAfter, plan_answer};
 
-    /// Whether the user was told that the transaction is over: no event follows.
+    /// Whether the end of the transaction was indicated: no event follows.
     pub fn has_ended(&self) -> bool
         ensures { result ≡ (shown self.now).ended }
     {

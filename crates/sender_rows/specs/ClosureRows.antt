@@ -1,4 +1,4 @@
--- Rows. Rows on a class 1 sender that asks to be told at the end what became of the file.
+-- Rows. Rows on a class 1 sender that asks the receiver to report at the end what became of the file.
 use Rattle.std.specs.Prelude.{◌≡◌, true, ℕ, List, [], ◌∷◌, ◌++◌, Some, None, Err, refl}
 use Rattle.cfdp_types.specs.Handlers.{with_handler}
 use Rattle.cfdp_types.specs.Reference.{all_cancel, reference}
@@ -120,7 +120,7 @@ pub finished_while_suspended : tells (last closed suspended_waiting finished_in_
 unfolding initial step state_of answer_at runs_of runs_from
 finished_while_suspended = refl
 
--- cancelled while it waits: the receiver is told, and nothing more is waited for
+-- cancelled while it waits: the receiver is notified, and nothing more is waited for
 pub cancelled_waiting_sends : sends (last closed sent_all (happens what.Cancel)) ≡ Some (digits 20 0x24000d0002040104f06162630000000003060102 ∷ [])
 unfolding initial step state_of answer_at runs_of runs_from written spelling digits width_from
 cancelled_waiting_sends = refl
@@ -129,7 +129,7 @@ pub cancelled_waiting_told : tells (last closed sent_all (happens what.Cancel)) 
 unfolding initial step state_of answer_at runs_of runs_from digits
 cancelled_waiting_told = refl
 
--- one that ignores the fault of the check limit: it is told, Check runs again, and its count begins anew
+-- one that ignores the fault of the check limit: the fault is indicated, Check runs again, and its count begins anew
 abbrev pub closed_ignoring : Sending
 closed_ignoring = closed_with Ignore
 

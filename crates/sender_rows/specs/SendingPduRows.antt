@@ -33,7 +33,7 @@ pub eof_last : sends (last one (put ∷ pump ∷ pump ∷ []) pump) ≡ Some (di
 unfolding initial step state_of answer_at runs_of runs_from written spelling digits width_from
 eof_last = refl
 
--- the Put is told, and nothing sent
+-- the Put is indicated, and nothing sent
 pub put_told : tells (last one [] put) ≡ Some (told.Transaction ∷ [])
 unfolding initial step state_of answer_at runs_of runs_from digits
 put_told = refl
@@ -94,7 +94,7 @@ pub keep_alive_is_quiet : sends (last two (put ∷ pump ∷ []) (pdu (body.KeepA
 unfolding initial step state_of answer_at runs_of runs_from written spelling digits width_from
 keep_alive_is_quiet = refl
 
--- the Finished PDU is acknowledged with its condition, and its values are told
+-- the Finished PDU is acknowledged with its condition, and its values are indicated
 pub finished_acknowledged : sends (last two (sent_all ++ nak ∷ pump ∷ eof_acknowledged 0 ∷ []) finished)
     ≡ Some (digits 10 0x20000300020401065102 ∷ [])
 unfolding initial step state_of answer_at runs_of runs_from written spelling digits width_from

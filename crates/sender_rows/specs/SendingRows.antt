@@ -135,7 +135,7 @@ last s events event = answer_at s (state_of s (after s events)) event
 
 -- ---- what an answer shows: None where the event is refused
 
--- what the user is told
+-- the user's indications
 abbrev pub tells : Result Answer Refusal → Option (List Indication)
 tells (Ok answer) = Some answer.inds
 tells (Err why) = None
@@ -150,7 +150,7 @@ abbrev pub operates : Result Answer Refusal → Option (List TimerOp)
 operates (Ok answer) = Some answer.timers
 operates (Err why) = None
 
--- ---- whole transactions, with all that the user is told
+-- ---- whole transactions, with all indications
 
 -- class 1: Metadata, the file, and the EOF, which ends it
 abbrev pub whole_in_one : List Event

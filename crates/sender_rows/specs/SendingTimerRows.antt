@@ -151,7 +151,7 @@ pub inactivity_cancels_arms : operates (last two acknowledged_all (happens (what
 unfolding initial step state_of answer_at runs_of runs_from digits
 inactivity_cancels_arms = refl
 
--- ignored, it is told with the progress; the timer runs again, and its count begins again
+-- ignored, it is indicated with the progress; the timer runs again, and its count begins again
 pub ack_limit_ignored : tells (last (two_with 1 Ignore) (sent_all ++ happens (what.Timer Ack 3) ∷ []) (happens (what.Timer Ack 4)))
     ≡ Some (told.Fault 1 3 ∷ [])
 unfolding initial step state_of answer_at runs_of runs_from digits

@@ -43,7 +43,7 @@ use Rattle.sender_table.specs.Refusals.{refusal_at, runs_to_send}
 
 -- ---- a response of the table
 
--- what a response gives: what the user is told, the PDUs in order, and the timers that it arms
+-- what a response gives: the user's indications, the PDUs in order, and the timers that it arms
 pub record Response : Type 0 where
   pub inds : List Indication
   pub bodies : List Body
@@ -53,7 +53,7 @@ pub record Response : Type 0 where
 abbrev pub nothing : Response
 nothing = record { inds = []; bodies = []; arms = [] }
 
--- the user is told this
+-- the user gets this indication
 abbrev pub tells : Indication → Response
 tells indication = record nothing { inds = indication ∷ [] }
 

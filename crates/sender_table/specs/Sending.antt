@@ -51,13 +51,13 @@ pub record State : Type 0 where
   pub eof : Option Eof
   -- the EOF without an error was acknowledged
   pub acknowledged : Bool
-  -- of Suspended and Resumed the last that was told is Suspended
+  -- of Suspended and Resumed the last that was issued is Suspended
   pub paused : Bool
   -- for each timer that runs, the place of the entry that armed it
   pub armed : TimerKind → Option ℕ
   -- for each timer, its expirations since their count began
   pub tries : TimerKind → ℕ
-  -- whether the user was told an end
+  -- whether an end was indicated
   pub ended : Bool
 
 -- ---- phases
@@ -67,11 +67,11 @@ abbrev pub is_cancel : Option Eof → Bool
 is_cancel None = false
 is_cancel (Some e) = not (e.condition == condition.no_error)
 
--- an EOF with an error was sent, and the end was not told
+-- an EOF with an error was sent, and the end was not indicated
 abbrev pub is_closing : State → Bool
 is_closing state = is_cancel state.eof && not state.ended
 
--- Suspended was told last of the two, and neither was an EOF with an error sent nor an end told
+-- Suspended was issued last of the two, and neither was an EOF with an error sent nor an end indicated
 abbrev pub is_suspended : State → Bool
 is_suspended state = state.paused && not (is_cancel state.eof) && not state.ended
 

@@ -78,7 +78,7 @@ impl<N: Names, R: Copy> Held<N, R> {
         self.lane.journal()
     }
 
-    /// All that the user was told of that transaction, in order.
+    /// All indications of that transaction, in order.
     pub fn trace(&self) -> &[Indication]
         ensures { result.now ≡ issued_by self.now.lane }
     {

@@ -14,7 +14,7 @@ use txn_events::{Event, Refusal};
 /// How often a thread tries.
 pub(crate) const TURNS: u32 = 1_000_000;
 
-/// What a lane is told.
+/// What a lane gets.
 #[derive(Drop)]
 pub(crate) enum Act {
     Put(Place),
@@ -36,7 +36,7 @@ pub(crate) enum Outcome {
     Failed,
 }
 
-/// A step, and all that its transaction told until then.
+/// A step, and all indications of its transaction until then.
 #[derive(Drop)]
 pub(crate) struct Told {
     pub(crate) done: Done,

@@ -87,7 +87,7 @@ fn receive<N: Names, R: Wait + Copy>(
     push_trace(rt, text, entity, key(1, 5))
 }
 
-// Adds a line for how far a transaction is, or why that isn't told.
+// Adds a line for how far a transaction is, or why that isn't reported.
 fn push_trace<N: Names, R: Wait + Copy>(
     rt: &R,
     text: &mut String,
@@ -121,7 +121,7 @@ fn deliver<N: Names, R: Wait + Copy>(
     Some(entity.deliver(rt, &NoGate, octets.as_slice()))
 }
 
-// Adds a line for a PDU that is read, from hex, before the entity is told of it.
+// Adds a line for a PDU that is read, from hex, before the entity gets it.
 fn push_pdu<N: Names, R: Wait + Copy>(
     rt: &R,
     alloc: Global,

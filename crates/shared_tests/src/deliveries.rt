@@ -35,7 +35,7 @@ fn deliver_both<N: Names, R: Wait + Copy>(rt: &R, entity: &Entity<N, R>, seq: u8
     is_taken(rt, entity, &metadata_of(seq)) && is_taken(rt, entity, &eof_of(seq))
 }
 
-/// Two files come, each in a thread of its own. Then the user takes all that is told, and the lanes give their outlets
+/// Two files come, each in a thread of its own. Then the user takes all indications, and the lanes give their outlets
 /// back.
 pub(crate) fn deliver_two<N: Names + Send + Sync, R: Threads + Wait + Copy + Send + Sync>(
     rt: &R,

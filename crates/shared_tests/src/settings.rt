@@ -42,7 +42,7 @@ pub(crate) fn fill<N: Names, R: Wait + Copy>(
     push_put(rt, alloc, text, entity, PLACE, 1)
 }
 
-// Whether a file was put and sent, for which the user is told of two steps: the Put, and the last PDU.
+// Whether a file was put and sent, for which the user is notified of two steps: the Put, and the last PDU.
 fn is_sent<N: Names, R: Wait + Copy>(rt: &R, alloc: Global, entity: &Entity<N, R>) -> bool {
     match put(rt, alloc, entity, &NoGate, PLACE, 1) {
         Some(Ok(Ok(done))) => (0..3).all(|_| pumps(rt, entity, done.key)),

@@ -1,4 +1,4 @@
-//! What a lane told its user, read word by word.
+//! The indications of a lane to its user, read word by word.
 
 use crate::visits::Ended;
 use cfdp_types::TxnKey;
@@ -36,8 +36,8 @@ impl Reading {
     }
 }
 
-// The transactions of a lane in the order in which they were told, where all but the last are whole words, and that is
-// one or the beginning of one.
+// The transactions of a lane in the order in which they were indicated, where all but the last are whole words, and
+// that is one or the beginning of one.
 fn readings(
     alloc: Global,
     side: Side,

@@ -58,6 +58,6 @@ run_of timer = record { stamp = timer.stamp; deadline = timer.deadline }
 abbrev pub none_before : ℕ → List Armed → Bool
 none_before moment timers = list_all (λ timer. nat_le moment timer.deadline) timers
 
--- the first moment at which an entry expires, or the last one that can be told
+-- the first moment at which an entry expires, or the last one that 64 bits hold
 abbrev pub least_deadline : List Armed → ℕ
 least_deadline timers = fold (λ least timer. min least timer.deadline) 18446744073709551615 timers

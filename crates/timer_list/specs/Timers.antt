@@ -16,7 +16,7 @@ is_key key other = (key.source.0 == other.source.0) && (key.seq == other.seq)
 abbrev pub is_for : TxnKey → TimerKind → Armed → Bool
 is_for key kind timer = is_key key timer.key && is_kind kind timer.kind
 
--- the moment so many milliseconds from now, or the last one that can be told
+-- the moment so many milliseconds from now, or the last one that 64 bits hold
 abbrev pub moment_after : ℕ → ℕ → ℕ
 moment_after now ms = min (now + ms) 18446744073709551615
 

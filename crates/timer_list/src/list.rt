@@ -112,7 +112,7 @@ impl TimerList {
     }
 
     /// A moment before which no timer expires, in the caller's milliseconds. It is the first at which one does, or the last
-    /// that can be told where none runs, once `due` has found none since timers were taken out or armed anew.
+    /// that 64 bits hold where none runs, once `due` has found none since timers were taken out or armed anew.
     pub fn soonest(&self) -> u64
         ensures { IsTrue (none_before result self.now) }
     {

@@ -154,7 +154,7 @@ impl Slots {
             .find(|timer| timer.deadline <= now)
     }
 
-    /// The first moment at which a timer expires, or the last one that can be told.
+    /// The first moment at which a timer expires, or the last one that 64 bits hold.
     pub(crate) fn soonest(&self) -> u64
         ensures { result ≡ least_deadline (timers_in self.now.entries.entries) }
     {

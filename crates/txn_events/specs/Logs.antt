@@ -15,7 +15,7 @@ pub record Entry (E : Type 0) : Type 0 where
 abbrev pub empty_answer : Answer
 empty_answer = record { inds = []; pdus = []; timers = []; deposit = None }
 
--- all that the user was told, in order
+-- all indications to the user, in order
 abbrev pub issued : {E : Type 0} → List (Entry E) → List Indication
 issued [] = []
 issued (entry ∷ front) = issued front ++ entry.answer.inds

@@ -56,7 +56,7 @@ is_reset resets Nak = resets.nak
 is_reset resets Check = false
 is_reset resets Inactivity = false
 
--- the expirations that are counted after an event at which the user is told something
+-- the expirations that are counted after an event with these indications
 abbrev pub tries_by : What → List Indication → CountResets → TimerKind → ℕ → ℕ
 tries_by event inds resets kind before =
     if list_any is_resumed inds || (is_expiration kind event && list_any is_fault inds) || is_reset resets kind then 0

@@ -5,7 +5,7 @@ use indications::Indications;
 /// What one accepted event gives, at either end.
 #[derive(Drop)]
 pub struct Answer {
-    /// What the user is told, in order.
+    /// The user's indications, in order.
     pub inds: Indications,
     /// What goes to the other entity, in order.
     pub pdus: Pdus,

@@ -36,7 +36,7 @@ impl What {
     }
 }
 
-/// What a lane is told.
+/// An event that a lane gets.
 #[derive(Debug, Drop)]
 pub enum Event {
     /// Its user puts a file, by these parameters: it opens a sending transaction.

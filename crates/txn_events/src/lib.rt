@@ -1,6 +1,6 @@
 //! What happens to a transaction at either end, why it may be refused, and what a step of either end
 //! is made of: the PDUs that it sends, what it does with the timers and their counts, and what is
-//! asked of an event and of what the user is told.
+//! asked of an event and of the user's indications.
 #![tactic(auto)]
 
 mod answer;

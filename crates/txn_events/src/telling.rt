@@ -6,7 +6,7 @@ ghost use Rattle.indications.specs.Kinds.{kind_of, suspended_behind};
 
 use indications::{Indication, IndicationKind};
 
-// Whether the transaction is suspended once one thing more is told.
+// Whether the transaction is suspended once one more indication is issued.
 fn is_suspended_behind(before: bool, indication: &Indication) -> bool
     ensures { result ≡ suspended_behind (kind_of indication.now) before }
 {
@@ -17,8 +17,7 @@ fn is_suspended_behind(before: bool, indication: &Indication) -> bool
     }
 }
 
-/// Whether the user is told last that the transaction is suspended, where `paused` says so of what it
-/// was told before.
+/// Whether the last of Suspended and Resumed is Suspended, where `paused` says so of the indications before.
 pub fn paused_after(paused: bool, inds: &[Indication]) -> bool
     ensures { result ≡ paused_after paused inds.now }
 {
@@ -29,14 +28,14 @@ pub fn paused_after(paused: bool, inds: &[Indication]) -> bool
     now
 }
 
-/// Whether the user is told that the transaction goes on.
+/// Whether it is indicated that the transaction goes on.
 pub fn has_resumed(inds: &[Indication]) -> bool
     ensures { result ≡ list_any is_resumed inds.now }
 {
     inds.iter().any(|indication| matches!(indication.kind(), IndicationKind::Resumption))
 }
 
-/// Whether the user is told of a fault that is ignored.
+/// Whether a fault that is ignored is indicated.
 pub fn has_fault(inds: &[Indication]) -> bool
     ensures { result ≡ list_any is_fault inds.now }
 {

@@ -108,7 +108,7 @@ impl Tries {
         inactivity: 0,
     };
 
-    /// The counts after an event at which the user is told something: all begin again where the
+    /// The counts after an event with these indications: all begin again where the
     /// transaction is resumed, and that of a timer where its fault is ignored; else an expiration
     /// adds one.
     pub fn after(self, event: &What, inds: &[Indication], resets: CountResets) -> Tries

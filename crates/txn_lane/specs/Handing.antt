@@ -5,7 +5,7 @@ use Rattle.indications.specs.declared.bundle.Bundle.{Bundle}
 use Rattle.indications.specs.declared.indication.Indication.{Indication}
 use Rattle.indications.specs.LaneLists.{IsLaneList}
 
--- the bundle of what is told under a key, if anything is
+-- the bundle of the indications under a key, if there are any
 abbrev pub bundle_for : ℕ → ℕ → TxnKey → List Indication → Option Bundle
 bundle_for user lane key [] = None
 bundle_for user lane key (first ∷ rest) = Some (record { user = user; lane = lane; key = key; inds = first ∷ rest })

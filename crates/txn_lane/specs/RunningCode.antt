@@ -39,7 +39,7 @@ abbrev pub log_of_first : Option Transaction → Event → Answer → Option Log
 log_of_first None event answer = None
 log_of_first (Some transaction) event answer = Some (extended (log_by transaction []) event answer)
 
--- what is done under a key is what was answered, but for what the user is told
+-- what is done under a key is what was answered, but for the user's indications
 pub record IsDoneBy (key : TxnKey) (answer : Answer) (done : Done) : Type 0 where
   pub key_is : done.key ≡ key
   pub pdus : done.pdus ≡ answer.pdus

@@ -114,7 +114,7 @@ impl Lane {
         }
     }
 
-    /// All that its user was told of that transaction, in order.
+    /// All indications of that transaction, in order.
     pub fn trace(&self) -> &[Indication]
         ensures { result.now ≡ issued_by self.now }
     {

@@ -14,7 +14,7 @@ pub(crate) struct Running {
     pub(crate) core: TransactionCore,
     /// Its events that were taken, in order.
     pub(crate) journal: Vec<Event>,
-    /// All that its user was told.
+    /// All indications to its user.
     pub(crate) trace: Vec<Indication>,
 }
 

@@ -49,7 +49,7 @@ impl TransactionCore {
     ghost use Rattle.lane_table.specs.Logs.{Log, has_ended, answered_behind, extended, image_in};
     ghost use Rattle.txn_lane.specs.Transactions.{StandsAfter, IsPlanOf, IsSettled, IsWhy, plan_answer};
 
-    /// Whether the user was told that the transaction is over: no event follows.
+    /// Whether the end of the transaction was indicated: no event follows.
     pub(crate) fn has_ended(&self) -> bool
         ensures { (log : Log) → StandsAfter self.now log → result ≡ has_ended log }
     {

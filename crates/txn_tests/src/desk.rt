@@ -9,7 +9,7 @@ use txn_events::Event;
 use txn_lane::{Done, Lane, Refused};
 use user_queues::ListQueue;
 
-/// A lane of a user, and the queue by which the user is told.
+/// A lane of a user, and the queue of the user's indications.
 #[derive(Drop)]
 pub(crate) struct Desk {
     pub(crate) lane: Lane,

@@ -1,7 +1,7 @@
 //! Lanes with their user's queue, line by line. A line is what the lane takes and what the step gives: a
 //! PDU, "put" with a class and a file, or a key and what happens to it. "take" is what the user takes,
 //! "image" asks for a file, and "last" says which transaction it is, how many events it took, and how much
-//! it told. "look" says whether it has ended, how many events it took, how far the file came, and what is
+//! it indicated. "look" says whether it has ended, how many events it took, how far the file came, and what is
 //! known of the file.
 ghost use Rattle.std.specs.Prelude.{◌≡◌, IfSome};
 ghost use Rattle.txn_tests.specs.Desks.{Fits};
@@ -162,7 +162,7 @@ fn push_file(alloc: Global, text: &mut String, lane: &Lane, words: &str) -> Opti
     }
 }
 
-/// Which transaction a lane runs or ran last, how many events it took, and how much it told.
+/// Which transaction a lane runs or ran last, how many events it took, and how much it indicated.
 pub(crate) fn push_last(text: &mut String, lane: &Lane) -> Result<(), AllocError> {
     let entries = lane.journal().len();
     let told = lane.trace().len();

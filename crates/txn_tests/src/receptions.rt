@@ -32,7 +32,7 @@ const SCRIPTS: &[(&str, &str)] = &[
         cancel: ended
         ",
     ),
-    // What came first at an offset stays; a segment that covers a gap is told where it is new.
+    // What came first at an offset stays; a segment that covers a gap is indicated where it is new.
     (
         "overlapping segments",
         "

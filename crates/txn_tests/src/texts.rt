@@ -1,4 +1,4 @@
-//! What an event is answered, line by line: what is sent and handed out, what the user is told, and what is done with
+//! What an event is answered, line by line: what is sent and handed out, the user's indications, and what is done with
 //! the timers; or why it is refused. Each function adds to a text.
 use answer_texts::{push_bundle, push_done};
 use cfdp_types::{Deposit, Image, Octets, TimerKind, TimerOp, TxnKey};

@@ -53,8 +53,8 @@ impl Events {
         Ok(())
     }
 
-    /// Keeps an event of the run, and forgets the oldest ones where there are too many. One whose number doesn't rise was told
-    /// before, and isn't kept again; nor is one with a carriage return.
+    /// Keeps an event of the run, and forgets the oldest ones where there are too many. One whose number doesn't rise
+    /// came before, and isn't kept again; nor is one with a carriage return.
     pub fn push(&mut self, number: u64, json: Vec<u8>) -> Result<(), AllocError> {
         if json.as_slice().contains(&b'\r') || self.newest() >= Some(number) {
             return Ok(());

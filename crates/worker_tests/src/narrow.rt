@@ -27,7 +27,7 @@ fn deliver<N: Names, R: Wait + Copy>(
     }
 }
 
-/// A file comes to a queue that holds one bundle. What its deposit comes back with, what is told then, whether
+/// A file comes to a queue that holds one bundle. What its deposit comes back with, what is indicated then, whether
 /// that is a whole word, and what the store has.
 pub(crate) fn squeeze<N: Names, R: Wait + Copy>(
     rt: &R,
@@ -70,7 +70,7 @@ fn squeeze_first<N: Names, R: Wait + Copy>(
     push_files(text, store.files())
 }
 
-// The file's end comes, and its deposit is made, which can't be told yet; what is left of it.
+// The file's end comes, and its deposit is made, which can't be indicated yet; what is left of it.
 fn store_early<N: Names, R: Wait + Copy>(
     rt: &R,
     text: &mut String,

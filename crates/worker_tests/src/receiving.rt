@@ -71,7 +71,7 @@ pub(crate) fn receive<N: Names + Send + Sync, R: Threads + Wait + Copy + Send + 
     writeln!(text, "{whole:?}")
 }
 
-/// Adds a line for a deposit that was told, or for what comes back of one.
+/// Adds a line for a deposit whose lane was notified, or for what comes back of one.
 pub(crate) fn push_deposit(
     text: &mut String,
     made: Result<Done, DepositRest>,

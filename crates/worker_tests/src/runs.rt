@@ -16,7 +16,7 @@ use user_queues::{Queues, UserPort};
 pub(crate) enum Run {
     /// Three workers receive a file, which a store takes.
     Receiving,
-    /// A file is stored before its user's queue has room to be told.
+    /// A file is stored before its user's queue has room for the indication.
     Narrow,
     /// Two workers are each to take a datagram before either goes on.
     Taken,

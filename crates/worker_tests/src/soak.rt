@@ -265,7 +265,7 @@ fn feed_all<R: Wait>(feeder: Feeder<'_, R>) -> (bool, u64, u64) {
     (fed, feeder.lost, feeder.doubled)
 }
 
-/// Takes what users are told, and stores what is laid down.
+/// Takes users' indications, and stores what is laid down.
 #[derive(Drop)]
 struct Keeping {
     store: Wayward,
@@ -370,7 +370,7 @@ fn is_sent(alloc: Global, file: &StoredFile) -> Result<bool, AllocError> {
 }
 
 /// Says how many workers came back, whether each datagram was answered once, whether enough was lost, doubled and refused,
-/// the calls of the store and its failures, the files that are right, and the words that were told.
+/// the calls of the store and its failures, the files that are right, and the words that were issued.
 pub(crate) fn soak<N: Names + Send + Sync, R: Threads + Wait + Copy + Send + Sync>(
     rt: &R,
     alloc: Global,

@@ -52,7 +52,7 @@ impl LaneWords {
     }
 }
 
-/// The words of all lanes that told something.
+/// The words of all lanes that issued indications.
 #[derive(Drop)]
 pub(crate) struct Words {
     lanes: Vec<LaneWords>,
@@ -85,7 +85,7 @@ impl Words {
         Ok(())
     }
 
-    /// How many whole words were read, or nothing where what a lane told was no word and no beginning of one.
+    /// How many whole words were read, or nothing where a lane's indications were no word and no beginning of one.
     pub(crate) fn whole(&self) -> Option<u64> {
         if !self.are_words {
             return None;

@@ -12,9 +12,9 @@ use std::marker::Model;
 use txn_events::{Event, What};
 use world_users::Users;
 
-/// A protocol entity in one thread. It is told what happens, and answers what is to be done; its users take what they
-/// are told. Contracts see its configuration, and where its users stand; they speak of every list of what has happened,
-/// the newest first, after which it stands.
+/// A protocol entity in one thread. It gets what happens, and answers what is to be done; its users take their
+/// indications. Contracts see its configuration, and where its users stand; they speak of every list of what has
+/// happened, the newest first, after which it stands.
 #[derive(Drop)]
 pub struct World {
     alloc: Global,
@@ -82,7 +82,7 @@ impl World {
         &self.config
     }
 
-    /// Whether it may be told of an event ([`World::step`]): all but a request may come, and a request has to name a user
+    /// Whether it may get an event ([`World::step`]): all but a request may come, and a request has to name a user
     /// and, where it is a Put, a sending lane that the entity has.
     pub fn may_come(&self, event: &WorldEvent) -> bool
         ensures may { result ≡ true → MayCome self.now.config event.now }

@@ -31,11 +31,11 @@ RoutesHome = (config : ConfigValue) (event : WorldEvent) (routed : Routed) → M
 
 -- ---- keys
 
--- the transaction that a bundle tells of belongs to the user, and to the lane that told it
+-- the transaction that a bundle tells of belongs to the user, and to the lane that issued it
 abbrev pub IsAtHome : ConfigValue → ℕ → Bundle → Type 0
 IsAtHome config user bundle = place_of config bundle.key ≡ Some (record { user = user; lane = bundle.lane })
 
--- every bundle that a user was told is so
+-- every bundle to a user is so
 abbrev pub TellsAtHome : Type 0
 TellsAtHome = (config : ConfigValue) (history : List Happening) (user : ℕ) → IsTrue (is_config config)
     → AreRouted config history → IsHistory (first_lane config) history
@@ -55,7 +55,7 @@ told_under key bundles = told_in (filter (has_key key) bundles)
 abbrev pub end_here : ConfigValue → TxnKey → Side
 end_here config key = if is_local config key.source then Sender else Receiver
 
--- what a user is told of a transaction is a beginning of a word of that end, in which nothing follows an end
+-- a user's indications of a transaction are a beginning of a word of that end, in which nothing follows an end
 abbrev pub TellsWords : Type 0
 TellsWords = (config : ConfigValue) (history : List Happening) (user : ℕ) (key : TxnKey) → IsTrue (is_config config)
     → AreRouted config history → IsHistory (first_lane config) history
@@ -63,7 +63,7 @@ TellsWords = (config : ConfigValue) (history : List Happening) (user : ℕ) (key
 
 -- ---- ends
 
--- where a user was told the end of a transaction, each user was told all of it by then; what comes later stands in front
+-- once the end of a transaction is indicated, no user gets more indications of it; what comes later stands in front
 abbrev pub TellsNothingMore : Type 0
 TellsNothingMore = (config : ConfigValue) (later earlier : List Happening) (user other : ℕ) (key : TxnKey) → IsTrue (is_config config)
     → AreRouted config (later ++ earlier) → IsHistory (first_lane config) (later ++ earlier)
@@ -79,7 +79,7 @@ pub record HasFile (config : ConfigValue) (history : List Happening) (user : ℕ
   pub file : HasGoodFile (first_lane config) history user lane key.seq
   pub key_is : file.reception.key ≡ key
 
--- where a user is told of the complete delivery of a file that another entity sends, the file came
+-- where the complete delivery of a file that another entity sends is indicated, the file came
 abbrev pub DeliversFiles : Type 0
 DeliversFiles = (config : ConfigValue) (history : List Happening) (user : ℕ) (key : TxnKey) (condition : ℕ) (status : FileStatus) → IsTrue (is_config config)
     → AreRouted config history → IsHistory (first_lane config) history → is_local config key.source ≡ false

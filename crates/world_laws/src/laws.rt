@@ -8,24 +8,24 @@ pub fn routes()
     ensures { RoutesHome }
 {}
 
-/// What a user is told is of transactions that belong to this user, and each to the lane that tells of it: so a
+/// A user's indications are of transactions that belong to this user, and each to the lane that tells of it: so a
 /// transaction keeps to one lane of one user for the whole run.
 pub fn keys()
     ensures { TellsAtHome }
 {}
 
-/// Once a user was told the end of a transaction, no user is told any more of it, however the run goes on.
+/// Once the end of a transaction is indicated, no user gets any more indications of it, however the run goes on.
 pub fn ended()
     ensures { TellsNothingMore }
 {}
 
-/// All that a user is told of a transaction, whatever else happens in the entity, is a beginning of a word: of a sender's
+/// A user's indications of a transaction, whatever else happens in the entity, are a beginning of a word: of a sender's
 /// where the entity itself sends the file, and of a receiver's else.
 pub fn words()
     ensures { TellsWords }
 {}
 
-/// Where a user is told that a file of another entity is complete, Metadata and EOF of that very transaction came, every
+/// Where a file of another entity is indicated as complete, Metadata and EOF of that very transaction came, every
 /// octet below the EOF's size and none above it, and the modular checksum agrees, unless the file has none.
 pub fn complete()
     ensures { DeliversFiles }

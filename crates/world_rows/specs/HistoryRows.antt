@@ -22,7 +22,7 @@ lanes user lane = sending_lane 1 user lane
 pub idle_lanes : AreIdle lanes
 idle_lanes = record { numbered = λ user lane. (omega (arith), omega (arith)); idle_is = λ user lane. refl }
 
--- both users put a file, the first one takes what is told and cancels, and puts from another lane; the newest first
+-- both users put a file, the first one takes its indications and cancels, and puts from another lane; the newest first
 abbrev pub history : List Happening
 history =
     steps 0 1 (put One) ∷ steps 0 0 (on 4 what.Cancel) ∷ takes 0 ∷ steps 1 0 (put One) ∷ steps 0 0 (put One) ∷ []
@@ -60,7 +60,7 @@ nothing_in_another = refl
 pub journal_of_first_lane : (lane_after lanes history 0 0).journal ≡ events_for lanes history 0 0 4
 journal_of_first_lane = refl
 
--- ---- what the users are told
+-- ---- the users' indications
 
 -- a bundle of a user's lane
 abbrev pub bundle : ℕ → ℕ → ℕ → List Indication → Bundle
@@ -102,6 +102,6 @@ one_more_taken = refl
 pub nothing_to_take : IsHistory lanes (takes 1 ∷ []) → ⊥
 nothing_to_take can = can.0 refl
 
--- so what one lane told is a lane list
+-- so what one lane issued is a lane list
 pub first_lane_list : IsLaneList 0 0 (record { 0 = 2 }) (of_lane 0 (mine lanes history 0))
 first_lane_list = (tells_lane_lists lanes history 0 0 idle_lanes can_be).0

@@ -96,7 +96,7 @@ none_of_another named = seven_five 7 5 (ap (λ (k : TxnKey). k.seq) named.0) ref
     seven_five : (a b : ℕ) → a ≡ b → a ≡ 7 → b ≡ 5 → ⊥
     seven_five a b e a_is b_is = omega (arith, e, a_is, b_is)
 
--- ---- what the users are told
+-- ---- the users' indications
 
 pub told_of_first : told_of 5 (of_lane 2 (mine lanes history 0))
     ≡ told.MetadataRecv (record { 0 = 1 }) 3 (97 ∷ []) (98 ∷ []) [] ∷ told.FileSegmentRecv 0 3 ∷ told.EofRecv ∷ told.TransactionFinished 0 Complete Retained ∷ []
@@ -108,7 +108,7 @@ pub told_of_second : told_of 7 (of_lane 2 (mine lanes history 0))
 unfolding initial step state_of runs_of runs_from
 told_of_second = refl
 
--- what the users are told is what their logs tell
+-- the users' indications are what their logs tell
 pub logged_of_first : issued_in (log_for lanes history 0 2 5)
     ≡ told.MetadataRecv (record { 0 = 1 }) 3 (97 ∷ []) (98 ∷ []) [] ∷ told.FileSegmentRecv 0 3 ∷ told.EofRecv ∷ told.TransactionFinished 0 Complete Retained ∷ []
 unfolding initial step state_of runs_of runs_from
@@ -141,7 +141,7 @@ not_logged is = is
 
 -- ---- files
 
--- alice was told of a complete delivery
+-- a complete delivery was indicated to alice
 pub first_completes : Contains (told_of 5 (of_lane 2 (mine lanes history 0))) (told.TransactionFinished 0 Complete Retained)
 unfolding initial step state_of runs_of runs_from
 first_completes = (3, omega (arith), refl)

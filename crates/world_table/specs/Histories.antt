@@ -1,4 +1,4 @@
--- Meaning. What happens in an entity of one thread: lanes take events, and users take what they are told.
+-- Meaning. What happens in an entity of one thread: lanes take events, and users take their indications.
 use Rattle.std.specs.Prelude.{◌≡◌, ℕ, ◌==◌, Bool, ◌&&◌, if◌then◌else◌, List, [], ◌∷◌, ◌++◌, Option, Some, None}
 use Rattle.indications.specs.declared.bundle.Bundle.{Bundle}
 use Rattle.txn_events.specs.declared.event.Event.{Event}
@@ -57,7 +57,7 @@ abbrev pub rest_of : List Bundle → List Bundle
 rest_of [] = []
 rest_of (bundle ∷ rest) = rest
 
--- all that the lanes of a user told, in order
+-- all that the lanes of a user issued, in order
 abbrev pub mine : (ℕ → ℕ → State) → List Happening → ℕ → List Bundle
 mine lanes [] of_user = []
 mine lanes (steps user lane event ∷ earlier) of_user =

@@ -18,18 +18,18 @@ use Rattle.lane_table.specs.Steps.{image_of}
 use Rattle.lane_table.specs.Keeping.{IsOfSide, Keeps}
 use Rattle.world_table.specs.Histories.{Happening, lane_after, events_for, log_for, mine, held_for, taken_by, AreIdle, IsHistory}
 
--- what a user took, and then what waits, is all that the user's lanes told, each once and in order
+-- what a user took, and then what waits, is all that the user's lanes issued, each once and in order
 abbrev pub TakesAllInOrder : Type 0
 TakesAllInOrder = (lanes : ℕ → ℕ → State) (history : List Happening) (user : ℕ)
     → taken_by lanes history user ++ held_for lanes history user ≡ mine lanes history user
 
--- what each lane of a user told is a lane list, of words of the lane's end
+-- what each lane of a user issued is a lane list, of words of the lane's end
 abbrev pub TellsLaneLists : Type 0
 TellsLaneLists = (lanes : ℕ → ℕ → State) (history : List Happening) (user lane : ℕ) → AreIdle lanes → IsHistory lanes history
     → IsLaneList user lane (lanes user lane).source (of_lane lane (mine lanes history user))
     × ((number : ℕ) → IsOfSide (end_of (lanes user lane).side) (told_of number (of_lane lane (mine lanes history user))))
 
--- of each transaction of a lane, what the user was told is what the log of the transaction's own events tells
+-- of each transaction of a lane, the user's indications are what the log of the transaction's own events tells
 abbrev pub TellsWhatLogsTell : Type 0
 TellsWhatLogsTell = (lanes : ℕ → ℕ → State) (history : List Happening) (user lane number : ℕ) → AreIdle lanes → IsHistory lanes history
     → told_of number (of_lane lane (mine lanes history user)) ≡ issued_in (log_for lanes history user lane number)
@@ -50,7 +50,7 @@ abbrev pub KeepsEventsApart : Type 0
 KeepsEventsApart = (lanes : ℕ → ℕ → State) (history : List Happening) (user lane number : ℕ) → AreIdle lanes → IsHistory lanes history
     → All (IsEventOf (key_at (lanes user lane).source number)) (events_for lanes history user lane number)
 
--- a lane knows what it told
+-- a lane knows what it issued
 abbrev pub LanesKeep : Type 0
 LanesKeep = (lanes : ℕ → ℕ → State) (history : List Happening) (user lane : ℕ) → AreIdle lanes → IsHistory lanes history
     → Keeps (lane_after lanes history user lane) (of_lane lane (mine lanes history user))
@@ -82,7 +82,7 @@ pub record HasGoodFile (lanes : ℕ → ℕ → State) (history : List Happening
   pub is_received : IsReceived lanes history user lane number reception log
   pub good : IsGood (state_of log)
 
--- where the user was told of a complete delivery by a receiving lane, the file came
+-- where a receiving lane indicated a complete delivery, the file came
 abbrev pub DeliversGood : Type 0
 DeliversGood = (lanes : ℕ → ℕ → State) (history : List Happening) (user lane number condition : ℕ) (status : FileStatus) → AreIdle lanes → IsHistory lanes history
     → end_of (lanes user lane).side ≡ Receiver

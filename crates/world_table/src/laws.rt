@@ -12,8 +12,8 @@ ghost use Rattle.world_table.specs.HistoryLaws.{
   TellsWhatLogsTell,
 };
 
-/// What a user took, followed by what still waits, is all that the user's lanes told: each bundle once, in the order in
-/// which it was told.
+/// What a user took, followed by what still waits, is all that the user's lanes issued: each bundle once, in the order
+/// in which it was issued.
 pub fn takes()
     ensures { TakesAllInOrder }
 {}
@@ -24,7 +24,7 @@ pub fn lists()
     ensures { TellsLaneLists }
 {}
 
-/// What the user is told of a transaction is what the log of its own events tells, no more and no less.
+/// The user's indications of a transaction are what the log of its own events tells, no more and no less.
 pub fn issued()
     ensures { TellsWhatLogsTell }
 {}
@@ -39,7 +39,7 @@ pub fn events()
     ensures { KeepsEventsApart }
 {}
 
-/// What a lane told fits where it stands, so that it can tell what its next step says.
+/// What a lane issued fits where it stands, so that it can issue what its next step says.
 pub fn keeps()
     ensures { LanesKeep }
 {}

@@ -1,4 +1,4 @@
-//! What an entity of one thread means: what happens in it, where its lanes stand then, what its users are told, and what
+//! What an entity of one thread means: what happens in it, where its lanes stand then, its users' indications, and what
 //! holds of every run.
 #![tactic(auto)]
 

@@ -114,7 +114,7 @@ fn each_read_fails(rt: HostRuntime) -> Result<(), Fail> {
     Ok(())
 }
 
-// A read that fails is told beside what is printed.
+// A read that fails is reported beside what is printed.
 #[test]
 fn what_is_told(rt: HostRuntime) {
     let mut reader = FailingReader {

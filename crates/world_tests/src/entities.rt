@@ -1,4 +1,4 @@
-//! The two entities, and what one is told.
+//! The two entities, and what one gets.
 ghost use Rattle.world_core.specs.Worlds.{MayCome};
 
 use cfdp_types::{Class, EntityId, Octets, PutFault, PutRequest, TimerKind, TxnKey};
@@ -25,7 +25,7 @@ pub(crate) fn entity_two(alloc: Global) -> Option<World> {
     }
 }
 
-// An entity is told of an event.
+// An entity gets an event.
 fn tell(world: &mut World, event: WorldEvent) -> Result<Done, EntityRefusal>
     requires { MayCome world.old.config event }
 {

@@ -33,7 +33,7 @@ struct Sent {
 }
 
 // A file that was put: which, whether the file store keeps it, whether parts of it were asked for once more, and
-// whether the users at either end were told that it is complete.
+// whether it was indicated as complete to the users at either end.
 #[derive(Clone, Copy)]
 struct Posted {
     key: TxnKey,
@@ -142,7 +142,7 @@ impl Link {
         }
         let mut octets = Vec::new(self.alloc);
         encode(pdu, &mut octets)?;
-        let octets = Octets::from_vec(octets);
+        let octets = Octets::from_vec(octets)?;
         self.sent.push(Sent { octets, is_nak })?;
         Ok(())
     }
@@ -352,7 +352,7 @@ impl Link {
         }
     }
 
-    // A user is told that a file is complete: it has to be stored.
+    // A file is indicated as complete: it has to be stored.
     fn hear_complete(&mut self, end: End, key: TxnKey) {
         let mut is_stored = false;
         for posted in &mut self.posted {
@@ -387,7 +387,7 @@ impl Link {
         }
     }
 
-    /// The users take what they are told.
+    /// The users take their indications.
     pub(crate) fn take(&mut self) {
         for user in 0..self.putting.users() {
             if user < self.putting.users() {

@@ -11,13 +11,13 @@ pub(crate) struct Seen {
     pub(crate) images_two: u64,
     /// Files that the file store did not keep.
     pub(crate) rejected: u64,
-    /// Complete deliveries that the sender's users were told of.
+    /// Complete deliveries that were indicated to the sender's users.
     pub(crate) told_sender: u64,
     /// Those of class 1, where closure was asked for.
     pub(crate) told_closed: u64,
-    /// Complete deliveries that the receiver's users were told of.
+    /// Complete deliveries that were indicated to the receiver's users.
     pub(crate) told_receiver: u64,
-    /// Files that the users at both ends were told of as complete.
+    /// Files that were indicated as complete to the users at both ends.
     pub(crate) told_both: u64,
     /// Timers that expired in time at the sender.
     pub(crate) expired_sender: u64,

@@ -1,4 +1,4 @@
-//! Whatever the link does, each file that is handed out is the one that was put, and what is told as complete was
+//! Whatever the link does, each file that is handed out is the one that was put, and what is indicated as complete was
 //! stored. The run is long enough to meet all that a link can do, as its counts show.
 
 use crate::entities::{entity_one, entity_two};

@@ -21,7 +21,7 @@ enum Entity {
     Two,
 }
 
-// What an entity is told of.
+// What an entity gets.
 #[derive(Clone, Copy)]
 enum Step {
     // The user alice puts the octets "abc", named "a", to be kept as "b".
@@ -123,7 +123,7 @@ fn next_of(world: &mut World, user: usize) -> Option<Bundle> {
     }
 }
 
-// The last that a user is told.
+// The last indication to a user.
 fn last_told(alloc: Global, world: &mut World, user: usize) -> Result<String, AllocError> {
     let mut text = String::new(alloc);
     for _ in 0..8 {
@@ -173,7 +173,7 @@ fn other_print(
     Ok(None)
 }
 
-// Whether the last that a user at either end is told is that the file is complete.
+// Whether the last indication to a user at either end is that the file is complete.
 fn are_told(alloc: Global, one: &mut World, two: &mut World) -> Result<bool, AllocError> {
     let told = "user 2 4 Transaction-Finished 0 complete retained\n";
     Ok(last_told(alloc, one, 0)?.as_str() == told && last_told(alloc, two, 0)?.as_str() == told)

@@ -1,4 +1,4 @@
--- Of the code. A user of an entity of one thread: the queue by which the user is told, and the user's lanes.
+-- Of the code. A user of an entity of one thread: the queue of the user's indications, and the user's lanes.
 use Rattle.std.specs.Prelude.{◌≡◌, ℕ, ◌<◌, List, [], ◌∷◌, ◌++◌, length, None, Some, slice_get, slice_set, ◌⊎◌}
 use Rattle.indications.specs.declared.bundle.Bundle.{Bundle}
 use Rattle.txn_events.specs.declared.event.Event.{Event}

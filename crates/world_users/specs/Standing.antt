@@ -47,7 +47,7 @@ pub record UsersStandAfter (layout : Layout) (history : List Happening) (posts :
 
 -- ---- what happens next
 
--- a lane may be told of an event
+-- a lane may get an event
 pub record MayHappen (posts : List Post) (user lane : ℕ) : Type 0 where
   pub layout : Layout
   pub history : List Happening

@@ -1,4 +1,4 @@
-//! The users of an entity of one thread: the queue by which each is told, and each user's lanes.
+//! The users of an entity of one thread: the queue of each one's indications, and each user's lanes.
 #![tactic(auto)]
 
 mod stepping;

@@ -30,7 +30,7 @@ const EIGHT_LANES: EntityText<'static> = EntityText {
     ..REFERENCE
 };
 
-// How often the part of a file comes: all but the first bring nothing new, so nothing is told.
+// How often the part of a file comes: all but the first bring nothing new, so nothing is indicated.
 const REPEATS: u32 = 20_000;
 
 // Delivers a datagram; whether a lane took it.

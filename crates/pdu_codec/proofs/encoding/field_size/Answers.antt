@@ -16,4 +16,4 @@ returns-in-Metadata c =
     (metadata_length c.args.width c.args.entity_octets c.in-Metadata.metadata)
 
 pub returns-in-FileData : goal.returns-in-FileData
-returns-in-FileData c = rw (c.in-FileData.is, c.from-wide.ensures, c.as_slice-in-FileData.ensures) (file_data_length c.args.width c.args.entity_octets c.in-FileData.part)
+returns-in-FileData c = rw (c.in-FileData.is, c.from-wide.ensures, c.as_slice-in-FileData.ensures) (file_data_length c.args.width c.args.entity_octets c.in-FileData.segment)

@@ -8,4 +8,4 @@ pub returns-in-Some-clause-after : goal.returns-in-Some-clause-after
 returns-in-Some-clause-after c i =
     let core = c.args.self.now in
     let first = first_of _ c.in-Some.run' (sym c.in-Some.is ∙ c.first_run.ensures) in
-    left_by_part (sending_of core) (shown core) c.part_of.result c.in-Some.run' first.0 i c.if-self.false first.1 c.part_of.ensures.part
+    left_by_part (sending_of core) (shown core) c.segment_of.result c.in-Some.run' first.0 i c.if-self.false first.1 c.segment_of.ensures.segment

@@ -8,7 +8,7 @@ file_data-requires-clause-inside c =
     let core = c.args.self.now in
     let first = first_of _ c.in-Some.run' (sym c.in-Some.is ∙ c.first_run.ensures) in
     let lowest = lowest (shown core).remains (length core.request.file) c.in-Some.run' first.0 first.1 in
-    rw (c.as_slice.ensures, c.file.ensures) (omega (arith, lowest.filled, lowest.within, c.part_of.ensures.part))
+    rw (c.file.ensures) (omega (arith, lowest.filled, lowest.within, c.segment_of.ensures.segment))
 
 pub returns-in-None : goal.returns-in-None
 returns-in-None c = rw (none_of _ (sym c.in-None.is ∙ c.first_run.ensures)) c.sends_eof.ensures
