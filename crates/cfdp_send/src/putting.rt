@@ -6,10 +6,10 @@ use cfdp_types::{PutFault, PutRequest};
 use entity_config::{Config, Setting};
 use program_numbers::{HeldNumbers, Puts};
 use program_start::{
-    ProgramFault, Started, load_config, load_file, open_socket, push_explanation, tell_explanation,
-    tell_fault,
+    ProgramFault, Started, load_config, load_file, push_explanation, tell_explanation, tell_fault,
 };
 use program_station::Sources;
+use program_udp::open_socket;
 use program_words::{
     PutWords, WordsFault, asks_for_check, check_words, push_check_complaint, push_put_complaint,
     put_help, put_version, put_words,
@@ -244,7 +244,7 @@ fn wanted_by<R: Files>(
         words.remote,
         words.class,
         words.source.as_bytes(),
-        words.target.as_bytes(),
+        words.destination_name.as_bytes(),
         &[],
         &[],
     );

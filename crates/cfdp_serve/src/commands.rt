@@ -3,21 +3,21 @@ use crate::answers::{
     push_bad_command, push_entity_refusal, push_no_memory, push_taken, push_traced,
 };
 use crate::console::Console;
+use crate::outgoing::Outgoing;
 use crate::places::Places;
+use crate::reports::Reports;
 use answer_texts::push_bundle;
-use cfdp_types::{EntityId, PutFault, PutRequest, TxnKey};
+use cfdp_types::{Octets, PutFault, PutRequest, TxnKey};
 use entity_routing::Request;
 use entity_workers::Filestore;
 use indications::Bundle;
-use program_desk::{AskedLine, Desk, Line, Step};
+use program_desk::{Desk, Said, Step, wall_moment};
 use program_numbers::HeldNumbers;
-use program_outbox::{Outbox, Waiting};
 use program_seats::Asker;
-use program_start::{ProgramFault, load_file};
-use program_station::{Preparing, Station, flat, wall_moment};
-use program_status::{Events, LaneNotes};
+use program_start::ProgramFault;
+use program_station::{Preparing, Station, flat};
 use program_tallies::{RefusalKind, Tallies};
-use server_lines::{Command, PutCommand, command_of};
+use server_lines::{Command, PutCommand};
 use shared_entity::EntityRefusal;
 use shared_lanes::{Names, NoGate};
 use station_lines::Moment;
@@ -46,29 +46,10 @@ pub(crate) struct Server<'a, N: Names, R: Files + Copy, S: Drop, W: Drop> {
     pub(crate) console: Console<'a, W>,
     /// Whether events say where the store kept a file: names may be others than the senders'.
     pub(crate) shows_places: bool,
-    /// What is reported, where clients or a log may read it.
-    pub(crate) events: Option<Events<'a, R>>,
     pub(crate) tallies: &'a Tallies,
-    pub(crate) notes: LaneNotes,
-    /// The files that wait until a lane of their user is idle.
-    pub(crate) outbox: Outbox,
-    /// Files of the outbox whose turn came, and which couldn't be put yet: there is room for all.
-    pub(crate) returned: Vec<Waiting>,
-    /// Before these moments of the runtime's clock no file of the outbox is tried, and none that returned.
-    pub(crate) outbox_due: u64,
-    pub(crate) returned_due: u64,
-    /// Whether each user has an idle lane, and which remote entities are held: room for the outbox's questions.
-    pub(crate) idle: Vec<bool>,
-    pub(crate) held: Vec<EntityId>,
-    /// The moment of a turn by the wall clock, once it was looked at.
-    pub(crate) turn_moment: Option<Moment>,
+    pub(crate) reports: Reports<'a, R>,
+    pub(crate) outgoing: Outgoing,
     pub(crate) started: Moment,
-    /// When refusals are reported next, by the runtime's clock.
-    pub(crate) refusals_due: u64,
-    /// How many refusals there were at the last report.
-    pub(crate) refusals_seen: u64,
-    /// How many workers read no more by then.
-    pub(crate) ended_reads_seen: u64,
 }
 
 /// Whether the server goes on after a command.
@@ -120,59 +101,37 @@ impl<
     /// Does what a line says, and adds its answer.
     pub(crate) fn obey(
         &mut self,
-        asked: &AskedLine,
+        said: Said,
+        asker: Option<Asker>,
         text: &mut String,
     ) -> Result<Next, AllocError> {
-        let Line::Octets(line) = &asked.line else {
-            push_bad_command(text)?;
-            return Ok(Next::GoesOn);
-        };
-        let config = self.station.entity().config();
-        let command = match command_of(self.alloc, config, line.as_slice()) {
-            Ok(Some(command)) => command,
-            Ok(None) => {
-                push_bad_command(text)?;
-                return Ok(Next::GoesOn);
-            }
-            Err(AllocError) => {
-                push_no_memory(text)?;
-                return Ok(Next::GoesOn);
-            }
-        };
-        match asked.asker {
-            None => self.obey_reader(command, text),
-            Some(asker) => self.obey_client(command, asker, text),
+        match said {
+            Said::Command(command) => return self.obey_command(command, asker, text),
+            Said::Put(put, file) => self.put(&put, file, text)?,
+            Said::Nothing => push_bad_command(text)?,
+            Said::NoMemory => push_no_memory(text)?,
         }
+        Ok(Next::GoesOn)
     }
 
-    // Does what a line of the standard input says.
-    fn obey_reader(&mut self, command: Command, text: &mut String) -> Result<Next, AllocError> {
-        match command {
-            Command::Quit => Ok(Next::Quits),
-            other => {
-                self.do_command(other, text)?;
-                Ok(Next::GoesOn)
-            }
-        }
-    }
-
-    // Does what a client's line says.
-    fn obey_client(
+    // Does what a command says. Clients alone follow, and are answered before the server ends.
+    fn obey_command(
         &mut self,
         command: Command,
-        asker: Asker,
+        asker: Option<Asker>,
         text: &mut String,
     ) -> Result<Next, AllocError> {
-        match command {
-            Command::Quit => {
+        match (command, asker) {
+            (Command::Quit, None) => Ok(Next::Quits),
+            (Command::Quit, Some(_)) => {
                 text.push_str("ok\n")?;
                 Ok(Next::Quits)
             }
-            Command::Follow(most) => {
+            (Command::Follow(most), Some(asker)) => {
                 text.push_str("ok\n")?;
                 Ok(Next::Follows(asker, most))
             }
-            other => {
+            (other, _) => {
                 self.do_command(other, text)?;
                 Ok(Next::GoesOn)
             }
@@ -189,16 +148,12 @@ impl<
                 let _end = self.ask(user, request, text)?;
                 Ok(())
             }
-            Command::Put(put) => {
-                let _end = self.put(&put, None, text)?;
-                Ok(())
-            }
             Command::Send(send) => self.queue(send, text),
             Command::Outbox => self.answer_outbox(text),
             Command::Drop(number) => self.withdraw(number, text),
             Command::Hold(remote) => self.hold(remote, text),
             Command::Release(remote) => self.release(remote, text),
-            Command::Follow(_) | Command::Quit => push_bad_command(text),
+            Command::Put(_) | Command::Follow(_) | Command::Quit => push_bad_command(text),
         }
     }
 
@@ -210,28 +165,31 @@ impl<
         }
     }
 
-    /// Reads a file, and puts it; `queued` is its number in the outbox, where it comes from there.
-    pub(crate) fn put(
+    // Puts a file that was read, or answers why it couldn't be.
+    fn put(
         &mut self,
         put: &PutCommand,
+        file: Result<Octets, ProgramFault>,
+        text: &mut String,
+    ) -> Result<(), AllocError> {
+        match file {
+            Ok(file) => {
+                let _end = self.put_file(put, file, None, text)?;
+                Ok(())
+            }
+            Err(ProgramFault::NoMemory) => push_no_memory(text),
+            Err(_) => text.push_str("read fault\n"),
+        }
+    }
+
+    /// Puts a file; `queued` is its number in the outbox, where it comes from there.
+    pub(crate) fn put_file(
+        &mut self,
+        put: &PutCommand,
+        file: Octets,
         queued: Option<u64>,
         text: &mut String,
     ) -> Result<PutEnd, AllocError> {
-        let loaded = match str::from_utf8(put.source.as_slice()) {
-            Ok(path) => load_file(self.rt, self.alloc, path),
-            Err(_) => Err(ProgramFault::Usage),
-        };
-        let file = match loaded {
-            Ok(file) => file,
-            Err(ProgramFault::NoMemory) => {
-                push_no_memory(text)?;
-                return Ok(PutEnd::Passing);
-            }
-            Err(_) => {
-                text.push_str("read fault\n")?;
-                return Ok(PutEnd::Refused);
-            }
-        };
         let size = file.as_slice().len() as u64;
         match self.request_for(put, file) {
             Ok(request) => self.put_covered(put, size, queued, request, text),
@@ -253,7 +211,7 @@ impl<
             put.destination,
             put.class,
             put.source.as_slice(),
-            put.target.as_slice(),
+            put.destination_name.as_slice(),
             &[],
             &[],
         )?
@@ -293,7 +251,7 @@ impl<
         if let Some(numbers) = &mut self.numbers {
             numbers.note_put(key);
         }
-        self.report_put(put, size, queued, key);
+        self.reports.put(put, size, queued, key);
     }
 
     // Asks the entity for something, in a user's name.
@@ -342,7 +300,7 @@ impl<
 
     // Takes the bundle at the front of a user's queue, unless events report it.
     fn take(&mut self, user: usize, text: &mut String) -> Result<(), AllocError> {
-        if self.events.is_some() {
+        if self.reports.has_readers() {
             return text.push_str("refused TakenByEvents\n");
         }
         match self.receive(user) {
@@ -361,23 +319,10 @@ impl<
         None
     }
 
-    // The moment of this turn by the wall clock, which is looked at once a turn.
-    fn now_of_turn(&mut self) -> Moment {
-        match self.turn_moment {
-            Some(moment) => moment,
-            None => {
-                let moment = Moment(wall_moment(self.rt));
-                self.turn_moment = Some(moment);
-                moment
-            }
-        }
-    }
-
-    // Takes the bundle at the front of a user's queue, if there is one, and notes it.
+    // Takes the bundle at the front of a user's queue, if there is one, and reports it.
     fn receive(&mut self, user: usize) -> Option<Bundle> {
         let bundle = self.next_bundle(user)?;
-        let at = self.now_of_turn();
-        self.notes.note(&bundle, at);
+        self.reports.receive(&bundle);
         Some(bundle)
     }
 
@@ -390,10 +335,10 @@ impl<
 
     /// Whether each user's bundles are taken as they come.
     pub(crate) fn receives(&self) -> bool {
-        self.follows || self.events.is_some()
+        self.follows || self.reports.has_readers()
     }
 
-    /// Takes at most one bundle of each user, prints it where that is wanted, and reports it; whether there was one.
+    /// Takes and reports at most one bundle of each user, and prints it where that is wanted; whether there was one.
     pub(crate) fn receive_each(&mut self, text: &mut String) -> Result<bool, AllocError> {
         let mut has_received = false;
         for user in 0..self.station.entity().users() {
@@ -402,7 +347,6 @@ impl<
                 if self.follows {
                     self.print_bundle(&bundle, text)?;
                 }
-                self.report_bundle(&bundle);
             }
         }
         Ok(has_received)

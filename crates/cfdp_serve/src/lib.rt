@@ -7,9 +7,11 @@ mod commands;
 mod console;
 mod named;
 mod outbox;
+mod outgoing;
 mod places;
 mod reports;
 mod serving;
+mod showing;
 mod threads;
 mod working;
 

@@ -1,50 +1,121 @@
-//! What a server shows and reports beside its answers.
-use crate::answers::push_no_memory;
-use crate::commands::Server;
-use crate::places::Places;
-use cfdp_types::TxnKey;
-use entity_workers::Filestore;
+//! What a server reports: to clients that follow, and to its log.
+use cfdp_types::{EntityId, TxnKey};
+use entity_config::Config;
 use indications::Bundle;
+use program_desk::wall_moment;
 use program_outbox::Waiting;
 use program_seats::Asker;
-use program_station::{Preparing, StoredNote, wall_moment};
-use program_status::{Queued, Shown, push_status};
+use program_status::{Events, LaneNotes};
+use program_tallies::Tallies;
 use program_words::SERVER_VERSION;
 use server_lines::PutCommand;
-use shared_lanes::Names;
-use station_lines::{Moment, PutEvent, UnsentEvent};
+use station_lines::{LogStatus, Moment, PutEvent, UnsentEvent};
 use std::alloc::{AllocError, Global};
-use std::io::Write;
-use std::mem;
 use std::rt::Files;
 use std::sync::Wait;
 use std::time::Clock;
-use user_queues::UserPort;
 
-impl<
-    'a,
-    N: Names,
-    R: Wait + Clock + Files + AllocGlobal + Copy + Drop,
-    S: Filestore + Preparing + Places + Drop,
-    W: Write + Drop,
-> Server<'a, N, R, S, W> {
-    /// The moment by the wall clock.
-    pub(crate) fn now(&self) -> Moment {
+// How long refusals gather before they are reported, in milliseconds.
+const REFUSALS_MS: u64 = 1_000;
+
+/// What a server has noted of its lanes, and what it reports, where clients or a log may read it.
+#[derive(Drop)]
+pub(crate) struct Reports<'a, R: Files> {
+    rt: &'a R,
+    alloc: Global,
+    config: &'a Config,
+    tallies: &'a Tallies,
+    pub(crate) notes: LaneNotes,
+    events: Option<Events<'a, R>>,
+    /// The moment of a turn by the wall clock, once it was looked at.
+    turn_moment: Option<Moment>,
+    /// When refusals are reported next, by the runtime's clock.
+    refusals_due: u64,
+    /// How many refusals there were at the last report, and how many workers read no more by then.
+    refusals_seen: u64,
+    ended_reads_seen: u64,
+}
+
+impl<'a, R: Wait + Clock + Files> Reports<'a, R> {
+    /// Nothing was noted so far.
+    pub(crate) fn new(
+        rt: &'a R,
+        alloc: Global,
+        config: &'a Config,
+        tallies: &'a Tallies,
+        events: Option<Events<'a, R>>,
+    ) -> Result<Reports<'a, R>, AllocError> {
+        Ok(Reports {
+            rt,
+            alloc,
+            config,
+            tallies,
+            notes: LaneNotes::new(alloc, config)?,
+            events,
+            turn_moment: None,
+            refusals_due: 0,
+            refusals_seen: 0,
+            ended_reads_seen: 0,
+        })
+    }
+
+    // The moment by the wall clock.
+    fn now(&self) -> Moment {
         Moment(wall_moment(self.rt))
     }
 
+    // The moment of this turn by the wall clock, which is looked at once a turn.
+    fn now_of_turn(&mut self) -> Moment {
+        match self.turn_moment {
+            Some(moment) => moment,
+            None => {
+                let moment = self.now();
+                self.turn_moment = Some(moment);
+                moment
+            }
+        }
+    }
+
+    /// Whether anybody may read events.
+    pub(crate) fn has_readers(&self) -> bool {
+        self.events.is_some()
+    }
+
+    /// How many octets of events came in this turn.
+    pub(crate) fn octets(&self) -> usize {
+        match &self.events {
+            Some(events) => events.octets(),
+            None => 0,
+        }
+    }
+
+    /// The number of the last event.
+    pub(crate) fn number(&self) -> u64 {
+        match &self.events {
+            Some(events) => events.number(),
+            None => 0,
+        }
+    }
+
+    /// Whether events reach the log, where there is one.
+    pub(crate) fn log_status(&self) -> Option<LogStatus> {
+        match &self.events {
+            Some(events) => events.log_status(),
+            None => None,
+        }
+    }
+
     /// Reports that the server has started.
-    pub(crate) fn report_start(&mut self) {
-        let id = self.station.entity().config().entity().local;
+    pub(crate) fn start(&mut self) {
         let at = self.now();
         if let Some(events) = &mut self.events {
-            events.start(at, id, SERVER_VERSION);
+            events.start(at, self.config.entity().local, SERVER_VERSION);
         }
     }
 
     /// Reports what was refused last and that the server ends, and lets its last events leave.
-    pub(crate) fn report_end(&mut self, now: u64) {
-        self.report_refusals();
+    pub(crate) fn end(&mut self, now: u64) {
+        self.refusals();
         let at = self.now();
         if let Some(events) = &mut self.events {
             events.end(at);
@@ -53,22 +124,15 @@ impl<
     }
 
     /// Reports a Put that opened a transaction.
-    pub(crate) fn report_put(
-        &mut self,
-        put: &PutCommand,
-        size: u64,
-        queued: Option<u64>,
-        key: TxnKey,
-    ) {
-        let config = self.station.entity().config();
+    pub(crate) fn put(&mut self, put: &PutCommand, size: u64, queued: Option<u64>, key: TxnKey) {
         let at = self.now();
         let event = PutEvent {
-            user: config.name_of(put.user).unwrap_or(""),
+            user: self.config.name_of(put.user).unwrap_or(""),
             key,
             peer: put.destination,
             class: put.class,
             file: put.source.as_slice(),
-            to: put.target.as_slice(),
+            to: put.destination_name.as_slice(),
             size,
             queued,
         };
@@ -78,12 +142,11 @@ impl<
     }
 
     /// Reports a file of the outbox that was not sent, and why.
-    pub(crate) fn report_unsent(&mut self, waiting: &Waiting, why: &str) {
-        let config = self.station.entity().config();
+    pub(crate) fn fail(&mut self, waiting: &Waiting, why: &str) {
         let at = self.now();
         let unsent = UnsentEvent {
             queued: waiting.number,
-            user: config.name_of(waiting.user).unwrap_or(""),
+            user: self.config.name_of(waiting.user).unwrap_or(""),
             destination: waiting.file.destination,
             file: waiting.file.source.as_slice(),
             why,
@@ -93,52 +156,61 @@ impl<
         }
     }
 
-    /// Reports a bundle that a user received in this turn.
-    pub(crate) fn report_bundle(&mut self, bundle: &Bundle) {
-        let config = self.station.entity().config();
-        let (Some(events), Some(at)) = (&mut self.events, self.turn_moment) else {
-            return;
-        };
-        let name = config.name_of(bundle.user).unwrap_or("");
-        events.receive(at, name, bundle);
+    /// Reports that nothing leaves for a remote entity from a moment on.
+    pub(crate) fn hold(&mut self, at: Moment, remote: EntityId) {
+        if let Some(events) = &mut self.events {
+            events.hold(at, remote);
+        }
     }
 
-    /// Reports what became of the file that the last turn stored, and, once a second, what was refused.
-    pub(crate) fn report_turn(&mut self, now: u64) {
-        if let Some(note) = self.station.take_stored() {
-            self.report_stored(note);
+    /// Reports that the link to a remote entity is open again.
+    pub(crate) fn release(&mut self, remote: EntityId) {
+        let at = self.now();
+        if let Some(events) = &mut self.events {
+            events.release(at, remote);
         }
+    }
+
+    /// Begins a turn.
+    pub(crate) fn begin_turn(&mut self) {
+        self.turn_moment = None;
+        if let Some(events) = &mut self.events {
+            events.begin_turn(self.rt);
+        }
+    }
+
+    /// Notes and reports a bundle that a user received in this turn.
+    pub(crate) fn receive(&mut self, bundle: &Bundle) {
+        let at = self.now_of_turn();
+        self.notes.note(bundle, at);
+        let name = self.config.name_of(bundle.user).unwrap_or("");
+        if let Some(events) = &mut self.events {
+            events.receive(at, name, bundle);
+        }
+    }
+
+    /// Reports what became of a file that the store was given, and where it was kept, if that is to be shown.
+    pub(crate) fn store(&mut self, key: TxnKey, is_kept: bool, place: Option<&str>) {
+        let at = self.now();
+        if let Some(events) = &mut self.events {
+            events.store(at, key, is_kept, place);
+        }
+    }
+
+    /// Ends a turn: what was refused is reported once a second, and events leave.
+    pub(crate) fn end_turn(&mut self, now: u64) {
         if now >= self.refusals_due {
             self.refusals_due = now.saturating_add(REFUSALS_MS);
-            self.report_refusals();
+            self.refusals();
         }
-    }
-
-    // Reports what became of a file that was stored.
-    fn report_stored(&mut self, note: StoredNote) {
-        let StoredNote { key, is_kept } = note;
-        let at = self.now();
-        let place = self.place_shown(is_kept);
         if let Some(events) = &mut self.events {
-            match &place {
-                Some(place) => events.store(at, key, is_kept, Some(place.as_str())),
-                None => events.store(at, key, is_kept, None),
-            }
-        }
-    }
-
-    // Where the last file was kept, if events show that.
-    fn place_shown(&self, is_kept: bool) -> Option<String> {
-        if self.shows_places && is_kept {
-            String::from_str(self.alloc, self.station.store().place()).ok()
-        } else {
-            None
+            events.end_turn(self.rt, now);
         }
     }
 
     // Reports what was refused since the last report, and that a worker reads no more. Where there is no memory for that, it is
     // reported later.
-    fn report_refusals(&mut self) {
+    fn refusals(&mut self) {
         let at = self.now();
         let Some(events) = &mut self.events else {
             return;
@@ -159,75 +231,11 @@ impl<
         }
     }
 
-    /// Sends a client the last events, at most so many, and all that come from now on. Where there is no memory for that, the
-    /// client is cut off.
-    pub(crate) fn follow(&mut self, asker: Asker, most: u64) {
-        let followed = match &mut self.events {
+    /// Sends a client the last events, at most so many, and all that come from now on.
+    pub(crate) fn follow(&mut self, asker: Asker, most: u64) -> Result<(), AllocError> {
+        match &mut self.events {
             Some(events) => events.follow(self.rt, asker, most),
             None => Ok(()),
-        };
-        if followed.is_err()
-            && let Some(seats) = self.console.seats()
-        {
-            seats.cut(self.rt, asker);
         }
-    }
-
-    /// Answers with the lines of a status, or that there was no memory for them.
-    pub(crate) fn answer_status(&mut self, text: &mut String) -> Result<(), AllocError> {
-        if self.status(text).is_err() {
-            text.clear();
-            return push_no_memory(text);
-        }
-        Ok(())
-    }
-
-    // Adds the lines of a status.
-    fn status(&mut self, text: &mut String) -> Result<(), AllocError> {
-        let mut ports = Vec::new(self.alloc);
-        mem::swap(&mut ports, &mut self.ports);
-        let pushed = self.push_shown(ports.as_mut_slice(), text);
-        mem::swap(&mut ports, &mut self.ports);
-        pushed
-    }
-
-    // Adds the lines of a status, with the ports of the users.
-    fn push_shown(&self, ports: &mut [UserPort], text: &mut String) -> Result<(), AllocError> {
-        let (events, log) = match &self.events {
-            Some(events) => (events.number(), events.log_status()),
-            None => (0, None),
-        };
-        let (clients, dropped_clients) = match self.console.seats() {
-            Some(seats) => (seats.taken(self.rt), seats.dropped()),
-            None => (0, 0),
-        };
-        let queued = Queued {
-            returned: self.returned.as_slice(),
-            outbox: &self.outbox,
-        };
-        let shown = Shown {
-            version: SERVER_VERSION,
-            started: self.started,
-            now: self.now(),
-            tallies: self.tallies,
-            notes: &self.notes,
-            queued,
-            events,
-            log,
-            clients,
-            dropped_clients,
-            stores: self.station.stores(),
-        };
-        push_status(
-            self.rt,
-            self.alloc,
-            text,
-            self.station.entity(),
-            ports,
-            &shown,
-        )
     }
 }
-
-// How long refusals gather before they are reported, in milliseconds.
-const REFUSALS_MS: u64 = 1_000;

@@ -6,10 +6,10 @@ use program_control::ControlSocket;
 use program_numbers::{HeldNumbers, Puts};
 use program_seats::Seats;
 use program_start::{
-    ProgramFault, Started, load_config, open_socket, print, push_explanation, tell_explanation,
-    tell_fault,
+    ProgramFault, Started, load_config, print, push_explanation, tell_explanation, tell_fault,
 };
-use program_threads::Control;
+use program_station::Control;
+use program_udp::open_socket;
 use program_words::{
     ServerWords, WordsFault, asks_for_check, check_words, push_check_complaint,
     push_server_complaint, server_help, server_version, server_words,

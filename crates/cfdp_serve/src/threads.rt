@@ -1,19 +1,17 @@
 //! The threads of the server: one reads commands, beside those of each program.
 use crate::commands::Server;
 use crate::console::Console;
-use cfdp_types::EntityId;
+use crate::outgoing::Outgoing;
+use crate::reports::Reports;
 use entity_workers::Filestore;
-use program_desk::{Desk, Step, Urgency};
-use program_events::EventLog;
-use program_link::PduSender;
+use program_desk::{Desk, Urgency, wall_moment};
 use program_numbers::HeldNumbers;
-use program_outbox::{MOST_FILES, Outbox, Waiting};
 use program_seats::Seats;
 use program_start::ProgramFault;
-use program_station::{Preparing, Sources, Station, wall_moment};
-use program_status::{Events, LaneNotes};
+use program_station::{Control, Preparing, Sources, Station, WayIn, run_commanded, run_controlled};
+use program_status::{EventLog, Events};
 use program_tallies::Tallies;
-use program_threads::{Control, WayIn, run_commanded, run_controlled};
+use program_udp::PduSender;
 use program_words::ServerWords;
 use script_io::in_blocks;
 use shared_entity::Entity;
@@ -195,57 +193,24 @@ fn server_over<'x, N: Names, R: Wait + Clock + Files + AllocGlobal + Copy + Drop
     console: Console<'x, W>,
 ) -> Result<Server<'x, N, R, StationStore<R>, W>, ProgramFault> {
     let words = opened.words;
+    let (alloc, config) = (opened.alloc, opened.entity.config());
     let station = station_over(opened)?;
-    let rooms = rooms_of(opened)?;
-    let events = events_of::<R>(opened.alloc, words, console.seats())?;
+    let events = events_of::<R>(alloc, words, console.seats())?;
     Ok(Server {
         rt: opened.rt,
-        alloc: opened.alloc,
+        alloc,
         desk: opened.desk,
-        steps: rooms.steps,
+        steps: Vec::with_capacity(alloc, opened.desk.step_room())?,
         station,
         numbers,
         ports,
         follows: words.follow && console.seats().is_none(),
         console,
         shows_places: words.tree || words.keep,
-        events,
         tallies: opened.tallies,
-        notes: rooms.notes,
-        outbox: rooms.outbox,
-        returned: rooms.returned,
-        outbox_due: 0,
-        returned_due: 0,
-        idle: rooms.idle,
-        held: rooms.held,
-        turn_moment: None,
+        reports: Reports::new(opened.rt, alloc, config, opened.tallies, events)?,
+        outgoing: Outgoing::new(alloc, config)?,
         started: Moment(wall_moment(opened.rt)),
-        refusals_due: 0,
-        refusals_seen: 0,
-        ended_reads_seen: 0,
-    })
-}
-
-// The room that the main thread of a server makes at its start.
-#[derive(Drop)]
-struct Rooms {
-    steps: Vec<Step>,
-    notes: LaneNotes,
-    outbox: Outbox,
-    returned: Vec<Waiting>,
-    idle: Vec<bool>,
-    held: Vec<EntityId>,
-}
-
-fn rooms_of<N: Names, R: Copy>(opened: &Opened<'_, N, R>) -> Result<Rooms, AllocError> {
-    let (alloc, config) = (opened.alloc, opened.entity.config());
-    Ok(Rooms {
-        steps: Vec::with_capacity(alloc, opened.desk.step_room())?,
-        notes: LaneNotes::new(alloc, config)?,
-        outbox: Outbox::new(alloc, config.users())?,
-        returned: Vec::with_capacity(alloc, MOST_FILES)?,
-        idle: Vec::from_elem(alloc, false, config.users())?,
-        held: Vec::with_capacity(alloc, config.remotes())?,
     })
 }
 

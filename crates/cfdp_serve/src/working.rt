@@ -2,10 +2,9 @@
 use crate::commands::{Next, Server};
 use crate::places::Places;
 use entity_workers::Filestore;
-use program_desk::NextLine;
+use program_desk::{AskedLine, NextLine, moment};
 use program_start::ProgramFault;
-use program_station::{Preparing, REST_MS, moment};
-use program_threads::MainThread;
+use program_station::{MainThread, Preparing, REST_MS};
 use shared_lanes::Names;
 use std::io::Write;
 use std::rt::Files;
@@ -35,14 +34,15 @@ impl<
     /// few PDUs of files under way and one deposit.
     fn work(self) -> Result<u8, ProgramFault> {
         let mut server = self;
-        server.report_start();
+        server.reports.start();
         work(&mut server)?;
-        if server.events.is_some() {
+        if server.reports.has_readers() {
             let mut text = String::new(server.alloc);
+            server.reports.begin_turn();
             receive(&mut server, &mut text)?;
         }
         let now = moment(server.rt);
-        server.report_end(now);
+        server.reports.end(now);
         if let Some(numbers) = &server.numbers {
             numbers.leave(server.rt);
         }
@@ -57,7 +57,7 @@ fn work<
     W: Write + Drop,
 >(server: &mut Server<'_, N, R, S, W>) -> Result<(), ProgramFault> {
     let (rt, desk) = (server.rt, server.desk);
-    let longest = if server.events.is_some() {
+    let longest = if server.reports.has_readers() {
         LONGEST_SLEEP_WITH_EVENTS_MS
     } else {
         LONGEST_SLEEP_MS
@@ -70,6 +70,7 @@ fn work<
             continue;
         }
         text.clear();
+        server.reports.begin_turn();
         let (has_answered, next) = answer_next(server, &mut text)?;
         if next == Next::Quits {
             break;
@@ -78,7 +79,8 @@ fn work<
         let has_received = receive(server, &mut text)?;
         let has_started = server.start_queued(now)?;
         let has_worked = server.station.turn(now);
-        report(server, now);
+        server.report_stored();
+        server.reports.end_turn(now);
         if !has_settled && !has_answered && !has_received && !has_started && !has_worked {
             let until = next_moment(server, now);
             desk.wait(rt, now, until.min(now.saturating_add(longest)));
@@ -94,12 +96,7 @@ fn next_moment<
     S: Filestore + Preparing + Places + Drop,
     W: Write + Drop,
 >(server: &Server<'_, N, R, S, W>, now: u64) -> u64 {
-    let until = server.station.next_moment(now);
-    if server.has_queued() {
-        until.min(server.outbox_due)
-    } else {
-        until
-    }
+    server.outgoing.next_moment(server.station.next_moment(now))
 }
 
 // Answers the next command, if there is one; whether there was one, and whether the server goes on.
@@ -116,8 +113,9 @@ fn answer_next<
         NextLine::NoMemory => return Err(ProgramFault::NoMemory),
         NextLine::Deserted => return Err(ProgramFault::Start),
     };
-    let next = server.obey(&asked, text)?;
-    server.console.answer(server.rt, asked.asker, text)?;
+    let AskedLine { said, asker } = asked;
+    let next = server.obey(said, asker, text)?;
+    server.console.answer(server.rt, asker, text)?;
     if let Next::Follows(asker, most) = next {
         server.follow(asker, most);
     }
@@ -136,17 +134,11 @@ fn receive<
     if !server.receives() {
         return Ok(false);
     }
-    if let Some(events) = &mut server.events {
-        events.begin_turn(server.rt);
-    }
-    server.turn_moment = None;
     let mut has_received = false;
     for _ in 0..ROUNDS {
-        let reported = match &server.events {
-            Some(events) => events.octets(),
-            None => 0,
-        };
-        if text.len().max(reported) >= PRINTED_OCTETS || !server.receive_each(text)? {
+        if text.len().max(server.reports.octets()) >= PRINTED_OCTETS
+            || !server.receive_each(text)?
+        {
             break;
         }
         has_received = true;
@@ -156,17 +148,4 @@ fn receive<
         text.clear();
     }
     Ok(has_received)
-}
-
-// Reports what came of a turn.
-fn report<
-    N: Names,
-    R: Wait + Clock + Files + AllocGlobal + Copy + Drop,
-    S: Filestore + Preparing + Places + Drop,
-    W: Write + Drop,
->(server: &mut Server<'_, N, R, S, W>, now: u64) {
-    server.report_turn(now);
-    if let Some(events) = &mut server.events {
-        events.end_turn(server.rt, now);
-    }
 }

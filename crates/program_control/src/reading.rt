@@ -1,19 +1,24 @@
 //! What one client asks.
-use program_desk::{Desk, Line};
+use entity_config::Config;
+use program_desk::{Desk, Said, said_by};
 use program_seats::{Asker, Seats};
 use std::alloc::Global;
 use std::io::{BufRead, Read};
+use std::rt::Files;
 use std::sync::Wait;
+use std::time::Clock;
 
 /// How many octets a command may have, its line feed included.
 pub const COMMAND_OCTETS: u64 = 131_072;
 
-/// Leaves a client's lines at the desk, one at a time: the next is read once the one before was answered. It ends where the
+/// Leaves what a client's lines say at the desk, one at a time: the next is read once the one before was answered. The file of a
+/// Put is read here, so this client alone waits for it. It ends where the
 /// lines do, where reading fails or a line is too long, where there is no memory for a line, and where the client's way or
 /// the desk is closed. Half a line at the end is no command.
-pub(crate) fn read_commands<R: Wait, B: BufRead + Drop>(
+pub(crate) fn read_commands<R: Wait + Clock + Files, B: BufRead + Drop>(
     rt: &R,
     alloc: Global,
+    config: &Config,
     reader: &mut B,
     asker: Asker,
     desk: &Desk,
@@ -24,10 +29,11 @@ pub(crate) fn read_commands<R: Wait, B: BufRead + Drop>(
         let wants_more = match reader.take(COMMAND_OCTETS).read_until(b'\n', &mut line) {
             Ok(count) => {
                 if line.pop() == Some(b'\n') {
-                    ask(rt, asker, Line::Octets(line), desk, seats)
+                    let said = said_by(rt, alloc, config, line.as_slice(), desk);
+                    ask(rt, asker, said, desk, seats)
                 } else {
                     if count as u64 >= COMMAND_OCTETS {
-                        let _answered = ask(rt, asker, Line::TooLong, desk, seats);
+                        let _answered = ask(rt, asker, Said::Nothing, desk, seats);
                     }
                     false
                 }
@@ -40,7 +46,7 @@ pub(crate) fn read_commands<R: Wait, B: BufRead + Drop>(
     }
 }
 
-// Leaves one line and waits for its answer; whether more may be read.
-fn ask<R: Wait>(rt: &R, asker: Asker, line: Line, desk: &Desk, seats: &Seats) -> bool {
-    seats.ask(rt, asker) && desk.leave_line(rt, line, Some(asker)) && seats.wait_answer(rt, asker)
+// Leaves what one line says and waits for its answer; whether more may be read.
+fn ask<R: Wait>(rt: &R, asker: Asker, said: Said, desk: &Desk, seats: &Seats) -> bool {
+    seats.ask(rt, asker) && desk.leave_line(rt, said, Some(asker)) && seats.wait_answer(rt, asker)
 }

@@ -1,6 +1,7 @@
 //! The socket itself: its file, who comes in, and its end.
 use crate::client::serve_client;
 use crate::probing::{Probed, probe};
+use entity_config::Config;
 use program_desk::Desk;
 use program_seats::Seats;
 use script_io::write_whole;
@@ -66,11 +67,13 @@ impl ControlSocket {
         Ok(socket)
     }
 
-    /// Lets clients in, each at a free seat, until the seats are closed. It returns once all have left.
-    pub fn run<R: Threads + Wait + Clock + Sync>(
+    /// Lets clients in, each at a free seat, until the seats are closed. It returns once all have left. What their lines say is
+    /// read by a configuration.
+    pub fn run<R: Threads + Wait + Clock + Files + Sync>(
         &self,
         rt: &R,
         alloc: Global,
+        config: &Config,
         desk: &Desk,
         seats: &Seats,
     ) {
@@ -81,7 +84,7 @@ impl ControlSocket {
                     Ok((stream, _)) => match seats.sit(rt, &stream) {
                         Some(asker) => {
                             let started = scope.spawn(move || {
-                                serve_client(rt, alloc, stream, asker, desk, seats)
+                                serve_client(rt, alloc, config, stream, asker, desk, seats)
                             });
                             if started.is_err() {
                                 seats.cut(rt, asker);

@@ -1,6 +1,7 @@
 //! Where other threads leave what the main thread has to do.
+use crate::said::Said;
 use crate::step::{Step, Urgency};
-use crate::trays::{AskedLine, Line, LinesEnd, Rest, Trays};
+use crate::trays::{AskedLine, LinesEnd, Rest, Trays};
 use program_seats::Asker;
 use std::alloc::{AllocError, Global};
 use std::mem;
@@ -12,7 +13,7 @@ use std::time::{Clock, Duration};
 const NAP_MS: u64 = 1;
 
 /// What the main thread finds of the commands.
-#[derive(Debug, Drop)]
+#[derive(Drop)]
 pub enum NextLine {
     /// A line, and whose it is.
     Line(AskedLine),
@@ -26,13 +27,18 @@ pub enum NextLine {
     Deserted,
 }
 
-/// Where other threads leave what the main thread has to do: lines of commands, and what is left of steps that workers
-/// made. All room is made when it is opened. A thread that leaves something waits for room, until the desk is closed.
+/// Where other threads leave what the main thread has to do: lines of commands, what is left of steps that workers made, and
+/// files that were read. Room for lines and steps is made when it is opened. A thread that leaves one waits for room, until the
+/// desk is closed.
 #[derive(Drop)]
 pub struct Desk {
-    trays: Mutex<Trays>,
-    came: Condvar,
+    pub(crate) trays: Mutex<Trays>,
+    /// Something came for the main thread.
+    pub(crate) came: Condvar,
+    /// There is room for a line or a step again.
     room: Condvar,
+    /// A file is to be read.
+    pub(crate) wants: Condvar,
     /// As in the trays, for those who look often and must not wait for the lock.
     is_closed: AtomicBool,
     step_room: usize,
@@ -46,6 +52,7 @@ impl Desk {
             trays: Mutex::new(Trays::new(alloc, step_room, line_room)?),
             came: Condvar::new(),
             room: Condvar::new(),
+            wants: Condvar::new(),
             is_closed: AtomicBool::new(false),
             step_room,
             line_room,
@@ -57,8 +64,8 @@ impl Desk {
         self.step_room
     }
 
-    /// Leaves a line, for the client that waits for its answer where it came from one; whether more are wanted.
-    pub fn leave_line<R: Wait>(&self, rt: &R, line: Line, asker: Option<Asker>) -> bool {
+    /// Leaves what a line says, for the client that waits for its answer where it came from one; whether more are wanted.
+    pub fn leave_line<R: Wait>(&self, rt: &R, said: Said, asker: Option<Asker>) -> bool {
         let mut trays = self.trays.lock(rt);
         for _ in rt.forever() {
             if trays.is_closed {
@@ -69,7 +76,7 @@ impl Desk {
             }
             trays = self.room.wait(rt, trays);
         }
-        if trays.lines.push_back(AskedLine { line, asker }).is_err() {
+        if trays.lines.push_back(AskedLine { said, asker }).is_err() {
             trays.lines_end = LinesEnd::NoMemory;
         }
         drop(trays);
@@ -193,6 +200,7 @@ impl Desk {
         self.is_closed.store(true, Ordering::SeqCst);
         self.trays.lock(rt).is_closed = true;
         self.room.notify_all();
+        self.wants.notify_all();
     }
 
     /// Whether nothing is wanted any more. It waits for no lock.

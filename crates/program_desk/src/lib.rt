@@ -1,12 +1,19 @@
-//! What passes between the threads of a program: lines of commands, and what is to be done after a step.
+//! What passes between the threads of a program: what lines of commands say, what is to be done after a step, and files that
+//! were read.
 #![tactic(auto)]
 
+mod clock;
 mod desk;
+mod files;
 mod reading;
+mod said;
 mod step;
 mod trays;
 
+pub use clock::{moment, wall_moment};
 pub use desk::{Desk, NextLine};
+pub use files::{Reading, read_files};
 pub use reading::read_lines;
+pub use said::{Said, said_by};
 pub use step::{Step, Urgency};
-pub use trays::{AskedLine, Line};
+pub use trays::AskedLine;

@@ -1,21 +1,30 @@
 //! What comes from outside: lines of commands.
 use crate::desk::Desk;
-use crate::trays::Line;
+use crate::said::{Said, said_by};
+use entity_config::Config;
 use memchr::memchr;
 use script_io::{INTERRUPTIONS, NextLine, ReplayFault, next_line};
 use std::alloc::Global;
 use std::io::{BufRead, ErrorKind};
+use std::rt::Files;
 use std::sync::Wait;
+use std::time::Clock;
 
-/// Leaves the lines of commands at the desk, until `quit`, the end of the input, a fault of the reader, or until the desk is
-/// closed.
-pub fn read_lines<R: Wait, B: BufRead>(rt: &R, alloc: Global, reader: &mut B, desk: &Desk) {
+/// Leaves what the lines of commands say at the desk, until `quit`, the end of the input, a fault of the reader, or until the
+/// desk is closed. The file of a Put is read before the next line.
+pub fn read_lines<R: Wait + Clock + Files, B: BufRead>(
+    rt: &R,
+    alloc: Global,
+    config: &Config,
+    reader: &mut B,
+    desk: &Desk,
+) {
     let mut line = Vec::new(alloc);
     for _ in rt.forever() {
         let wants_more = match next_line(reader, &mut line) {
-            Ok(NextLine::Line) => leave_line(rt, alloc, line.as_slice(), desk),
+            Ok(NextLine::Line) => leave_line(rt, alloc, config, line.as_slice(), desk),
             Ok(NextLine::TooLong) => {
-                desk.leave_line(rt, Line::TooLong, None) && skip_line(rt, reader)
+                desk.leave_line(rt, Said::Nothing, None) && skip_line(rt, reader)
             },
             Ok(NextLine::End) | Err(ReplayFault::Read) => false,
             Err(_) => {
@@ -31,16 +40,15 @@ pub fn read_lines<R: Wait, B: BufRead>(rt: &R, alloc: Global, reader: &mut B, de
 }
 
 // Leaves one line; whether more are to be read.
-fn leave_line<R: Wait>(rt: &R, alloc: Global, line: &[u8], desk: &Desk) -> bool {
-    match Vec::from_slice(alloc, line) {
-        Ok(octets) => {
-            desk.leave_line(rt, Line::Octets(octets), None) && line != b"quit".as_slice()
-        }
-        Err(_) => {
-            desk.fail_lines(rt);
-            false
-        }
-    }
+fn leave_line<R: Wait + Clock + Files>(
+    rt: &R,
+    alloc: Global,
+    config: &Config,
+    line: &[u8],
+    desk: &Desk,
+) -> bool {
+    let said = said_by(rt, alloc, config, line, desk);
+    desk.leave_line(rt, said, None) && line != b"quit".as_slice()
 }
 
 // Reads past the next line feed; whether there was one.

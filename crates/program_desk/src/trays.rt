@@ -1,22 +1,17 @@
 //! What lies between the threads, under one lock.
+use crate::files::Reading;
+use crate::said::Said;
 use crate::step::{Step, Urgency};
+use cfdp_types::Octets;
 use program_seats::Asker;
+use program_start::ProgramFault;
 use std::alloc::{AllocError, Global};
 use std::collections::VecDeque;
 
-/// A line of commands, as it came.
-#[derive(Debug, Drop)]
-pub enum Line {
-    /// Its octets, without the line feed.
-    Octets(Vec<u8>),
-    /// More octets than a line may have.
-    TooLong,
-}
-
 /// A line of commands, and whose it is.
-#[derive(Debug, Drop)]
+#[derive(Drop)]
 pub struct AskedLine {
-    pub line: Line,
+    pub said: Said,
     /// The client that waits for its answer, where it came from one.
     pub asker: Option<Asker>,
 }
@@ -53,6 +48,13 @@ pub(crate) struct Trays {
     pub(crate) steps: Vec<Step>,
     /// Whether one of the steps can't wait for a millisecond.
     pub(crate) has_urgent_step: bool,
+    /// The files that are being read, and how many were before.
+    pub(crate) readings: Vec<Reading>,
+    pub(crate) next_reading: u64,
+    /// The path of a file that is to be read.
+    pub(crate) wanted: Option<Octets>,
+    /// The file that was wanted, or why it can't be read.
+    pub(crate) file: Option<Result<Octets, ProgramFault>>,
     pub(crate) is_closed: bool,
     pub(crate) rest: Rest,
 }
@@ -65,6 +67,10 @@ impl Trays {
             lines_end: LinesEnd::Open,
             steps: Vec::with_capacity(alloc, steps)?,
             has_urgent_step: false,
+            readings: Vec::new(alloc),
+            next_reading: 0,
+            wanted: None,
+            file: None,
             is_closed: false,
             rest: Rest::Awake,
         })
@@ -77,7 +83,10 @@ impl Trays {
 
     /// Whether the main thread has something to look at that can't wait for a millisecond.
     pub(crate) fn has_something_urgent(&self) -> bool {
-        self.has_urgent_step || !self.lines.is_empty() || self.lines_end != LinesEnd::Open
+        self.has_urgent_step
+            || !self.lines.is_empty()
+            || self.lines_end != LinesEnd::Open
+            || self.file.is_some()
     }
 
     /// Whether the main thread has to be woken for a step that was left. The first who wakes it leaves it awake, so that

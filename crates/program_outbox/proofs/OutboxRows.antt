@@ -8,7 +8,7 @@ use Rattle.program_outbox.specs.Outboxes.{OutboxValue, going, after_going, withd
 
 -- a file for an entity
 abbrev file_for : ℕ → OutboxFile
-file_for entity = record { class = Two; destination = record { 0 = entity }; source = []; target = []; closure = false; since = 0 }
+file_for entity = record { class = Two; destination = record { 0 = entity }; source = []; destination_name = []; closure = false; since = 0 }
 
 abbrev waiting : ℕ → ℕ → ℕ → Waiting
 waiting number user entity = record { number = number; user = user; file = file_for entity }

@@ -17,7 +17,7 @@ pub struct OutboxFile {
     /// Its path, which is its name at the sender.
     pub source: Octets,
     /// Its name at the receiver.
-    pub target: Octets,
+    pub destination_name: Octets,
     pub closure: bool,
     /// When it was given, in milliseconds since the start of 1970.
     pub since: u64,

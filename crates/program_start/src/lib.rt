@@ -1,12 +1,10 @@
-//! How a program starts: its configuration, a file that is to be sent, its socket; and how it tells why it ended.
+//! How a program starts: its configuration, a file that is to be sent; and how it tells why it ended.
 #![tactic(auto)]
 
 mod explaining;
 mod fault;
 mod files;
-mod socket;
 
 pub use explaining::{Started, push_explanation, tell_explanation};
 pub use fault::{ProgramFault, print, push_fault, tell_fault};
 pub use files::{load_config, load_file};
-pub use socket::open_socket;

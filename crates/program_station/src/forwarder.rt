@@ -1,16 +1,15 @@
 //! What a worker does with an answer.
 use crate::answers::flat;
 use crate::arrivals::Arrivals;
-use crate::clock::{moment, wall_moment};
 use cfdp_types::EntityId;
 use entity_config::Config;
 use entity_routing::RouteRefusal;
 use entity_workers::{Carrier, WorkersFault, run_workers_from};
 use lane_table::{Done, Refused};
 use pdu_reading::DecodeFault;
-use program_desk::{Desk, Step, Urgency};
-use program_link::PduSender;
+use program_desk::{Desk, Step, Urgency, moment, wall_moment};
 use program_tallies::{Ledger, RefusalKind, Tallies, Traffic};
+use program_udp::PduSender;
 use shared_entity::{Entity, EntityRefusal};
 use shared_lanes::{Names, NoGate};
 use std::alloc::{AllocError, Global};

@@ -1,18 +1,20 @@
 //! What the threads of a program do with an entity: workers send what its steps give and leave the rest at a desk, and the
-//! main thread works that off in turns.
+//! main thread works that off in turns. Other threads read commands, and files that are to be sent.
 #![tactic(auto)]
 
 mod answers;
 mod arrivals;
-mod clock;
+mod beside;
 mod forwarder;
 mod link_book;
 mod station;
 mod storing;
+mod way_in;
 
 pub use answers::flat;
 pub use arrivals::{Arrivals, READ_FAILURES, Sources};
-pub use clock::{moment, wall_moment};
+pub use beside::{Control, MainThread, run_beside, run_commanded, run_controlled};
 pub use forwarder::{Forwarder, forwarders_of, run_forwarders};
 pub use station::{REST_MS, Station};
 pub use storing::{Preparing, StoredNote};
+pub use way_in::WayIn;

@@ -1,15 +1,14 @@
 //! What the main thread keeps, and its turns.
 use crate::answers::{flat, obstacle_of};
-use crate::clock::moment;
 use crate::link_book::{Departure, LinkBook};
 use crate::storing::{Preparing, StoredNote, Waiting};
 use cfdp_types::{EntityId, TxnKey};
 use entity_workers::Filestore;
 use lane_table::Done;
 use program_agenda::{Agenda, Fate, Pace, fate_of_pump, fate_of_retry};
-use program_desk::{Desk, Step};
-use program_link::{PduSender, reach_of};
+use program_desk::{Desk, Step, moment};
 use program_tallies::Tallies;
+use program_udp::{PduSender, reach_of};
 use shared_entity::{Entity, EntityRefusal};
 use shared_lanes::{Names, NoGate};
 use std::alloc::{AllocError, Global};

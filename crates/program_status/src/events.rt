@@ -1,8 +1,9 @@
 //! The events that a server reports.
+use crate::event_log::EventLog;
+use crate::kept::Kept;
 use crate::refused::{origin_of, refused_case};
 use cfdp_types::{EntityId, TxnKey};
 use indications::Bundle;
-use program_events::{EventLog, Kept};
 use program_seats::{Asker, Seats};
 use program_tallies::RefusalCase;
 use station_lines::{

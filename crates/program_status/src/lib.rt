@@ -1,11 +1,15 @@
 //! What a server shows of itself: its status, and the events that it reports.
 #![tactic(auto)]
 
+mod event_log;
 mod events;
+mod kept;
 mod notes;
 mod refused;
 mod status;
 
+pub use event_log::{EventLog, PENDING_OCTETS};
 pub use events::Events;
+pub use kept::{KEPT_LINES, KEPT_OCTETS, Kept};
 pub use notes::{LaneNote, LaneNotes};
 pub use status::{Queued, Shown, push_outbox, push_status};

@@ -6,14 +6,15 @@ use cfdp_types::limits::{JOURNAL_ENTRIES, JOURNAL_ENTRIES_KEPT};
 use entity_config::Config;
 use entity_routing::Place;
 use lane_table::Glance;
+use program_desk::Reading;
 use program_outbox::{Outbox, Waiting};
 use program_tallies::Tallies;
 use shared_entity::{Entity, EntityRefusal};
 use shared_lanes::Names;
 use station_lines::{
-    Counters, EntityStatus, LogStatus, Moment, Notice, QueuedStatus, RemoteStatus,
-    TransactionStatus, UserStatus, push_entity, push_log, push_queued, push_refusal, push_remote,
-    push_transaction, push_user,
+    Counters, EntityStatus, LogStatus, Moment, Notice, QueuedStatus, ReadingStatus, RemoteStatus,
+    TransactionStatus, UserStatus, push_entity, push_log, push_queued, push_reading, push_refusal,
+    push_remote, push_transaction, push_user,
 };
 use std::alloc::{AllocError, Global};
 use std::sync::Wait;
@@ -27,6 +28,8 @@ const WIDEST_ROUND: u64 = 512;
 /// The files that wait to be sent.
 #[derive(Clone, Copy)]
 pub struct Queued<'a> {
+    /// The one whose turn came, while it is being read.
+    pub reading: &'a [Waiting],
     /// Those whose turn came, and which could not be put yet.
     pub returned: &'a [Waiting],
     pub outbox: &'a Outbox,
@@ -41,6 +44,8 @@ pub struct Shown<'a> {
     pub tallies: &'a Tallies,
     pub notes: &'a LaneNotes,
     pub queued: Queued<'a>,
+    /// The files that are being read.
+    pub readings: &'a [Reading],
     /// The number of the last event.
     pub events: u64,
     pub log: Option<LogStatus>,
@@ -51,7 +56,7 @@ pub struct Shown<'a> {
 }
 
 /// Adds a line for the entity, for the log, for each user, for each lane that has run a transaction, for each file of the
-/// outbox, for each remote entity, and for each kind of refusal. Each lane's lock is taken for itself.
+/// outbox, for each file that is being read, for each remote entity, and for each kind of refusal. Each lane's lock is taken for itself.
 pub fn push_status<N: Names, R: Wait + Copy>(
     rt: &R,
     alloc: Global,
@@ -66,6 +71,7 @@ pub fn push_status<N: Names, R: Wait + Copy>(
         push_lanes(rt, alloc, text, entity, user, shown.notes)?;
     }
     push_outbox(alloc, text, entity.config(), &shown.queued)?;
+    push_readings(alloc, text, shown.readings)?;
     push_remotes(alloc, text, entity, shown.tallies)?;
     push_refusals(rt, alloc, text, shown.tallies)
 }
@@ -198,6 +204,9 @@ pub fn push_outbox(
     config: &Config,
     queued: &Queued<'_>,
 ) -> Result<(), AllocError> {
+    for waiting in queued.reading {
+        push_waiting(alloc, text, config, waiting)?;
+    }
     for waiting in queued.returned {
         push_waiting(alloc, text, config, waiting)?;
     }
@@ -220,10 +229,21 @@ fn push_waiting(
         class: file.class,
         destination: file.destination,
         file: file.source.as_slice(),
-        to: file.target.as_slice(),
+        to: file.destination_name.as_slice(),
         since: Moment(file.since),
     };
     push_queued(alloc, text, &queued)
+}
+
+fn push_readings(alloc: Global, text: &mut String, readings: &[Reading]) -> Result<(), AllocError> {
+    for reading in readings {
+        let status = ReadingStatus {
+            file: reading.path.as_slice(),
+            since: Moment(reading.since),
+        };
+        push_reading(alloc, text, &status)?;
+    }
+    Ok(())
 }
 
 fn push_remotes<N: Names, R: Copy>(

@@ -1,5 +1,7 @@
-use program_desk::{Desk, Line, NextLine};
+use cfdp_types::Octets;
+use program_desk::{Desk, NextLine, Said, read_files};
 use program_seats::Asker;
+use server_lines::Command;
 use std::alloc::{AllocError, Global};
 use std::sync::Wait;
 use std::test::*;
@@ -15,9 +17,11 @@ enum End {
 // What the main thread finds, in a letter.
 fn letter_of(next: NextLine) -> u8 {
     match next {
-        NextLine::Line(asked) => match asked.line {
-            Line::Octets(_) => b'l',
-            Line::TooLong => b't',
+        NextLine::Line(asked) => match asked.said {
+            Said::Command(_) => b'c',
+            Said::Put(..) => b'p',
+            Said::Nothing => b'n',
+            Said::NoMemory => b'o',
         },
         NextLine::Awaited => b'a',
         NextLine::End => b'e',
@@ -34,25 +38,31 @@ fn tell_end<R: Wait>(rt: &R, desk: &Desk, end: End) {
     }
 }
 
-// A line, one that is too long, and two ends: what is found of them, and what is found before.
+// A command, a line that is none, and two ends: what is found of them, and what is found before.
 fn found<R: Wait>(rt: &R, alloc: Global, first: End, second: End) -> Result<[u8; 5], AllocError> {
     let desk = Desk::new(alloc, 1, 2)?;
     let before = letter_of(desk.take_line(rt));
-    desk.leave_line(rt, Line::Octets(Vec::from_slice(alloc, b"quit")?), None);
-    desk.leave_line(rt, Line::TooLong, None);
+    desk.leave_line(rt, Said::Command(Command::Quit), None);
+    desk.leave_line(rt, Said::Nothing, None);
     tell_end(rt, &desk, first);
     tell_end(rt, &desk, second);
-    let line = letter_of(desk.take_line(rt));
-    let long = letter_of(desk.take_line(rt));
+    let command = letter_of(desk.take_line(rt));
+    let nothing = letter_of(desk.take_line(rt));
     let last = letter_of(desk.take_line(rt));
-    Ok([before, line, long, last, letter_of(desk.take_line(rt))])
+    Ok([
+        before,
+        command,
+        nothing,
+        last,
+        letter_of(desk.take_line(rt)),
+    ])
 }
 
 // Lines that were left come first, and then how they ended first, whatever came behind.
 const ENDS: [(End, End, &[u8; 5]); 3] = [
-    (End::Over, End::NoMemory, b"altee"),
-    (End::NoMemory, End::Over, b"altmm"),
-    (End::Deserted, End::Over, b"altdd"),
+    (End::Over, End::NoMemory, b"acnee"),
+    (End::NoMemory, End::Over, b"acnmm"),
+    (End::Deserted, End::Over, b"acndd"),
 ];
 
 #[test]
@@ -69,10 +79,10 @@ fn ends(rt: HostRuntime) -> Result<(), Fail> {
 fn askers(rt: HostRuntime) -> Result<(), Fail> {
     let desk = Desk::new(rt.alloc(), 1, 1)?;
     let asker = Asker { seat: 3, visit: 7 };
-    desk.leave_line(&rt, Line::TooLong, Some(asker));
+    desk.leave_line(&rt, Said::Nothing, Some(asker));
     match desk.take_line(&rt) {
         NextLine::Line(asked) => assert_eq!(rt; asked.asker, Some(asker)),
-        other => panic!(rt; "{other:?}"),
+        _ => panic!(rt; "no line"),
     }
     Ok(())
 }
@@ -82,10 +92,23 @@ fn askers(rt: HostRuntime) -> Result<(), Fail> {
 fn closed(rt: HostRuntime) -> Result<(), Fail> {
     let alloc = rt.alloc();
     let desk = Desk::new(alloc, 1, 1)?;
-    assert!(rt; desk.leave_line(&rt, Line::TooLong, None));
+    assert!(rt; desk.leave_line(&rt, Said::Nothing, None));
     desk.close(&rt);
     assert!(rt; desk.is_closed());
-    assert!(rt; !desk.leave_line(&rt, Line::Octets(Vec::new(alloc)), None));
-    assert!(rt; !desk.leave_line(&rt, Line::TooLong, None));
+    assert!(rt; !desk.leave_line(&rt, Said::NoMemory, None));
+    assert!(rt; !desk.leave_line(&rt, Said::Nothing, None));
+    Ok(())
+}
+
+// A file that is wanted is read by the thread of `read_files`, which ends with the desk.
+#[test]
+fn files(rt: HostRuntime) -> Result<(), Fail> {
+    let alloc = rt.alloc();
+    let desk = Desk::new(alloc, 1, 1)?;
+    assert!(rt; desk.take_file(&rt).is_none() && desk.readings(&rt, alloc)?.is_empty());
+    desk.want_file(&rt, Octets::from_slice(alloc, b"\xff")?);
+    desk.close(&rt);
+    read_files(&rt, alloc, &desk);
+    assert!(rt; desk.take_file(&rt).is_none());
     Ok(())
 }

@@ -1,4 +1,4 @@
-use program_events::{EventLog, KEPT_LINES, Kept};
+use program_status::{EventLog, KEPT_LINES, Kept};
 use std::alloc::{AllocError, Global};
 use std::fs;
 use std::test::*;

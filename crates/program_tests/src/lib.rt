@@ -1,5 +1,5 @@
 //! Parts of the programs, as their callers see them: command lines, words in quotes, the agenda, the desk, seats, the outbox, what
-//! is counted, the file of numbers, and the lines of a station, octet for octet and as a reader of JSON has them.
+//! is counted, the file of numbers, and the lines of a station, octet for octet.
 #![tactic(auto)]
 
 #[cfg(test)]
@@ -18,8 +18,6 @@ mod numbers;
 mod outbox;
 #[cfg(test)]
 mod quoted;
-#[cfg(test)]
-mod reading;
 #[cfg(test)]
 mod seats;
 #[cfg(test)]

@@ -8,7 +8,7 @@ fn file(alloc: Global) -> Result<OutboxFile, AllocError> {
         class: Class::Two,
         destination: EntityId(7),
         source: Octets::from_slice(alloc, b"a")?,
-        target: Octets::new(),
+        destination_name: Octets::new(),
         closure: false,
         since: 0,
     })

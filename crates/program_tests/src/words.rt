@@ -59,7 +59,7 @@ fn is_put(words: &PutWords<'_>, row: &PutRow) -> bool {
         && words.bind == "1.2.3.4:5"
         && words.user == "u"
         && words.source == "s"
-        && words.target == "t"
+        && words.destination_name == "t"
         && words.remote == EntityId(row.remote)
         && words.class == row.class
         && words.rate == row.rate

@@ -62,7 +62,7 @@ put_in_rows found words said = record {
   numbers = sym (first_value-rows found (codes "numbers")) ∙ said.numbers;
   known_sources = flag_by found (codes "known-sources") words.known_sources said.known_sources;
   source = sym (first_value-rows found (codes "source")) ∙ said.source;
-  target = sym (first_value-rows found (codes "target")) ∙ said.target;
+  destination_name = sym (first_value-rows found (codes "target")) ∙ said.destination_name;
 }
 
 -- what matches of a line say, the line says

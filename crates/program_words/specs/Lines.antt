@@ -108,4 +108,4 @@ pub record PutSays (given : Givings) (words : PutWords) : Type 0 where
   pub numbers : given.first (codes "numbers") ≡ option_map (λ path. path.now) words.numbers
   pub known_sources : IsFlag (given.one (codes "known-sources")) words.known_sources
   pub source : given.first (codes "source") ≡ Some words.source.now
-  pub target : given.first (codes "target") ≡ Some words.target.now
+  pub destination_name : given.first (codes "target") ≡ Some words.destination_name.now

@@ -26,7 +26,7 @@ pub struct PutWords<'a> {
     /// The file to be read, which is its name at the sender, too: 1 to 255 octets.
     pub source: &'a str,
     /// Its name at the receiver: 1 to 255 octets.
-    pub target: &'a str,
+    pub destination_name: &'a str,
     /// How many octets of the file's PDUs may leave in a second, where that is limited.
     pub rate: Option<u64>,
     /// Whether the receiver is asked to say at the end what became of the file: class 1 alone heeds it.
@@ -123,13 +123,13 @@ fn words_in<'a>(matches: &ArgMatches<'a>) -> Option<PutWords<'a>>
     let remote = number_within(matches.get_str("remote")?, 0, u64::MAX)?;
     let class = class_of(matches.get_str("class")?)?;
     let source = matches.get_str("source")?;
-    let target = matches.get_str("target")?;
+    let destination_name = matches.get_str("target")?;
     let rate = limit_of(matches.get_str("rate"))?;
     let closure = matches.get_flag("closure");
     let first = first_number(matches.get_str("first"))?;
     let numbers = matches.get_str("numbers");
     let known_sources = matches.get_flag("known-sources");
-    if !is_address(bind) || !is_name(source) || !is_name(target) || numbers == Some("") {
+    if !is_address(bind) || !is_name(source) || !is_name(destination_name) || numbers == Some("") {
         return None;
     }
     Some(PutWords {
@@ -139,7 +139,7 @@ fn words_in<'a>(matches: &ArgMatches<'a>) -> Option<PutWords<'a>>
         remote: EntityId(remote),
         class,
         source,
-        target,
+        destination_name,
         rate,
         closure,
         first,

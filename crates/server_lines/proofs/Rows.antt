@@ -19,7 +19,7 @@ puts : map (command_of reference_config) (codes "put alice 0 1 1 a b" ∷ codes 
       closure = false;
       destination = record { 0 = 1 };
       source = codes "a";
-      target = codes "b";
+      destination_name = codes "b";
     }))
     ∷ Some (command.Put (record {
       user = 1;
@@ -28,7 +28,7 @@ puts : map (command_of reference_config) (codes "put alice 0 1 1 a b" ∷ codes 
       closure = true;
       destination = record { 0 = 7 };
       source = codes "x";
-      target = codes "y";
+      destination_name = codes "y";
     }))
     ∷ []
 puts = refl
@@ -61,7 +61,7 @@ quoted : map (command_of reference_config) (codes "put \"alice\" 0 1 1 \"a b\" c
       closure = false;
       destination = record { 0 = 1 };
       source = codes "a b";
-      target = codes "c\"d";
+      destination_name = codes "c\"d";
     }))
     ∷ Some (command.Send (record {
       user = 1;
@@ -69,7 +69,7 @@ quoted : map (command_of reference_config) (codes "put \"alice\" 0 1 1 \"a b\" c
       closure = true;
       destination = record { 0 = 7 };
       source = 255 ∷ 34 ∷ [];
-      target = codes "b";
+      destination_name = codes "b";
     }))
     ∷ Some command.Quit
     ∷ []
@@ -87,7 +87,7 @@ outbox : map (command_of reference_config) (codes "send alice 1 1 a b" ∷ codes
       closure = false;
       destination = record { 0 = 1 };
       source = codes "a";
-      target = codes "b";
+      destination_name = codes "b";
     }))
     ∷ Some command.Outbox
     ∷ Some (command.Drop 3)

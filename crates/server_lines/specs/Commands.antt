@@ -34,18 +34,18 @@ file_name_of word = if (length word == 0) || nat_lt NAME_OCTETS (length word) th
 
 -- CLASS DEST SRC DST, with closure asked for or not
 abbrev pub sending_from : List ℕ → List ℕ → List ℕ → List ℕ → Bool → Option Sending
-sending_from class destination source target closure = do
+sending_from class destination source destination_name closure = do
   of_class ← class_of class
   to ← number_of destination
   from_name ← file_name_of source
-  to_name ← file_name_of target
-  Some (record { class = of_class; closure = closure; destination = record { 0 = to }; source = from_name; target = to_name })
+  to_name ← file_name_of destination_name
+  Some (record { class = of_class; closure = closure; destination = record { 0 = to }; source = from_name; destination_name = to_name })
 
 -- the same words, and nothing or the word for closure behind them
 abbrev pub sending_of : List (List ℕ) → Option Sending
-sending_of (class ∷ destination ∷ source ∷ target ∷ operands) = do
+sending_of (class ∷ destination ∷ source ∷ destination_name ∷ operands) = do
   closure ← closure_of operands
-  sending_from class destination source target closure
+  sending_from class destination source destination_name closure
 sending_of operands = None
 
 -- a file that goes from one of a user's lanes
@@ -58,7 +58,7 @@ put_command user lane sending =
       closure = sending.closure;
       destination = sending.destination;
       source = sending.source;
-      target = sending.target;
+      destination_name = sending.destination_name;
     })
 
 -- a file that waits for one of a user's lanes
@@ -70,7 +70,7 @@ send_command user sending =
       closure = sending.closure;
       destination = sending.destination;
       source = sending.source;
-      target = sending.target;
+      destination_name = sending.destination_name;
     })
 
 -- put USER LANE and what is to be sent

@@ -21,7 +21,7 @@ pub struct PutCommand {
     /// Where the file is read, which is its name at the sender, too: 1 to 255 octets, beyond ASCII only where it was quoted.
     pub source: Octets,
     /// Its name at the receiver, of such octets.
-    pub target: Octets,
+    pub destination_name: Octets,
 }
 
 /// A file that a user wants to be sent once one of its lanes is idle.
@@ -35,7 +35,7 @@ pub struct SendCommand {
     /// Where the file is read, which is its name at the sender, too: 1 to 255 octets, beyond ASCII only where it was quoted.
     pub source: Octets,
     /// Its name at the receiver, of such octets.
-    pub target: Octets,
+    pub destination_name: Octets,
 }
 
 /// What a line of commands asks for.

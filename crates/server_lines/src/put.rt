@@ -43,7 +43,7 @@ fn put_command(user: usize, lane: usize, sending: Sending) -> Command
         closure: sending.closure,
         destination: sending.destination,
         source: sending.source,
-        target: sending.target,
+        destination_name: sending.destination_name,
     })
 }
 
@@ -74,6 +74,6 @@ fn send_command(user: usize, sending: Sending) -> Command
         closure: sending.closure,
         destination: sending.destination,
         source: sending.source,
-        target: sending.target,
+        destination_name: sending.destination_name,
     })
 }

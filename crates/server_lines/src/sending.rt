@@ -15,7 +15,7 @@ pub(crate) struct Sending {
     pub(crate) closure: bool,
     pub(crate) destination: EntityId,
     pub(crate) source: Octets,
-    pub(crate) target: Octets,
+    pub(crate) destination_name: Octets,
 }
 
 /// Class, destination, both names, and whether closure is asked for.
@@ -31,13 +31,13 @@ pub(crate) fn sending_of(alloc: Global, operands: Words<'_>) -> Result<Option<Se
     let Some((source, operands)) = operands.next() else {
         return Ok(None);
     };
-    let Some((target, operands)) = operands.next() else {
+    let Some((destination_name, operands)) = operands.next() else {
         return Ok(None);
     };
     let Some(closure) = closure_of(operands) else {
         return Ok(None);
     };
-    sending_from(alloc, class, destination, source, target, closure)
+    sending_from(alloc, class, destination, source, destination_name, closure)
 }
 
 fn sending_from(
@@ -45,11 +45,11 @@ fn sending_from(
     class: &[u8],
     destination: &[u8],
     source: &[u8],
-    target: &[u8],
+    destination_name: &[u8],
     closure: bool,
 ) -> Result<Option<Sending>, AllocError>
     ensures { IfOk result
-        (λ sending. sending ≡ sending_from class.now destination.now source.now target.now closure) }
+        (λ sending. sending ≡ sending_from class.now destination.now source.now destination_name.now closure) }
 {
     let Some(class) = class_of(class) else {
         return Ok(None);
@@ -60,7 +60,7 @@ fn sending_from(
     let Some(source) = file_name_of(source) else {
         return Ok(None);
     };
-    let Some(target) = file_name_of(target) else {
+    let Some(destination_name) = file_name_of(destination_name) else {
         return Ok(None);
     };
     Ok(Some(Sending {
@@ -68,6 +68,6 @@ fn sending_from(
         closure,
         destination: EntityId(destination),
         source: Octets::from_slice(alloc, source)?,
-        target: Octets::from_slice(alloc, target)?,
+        destination_name: Octets::from_slice(alloc, destination_name)?,
     }))
 }

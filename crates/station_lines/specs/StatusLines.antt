@@ -19,6 +19,7 @@ use Rattle.station_lines.specs.declared.status.LogStatus.{LogStatus}
 use Rattle.station_lines.specs.declared.status.Notice.{Notice}
 use Rattle.station_lines.specs.declared.status.Notice.TheVariants.{JournalFull, LastNumbers}
 use Rattle.station_lines.specs.declared.status.QueuedStatus.{QueuedStatus}
+use Rattle.station_lines.specs.declared.status.ReadingStatus.{ReadingStatus}
 use Rattle.station_lines.specs.declared.status.RemoteStatus.{RemoteStatus}
 use Rattle.station_lines.specs.declared.status.TransactionStatus.{TransactionStatus}
 use Rattle.station_lines.specs.declared.status.UserStatus.{UserStatus}
@@ -169,6 +170,18 @@ queued_file q =
 -- the line of a file that waits
 abbrev pub queued_line : QueuedStatus → List ℕ
 queued_line q = line_of (queued_head q ++ queued_file q)
+
+-- ---- files that are being read
+
+-- which file is being read, and since when
+abbrev pub reading_members : ReadingStatus → List Token
+reading_members r =
+    text_member (codes "kind") (codes "reading") ++ (octets_member (codes "file") r.file.now
+    ++ moment_member (codes "since") r.since)
+
+-- the line of a file that is being read
+abbrev pub reading_line : ReadingStatus → List ℕ
+reading_line r = line_of (reading_members r)
 
 -- ---- remote entities and refusals
 

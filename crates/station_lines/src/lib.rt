@@ -19,9 +19,10 @@ pub use event_lines::{
 pub use members::{Datagram, RefusedCase, SHOWN_OCTETS};
 pub use moment::Moment;
 pub use status::{
-    Counters, Ending, EntityStatus, LogStatus, Notice, QueuedStatus, RemoteStatus,
+    Counters, Ending, EntityStatus, LogStatus, Notice, QueuedStatus, ReadingStatus, RemoteStatus,
     TransactionStatus, UserStatus,
 };
 pub use status_lines::{
-    push_entity, push_log, push_queued, push_refusal, push_remote, push_transaction, push_user,
+    push_entity, push_log, push_queued, push_reading, push_refusal, push_remote, push_transaction,
+    push_user,
 };

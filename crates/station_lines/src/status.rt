@@ -134,6 +134,14 @@ pub struct QueuedStatus<'a> {
     pub since: Moment,
 }
 
+/// A file that is being read for a Put.
+#[derive(Clone, Copy, Debug)]
+pub struct ReadingStatus<'a> {
+    /// Its path.
+    pub file: &'a [u8],
+    pub since: Moment,
+}
+
 /// A remote entity.
 #[derive(Clone, Copy, Debug)]
 pub struct RemoteStatus<'a> {

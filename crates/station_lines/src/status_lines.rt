@@ -2,7 +2,7 @@
 ghost use Rattle.std.specs.Prelude.{◌≡◌, ◌++◌, OnErr, OnOk, string_bytes, codes};
 ghost use Rattle.std.specs.Option.{option_copied};
 ghost use Rattle.station_lines.specs.Members.{object_member};
-ghost use Rattle.station_lines.specs.StatusLines.{entity_line, entity_head, entity_state, counter_members, traffic_members, trouble_members, outcome_members, log_line, user_line, transaction_line, transaction_head, transaction_part, transaction_file, transaction_end, file_members, last_members, ending_members, end_members, notice_members, notice_name, role_name, state_name, queued_line, queued_head, queued_file, remote_line, remote_head, held_members, crossing_members, address_members, refusal_line};
+ghost use Rattle.station_lines.specs.StatusLines.{entity_line, entity_head, entity_state, counter_members, traffic_members, trouble_members, outcome_members, log_line, user_line, transaction_line, transaction_head, transaction_part, transaction_file, transaction_end, file_members, last_members, ending_members, end_members, notice_members, notice_name, role_name, state_name, queued_line, queued_head, queued_file, reading_line, reading_members, remote_line, remote_head, held_members, crossing_members, address_members, refusal_line};
 
 use crate::line::Line;
 use crate::members::{
@@ -10,7 +10,7 @@ use crate::members::{
 };
 use crate::moment::Moment;
 use crate::status::{
-    Counters, Ending, EntityStatus, LogStatus, Notice, QueuedStatus, RemoteStatus,
+    Counters, Ending, EntityStatus, LogStatus, Notice, QueuedStatus, ReadingStatus, RemoteStatus,
     TransactionStatus, UserStatus,
 };
 use answer_texts::phase_name;
@@ -299,6 +299,28 @@ fn queued_file(line: &mut Line, queued: &QueuedStatus<'_>) -> Result<(), AllocEr
     line.octets("file", queued.file)?;
     line.octets("to", queued.to)?;
     line.moment("since", queued.since)
+}
+
+/// Adds the line of a file that is being read.
+pub fn push_reading(
+    alloc: Global,
+    text: &mut String,
+    reading: &ReadingStatus<'_>,
+) -> Result<(), AllocError>
+    ensures added { OnOk result (string_bytes text.new ≡ string_bytes text.old ++ reading_line reading.entry.now) }
+    ensures kept { OnErr result (string_bytes text.new ≡ string_bytes text.old) }
+{
+    let mut line = Line::begin(alloc)?;
+    reading_members(&mut line, reading)?;
+    line.end(text)
+}
+
+fn reading_members(line: &mut Line, reading: &ReadingStatus<'_>) -> Result<(), AllocError>
+    ensures { OnOk result (line.new ≡ line.old ++ reading_members reading.entry.now) }
+{
+    line.text("kind", "reading")?;
+    line.octets("file", reading.file)?;
+    line.moment("since", reading.since)
 }
 
 /// Adds the line of a remote entity.

@@ -1,0 +1,135 @@
+//! Files that are to be sent are read by other threads than the main one, which waits for none of them.
+use crate::clock::wall_moment;
+use crate::desk::Desk;
+use cfdp_types::Octets;
+use program_start::{ProgramFault, load_file};
+use std::alloc::{AllocError, Global};
+use std::rt::Files;
+use std::str;
+use std::sync::Wait;
+use std::time::Clock;
+
+/// A file that is being read.
+#[derive(Debug, Drop)]
+pub struct Reading {
+    /// Its path.
+    pub path: Octets,
+    /// Since when, in milliseconds since 1970.
+    pub since: u64,
+    /// Which of all readings it is.
+    pub(crate) number: u64,
+}
+
+impl Desk {
+    /// Reads a file that is to be sent. `readings` has it meanwhile.
+    pub(crate) fn read_file<R: Wait + Clock + Files>(
+        &self,
+        rt: &R,
+        alloc: Global,
+        path: &Octets,
+    ) -> Result<Octets, ProgramFault> {
+        let number = self.begin_reading(rt, path)?;
+        let file = load(rt, alloc, path.as_slice());
+        self.end_reading(rt, number);
+        file
+    }
+
+    // A file is being read from now on; the number of the reading.
+    fn begin_reading<R: Wait + Clock>(&self, rt: &R, path: &Octets) -> Result<u64, AllocError> {
+        let (path, since) = (path.copy()?, wall_moment(rt));
+        let mut trays = self.trays.lock(rt);
+        let number = trays.next_reading;
+        trays.next_reading = number.saturating_add(1);
+        trays.readings.push(Reading {
+            path,
+            since,
+            number,
+        })?;
+        Ok(number)
+    }
+
+    // A file is no longer being read.
+    fn end_reading<R: Wait>(&self, rt: &R, number: u64) {
+        let mut trays = self.trays.lock(rt);
+        if let Some(place) = place_of(trays.readings.as_slice(), number)
+            && place < trays.readings.len()
+        {
+            let _read = trays.readings.remove(place);
+        }
+    }
+
+    /// The files that are being read.
+    pub fn readings<R: Wait>(&self, rt: &R, alloc: Global) -> Result<Vec<Reading>, AllocError> {
+        let mut copies = Vec::new(alloc);
+        let trays = self.trays.lock(rt);
+        for reading in &trays.readings {
+            copies.push(Reading {
+                path: reading.path.copy()?,
+                since: reading.since,
+                number: reading.number,
+            })?;
+        }
+        Ok(copies)
+    }
+
+    /// Has the thread of `read_files` read a file. `take_file` gives it then. One file is wanted at a time.
+    pub fn want_file<R: Wait>(&self, rt: &R, path: Octets) {
+        self.trays.lock(rt).wanted = Some(path);
+        self.wants.notify_one();
+    }
+
+    // Waits for a file that is wanted; none is any more once the desk is closed.
+    fn next_wanted<R: Wait>(&self, rt: &R) -> Option<Octets> {
+        let mut trays = self.trays.lock(rt);
+        for _ in rt.forever() {
+            if trays.is_closed {
+                return None;
+            }
+            if trays.wanted.is_some() {
+                return trays.wanted.take();
+            }
+            trays = self.wants.wait(rt, trays);
+        }
+        None
+    }
+
+    // Leaves the file that was wanted.
+    fn leave_file<R: Wait>(&self, rt: &R, file: Result<Octets, ProgramFault>) {
+        self.trays.lock(rt).file = Some(file);
+        self.came.notify_one();
+    }
+
+    /// Takes the file that was wanted, once it was read, or why it can't be.
+    pub fn take_file<R: Wait>(&self, rt: &R) -> Option<Result<Octets, ProgramFault>> {
+        self.trays.lock(rt).file.take()
+    }
+}
+
+/// Reads one wanted file after the other, until the desk is closed.
+pub fn read_files<R: Wait + Clock + Files>(rt: &R, alloc: Global, desk: &Desk) {
+    for _ in rt.forever() {
+        let Some(path) = desk.next_wanted(rt) else {
+            return;
+        };
+        let file = desk.read_file(rt, alloc, &path);
+        desk.leave_file(rt, file);
+    }
+}
+
+// The octets of a file. A path that is no text names none.
+fn load<R: Files>(rt: &R, alloc: Global, path: &[u8]) -> Result<Octets, ProgramFault> {
+    match str::from_utf8(path) {
+        Ok(path) => load_file(rt, alloc, path),
+        Err(_) => Err(ProgramFault::Read),
+    }
+}
+
+// Where the reading with a number stands.
+fn place_of(readings: &[Reading], number: u64) -> Option<usize> {
+    for (place, reading) in readings.iter().enumerate() {
+        if reading.number == number {
+            return Some(place);
+        }
+    }
+    None
+}

@@ -1,0 +1,46 @@
+//! What a line of commands says.
+ghost use Rattle.program_desk.specs.Says.{IsSaidBy};
+
+use crate::desk::Desk;
+use cfdp_types::Octets;
+use entity_config::Config;
+use program_start::ProgramFault;
+use server_lines::{Command, PutCommand, command_of};
+use std::alloc::{AllocError, Global};
+use std::rt::Files;
+use std::sync::Wait;
+use std::time::Clock;
+
+/// What a line of commands says.
+#[derive(Drop)]
+pub enum Said {
+    /// A command other than a Put.
+    Command(Command),
+    /// A Put, and its file, or why that can't be read.
+    Put(PutCommand, Result<Octets, ProgramFault>),
+    /// The line is no command.
+    Nothing,
+    /// There was no memory for reading the line.
+    NoMemory,
+}
+
+/// Reads what a line says, by a configuration, and the file of a Put. The desk shows meanwhile that this file is being read.
+pub fn said_by<R: Wait + Clock + Files>(
+    rt: &R,
+    alloc: Global,
+    config: &Config,
+    line: &[u8],
+    desk: &Desk,
+) -> Said
+    ensures { IsSaidBy config.now line.now result }
+{
+    match command_of(alloc, config, line) {
+        Ok(Some(Command::Put(put))) => {
+            let file = desk.read_file(rt, alloc, &put.source);
+            Said::Put(put, file)
+        }
+        Ok(Some(command)) => Said::Command(command),
+        Ok(None) => Said::Nothing,
+        Err(AllocError) => Said::NoMemory,
+    }
+}

@@ -1,5 +1,0 @@
-use Rattle.std.proofs.Common.{length}
-use Rattle.program_link.proofs.addresses.+place_of_address.Given as goal
-
-abbrev pub decreases-place_of_address : goal.decreases-place_of_address
-decreases-place_of_address l = length l.peers.now

@@ -1,0 +1,254 @@
+use crate::forwarder::run_forwarders;
+use crate::way_in::WayIn;
+use entity_config::Config;
+use entity_workers::WorkersFault;
+use program_control::ControlSocket;
+use program_desk::{Desk, read_files, read_lines};
+use program_seats::Seats;
+use program_start::ProgramFault;
+use program_udp::wake_reader;
+use shared_entity::Entity;
+use shared_lanes::Names;
+use std::alloc::Global;
+use std::io::BufRead;
+use std::net::UdpSocket;
+use std::rt::Files;
+use std::sync::Wait;
+use std::thread;
+use std::thread::Threads;
+use std::time::Clock;
+
+/// A control socket, its path, and the seats of its clients.
+#[derive(Clone, Copy)]
+pub struct Control<'x> {
+    pub socket: &'x ControlSocket,
+    pub path: &'x str,
+    pub seats: &'x Seats,
+}
+
+/// What the main thread of a program does.
+pub trait MainThread {
+    /// Works until nothing more is to be done, at the desk where the other threads leave things; the exit status then.
+    fn work(self) -> Result<u8, ProgramFault>;
+}
+
+// How a program ends whose main thread ended so, and where not all workers could be started.
+fn fault_beside(ended: Result<u8, ProgramFault>, fault: WorkersFault) -> Result<u8, ProgramFault> {
+    match (ended, fault) {
+        (Ok(_) | Err(ProgramFault::Start), WorkersFault::NoMemory) => Err(ProgramFault::NoMemory),
+        (Ok(_), WorkersFault::Start) => Err(ProgramFault::Start),
+        (Err(told), _) => Err(told),
+    }
+}
+
+/// Runs the main thread's work beside the workers, which end with it. Where not all
+/// workers could be started, that is reported at the end, unless the work ended for another reason.
+pub fn run_beside<
+    'x,
+    N: Names + Send + Sync,
+    R: Threads + Wait + Clock + Files + Copy + Send + Sync,
+    M: MainThread + Drop,
+>(
+    rt: &'x R,
+    alloc: Global,
+    entity: &'x Entity<N, R>,
+    socket: &'x UdpSocket,
+    desk: &'x Desk,
+    way_in: WayIn<'x, R>,
+    main_thread: M,
+) -> Result<u8, ProgramFault> {
+    let work = Work::<'x, M>::Alone(main_thread);
+    beside_workers(rt, alloc, entity, socket, desk, way_in, work)
+}
+
+/// `run_beside` with two threads more: one reads files that are wanted at the desk, the other reads lines of commands. That one is
+/// started last: where the others can't be, nobody waits for a line.
+pub fn run_commanded<
+    'x,
+    N: Names + Send + Sync,
+    R: Threads + Wait + Clock + Files + Copy + Send + Sync,
+    B: BufRead + Send + Drop,
+    M: MainThread + Drop,
+>(
+    rt: &'x R,
+    alloc: Global,
+    entity: &'x Entity<N, R>,
+    socket: &'x UdpSocket,
+    desk: &'x Desk,
+    way_in: WayIn<'x, R>,
+    reader: B,
+    main_thread: M,
+) -> Result<u8, ProgramFault> {
+    let WayIn {
+        arrivals,
+        forwarders,
+    } = way_in;
+    thread::scope(
+        thread::scope_env(),
+        rt,
+        move |scope| -> Result<u8, ProgramFault> {
+            let Ok(workers) = scope.spawn(move || run_forwarders(
+                rt, alloc, entity, arrivals, forwarders, desk,
+            )) else {
+                return Err(ProgramFault::Start);
+            };
+            let ended = work_commanded(rt, alloc, entity.config(), desk, reader, main_thread);
+            desk.close(rt);
+            wake_reader(socket);
+            match workers.join(rt) {
+                Ok(()) => ended,
+                Err(fault) => fault_beside(ended, fault),
+            }
+        },
+    )
+}
+
+/// `run_beside` with the threads of a control socket, and one that reads files that are wanted at the desk. The socket is gone once the work has ended.
+pub fn run_controlled<
+    'x,
+    N: Names + Send + Sync,
+    R: Threads + Wait + Clock + Files + Copy + Send + Sync,
+    M: MainThread + Drop,
+>(
+    rt: &'x R,
+    alloc: Global,
+    entity: &'x Entity<N, R>,
+    socket: &'x UdpSocket,
+    desk: &'x Desk,
+    way_in: WayIn<'x, R>,
+    control: Control<'x>,
+    main_thread: M,
+) -> Result<u8, ProgramFault> {
+    let work = Work::<'x, M>::Controlled(control, main_thread);
+    beside_workers(rt, alloc, entity, socket, desk, way_in, work)
+}
+
+// What works beside the workers: the main thread alone, or beside a control socket.
+#[derive(Drop)]
+enum Work<'x, M: Drop> {
+    Alone(M),
+    Controlled(Control<'x>, M),
+}
+
+// Works until nothing more is to be done.
+fn do_work<'x, R: Threads + Wait + Clock + Files + Sync, M: MainThread + Drop>(
+    rt: &'x R,
+    alloc: Global,
+    config: &'x Config,
+    desk: &'x Desk,
+    work: Work<'x, M>,
+) -> Result<u8, ProgramFault> {
+    match work {
+        Work::Alone(main_thread) => main_thread.work(),
+        Work::Controlled(control, main_thread) => {
+            work_controlled(rt, alloc, config, desk, control, main_thread)
+        }
+    }
+}
+
+// Works beside the workers.
+fn beside_workers<
+    'x,
+    N: Names + Send + Sync,
+    R: Threads + Wait + Clock + Files + Copy + Send + Sync,
+    M: MainThread + Drop,
+>(
+    rt: &'x R,
+    alloc: Global,
+    entity: &'x Entity<N, R>,
+    socket: &'x UdpSocket,
+    desk: &'x Desk,
+    way_in: WayIn<'x, R>,
+    work: Work<'x, M>,
+) -> Result<u8, ProgramFault> {
+    let WayIn {
+        arrivals,
+        forwarders,
+    } = way_in;
+    thread::scope(
+        thread::scope_env(),
+        rt,
+        move |scope| -> Result<u8, ProgramFault> {
+            let Ok(workers) = scope.spawn(move || run_forwarders(
+                rt, alloc, entity, arrivals, forwarders, desk,
+            )) else {
+                return Err(ProgramFault::Start);
+            };
+            let ended = do_work(rt, alloc, entity.config(), desk, work);
+            desk.close(rt);
+            wake_reader(socket);
+            match workers.join(rt) {
+                Ok(()) => ended,
+                Err(fault) => fault_beside(ended, fault),
+            }
+        },
+    )
+}
+
+// The main thread's work beside a thread that reads files, and one that reads lines of commands.
+fn work_commanded<
+    'x,
+    R: Threads + Wait + Clock + Files + Sync,
+    B: BufRead + Send + Drop,
+    M: MainThread + Drop,
+>(
+    rt: &'x R,
+    alloc: Global,
+    config: &'x Config,
+    desk: &'x Desk,
+    reader: B,
+    main_thread: M,
+) -> Result<u8, ProgramFault> {
+    let mut reader = reader;
+    thread::scope(
+        thread::scope_env(),
+        rt,
+        move |scope| -> Result<u8, ProgramFault> {
+            let ended = match scope.spawn(move || read_files(rt, alloc, desk)) {
+                Ok(_files) => match scope.spawn(move || {
+                    read_lines(rt, alloc, config, &mut reader, desk)
+                }) {
+                    Ok(_lines) => main_thread.work(),
+                    Err(_) => Err(ProgramFault::Start),
+                },
+                Err(_) => Err(ProgramFault::Start),
+            };
+            desk.close(rt);
+            ended
+        },
+    )
+}
+
+// The main thread's work beside a thread that reads files, and the threads of a control socket.
+fn work_controlled<'x, R: Threads + Wait + Clock + Files + Sync, M: MainThread + Drop>(
+    rt: &'x R,
+    alloc: Global,
+    config: &'x Config,
+    desk: &'x Desk,
+    control: Control<'x>,
+    main_thread: M,
+) -> Result<u8, ProgramFault> {
+    let Control {
+        socket,
+        path,
+        seats,
+    } = control;
+    thread::scope(
+        thread::scope_env(),
+        rt,
+        move |scope| -> Result<u8, ProgramFault> {
+            let ended = match scope.spawn(move || read_files(rt, alloc, desk)) {
+                Ok(_files) => match scope.spawn(move || socket.run(
+                    rt, alloc, config, desk, seats,
+                )) {
+                    Ok(_clients) => main_thread.work(),
+                    Err(_) => Err(ProgramFault::Start),
+                },
+                Err(_) => Err(ProgramFault::Start),
+            };
+            desk.close(rt);
+            socket.close(rt, path, seats);
+            ended
+        },
+    )
+}

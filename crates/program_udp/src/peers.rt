@@ -1,0 +1,27 @@
+ghost use Rattle.std.specs.Prelude.{◌≡◌, IfSome};
+ghost use Rattle.program_udp.specs.Peers.{other_end_of, ListensAt};
+
+use cfdp_types::EntityId;
+use entity_config::Config;
+use pdu_values::Pdu;
+use std::net::SocketAddr;
+
+/// The entity that a PDU goes to, which is the one at its transaction's other end.
+pub fn other_end_of(pdu: &Pdu) -> EntityId
+    ensures { result ≡ other_end_of pdu.now }
+{
+    let header = pdu.header();
+    if pdu.is_toward_sender() {
+        header.source
+    } else {
+        header.destination
+    }
+}
+
+/// Where an entity listens, by the configuration; nothing for an entity that it doesn't name.
+pub fn address_of(config: &Config, id: EntityId) -> Option<SocketAddr>
+    ensures { IfSome result (ListensAt config.now id) }
+{
+    let text = config.address_of(id)?;
+    text.parse().ok()
+}
