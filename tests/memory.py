@@ -10,14 +10,15 @@ PROGRAM is crates/hostile_runs/out/hostile_runs. gcc builds what refuses the all
 import concurrent.futures
 import os
 import pathlib
-import shutil
 import subprocess
 import sys
 import tempfile
 import time
 
+from support import Wrong, library
+
 DATAGRAMS = 1_000_000
-# A worker's thread that finds no memory can't be started, which its caller is told.
+# A worker's thread that finds no memory can't be started, which its caller learns.
 NO_MEMORY = {"no memory", "no thread", "refused 12 NoMemory"}
 # Calls of which each has to say at least once that there was no memory.
 ASKED = """World::open queues_of Intake::new Intake::send Entity::open run_workers decode encode read_config TimerList::apply
@@ -27,24 +28,6 @@ CLOSED = "closed"
 # How many seconds a run may take, and how many runs are made at once.
 PATIENCE = 60
 AT_ONCE = os.cpu_count() or 1
-
-
-class Wrong(Exception):
-    """What a run did that it should not."""
-
-
-def build(folder):
-    """The library that refuses allocations."""
-    compiler = shutil.which("gcc")
-    if compiler is None:
-        raise Wrong("gcc is not here, which builds tests/failing_malloc.c")
-    source = pathlib.Path(__file__).with_name("failing_malloc.c")
-    library = folder / "failing_malloc.so"
-    words = [compiler, "-O2", "-Wall", "-Werror", "-shared", "-fPIC", "-o", library, source, "-ldl"]
-    made = subprocess.run(words, capture_output=True, text=True)
-    if made.returncode != 0:
-        raise Wrong(f"gcc does not build {source}: {made.stderr}")
-    return library
 
 
 def play(words, patience, around=None):
@@ -69,7 +52,7 @@ class Runs:
     def __init__(self, program, folder):
         self.program = program
         self.folder = folder
-        self.library = build(folder)
+        self.library = library("failing_malloc")
         self.ample, self.allocations = self.run(0)
         if not self.ample:
             raise Wrong("a run with ample memory prints no answer")

@@ -18,7 +18,7 @@ import sys
 import threading
 import time
 
-from support import Station, Wrong, free_port, run_cases, station, until, want
+from support import Station, Wrong, free_port, library, run_cases, station, until, want
 
 SERVER, CTL = (os.path.abspath(path) for path in sys.argv[1:3])
 
@@ -208,6 +208,42 @@ def files_that_can_not_be_sent():
         want(second["why"].split()[0], "refused")
         client.wait_event(lambda event: event["kind"] == "put" and event["queued"] == 4, "the last put")
         until(lambda: sorted(path.name for path in other.received().iterdir()) == ["b", "d"], "both files")
+
+
+def readings(client):
+    return sorted(line["file"] for line in client.status() if line["kind"] == "reading")
+
+
+def kinds_put(client):
+    return [(event["queued"], event["to"]) for event in client.events if event["kind"] == "put" and "queued" in event]
+
+
+@case
+def files_that_take_long():
+    """A file whose reading takes long holds up only who waits for it, and the status shows it meanwhile."""
+    around = {**os.environ, "LD_PRELOAD": library("slow_files")}
+    with station(SERVER, around=around) as (one, _):
+        patient, other = one.client(), one.client()
+        want(other.ask("follow"), ["ok"])
+        for name in ("first.slow", "second.slow", "third.slow", "quick"):
+            write(name, b"abc")
+        patient.stream.sendall(b"put alice 0 2 2 first.slow a\n")
+        until(lambda: readings(other) == ["first.slow"], "the reading of the first")
+        start = time.monotonic()
+        want(other.ask("put alice 1 2 2 quick b")[0], "ok")
+        want(time.monotonic() - start < 2, True)
+        want([other.ask(f"send alice 2 2 {name} {name}") for name in ("second.slow", "third.slow", "quick")],
+             [["queued 1"], ["queued 2"], ["queued 3"]])
+        until(lambda: readings(other) == ["first.slow", "second.slow"], "the reading of the second")
+        want([json.loads(line)["number"] for line in other.ask("outbox")], [1, 2, 3])
+        want((other.ask("drop 1"), other.ask("drop 1")), (["ok"], ["refused NotQueued"]))
+        for name in ("first.slow.go", "second.slow.go", "third.slow.go"):
+            write(name, b"")
+        want(patient.answer()[0], "ok")
+        until(lambda: other.ask("outbox") == [], "the end of the outbox")
+        until(lambda: other.status() and kinds_put(other) == [(2, "third.slow"), (3, "quick")], "both Puts")
+        want(readings(other), [])
+        want([event["why"] for event in other.events if event["kind"] == "unsent"], ["dropped"])
 
 
 @case

@@ -34,6 +34,20 @@ def until(holds, what, seconds=20):
         time.sleep(0.02)
 
 
+def library(name):
+    """The library of a source file beside this one, which stands between a program and the C library."""
+    source = pathlib.Path(__file__).resolve().with_name(f"{name}.c")
+    compiler = shutil.which("gcc")
+    if compiler is None:
+        raise Wrong(f"gcc is not here, which builds {source.name}")
+    made = tempfile.mkdtemp() + f"/{name}.so"
+    words = [compiler, "-O2", "-Wall", "-Werror", "-shared", "-fPIC", "-o", made, source, "-ldl"]
+    built = subprocess.run(words, capture_output=True, text=True)
+    if built.returncode != 0:
+        raise Wrong(f"gcc does not build {source}: {built.stderr}")
+    return made
+
+
 def fill_backlog(path):
     """Clients that wait to be let in at a socket, until no other can."""
     waiting = []
@@ -142,7 +156,7 @@ class Station:
     """A server with a control socket in a folder of its own, and one remote entity."""
 
     def __init__(self, server, number, port, remote, peer, options=(), lanes=4, timer=300, limit=10,
-                 users=("alice", "bob")):
+                 users=("alice", "bob"), around=None):
         self.home = f"station{number}"
         self.port = port
         os.makedirs(f"{self.home}/received", exist_ok=True)
@@ -154,7 +168,7 @@ class Station:
         self.run = subprocess.Popen(
             [server, "--config", config, "--bind", f"127.0.0.1:{port}", "--folder", f"{self.home}/received", "--workers",
              "2", "--control", self.path, *options],
-            stdin=subprocess.DEVNULL, stdout=subprocess.PIPE, stderr=subprocess.PIPE,
+            stdin=subprocess.DEVNULL, stdout=subprocess.PIPE, stderr=subprocess.PIPE, env=around,
         )
 
     def client(self, timeout=60):
