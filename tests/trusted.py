@@ -120,7 +120,7 @@ what a line of a server's commands asks for: server_lines/Commands
 options and words of the programs; numbers on a command line: program_words/Lines Numbers
 turns of files, timers and deposits; what becomes of a refusal: program_agenda/Turns Fates program_station/Obstacles
 the pace of what leaves, and its law: program_agenda/Paces PaceLaws
-where a PDU goes, how far its data reaches; when a step's timers expire: program_link/Peers Reaches program_desk/Steps
+where a PDU goes, how far its data reaches; when a step's timers expire: program_udp/Peers Reaches program_desk/Steps
 what a program prints for a fault: program_start/Faults
 what the server prints of an answer; exit status and progress of a put: cfdp_serve/Answers cfdp_send/Ended Progress
 the texts of configurations that tests read: test_configs/Texts
