@@ -1,5 +1,5 @@
 -- Meaning. What a line of commands says, and whether its file was read for it.
-use Rattle.std.specs.Prelude.{◌≡◌, ℕ, List, Some, None, Unit}
+use Rattle.std.specs.Prelude.{◌≡◌, ℕ, List, Some, None}
 use Rattle.config_reading.specs.Values.{ConfigValue}
 use Rattle.server_lines.specs.Commands.{command_of}
 use Rattle.server_lines.specs.declared.command.Command.TheVariants as command
