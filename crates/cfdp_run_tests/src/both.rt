@@ -2,6 +2,7 @@
 use crate::lines::words;
 use cfdp_send::{Outputs, put_one};
 use cfdp_serve::serve;
+use program_start::RuntimeFiles;
 use std::alloc::{AllocError, Global};
 use std::net::Net;
 use std::rt::Files;
@@ -77,15 +78,11 @@ fn take_all<R: Wait + Clock>(rt: &R, alloc: Global, pipes: &Pipes) -> Option<Str
 }
 
 // Runs the server; the exit status.
-fn run_server<R: Threads + Wait + Clock + Net + Files + AllocGlobal + Copy + Drop + Send + Sync>(
-    rt: &R,
-    alloc: Global,
-    pipes: &Pipes,
-    line: &[String],
-) -> u8 {
+fn run_server(rt: &HostRuntime, alloc: Global, pipes: &Pipes, line: &[String]) -> u8 {
     let mut errors = Vec::new(alloc);
     let status = serve(
         *rt,
+        &RuntimeFiles::new(*rt),
         line,
         pipes.reader(rt),
         pipes.writer(rt),

@@ -1,6 +1,7 @@
 //! The server alone: commands.
 use crate::lines::words;
 use cfdp_serve::serve;
+use program_start::RuntimeFiles;
 use std::alloc::{AllocError, Global};
 use std::fs;
 use std::net::Net;
@@ -65,16 +66,19 @@ const COMMANDS: [(&str, &str); 12] = [
 ];
 
 // Whether a server answers these lines so, and ends well.
-fn is_answered<R: Threads + Wait + Net + Clock + Files + AllocGlobal + Copy + Drop + Send + Sync>(
-    rt: R,
-    words: &[String],
-    lines: &[u8],
-    text: &str,
-) -> bool {
+fn is_answered(rt: HostRuntime, words: &[String], lines: &[u8], text: &str) -> bool {
     let alloc: Global = rt.alloc();
     let mut written = Vec::new(alloc);
     let mut errors = Vec::new(alloc);
-    let status = serve(rt, words, lines, &mut written, &mut errors, false);
+    let status = serve(
+        rt,
+        &RuntimeFiles::new(rt),
+        words,
+        lines,
+        &mut written,
+        &mut errors,
+        false,
+    );
     status == 0 && written.as_slice() == text.as_bytes() && errors.is_empty()
 }
 

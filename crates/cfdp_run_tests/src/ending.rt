@@ -2,6 +2,7 @@
 use crate::commands::config_of;
 use crate::lines::words;
 use cfdp_serve::serve;
+use program_start::RuntimeFiles;
 use std::alloc::Global;
 use std::net::{Net, UdpSocket};
 use std::rt::Files;
@@ -30,15 +31,11 @@ const LOOKS: u32 = 20_000;
 const PAUSE_MICROSECONDS: u64 = 500;
 
 // Runs the server; the exit status.
-fn run_server<R: Threads + Wait + Clock + Net + Files + AllocGlobal + Copy + Drop + Send + Sync>(
-    rt: &R,
-    alloc: Global,
-    pipes: &Pipes,
-    line: &[String],
-) -> u8 {
+fn run_server(rt: &HostRuntime, alloc: Global, pipes: &Pipes, line: &[String]) -> u8 {
     let mut errors = Vec::new(alloc);
     let status = serve(
         *rt,
+        &RuntimeFiles::new(*rt),
         line,
         pipes.reader(rt),
         pipes.writer(rt),

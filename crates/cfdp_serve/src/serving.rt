@@ -6,7 +6,8 @@ use program_control::ControlSocket;
 use program_numbers::{HeldNumbers, Puts};
 use program_seats::Seats;
 use program_start::{
-    ProgramFault, Started, load_config, print, push_explanation, tell_explanation, tell_fault,
+    FileReader, ProgramFault, Started, load_config, print, push_explanation, tell_explanation,
+    tell_fault,
 };
 use program_station::Control;
 use program_udp::open_socket;
@@ -25,20 +26,22 @@ use std::time::Clock;
 /// Runs the server by its command line, whose first word is the program's own name, until `quit` or the end of the commands
 /// that `reader` gives. The answers go to `writer`, and why it ended too early to `errors`. The result is the exit status: 0,
 /// or 1 where it ended too early. Where the output takes no more, it ends once the reader has given one more line or its end.
-/// With a control socket clients command it, and neither `reader` nor `writer` is used. Where a person reads `errors`, a second
+/// With a control socket clients command it, and neither `reader` nor `writer` is used. Files that are to be sent are read by
+/// `files`, beside the main thread. Where a person reads `errors`, a second
 /// line there explains the fault, as it does after a check of the configuration.
 pub fn serve<
     R: Threads + Wait + Net + Clock + Files + AllocGlobal + Copy + Drop + Send + Sync,
+    F: FileReader + Sync,
     I: Read + Send + Drop,
     W: Write + Drop,
     E: Write,
->(rt: R, words: &[String], reader: I, writer: W, errors: &mut E, explains: bool) -> u8 {
+>(rt: R, files: &F, words: &[String], reader: I, writer: W, errors: &mut E, explains: bool) -> u8 {
     let alloc: Global = rt.alloc();
     let checks = asks_for_check(words);
     let ended = if checks {
         check(&rt, alloc, words, writer)
     } else {
-        start(&rt, alloc, words, reader, writer)
+        start(&rt, alloc, files, words, reader, writer)
     };
     match ended {
         Ok(status) => status,
@@ -174,9 +177,17 @@ fn fault_of(fault: WordsFault) -> ProgramFault {
 
 fn start<
     R: Threads + Wait + Net + Clock + Files + AllocGlobal + Copy + Drop + Send + Sync,
+    F: FileReader + Sync,
     I: Read + Send + Drop,
     W: Write + Drop,
->(rt: &R, alloc: Global, words: &[String], reader: I, writer: W) -> Result<u8, ProgramFault> {
+>(
+    rt: &R,
+    alloc: Global,
+    files: &F,
+    words: &[String],
+    reader: I,
+    writer: W,
+) -> Result<u8, ProgramFault> {
     let mut writer = writer;
     match server_words(alloc, words) {
         Ok(words) => {
@@ -191,7 +202,7 @@ fn start<
                 reader,
                 writer,
             };
-            serve_at(rt, alloc, config, &socket, &words, given)
+            serve_at(rt, alloc, files, config, &socket, &words, given)
         }
         Err(fault) => tell_about(&mut writer, fault),
     }
@@ -201,11 +212,13 @@ fn start<
 fn serve_at<
     'x,
     R: Threads + Wait + Net + Clock + Files + AllocGlobal + Copy + Drop + Send + Sync,
+    F: FileReader + Sync,
     I: Read + Send + Drop,
     W: Write + Drop,
 >(
     rt: &R,
     alloc: Global,
+    files: &F,
     config: Config,
     datagrams: &'x UdpSocket,
     words: &'x ServerWords<'x>,
@@ -216,7 +229,7 @@ fn serve_at<
             datagrams,
             control: None,
         };
-        return serve_named(rt, alloc, config, sockets, words, given);
+        return serve_named(rt, alloc, files, config, sockets, words, given);
     };
     let seats = Seats::new(alloc)?;
     let Ok(socket) = ControlSocket::open(rt, alloc, path) else {
@@ -230,5 +243,5 @@ fn serve_at<
             seats: &seats,
         }),
     };
-    serve_named(rt, alloc, config, sockets, words, given)
+    serve_named(rt, alloc, files, config, sockets, words, given)
 }

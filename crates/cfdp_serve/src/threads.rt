@@ -7,8 +7,10 @@ use entity_workers::Filestore;
 use program_desk::{Desk, Urgency, wall_moment};
 use program_numbers::HeldNumbers;
 use program_seats::Seats;
-use program_start::ProgramFault;
-use program_station::{Control, Preparing, Sources, Station, WayIn, run_commanded, run_controlled};
+use program_start::{FileReader, ProgramFault};
+use program_station::{
+    Commanded, Control, Controlled, Preparing, Sources, Station, WayIn, run_beside,
+};
 use program_status::{EventLog, Events};
 use program_tallies::Tallies;
 use program_udp::PduSender;
@@ -52,11 +54,13 @@ pub(crate) struct Given<I: Drop, W: Drop> {
 pub(crate) fn serve_over<
     N: Names + Send + Sync,
     R: Threads + Wait + Clock + Files + AllocGlobal + Copy + Drop + Send + Sync,
+    F: FileReader + Sync,
     I: Read + Send + Drop,
     W: Write + Drop,
 >(
     rt: &R,
     alloc: Global,
+    files: &F,
     entity: &Entity<N, R>,
     ports: Vec<UserPort>,
     sockets: Sockets<'_>,
@@ -75,8 +79,8 @@ pub(crate) fn serve_over<
         words,
     };
     match sockets.control {
-        None => serve_reader(&opened, ports, given),
-        Some(control) => serve_clients::<N, R, W>(&opened, ports, given.numbers, control),
+        None => serve_reader(&opened, files, ports, given),
+        Some(control) => serve_clients::<N, R, F, W>(&opened, files, ports, given.numbers, control),
     }
 }
 
@@ -97,9 +101,15 @@ fn serve_reader<
     'x,
     N: Names + Send + Sync,
     R: Threads + Wait + Clock + Files + AllocGlobal + Copy + Drop + Send + Sync,
+    F: FileReader + Sync,
     I: Read + Send + Drop,
     W: Write + Drop,
->(opened: &Opened<'x, N, R>, ports: Vec<UserPort>, given: Given<I, W>) -> Result<u8, ProgramFault> {
+>(
+    opened: &Opened<'x, N, R>,
+    files: &'x F,
+    ports: Vec<UserPort>,
+    given: Given<I, W>,
+) -> Result<u8, ProgramFault> {
     let Opened {
         rt,
         alloc,
@@ -113,12 +123,21 @@ fn serve_reader<
         reader,
         writer,
     } = given;
-    let main_thread = server_over(opened, ports, numbers, Console::Printed(writer))?;
+    let server = server_over(opened, ports, numbers, Console::Printed(writer))?;
     let way_in = way_in_of(opened)?;
     let Ok(reader) = in_blocks(alloc, reader) else {
         return Err(ProgramFault::NoMemory);
     };
-    run_commanded(rt, alloc, entity, socket, desk, way_in, reader, main_thread)
+    let main_thread = Commanded {
+        rt,
+        alloc,
+        files,
+        config: entity.config(),
+        desk,
+        reader,
+        main_thread: server,
+    };
+    run_beside(rt, alloc, entity, socket, desk, way_in, main_thread)
 }
 
 // Serves by the lines of clients.
@@ -126,9 +145,11 @@ fn serve_clients<
     'x,
     N: Names + Send + Sync,
     R: Threads + Wait + Clock + Files + AllocGlobal + Copy + Drop + Send + Sync,
+    F: FileReader + Sync,
     W: Write + Drop,
 >(
     opened: &Opened<'x, N, R>,
+    files: &'x F,
     ports: Vec<UserPort>,
     numbers: Option<HeldNumbers>,
     control: Control<'x>,
@@ -142,18 +163,18 @@ fn serve_clients<
         ..
     } = *opened;
     let console = Console::<W>::Seated(control.seats);
-    let main_thread = server_over(opened, ports, numbers, console)?;
+    let server = server_over(opened, ports, numbers, console)?;
     let way_in = way_in_of(opened)?;
-    run_controlled(
+    let main_thread = Controlled {
         rt,
         alloc,
-        entity,
-        socket,
+        files,
+        config: entity.config(),
         desk,
-        way_in,
         control,
-        main_thread,
-    )
+        main_thread: server,
+    };
+    run_beside(rt, alloc, entity, socket, desk, way_in, main_thread)
 }
 
 // The way in of a server's datagrams. What users receive is looked at within a millisecond where it is taken as it comes.

@@ -2,6 +2,7 @@
 #![tactic(auto)]
 
 use cfdp_serve::{serve, tell_words_fault};
+use program_start::RuntimeFiles;
 use program_words::line_of;
 use std::io;
 use std::io::IsTerminal;
@@ -12,6 +13,7 @@ fn main(rt: HostRuntime) -> ExitCode {
     let status = match line_of(&rt) {
         Ok(words) => serve(
             rt,
+            &RuntimeFiles::new(rt),
             words.as_slice(),
             rt.reader(),
             io::writer(&rt),

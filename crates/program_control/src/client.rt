@@ -4,20 +4,21 @@ use crate::writing::write_answers;
 use entity_config::Config;
 use program_desk::Desk;
 use program_seats::{Asker, Seats};
+use program_start::FileReader;
 use script_io::in_blocks;
 use std::alloc::Global;
 use std::net::Shutdown;
 use std::os::unix::net::UnixStream;
-use std::rt::Files;
 use std::sync::Wait;
 use std::thread;
 use std::thread::Threads;
 use std::time::Clock;
 
 /// Serves the client of a seat until it leaves: this thread reads, and another one writes.
-pub(crate) fn serve_client<'x, R: Threads + Wait + Clock + Files + Sync>(
+pub(crate) fn serve_client<'x, R: Threads + Wait + Clock + Sync, F: FileReader>(
     rt: &'x R,
     alloc: Global,
+    files: &'x F,
     config: &'x Config,
     stream: UnixStream,
     asker: Asker,
@@ -33,7 +34,7 @@ pub(crate) fn serve_client<'x, R: Threads + Wait + Clock + Files + Sync>(
         if started.is_ok()
             && let Ok(mut reader) = in_blocks(alloc, shared)
         {
-            read_commands(rt, alloc, config, &mut reader, asker, desk, seats);
+            read_commands(rt, alloc, files, config, &mut reader, asker, desk, seats);
         }
         seats.end(rt, asker);
     });

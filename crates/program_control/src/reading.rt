@@ -2,9 +2,9 @@
 use entity_config::Config;
 use program_desk::{Desk, Said, said_by};
 use program_seats::{Asker, Seats};
+use program_start::FileReader;
 use std::alloc::Global;
 use std::io::{BufRead, Read};
-use std::rt::Files;
 use std::sync::Wait;
 use std::time::Clock;
 
@@ -15,9 +15,10 @@ pub const COMMAND_OCTETS: u64 = 131_072;
 /// Put is read here, so this client alone waits for it. It ends where the
 /// lines do, where reading fails or a line is too long, where there is no memory for a line, and where the client's way or
 /// the desk is closed. Half a line at the end is no command.
-pub(crate) fn read_commands<R: Wait + Clock + Files, B: BufRead + Drop>(
+pub(crate) fn read_commands<R: Wait + Clock, F: FileReader, B: BufRead + Drop>(
     rt: &R,
     alloc: Global,
+    files: &F,
     config: &Config,
     reader: &mut B,
     asker: Asker,
@@ -29,7 +30,7 @@ pub(crate) fn read_commands<R: Wait + Clock + Files, B: BufRead + Drop>(
         let wants_more = match reader.take(COMMAND_OCTETS).read_until(b'\n', &mut line) {
             Ok(count) => {
                 if line.pop() == Some(b'\n') {
-                    let said = said_by(rt, alloc, config, line.as_slice(), desk);
+                    let said = said_by(rt, alloc, files, config, line.as_slice(), desk);
                     ask(rt, asker, said, desk, seats)
                 } else {
                     if count as u64 >= COMMAND_OCTETS {

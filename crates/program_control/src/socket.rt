@@ -4,6 +4,7 @@ use crate::probing::{Probed, probe};
 use entity_config::Config;
 use program_desk::Desk;
 use program_seats::Seats;
+use program_start::FileReader;
 use script_io::write_whole;
 use std::alloc::Global;
 use std::fs::Permissions;
@@ -68,11 +69,12 @@ impl ControlSocket {
     }
 
     /// Lets clients in, each at a free seat, until the seats are closed. It returns once all have left. What their lines say is
-    /// read by a configuration.
-    pub fn run<R: Threads + Wait + Clock + Files + Sync>(
+    /// read by a configuration, and the files of their Puts by `files`.
+    pub fn run<R: Threads + Wait + Clock + Sync, F: FileReader + Sync>(
         &self,
         rt: &R,
         alloc: Global,
+        files: &F,
         config: &Config,
         desk: &Desk,
         seats: &Seats,
@@ -84,7 +86,7 @@ impl ControlSocket {
                     Ok((stream, _)) => match seats.sit(rt, &stream) {
                         Some(asker) => {
                             let started = scope.spawn(move || {
-                                serve_client(rt, alloc, config, stream, asker, desk, seats)
+                                serve_client(rt, alloc, files, config, stream, asker, desk, seats)
                             });
                             if started.is_err() {
                                 seats.cut(rt, asker);

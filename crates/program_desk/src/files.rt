@@ -2,9 +2,8 @@
 use crate::clock::wall_moment;
 use crate::desk::Desk;
 use cfdp_types::Octets;
-use program_start::{ProgramFault, load_file};
+use program_start::{FileReader, ProgramFault};
 use std::alloc::{AllocError, Global};
-use std::rt::Files;
 use std::str;
 use std::sync::Wait;
 use std::time::Clock;
@@ -22,14 +21,15 @@ pub struct Reading {
 
 impl Desk {
     /// Reads a file that is to be sent. `readings` has it meanwhile.
-    pub(crate) fn read_file<R: Wait + Clock + Files>(
+    pub(crate) fn read_file<R: Wait + Clock, F: FileReader>(
         &self,
         rt: &R,
         alloc: Global,
+        files: &F,
         path: &Octets,
     ) -> Result<Octets, ProgramFault> {
         let number = self.begin_reading(rt, path)?;
-        let file = load(rt, alloc, path.as_slice());
+        let file = load(alloc, files, path.as_slice());
         self.end_reading(rt, number);
         file
     }
@@ -106,20 +106,20 @@ impl Desk {
 }
 
 /// Reads one wanted file after the other, until the desk is closed.
-pub fn read_files<R: Wait + Clock + Files>(rt: &R, alloc: Global, desk: &Desk) {
+pub fn read_files<R: Wait + Clock, F: FileReader>(rt: &R, alloc: Global, files: &F, desk: &Desk) {
     for _ in rt.forever() {
         let Some(path) = desk.next_wanted(rt) else {
             return;
         };
-        let file = desk.read_file(rt, alloc, &path);
+        let file = desk.read_file(rt, alloc, files, &path);
         desk.leave_file(rt, file);
     }
 }
 
 // The octets of a file. A path that is no text names none.
-fn load<R: Files>(rt: &R, alloc: Global, path: &[u8]) -> Result<Octets, ProgramFault> {
+fn load<F: FileReader>(alloc: Global, files: &F, path: &[u8]) -> Result<Octets, ProgramFault> {
     match str::from_utf8(path) {
-        Ok(path) => load_file(rt, alloc, path),
+        Ok(path) => files.load(alloc, path),
         Err(_) => Err(ProgramFault::Read),
     }
 }

@@ -3,18 +3,19 @@ use crate::desk::Desk;
 use crate::said::{Said, said_by};
 use entity_config::Config;
 use memchr::memchr;
+use program_start::FileReader;
 use script_io::{INTERRUPTIONS, NextLine, ReplayFault, next_line};
 use std::alloc::Global;
 use std::io::{BufRead, ErrorKind};
-use std::rt::Files;
 use std::sync::Wait;
 use std::time::Clock;
 
 /// Leaves what the lines of commands say at the desk, until `quit`, the end of the input, a fault of the reader, or until the
 /// desk is closed. The file of a Put is read before the next line.
-pub fn read_lines<R: Wait + Clock + Files, B: BufRead>(
+pub fn read_lines<R: Wait + Clock, F: FileReader, B: BufRead>(
     rt: &R,
     alloc: Global,
+    files: &F,
     config: &Config,
     reader: &mut B,
     desk: &Desk,
@@ -22,7 +23,7 @@ pub fn read_lines<R: Wait + Clock + Files, B: BufRead>(
     let mut line = Vec::new(alloc);
     for _ in rt.forever() {
         let wants_more = match next_line(reader, &mut line) {
-            Ok(NextLine::Line) => leave_line(rt, alloc, config, line.as_slice(), desk),
+            Ok(NextLine::Line) => leave_line(rt, alloc, files, config, line.as_slice(), desk),
             Ok(NextLine::TooLong) => {
                 desk.leave_line(rt, Said::Nothing, None) && skip_line(rt, reader)
             },
@@ -40,14 +41,15 @@ pub fn read_lines<R: Wait + Clock + Files, B: BufRead>(
 }
 
 // Leaves one line; whether more are to be read.
-fn leave_line<R: Wait + Clock + Files>(
+fn leave_line<R: Wait + Clock, F: FileReader>(
     rt: &R,
     alloc: Global,
+    files: &F,
     config: &Config,
     line: &[u8],
     desk: &Desk,
 ) -> bool {
-    let said = said_by(rt, alloc, config, line, desk);
+    let said = said_by(rt, alloc, files, config, line, desk);
     desk.leave_line(rt, said, None) && line != b"quit".as_slice()
 }
 

@@ -4,10 +4,9 @@ ghost use Rattle.program_desk.specs.Says.{IsSaidBy};
 use crate::desk::Desk;
 use cfdp_types::Octets;
 use entity_config::Config;
-use program_start::ProgramFault;
+use program_start::{FileReader, ProgramFault};
 use server_lines::{Command, PutCommand, command_of};
 use std::alloc::{AllocError, Global};
-use std::rt::Files;
 use std::sync::Wait;
 use std::time::Clock;
 
@@ -25,9 +24,10 @@ pub enum Said {
 }
 
 /// Reads what a line says, by a configuration, and the file of a Put. The desk shows meanwhile that this file is being read.
-pub fn said_by<R: Wait + Clock + Files>(
+pub fn said_by<R: Wait + Clock, F: FileReader>(
     rt: &R,
     alloc: Global,
+    files: &F,
     config: &Config,
     line: &[u8],
     desk: &Desk,
@@ -36,7 +36,7 @@ pub fn said_by<R: Wait + Clock + Files>(
 {
     match command_of(alloc, config, line) {
         Ok(Some(Command::Put(put))) => {
-            let file = desk.read_file(rt, alloc, &put.source);
+            let file = desk.read_file(rt, alloc, files, &put.source);
             Said::Put(put, file)
         }
         Ok(Some(command)) => Said::Command(command),

@@ -73,3 +73,27 @@ pub fn load_file<R: Files>(rt: &R, alloc: Global, path: &str) -> Result<Octets, 
         Err(error) => Err(fault_of(&error)),
     }
 }
+
+/// Reads files that are to be sent. Other threads than the main one use it.
+pub trait FileReader {
+    /// The octets of a plain file, as [`load_file`] gives them.
+    fn load(&self, alloc: Global, path: &str) -> Result<Octets, ProgramFault>;
+}
+
+/// Reads files by a runtime.
+#[derive(Clone, Copy, Drop)]
+pub struct RuntimeFiles<R> {
+    rt: R,
+}
+
+impl<R> RuntimeFiles<R> {
+    pub fn new(rt: R) -> RuntimeFiles<R> {
+        RuntimeFiles { rt }
+    }
+}
+
+impl<R: Files> FileReader for RuntimeFiles<R> {
+    fn load(&self, alloc: Global, path: &str) -> Result<Octets, ProgramFault> {
+        load_file(&self.rt, alloc, path)
+    }
+}

@@ -7,4 +7,4 @@ mod files;
 
 pub use explaining::{Started, push_explanation, tell_explanation};
 pub use fault::{ProgramFault, print, push_fault, tell_fault};
-pub use files::{load_config, load_file};
+pub use files::{FileReader, RuntimeFiles, load_config, load_file};

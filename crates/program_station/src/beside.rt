@@ -5,7 +5,7 @@ use entity_workers::WorkersFault;
 use program_control::ControlSocket;
 use program_desk::{Desk, read_files, read_lines};
 use program_seats::Seats;
-use program_start::ProgramFault;
+use program_start::{FileReader, ProgramFault};
 use program_udp::wake_reader;
 use shared_entity::Entity;
 use shared_lanes::Names;
@@ -41,12 +41,12 @@ fn fault_beside(ended: Result<u8, ProgramFault>, fault: WorkersFault) -> Result<
     }
 }
 
-/// Runs the main thread's work beside the workers, which end with it. Where not all
-/// workers could be started, that is reported at the end, unless the work ended for another reason.
+/// Runs the main thread's work beside the workers, which end with it. Where not all workers could be started, that is reported at
+/// the end, unless the work ended for another reason.
 pub fn run_beside<
     'x,
     N: Names + Send + Sync,
-    R: Threads + Wait + Clock + Files + Copy + Send + Sync,
+    R: Threads + Wait + Clock + Copy + Send + Sync,
     M: MainThread + Drop,
 >(
     rt: &'x R,
@@ -55,28 +55,6 @@ pub fn run_beside<
     socket: &'x UdpSocket,
     desk: &'x Desk,
     way_in: WayIn<'x, R>,
-    main_thread: M,
-) -> Result<u8, ProgramFault> {
-    let work = Work::<'x, M>::Alone(main_thread);
-    beside_workers(rt, alloc, entity, socket, desk, way_in, work)
-}
-
-/// `run_beside` with two threads more: one reads files that are wanted at the desk, the other reads lines of commands. That one is
-/// started last: where the others can't be, nobody waits for a line.
-pub fn run_commanded<
-    'x,
-    N: Names + Send + Sync,
-    R: Threads + Wait + Clock + Files + Copy + Send + Sync,
-    B: BufRead + Send + Drop,
-    M: MainThread + Drop,
->(
-    rt: &'x R,
-    alloc: Global,
-    entity: &'x Entity<N, R>,
-    socket: &'x UdpSocket,
-    desk: &'x Desk,
-    way_in: WayIn<'x, R>,
-    reader: B,
     main_thread: M,
 ) -> Result<u8, ProgramFault> {
     let WayIn {
@@ -92,7 +70,7 @@ pub fn run_commanded<
             )) else {
                 return Err(ProgramFault::Start);
             };
-            let ended = work_commanded(rt, alloc, entity.config(), desk, reader, main_thread);
+            let ended = main_thread.work();
             desk.close(rt);
             wake_reader(socket);
             match workers.join(rt) {
@@ -103,152 +81,114 @@ pub fn run_commanded<
     )
 }
 
-/// `run_beside` with the threads of a control socket, and one that reads files that are wanted at the desk. The socket is gone once the work has ended.
-pub fn run_controlled<
-    'x,
-    N: Names + Send + Sync,
-    R: Threads + Wait + Clock + Files + Copy + Send + Sync,
-    M: MainThread + Drop,
->(
-    rt: &'x R,
-    alloc: Global,
-    entity: &'x Entity<N, R>,
-    socket: &'x UdpSocket,
-    desk: &'x Desk,
-    way_in: WayIn<'x, R>,
-    control: Control<'x>,
-    main_thread: M,
-) -> Result<u8, ProgramFault> {
-    let work = Work::<'x, M>::Controlled(control, main_thread);
-    beside_workers(rt, alloc, entity, socket, desk, way_in, work)
-}
-
-// What works beside the workers: the main thread alone, or beside a control socket.
+/// A main thread beside two threads more: one reads files that are wanted at the desk, the other reads lines of commands. That one
+/// is started last: where the other can't be, nobody waits for a line.
 #[derive(Drop)]
-enum Work<'x, M: Drop> {
-    Alone(M),
-    Controlled(Control<'x>, M),
+pub struct Commanded<'x, R, F, B: Drop, M: Drop> {
+    pub rt: &'x R,
+    pub alloc: Global,
+    pub files: &'x F,
+    pub config: &'x Config,
+    pub desk: &'x Desk,
+    pub reader: B,
+    pub main_thread: M,
 }
 
-// Works until nothing more is to be done.
-fn do_work<'x, R: Threads + Wait + Clock + Files + Sync, M: MainThread + Drop>(
-    rt: &'x R,
-    alloc: Global,
-    config: &'x Config,
-    desk: &'x Desk,
-    work: Work<'x, M>,
-) -> Result<u8, ProgramFault> {
-    match work {
-        Work::Alone(main_thread) => main_thread.work(),
-        Work::Controlled(control, main_thread) => {
-            work_controlled(rt, alloc, config, desk, control, main_thread)
-        }
+impl<
+    'x,
+    R: Threads + Wait + Clock + Sync,
+    F: FileReader + Sync,
+    B: BufRead + Send + Drop,
+    M: MainThread + Drop,
+> MainThread for Commanded<'x, R, F, B, M> {
+    fn work(self) -> Result<u8, ProgramFault> {
+        let Commanded {
+            rt,
+            alloc,
+            files,
+            config,
+            desk,
+            reader,
+            main_thread,
+        } = self;
+        let mut reader = reader;
+        thread::scope(
+            thread::scope_env(),
+            rt,
+            move |scope| -> Result<u8, ProgramFault> {
+                let Ok(_files) = scope.spawn(move || read_files(rt, alloc, files, desk)) else {
+                    return Err(ProgramFault::Start);
+                };
+                let ended = match scope.spawn(move || read_lines(
+                    rt,
+                    alloc,
+                    files,
+                    config,
+                    &mut reader,
+                    desk,
+                )) {
+                    Ok(_lines) => main_thread.work(),
+                    Err(_) => Err(ProgramFault::Start),
+                };
+                desk.close(rt);
+                ended
+            },
+        )
     }
 }
 
-// Works beside the workers.
-fn beside_workers<
-    'x,
-    N: Names + Send + Sync,
-    R: Threads + Wait + Clock + Files + Copy + Send + Sync,
-    M: MainThread + Drop,
->(
-    rt: &'x R,
-    alloc: Global,
-    entity: &'x Entity<N, R>,
-    socket: &'x UdpSocket,
-    desk: &'x Desk,
-    way_in: WayIn<'x, R>,
-    work: Work<'x, M>,
-) -> Result<u8, ProgramFault> {
-    let WayIn {
-        arrivals,
-        forwarders,
-    } = way_in;
-    thread::scope(
-        thread::scope_env(),
-        rt,
-        move |scope| -> Result<u8, ProgramFault> {
-            let Ok(workers) = scope.spawn(move || run_forwarders(
-                rt, alloc, entity, arrivals, forwarders, desk,
-            )) else {
-                return Err(ProgramFault::Start);
-            };
-            let ended = do_work(rt, alloc, entity.config(), desk, work);
-            desk.close(rt);
-            wake_reader(socket);
-            match workers.join(rt) {
-                Ok(()) => ended,
-                Err(fault) => fault_beside(ended, fault),
-            }
-        },
-    )
+/// A main thread beside the threads of a control socket, and one that reads files that are wanted at the desk. The socket is gone
+/// once the work has ended.
+#[derive(Drop)]
+pub struct Controlled<'x, R, F, M: Drop> {
+    pub rt: &'x R,
+    pub alloc: Global,
+    pub files: &'x F,
+    pub config: &'x Config,
+    pub desk: &'x Desk,
+    pub control: Control<'x>,
+    pub main_thread: M,
 }
 
-// The main thread's work beside a thread that reads files, and one that reads lines of commands.
-fn work_commanded<
+impl<
     'x,
     R: Threads + Wait + Clock + Files + Sync,
-    B: BufRead + Send + Drop,
+    F: FileReader + Sync,
     M: MainThread + Drop,
->(
-    rt: &'x R,
-    alloc: Global,
-    config: &'x Config,
-    desk: &'x Desk,
-    reader: B,
-    main_thread: M,
-) -> Result<u8, ProgramFault> {
-    let mut reader = reader;
-    thread::scope(
-        thread::scope_env(),
-        rt,
-        move |scope| -> Result<u8, ProgramFault> {
-            let ended = match scope.spawn(move || read_files(rt, alloc, desk)) {
-                Ok(_files) => match scope.spawn(move || {
-                    read_lines(rt, alloc, config, &mut reader, desk)
-                }) {
-                    Ok(_lines) => main_thread.work(),
-                    Err(_) => Err(ProgramFault::Start),
-                },
-                Err(_) => Err(ProgramFault::Start),
-            };
-            desk.close(rt);
-            ended
-        },
-    )
-}
-
-// The main thread's work beside a thread that reads files, and the threads of a control socket.
-fn work_controlled<'x, R: Threads + Wait + Clock + Files + Sync, M: MainThread + Drop>(
-    rt: &'x R,
-    alloc: Global,
-    config: &'x Config,
-    desk: &'x Desk,
-    control: Control<'x>,
-    main_thread: M,
-) -> Result<u8, ProgramFault> {
-    let Control {
-        socket,
-        path,
-        seats,
-    } = control;
-    thread::scope(
-        thread::scope_env(),
-        rt,
-        move |scope| -> Result<u8, ProgramFault> {
-            let ended = match scope.spawn(move || read_files(rt, alloc, desk)) {
-                Ok(_files) => match scope.spawn(move || socket.run(
-                    rt, alloc, config, desk, seats,
+> MainThread for Controlled<'x, R, F, M> {
+    fn work(self) -> Result<u8, ProgramFault> {
+        let Controlled {
+            rt,
+            alloc,
+            files,
+            config,
+            desk,
+            control,
+            main_thread,
+        } = self;
+        let Control {
+            socket,
+            path,
+            seats,
+        } = control;
+        thread::scope(
+            thread::scope_env(),
+            rt,
+            move |scope| -> Result<u8, ProgramFault> {
+                let Ok(_files) = scope.spawn(move || read_files(rt, alloc, files, desk)) else {
+                    socket.close(rt, path, seats);
+                    return Err(ProgramFault::Start);
+                };
+                let ended = match scope.spawn(move || socket.run(
+                    rt, alloc, files, config, desk, seats,
                 )) {
                     Ok(_clients) => main_thread.work(),
                     Err(_) => Err(ProgramFault::Start),
-                },
-                Err(_) => Err(ProgramFault::Start),
-            };
-            desk.close(rt);
-            socket.close(rt, path, seats);
-            ended
-        },
-    )
+                };
+                desk.close(rt);
+                socket.close(rt, path, seats);
+                ended
+            },
+        )
+    }
 }
