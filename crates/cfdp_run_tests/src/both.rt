@@ -2,7 +2,7 @@
 use crate::lines::words;
 use cfdp_send::{Outputs, put_one};
 use cfdp_serve::serve;
-use program_start::RuntimeFiles;
+use program_start::{FileReader, RuntimeFiles};
 use std::alloc::{AllocError, Global};
 use std::net::Net;
 use std::rt::Files;
@@ -78,11 +78,14 @@ fn take_all<R: Wait + Clock>(rt: &R, alloc: Global, pipes: &Pipes) -> Option<Str
 }
 
 // Runs the server; the exit status.
-fn run_server(rt: &HostRuntime, alloc: Global, pipes: &Pipes, line: &[String]) -> u8 {
+fn run_server<
+    R: Threads + Wait + Clock + Net + Files + AllocGlobal + Copy + Drop + Send + Sync,
+    F: FileReader + Sync,
+>(rt: &R, files: &F, alloc: Global, pipes: &Pipes, line: &[String]) -> u8 {
     let mut errors = Vec::new(alloc);
     let status = serve(
         *rt,
-        &RuntimeFiles::new(*rt),
+        files,
         line,
         pipes.reader(rt),
         pipes.writer(rt),
@@ -183,12 +186,15 @@ fn both_ends(rt: HostRuntime) -> Result<(), Fail> {
         )?,
     ];
     let between = Pipes::new(alloc);
+    let reading = RuntimeFiles::new(rt);
+    let files = &reading;
     let (here, pipes, line, sent) = (&rt, &between, serve_line.as_slice(), puts.as_slice());
     let ended = thread::scope(
         thread::scope_env(),
         &rt,
         move |scope| -> Option<(u8, Vec<Went>)> {
-            let Ok(serving) = scope.spawn(move || run_server(here, alloc, pipes, line)) else {
+            let Ok(serving) = scope.spawn(move || run_server(here, files, alloc, pipes, line))
+            else {
                 return None;
             };
             let went = put_each(here, alloc, pipes, sent);

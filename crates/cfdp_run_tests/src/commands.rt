@@ -1,7 +1,7 @@
 //! The server alone: commands.
 use crate::lines::words;
 use cfdp_serve::serve;
-use program_start::RuntimeFiles;
+use program_start::{FileReader, RuntimeFiles};
 use std::alloc::{AllocError, Global};
 use std::fs;
 use std::net::Net;
@@ -66,7 +66,10 @@ const COMMANDS: [(&str, &str); 12] = [
 ];
 
 // Whether a server answers these lines so, and ends well.
-fn is_answered(rt: HostRuntime, words: &[String], lines: &[u8], text: &str) -> bool {
+fn is_answered<
+    R: Threads + Wait + Net + Clock + Files + AllocGlobal + Copy + Drop + Send + Sync,
+    F: FileReader + Sync,
+>(rt: R, files: &F, words: &[String], lines: &[u8], text: &str) -> bool {
     let alloc: Global = rt.alloc();
     let mut written = Vec::new(alloc);
     let mut errors = Vec::new(alloc);
@@ -89,7 +92,13 @@ fn commands(rt: HostRuntime) -> Result<(), Fail> {
     let words = words(rt.alloc(), START)?;
     for (lines, text) in COMMANDS {
         assert!(rt;
-            is_answered(rt, words.as_slice(), lines.as_bytes(), text),
+            is_answered(
+                rt,
+                &RuntimeFiles::new(rt),
+                words.as_slice(),
+                lines.as_bytes(),
+                text
+            ),
             "{lines}"
         );
     }

@@ -2,7 +2,7 @@
 use crate::commands::config_of;
 use crate::lines::words;
 use cfdp_serve::serve;
-use program_start::RuntimeFiles;
+use program_start::{FileReader, RuntimeFiles};
 use std::alloc::Global;
 use std::net::{Net, UdpSocket};
 use std::rt::Files;
@@ -31,11 +31,14 @@ const LOOKS: u32 = 20_000;
 const PAUSE_MICROSECONDS: u64 = 500;
 
 // Runs the server; the exit status.
-fn run_server(rt: &HostRuntime, alloc: Global, pipes: &Pipes, line: &[String]) -> u8 {
+fn run_server<
+    R: Threads + Wait + Clock + Net + Files + AllocGlobal + Copy + Drop + Send + Sync,
+    F: FileReader + Sync,
+>(rt: &R, files: &F, alloc: Global, pipes: &Pipes, line: &[String]) -> u8 {
     let mut errors = Vec::new(alloc);
     let status = serve(
         *rt,
-        &RuntimeFiles::new(*rt),
+        files,
         line,
         pipes.reader(rt),
         pipes.writer(rt),
@@ -89,13 +92,16 @@ fn quit_before_an_end_is_told(rt: HostRuntime) -> Result<(), Fail> {
     let words = words(alloc, line.as_str())?;
     let socket = UdpSocket::bind(&rt, "127.0.0.1:0")?;
     let between = Pipes::new(alloc);
+    let reading = RuntimeFiles::new(rt);
+    let files = &reading;
     let (here, pipes, line) = (&rt, &between, words.as_slice());
     let (socket, address) = (&socket, address.as_str());
     let ended = thread::scope(
         thread::scope_env(),
         &rt,
         move |scope| -> Option<(bool, u8)> {
-            let Ok(serving) = scope.spawn(move || run_server(here, alloc, pipes, line)) else {
+            let Ok(serving) = scope.spawn(move || run_server(here, files, alloc, pipes, line))
+            else {
                 return None;
             };
             let is_open = deliver(here, alloc, pipes, socket, address)
