@@ -8,9 +8,7 @@ use program_desk::{Desk, Urgency, wall_moment};
 use program_numbers::HeldNumbers;
 use program_seats::Seats;
 use program_start::{FileReader, ProgramFault};
-use program_station::{
-    Commanded, Control, Controlled, Preparing, Sources, Station, WayIn, run_beside,
-};
+use program_station::{Control, Preparing, Sources, Station, WayIn, run_commanded, run_controlled};
 use program_status::{EventLog, Events};
 use program_tallies::Tallies;
 use program_udp::PduSender;
@@ -128,16 +126,9 @@ fn serve_reader<
     let Ok(reader) = in_blocks(alloc, reader) else {
         return Err(ProgramFault::NoMemory);
     };
-    let main_thread = Commanded {
-        rt,
-        alloc,
-        files,
-        config: entity.config(),
-        desk,
-        reader,
-        main_thread: server,
-    };
-    run_beside(rt, alloc, entity, socket, desk, way_in, main_thread)
+    run_commanded(
+        rt, alloc, files, entity, socket, desk, way_in, reader, server,
+    )
 }
 
 // Serves by the lines of clients.
@@ -165,16 +156,9 @@ fn serve_clients<
     let console = Console::<W>::Seated(control.seats);
     let server = server_over(opened, ports, numbers, console)?;
     let way_in = way_in_of(opened)?;
-    let main_thread = Controlled {
-        rt,
-        alloc,
-        files,
-        config: entity.config(),
-        desk,
-        control,
-        main_thread: server,
-    };
-    run_beside(rt, alloc, entity, socket, desk, way_in, main_thread)
+    run_controlled(
+        rt, alloc, files, entity, socket, desk, way_in, control, server,
+    )
 }
 
 // The way in of a server's datagrams. What users receive is looked at within a millisecond where it is taken as it comes.

@@ -81,114 +81,173 @@ pub fn run_beside<
     )
 }
 
-/// A main thread beside two threads more: one reads files that are wanted at the desk, the other reads lines of commands. That one
-/// is started last: where the other can't be, nobody waits for a line.
-#[derive(Drop)]
-pub struct Commanded<'x, R, F, B: Drop, M: Drop> {
-    pub rt: &'x R,
-    pub alloc: Global,
-    pub files: &'x F,
-    pub config: &'x Config,
-    pub desk: &'x Desk,
-    pub reader: B,
-    pub main_thread: M,
+/// `run_beside` with two threads more: one reads files that are wanted at the desk, the other reads lines of commands. That one is
+/// started last: where the others can't be, nobody waits for a line.
+pub fn run_commanded<
+    'x,
+    N: Names + Send + Sync,
+    R: Threads + Wait + Clock + Copy + Send + Sync,
+    F: FileReader + Sync,
+    B: BufRead + Send + Drop,
+    M: MainThread + Drop,
+>(
+    rt: &'x R,
+    alloc: Global,
+    files: &'x F,
+    entity: &'x Entity<N, R>,
+    socket: &'x UdpSocket,
+    desk: &'x Desk,
+    way_in: WayIn<'x, R>,
+    reader: B,
+    main_thread: M,
+) -> Result<u8, ProgramFault> {
+    let WayIn {
+        arrivals,
+        forwarders,
+    } = way_in;
+    thread::scope(
+        thread::scope_env(),
+        rt,
+        move |scope| -> Result<u8, ProgramFault> {
+            let Ok(workers) = scope.spawn(move || run_forwarders(
+                rt, alloc, entity, arrivals, forwarders, desk,
+            )) else {
+                return Err(ProgramFault::Start);
+            };
+            let config = entity.config();
+            let ended = work_commanded(rt, alloc, files, config, desk, reader, main_thread);
+            desk.close(rt);
+            wake_reader(socket);
+            match workers.join(rt) {
+                Ok(()) => ended,
+                Err(fault) => fault_beside(ended, fault),
+            }
+        },
+    )
 }
 
-impl<
+/// `run_beside` with the threads of a control socket, and one that reads files that are wanted at the desk. The socket is gone
+/// once the work has ended.
+pub fn run_controlled<
+    'x,
+    N: Names + Send + Sync,
+    R: Threads + Wait + Clock + Files + Copy + Send + Sync,
+    F: FileReader + Sync,
+    M: MainThread + Drop,
+>(
+    rt: &'x R,
+    alloc: Global,
+    files: &'x F,
+    entity: &'x Entity<N, R>,
+    socket: &'x UdpSocket,
+    desk: &'x Desk,
+    way_in: WayIn<'x, R>,
+    control: Control<'x>,
+    main_thread: M,
+) -> Result<u8, ProgramFault> {
+    let WayIn {
+        arrivals,
+        forwarders,
+    } = way_in;
+    thread::scope(
+        thread::scope_env(),
+        rt,
+        move |scope| -> Result<u8, ProgramFault> {
+            let Ok(workers) = scope.spawn(move || run_forwarders(
+                rt, alloc, entity, arrivals, forwarders, desk,
+            )) else {
+                return Err(ProgramFault::Start);
+            };
+            let config = entity.config();
+            let ended = work_controlled(rt, alloc, files, config, desk, control, main_thread);
+            desk.close(rt);
+            wake_reader(socket);
+            match workers.join(rt) {
+                Ok(()) => ended,
+                Err(fault) => fault_beside(ended, fault),
+            }
+        },
+    )
+}
+
+// The main thread's work beside a thread that reads files, and one that reads lines of commands.
+fn work_commanded<
     'x,
     R: Threads + Wait + Clock + Sync,
     F: FileReader + Sync,
     B: BufRead + Send + Drop,
     M: MainThread + Drop,
-> MainThread for Commanded<'x, R, F, B, M> {
-    fn work(self) -> Result<u8, ProgramFault> {
-        let Commanded {
-            rt,
-            alloc,
-            files,
-            config,
-            desk,
-            reader,
-            main_thread,
-        } = self;
-        let mut reader = reader;
-        thread::scope(
-            thread::scope_env(),
-            rt,
-            move |scope| -> Result<u8, ProgramFault> {
-                let Ok(_files) = scope.spawn(move || read_files(rt, alloc, files, desk)) else {
-                    return Err(ProgramFault::Start);
-                };
-                let ended = match scope.spawn(move || read_lines(
-                    rt,
-                    alloc,
-                    files,
-                    config,
-                    &mut reader,
-                    desk,
-                )) {
-                    Ok(_lines) => main_thread.work(),
-                    Err(_) => Err(ProgramFault::Start),
-                };
-                desk.close(rt);
-                ended
-            },
-        )
-    }
+>(
+    rt: &'x R,
+    alloc: Global,
+    files: &'x F,
+    config: &'x Config,
+    desk: &'x Desk,
+    reader: B,
+    main_thread: M,
+) -> Result<u8, ProgramFault> {
+    let mut reader = reader;
+    thread::scope(
+        thread::scope_env(),
+        rt,
+        move |scope| -> Result<u8, ProgramFault> {
+            let Ok(_files) = scope.spawn(move || read_files(rt, alloc, files, desk)) else {
+                return Err(ProgramFault::Start);
+            };
+            let ended = match scope.spawn(move || read_lines(
+                rt,
+                alloc,
+                files,
+                config,
+                &mut reader,
+                desk,
+            )) {
+                Ok(_lines) => main_thread.work(),
+                Err(_) => Err(ProgramFault::Start),
+            };
+            desk.close(rt);
+            ended
+        },
+    )
 }
 
-/// A main thread beside the threads of a control socket, and one that reads files that are wanted at the desk. The socket is gone
-/// once the work has ended.
-#[derive(Drop)]
-pub struct Controlled<'x, R, F, M: Drop> {
-    pub rt: &'x R,
-    pub alloc: Global,
-    pub files: &'x F,
-    pub config: &'x Config,
-    pub desk: &'x Desk,
-    pub control: Control<'x>,
-    pub main_thread: M,
-}
-
-impl<
+// The main thread's work beside a thread that reads files, and the threads of a control socket.
+fn work_controlled<
     'x,
     R: Threads + Wait + Clock + Files + Sync,
     F: FileReader + Sync,
     M: MainThread + Drop,
-> MainThread for Controlled<'x, R, F, M> {
-    fn work(self) -> Result<u8, ProgramFault> {
-        let Controlled {
-            rt,
-            alloc,
-            files,
-            config,
-            desk,
-            control,
-            main_thread,
-        } = self;
-        let Control {
-            socket,
-            path,
-            seats,
-        } = control;
-        thread::scope(
-            thread::scope_env(),
-            rt,
-            move |scope| -> Result<u8, ProgramFault> {
-                let Ok(_files) = scope.spawn(move || read_files(rt, alloc, files, desk)) else {
-                    socket.close(rt, path, seats);
-                    return Err(ProgramFault::Start);
-                };
-                let ended = match scope.spawn(move || socket.run(
-                    rt, alloc, files, config, desk, seats,
-                )) {
-                    Ok(_clients) => main_thread.work(),
-                    Err(_) => Err(ProgramFault::Start),
-                };
-                desk.close(rt);
+>(
+    rt: &'x R,
+    alloc: Global,
+    files: &'x F,
+    config: &'x Config,
+    desk: &'x Desk,
+    control: Control<'x>,
+    main_thread: M,
+) -> Result<u8, ProgramFault> {
+    let Control {
+        socket,
+        path,
+        seats,
+    } = control;
+    thread::scope(
+        thread::scope_env(),
+        rt,
+        move |scope| -> Result<u8, ProgramFault> {
+            let Ok(_files) = scope.spawn(move || read_files(rt, alloc, files, desk)) else {
                 socket.close(rt, path, seats);
-                ended
-            },
-        )
-    }
+                return Err(ProgramFault::Start);
+            };
+            let ended = match scope.spawn(move || socket.run(
+                rt, alloc, files, config, desk, seats,
+            )) {
+                Ok(_clients) => main_thread.work(),
+                Err(_) => Err(ProgramFault::Start),
+            };
+            desk.close(rt);
+            socket.close(rt, path, seats);
+            ended
+        },
+    )
 }

@@ -13,7 +13,7 @@ mod way_in;
 
 pub use answers::flat;
 pub use arrivals::{Arrivals, READ_FAILURES, Sources};
-pub use beside::{Commanded, Control, Controlled, MainThread, run_beside};
+pub use beside::{Control, MainThread, run_beside, run_commanded, run_controlled};
 pub use forwarder::{Forwarder, forwarders_of, run_forwarders};
 pub use station::{REST_MS, Station};
 pub use storing::{Preparing, StoredNote};
