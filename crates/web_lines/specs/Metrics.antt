@@ -1,5 +1,5 @@
 -- Meaning. Text for Prometheus.
-use Rattle.std.specs.Prelude.{◌≡◌, ◌⊎◌, ◌==◌, ℕ, if◌then◌else◌, List, [], ◌∷◌, ◌++◌, All, Some, flat_map, map, codes, decimal}
+use Rattle.std.specs.Prelude.{◌≡◌, ◌⊎◌, ◌==◌, ℕ, if◌then◌else◌, List, [], ◌∷◌, ◌++◌, All, Some, flat_map, codes, decimal}
 use Rattle.json.specs.Json.{Json, document}
 use Rattle.web_lines.specs.declared.labels.Label.{Label}
 use Rattle.web_lines.specs.declared.labels.Labels.{Labels}
