@@ -207,6 +207,16 @@ def layout():
         want("a table", run.stdout == b"Users\nwaiting    of  user\n      3  1024  ops\\x1b\n\n", run.stdout)
         run = ctl("status", "--colour", "always")
         want("a table in colour", run.stdout.startswith(b"\x1b[1mUsers\n\x1b[0m\x1b[2mwaiting\x1b[0m  "), run.stdout)
+    for reading, wanted in [
+            ([], b""),
+            ([{"file": "/tmp/a\x1b.bin", "since": 1764244800250}, {"file_hex": "62ff", "since": 951782399999}, {}],
+             b"Reading\nsince                     file\n2025-11-27T12:00:00.250Z  /tmp/a\\x1b.bin\n"
+             b"2000-02-28T23:59:59.999Z  b\\xff\n?                         ?\n\n")]:
+        with station(*said([{**entity, "counters": {}, "reading": reading}])):
+            run = ctl("status", "--width", "200")
+            want(f"files that are read, {len(reading)}", run.stdout.split(b"Z\n\n", 1)[1] == wanted, run.stdout)
+    with station("--reading", "/tmp/a.bin"):
+        check("a file that is read", ctl("status"), 0, b"Z  /tmp/a.bin\n")
     with station(*said([{"kind": "log", "failing": True, "lost": 7}])):
         check("a log that fails", ctl("status"), 0, b"The log can't be written; events lost: 7\n")
 

@@ -15,6 +15,7 @@ usage: tests/fake_station.py SOCKET [OPTION..]
   --lose NAME        the file that ends incomplete
   --unreadable NAME  the file that can't be read when its turn comes
   --ended-reads N    workers that read no more (0)
+  --reading A,B      files that are being read for Puts (none)
   --stop SECONDS     answers nothing more, so long after the first send, and stays connected
   --say FILE         what a status says, and which events a follower receives: JSON with lists `status` and `events`
 """
@@ -196,7 +197,8 @@ class Station:
                "clients": len(self.clients), "events": self.number,
                "counters": {"datagrams_in": 12, "octets_in": 9000, "datagrams_out": 3, "octets_out": 90, "failed_sends": 0,
                             "failed_reads": 0, "ended_reads": self.options.ended_reads, "foreign_datagrams": 0,
-                            "decode_faults": 1, "refused": 1, "stored": 1, "failed_stores": 0, "dropped_clients": 0}}
+                            "decode_faults": 1, "refused": 1, "stored": 1, "failed_stores": 0, "dropped_clients": 0},
+               "reading": [{"file": name, "since": int(self.begun * 1000)} for name in self.options.reading]}
         yield {"kind": "log", "failing": False, "written": self.number, "lost": 0}
         for name in self.options.users:
             yield {"kind": "user", "name": name, "waiting": 3, "capacity": 1024}
@@ -318,6 +320,7 @@ def main():
     parser.add_argument("--lose")
     parser.add_argument("--unreadable")
     parser.add_argument("--ended-reads", type=int, default=0)
+    parser.add_argument("--reading", type=lambda text: text.split(","), default=[])
     parser.add_argument("--stop", type=float)
     parser.add_argument("--say", type=lambda path: json.load(open(path)))
     options = parser.parse_args()

@@ -120,7 +120,9 @@ def routes(port):
           and all(line in text for line in (
               "# TYPE cfdp_datagrams_received_total counter\ncfdp_datagrams_received_total 12\n", "cfdp_up 1\n",
               'cfdp_queue_bundles{user="ops"} 3\n', 'cfdp_refused_datagrams_total{reason="DecodeFault",fault="3"} 3\n',
-              'cfdp_remote_held{remote="5"} 0\n', 'cfdp_transactions{state="active"} ')))
+              'cfdp_remote_held{remote="5"} 0\n', 'cfdp_transactions{state="active"} ',
+              "# TYPE cfdp_ended_reads_total counter\ncfdp_ended_reads_total 2\n",
+              "# TYPE cfdp_reading_files gauge\ncfdp_reading_files 3\n")))
     heads = re.findall(r"^# TYPE (\S+)", text, re.M)
     check("/metrics: each family once, with help", len(heads) == len(set(heads)) and all(f"# HELP {head} " in text for head in heads))
     check("/healthz: 200", ask(port, "/healthz")[0] == 200)
@@ -348,7 +350,7 @@ def main():
     check("no station: 503", ask(port, "/status.json")[0] == 503 and ask(port, "/healthz")[0] == 503)
     check("no station: /metrics says so", ask(port, "/metrics")[2].endswith(b"\ncfdp_up 0\n"))
     check("no station: the page", ask(port, "/")[0] == 200)
-    station = start_station("--transactions", "4", "--odd")
+    station = start_station("--transactions", "4", "--odd", "--ended-reads", "2", "--reading", "a,b,c")
     check("the station comes", wait_for(lambda: ask(port, "/healthz")[0] == 200))
     routes(port)
     refusals(port)

@@ -30,23 +30,38 @@ fn push_tenths(text: &mut String, octets: u64, unit: u64, name: &str) -> Result<
     write!(text, "{whole}.{tenth} {name}")
 }
 
+/// Adds the octets a second; a dash where they aren't known.
+pub(crate) fn push_rate(text: &mut String, rate: Option<u64>) -> Result<(), AllocError> {
+    match rate {
+        Some(octets) => {
+            push_octets(text, octets)?;
+            text.push_str("/s")
+        }
+        None => text.push('-'),
+    }
+}
+
 /// Adds a span of time, given in milliseconds: seconds with a tenth, or minutes, hours or days.
 pub(crate) fn push_age(text: &mut String, milliseconds: u64) -> Result<(), AllocError> {
-    let seconds = milliseconds / 1000;
-    if seconds < 10 {
+    if milliseconds < 10_000 {
+        let seconds = milliseconds / 1000;
         let tenth = milliseconds / 100 % 10;
-        write!(text, "{seconds}.{tenth} s")
-    } else if seconds < 120 {
-        write!(text, "{seconds} s")
+        return write!(text, "{seconds}.{tenth} s");
+    }
+    let (amount, unit) = age_of(milliseconds / 1000);
+    write!(text, "{amount} {unit}")
+}
+
+// An amount of seconds in a unit that is not too small.
+fn age_of(seconds: u64) -> (u64, &'static str) {
+    if seconds < 120 {
+        (seconds, "s")
     } else if seconds < 7200 {
-        let minutes = seconds / 60;
-        write!(text, "{minutes} min")
+        (seconds / 60, "min")
     } else if seconds < 172_800 {
-        let hours = seconds / 3600;
-        write!(text, "{hours} h")
+        (seconds / 3600, "h")
     } else {
-        let days = seconds / 86_400;
-        write!(text, "{days} d")
+        (seconds / 86_400, "d")
     }
 }
 
@@ -73,10 +88,17 @@ pub(crate) fn percent_of(octets: u64, size: u64) -> u64
 
 /// Adds a bar of ten places, one for each ten percent.
 pub(crate) fn push_bar(text: &mut String, percent: u64) -> Result<(), AllocError> {
-    text.push('[')?;
-    for place in 0..10u64 {
-        let is_full = place * 10 + 10 <= percent;
-        text.push(if is_full { '#' } else { '.' })?;
-    }
-    text.push(']')
+    text.push_str(match percent / 10 {
+        0 => "[..........]",
+        1 => "[#.........]",
+        2 => "[##........]",
+        3 => "[###.......]",
+        4 => "[####......]",
+        5 => "[#####.....]",
+        6 => "[######....]",
+        7 => "[#######...]",
+        8 => "[########..]",
+        9 => "[#########.]",
+        _ => "[##########]",
+    })
 }

@@ -1,8 +1,11 @@
 //! How a file ended.
 ghost use Rattle.ctl_views.specs.Ends.{IsEnd};
 
+use crate::conditions::condition_words;
 use crate::fields::{number_in, text_in};
+use crate::page::Tone;
 use json::Value;
+use std::alloc::AllocError;
 
 /// How a file ended.
 #[derive(Clone, Copy)]
@@ -38,5 +41,25 @@ fn end_of(condition: u64, delivery: &str, status: &str) -> End
         End::Kept
     } else {
         End::Lost
+    }
+}
+
+/// The tone of the end that an event or a line of a status says.
+pub(crate) fn end_tone(value: &Value<'_>) -> Tone {
+    match end_in(value) {
+        End::Kept => Tone::Good,
+        End::Unreported | End::Lost => Tone::Bad,
+    }
+}
+
+/// Adds how a transaction ended: its condition where there is an error, its delivery, and what became of the file.
+pub(crate) fn push_end(text: &mut String, value: &Value<'_>) -> Result<(), AllocError> {
+    let code = number_in(value, "condition").unwrap_or(0);
+    let words = condition_words(code);
+    let status = text_in(value, "status").unwrap_or("?");
+    match text_in(value, "delivery") {
+        None => write!(text, "abandoned, {words}"),
+        Some(delivery) if code == 0 => write!(text, "{delivery}, {status}"),
+        Some(delivery) => write!(text, "{words}, {delivery}, {status}"),
     }
 }

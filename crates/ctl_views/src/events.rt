@@ -1,9 +1,9 @@
 //! Events, as they matter to who reads or awaits them.
 use crate::ends::{End, end_in};
-use crate::fields::{number_in, text_in};
+use crate::fields::{number_in, text_in, value_of};
 use crate::page::Tone;
 use crate::telling::{push_head, push_words, tone_of};
-use json::{Error, Scratch, Value};
+use json::{Scratch, Value};
 use std::alloc::{AllocError, Global};
 
 /// What an event says of a file of the outbox.
@@ -46,11 +46,9 @@ pub struct Transaction {
 /// Reads an event: the JSON of its line. None where it is no JSON object.
 pub fn read_event(alloc: Global, line: &str) -> Result<Option<Event>, AllocError> {
     let mut scratch = Scratch::new(alloc);
-    scratch.reserve(line.len())?;
-    match Value::parse(alloc, line, &mut scratch) {
-        Ok(value) => event_in(alloc, &value),
-        Err(Error::OutOfMemory) => Err(AllocError),
-        Err(_) => Ok(None),
+    match value_of(alloc, line, &mut scratch)? {
+        Some(value) => event_in(alloc, &value),
+        None => Ok(None),
     }
 }
 
@@ -93,15 +91,25 @@ pub(crate) fn transaction_in(value: &Value<'_>) -> Option<Transaction> {
 
 fn step_of(value: &Value<'_>) -> Step {
     match text_in(value, "kind") {
-        Some("put") => queued_in(value).map_or(Step::Other, |number| Step::Started(number)),
-        Some("unsent") => queued_in(value).map_or(Step::Other, |number| Step::Unsent(number)),
+        Some("put") => started_in(value),
+        Some("unsent") => unsent_in(value),
         Some("indication") if is_end(value) => Step::Ended(end_in(value)),
         _ => Step::Other,
     }
 }
 
-fn queued_in(value: &Value<'_>) -> Option<u64> {
-    number_in(value, "queued")
+fn started_in(value: &Value<'_>) -> Step {
+    match number_in(value, "queued") {
+        Some(number) => Step::Started(number),
+        None => Step::Other,
+    }
+}
+
+fn unsent_in(value: &Value<'_>) -> Step {
+    match number_in(value, "queued") {
+        Some(number) => Step::Unsent(number),
+        None => Step::Other,
+    }
 }
 
 // Whether an indication is the last of its transaction.

@@ -1,7 +1,23 @@
 //! Members of a JSON object.
+use crate::amounts::percent_of;
+use crate::moments::milliseconds_of;
 use crate::shown::hex_digit;
-use json::Value;
+use json::{Error, Scratch, Value};
 use std::alloc::{AllocError, Global};
+
+/// Parses a line: None where it is no JSON.
+pub(crate) fn value_of<'a>(
+    alloc: Global,
+    line: &'a str,
+    scratch: &'a mut Scratch,
+) -> Result<Option<Value<'a>>, AllocError> {
+    scratch.reserve(line.len())?;
+    match Value::parse(alloc, line, scratch) {
+        Ok(value) => Ok(Some(value)),
+        Err(Error::OutOfMemory) => Err(AllocError),
+        Err(_) => Ok(None),
+    }
+}
 
 /// A member that is text.
 pub(crate) fn text_in<'a>(value: &Value<'a>, name: &str) -> Option<&'a str> {
@@ -18,6 +34,23 @@ pub(crate) fn is_set(value: &Value<'_>, name: &str) -> bool {
     match value.get(name) {
         Some(member) => member.as_bool() == Some(true),
         None => false,
+    }
+}
+
+/// A member that is a moment, in milliseconds.
+pub(crate) fn moment_in(value: &Value<'_>, name: &str) -> Option<u64> {
+    match text_in(value, name) {
+        Some(moment) => milliseconds_of(moment),
+        None => None,
+    }
+}
+
+/// The whole percents of a file that are there; None where its size isn't known.
+pub(crate) fn share_in(value: &Value<'_>) -> Option<u64> {
+    let octets = number_in(value, "octets").unwrap_or(0);
+    match number_in(value, "size") {
+        Some(size) => Some(percent_of(octets, size)),
+        None => None,
     }
 }
 
@@ -59,17 +92,4 @@ fn push_octet(text: &mut String, octet: u8) -> Result<(), AllocError> {
     text.push_str("\\x")?;
     text.push(hex_digit(octet / 16))?;
     text.push(hex_digit(octet % 16))
-}
-
-/// Adds a text or a question mark.
-pub(crate) fn push_or_unknown(text: &mut String, word: Option<&str>) -> Result<(), AllocError> {
-    text.push_str(word.unwrap_or("?"))
-}
-
-/// Adds a number or a question mark.
-pub(crate) fn push_number(text: &mut String, number: Option<u64>) -> Result<(), AllocError> {
-    match number {
-        Some(number) => write!(text, "{number}"),
-        None => text.push('?'),
-    }
 }

@@ -2,6 +2,7 @@
 #![tactic(auto)]
 
 mod amounts;
+mod columns;
 mod conditions;
 mod ends;
 mod events;
@@ -10,12 +11,14 @@ mod lines;
 mod moments;
 mod outcomes;
 mod page;
+mod parts;
 mod rows;
+mod seen;
 mod shown;
 mod status;
 mod table;
 mod telling;
-mod transactions;
+mod words;
 
 pub use amounts::push_progress;
 pub use ends::End;

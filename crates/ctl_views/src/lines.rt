@@ -1,6 +1,6 @@
 //! Lines of a status, one by one.
-use crate::fields::{number_in, text_in};
-use json::{Error, Scratch, Value};
+use crate::fields::{number_in, text_in, value_of};
+use json::{Scratch, Value};
 use std::alloc::{AllocError, Global};
 
 /// What a line of a status says to one who sends files.
@@ -26,11 +26,9 @@ pub struct Progress {
 /// Reads a line of a status.
 pub fn read_status_line(alloc: Global, line: &str) -> Result<StatusLine, AllocError> {
     let mut scratch = Scratch::new(alloc);
-    scratch.reserve(line.len())?;
-    match Value::parse(alloc, line, &mut scratch) {
-        Ok(value) => line_of(alloc, &value),
-        Err(Error::OutOfMemory) => Err(AllocError),
-        Err(_) => Ok(StatusLine::Other),
+    match value_of(alloc, line, &mut scratch)? {
+        Some(value) => line_of(alloc, &value),
+        None => Ok(StatusLine::Other),
     }
 }
 

@@ -1,4 +1,15 @@
 //! Moments as the station writes them.
+ghost use Rattle.std.specs.Prelude.{◌≤◌};
+
+use std::alloc::AllocError;
+
+const SECOND: u64 = 1000;
+
+const MINUTE: u64 = 60 * SECOND;
+
+const HOUR: u64 = 60 * MINUTE;
+
+const DAY: u64 = 24 * HOUR;
 
 /// The milliseconds of a moment `2026-11-26T12:00:00.000Z`, counted from a day that is always the same.
 pub(crate) fn milliseconds_of(moment: &str) -> Option<u64> {
@@ -6,50 +17,82 @@ pub(crate) fn milliseconds_of(moment: &str) -> Option<u64> {
     if octets.len() != 24 {
         return None;
     }
-    let days = days_of(
-        number_at(octets, 0, 4)?,
-        number_at(octets, 5, 2)?,
-        number_at(octets, 8, 2)?,
-    )?;
-    let hours = days
-        .checked_mul(24)?
-        .checked_add(number_at(octets, 11, 2)?)?;
-    let minutes = hours
-        .checked_mul(60)?
-        .checked_add(number_at(octets, 14, 2)?)?;
-    let seconds = minutes
-        .checked_mul(60)?
-        .checked_add(number_at(octets, 17, 2)?)?;
-    seconds
-        .checked_mul(1000)?
-        .checked_add(number_at(octets, 20, 3)?)
+    let day = number_at(octets, 8, 2)?;
+    let days = days_of(number_at(octets, 0, 4)?, number_at(octets, 5, 2)?)?;
+    let time = time_of(octets)?;
+    Some(
+        days.saturating_add(day)
+            .saturating_mul(DAY)
+            .saturating_add(time),
+    )
 }
 
-// The days of a date by the calendar of leap years, in which a year is taken to begin in March.
-fn days_of(year: u64, month: u64, day: u64) -> Option<u64> {
+// The milliseconds since midnight.
+fn time_of(octets: &[u8]) -> Option<u64> {
+    let hours = number_at(octets, 11, 2)?.saturating_mul(HOUR);
+    let minutes = number_at(octets, 14, 2)?.saturating_mul(MINUTE);
+    let seconds = number_at(octets, 17, 2)?.saturating_mul(SECOND);
+    let rest = number_at(octets, 20, 3)?;
+    Some(
+        hours
+            .saturating_add(minutes)
+            .saturating_add(seconds)
+            .saturating_add(rest),
+    )
+}
+
+// The days before a month by the calendar of leap years, in which a year is taken to begin in March.
+fn days_of(year: u64, month: u64) -> Option<u64> {
     let (year, month) = if month > 2 {
         (year, month - 3)
     } else {
-        (year.checked_sub(1)?, month + 9)
+        (year.checked_sub(1)?, month.saturating_add(9))
     };
-    let leaps = (year / 4).checked_add(year / 400)?.checked_sub(year / 100)?;
-    let months = month.checked_mul(153)?.checked_add(2)? / 5;
-    year.checked_mul(365)?
-        .checked_add(leaps)?
-        .checked_add(months)?
-        .checked_add(day)
+    let leaps = (year / 4)
+        .saturating_add(year / 400)
+        .saturating_sub(year / 100);
+    let days = year.saturating_mul(365).saturating_add(leaps);
+    Some(days.saturating_add(month.saturating_mul(153).saturating_add(2) / 5))
 }
 
 // The number that so many digits write.
 fn number_at(octets: &[u8], from: usize, count: usize) -> Option<u64> {
-    let digits = octets.get(from..from.checked_add(count)?)?;
     let mut number = 0u64;
-    for digit in digits {
+    for digit in octets.get(from..from.saturating_add(count))? {
         if !digit.is_ascii_digit() {
             return None;
         }
-        let value = u64::from(digit.saturating_sub(b'0'));
-        number = number.checked_mul(10)?.checked_add(value)?;
+        number = number
+            .saturating_mul(10)
+            .saturating_add(u64::from(digit.saturating_sub(b'0')));
     }
     Some(number)
+}
+
+/// Adds a moment in milliseconds since 1970, such as `2026-11-26T12:00:00.000Z`.
+pub(crate) fn push_moment(text: &mut String, milliseconds: u64) -> Result<(), AllocError> {
+    push_day(text, milliseconds / DAY)?;
+    let hours = milliseconds % DAY / HOUR;
+    let minutes = milliseconds % HOUR / MINUTE;
+    let seconds = milliseconds % MINUTE / SECOND;
+    let rest = milliseconds % SECOND;
+    write!(text, "T{hours:02}:{minutes:02}:{seconds:02}.{rest:03}Z")
+}
+
+// Adds a day of the Gregorian calendar by its number: 0 for the first of 1970. Days are counted in quarters, and in years that
+// begin in March, so that each month has 153 fifths of a day.
+fn push_day(text: &mut String, number: u64) -> Result<(), AllocError>
+    requires { number ≤ 213_503_982_334 }
+{
+    let quarters = 4 * (number + 719_468) + 3;
+    let in_century = quarters % 146_097 / 4 * 4 + 3;
+    let fifths = 5 * (in_century % 1461 / 4) + 461;
+    let year = 100 * (quarters / 146_097) + in_century / 1461;
+    let month = fifths / 153;
+    let day = fifths % 153 / 5 + 1;
+    if month > 12 {
+        write!(text, "{:04}-{:02}-{day:02}", year + 1, month - 12)
+    } else {
+        write!(text, "{year:04}-{month:02}-{day:02}")
+    }
 }

@@ -1,43 +1,53 @@
 //! The lines of a status as rows of tables.
-use crate::amounts::push_octets;
-use crate::fields::{is_set, number_in, push_name, push_number, push_or_unknown, text_in};
+use crate::columns::{Column, ENDED_READS, ENTITY, FAILING_LOG, LAYOUTS, Layout, Rows, Shade};
+use crate::ends::end_tone;
+use crate::fields::{is_set, moment_in, number_in, text_in};
 use crate::page::Tone;
-use crate::table::Row;
-use crate::transactions::{Seen, push_ended, push_under_way};
+use crate::parts::{Look, NO_LOOK, Part, push_parts};
+use crate::seen::{Seen, look_at};
 use json::Value;
 use std::alloc::{AllocError, Global};
 
-/// A transaction that has ended, with the milliseconds of its last event.
+/// A row of a table.
 #[derive(Drop)]
-pub(crate) struct Ended {
+pub(crate) struct Row {
+    pub(crate) tone: Tone,
+    /// The milliseconds of the last event, where it is known.
     pub(crate) last: u64,
-    pub(crate) row: Row,
+    pub(crate) cells: Vec<String>,
 }
 
-/// The rows of all tables.
+/// A table with its rows.
+#[derive(Drop)]
+pub(crate) struct Table {
+    pub(crate) layout: Layout,
+    pub(crate) rows: Vec<Row>,
+}
+
+/// The lines above the tables, and the tables.
 #[derive(Drop)]
 pub(crate) struct Tables {
     pub(crate) heads: Vec<String>,
-    pub(crate) users: Vec<Row>,
-    pub(crate) under_way: Vec<Row>,
-    pub(crate) queued: Vec<Row>,
-    pub(crate) ended: Vec<Ended>,
-    pub(crate) remotes: Vec<Row>,
-    pub(crate) refusals: Vec<Row>,
+    pub(crate) tables: Vec<Table>,
 }
 
 impl Tables {
     /// No rows.
-    pub(crate) fn new(alloc: Global) -> Tables {
-        Tables {
-            heads: Vec::new(alloc),
-            users: Vec::new(alloc),
-            under_way: Vec::new(alloc),
-            queued: Vec::new(alloc),
-            ended: Vec::new(alloc),
-            remotes: Vec::new(alloc),
-            refusals: Vec::new(alloc),
+    pub(crate) fn new(alloc: Global) -> Result<Tables, AllocError> {
+        let mut tables = Vec::new(alloc);
+        for layout in LAYOUTS.as_slice() {
+            let table = Table {
+                layout: *layout,
+                rows: Vec::new(alloc),
+            };
+            if tables.push(table).is_err() {
+                return Err(AllocError);
+            }
         }
+        Ok(Tables {
+            heads: Vec::new(alloc),
+            tables,
+        })
     }
 }
 
@@ -50,152 +60,146 @@ pub(crate) fn push_record(
     next: &mut Seen,
 ) -> Result<(), AllocError> {
     match text_in(value, "kind") {
-        Some("entity") => push_entity(alloc, &mut tables.heads, value),
-        Some("log") if is_set(value, "failing") => {
-            push_head(&mut tables.heads, log_line(alloc, value)?)
-        }
-        Some("user") => push_row(&mut tables.users, user_row(alloc, value)?),
-        Some("transaction") if text_in(value, "state") == Some("ended") => {
-            push_ended(alloc, &mut tables.ended, value)
-        }
-        Some("transaction") => {
-            let row = push_under_way(alloc, value, seen, next)?;
-            push_row(&mut tables.under_way, row)
-        }
-        Some("queued") => push_row(&mut tables.queued, queued_row(alloc, value)?),
-        Some("remote") => push_row(&mut tables.remotes, remote_row(alloc, value)?),
-        Some("refusal") => push_row(&mut tables.refusals, refusal_row(alloc, value)?),
+        Some("entity") => push_entity(alloc, tables, value),
+        Some("log") => push_log(alloc, tables, value),
+        Some("transaction") => push_transaction(alloc, tables, value, seen, next),
+        Some(kind) => push_row(alloc, tables, Rows::Of(kind), value, NO_LOOK),
+        None => Ok(()),
+    }
+}
+
+// Adds the lines of the entity, and the files that are being read for Puts.
+fn push_entity(alloc: Global, tables: &mut Tables, value: &Value<'_>) -> Result<(), AllocError> {
+    push_head(alloc, tables, value, ENTITY.as_slice())?;
+    push_ended_reads(alloc, tables, value)?;
+    match value.get("reading") {
+        Some(Value::Array(files)) => push_reading(alloc, tables, files.as_slice()),
         _ => Ok(()),
     }
 }
 
-fn push_head(heads: &mut Vec<String>, line: String) -> Result<(), AllocError> {
-    match heads.push(line) {
-        Ok(()) => Ok(()),
-        Err(_) => Err(AllocError),
-    }
-}
-
-pub(crate) fn push_row(rows: &mut Vec<Row>, row: Row) -> Result<(), AllocError> {
-    match rows.push(row) {
-        Ok(()) => Ok(()),
-        Err(_) => Err(AllocError),
-    }
-}
-
-// Adds the lines of the entity.
-fn push_entity(
+// Adds how many workers read no more, where some don't.
+fn push_ended_reads(
     alloc: Global,
-    heads: &mut Vec<String>,
+    tables: &mut Tables,
     value: &Value<'_>,
 ) -> Result<(), AllocError> {
-    push_head(heads, entity_line(alloc, value)?)?;
-    match ended_reads(value) {
-        Some(count) if count > 0 => push_head(heads, ended_line(alloc, count)?),
+    match value.get("counters") {
+        Some(counters) if number_in(counters, "ended_reads") > Some(0) => {
+            push_head(alloc, tables, counters, ENDED_READS.as_slice())
+        }
         _ => Ok(()),
     }
 }
 
-// How many workers read no more.
-fn ended_reads(value: &Value<'_>) -> Option<u64> {
-    number_in(value.get("counters")?, "ended_reads")
-}
-
-fn ended_line(alloc: Global, count: u64) -> Result<String, AllocError> {
-    format!(in alloc; "Workers that read no more, since the socket failed: {count}")
-}
-
-fn entity_line(alloc: Global, value: &Value<'_>) -> Result<String, AllocError> {
-    let mut line = String::from_str(alloc, "Entity ")?;
-    push_number(&mut line, number_in(value, "id"))?;
-    line.push_str(", cfdp_server ")?;
-    push_or_unknown(&mut line, text_in(value, "version"))?;
-    line.push_str(", since ")?;
-    push_or_unknown(&mut line, text_in(value, "started"))?;
-    line.push_str(", now ")?;
-    push_or_unknown(&mut line, text_in(value, "now"))?;
-    Ok(line)
-}
-
-fn log_line(alloc: Global, value: &Value<'_>) -> Result<String, AllocError> {
-    let mut line = String::from_str(alloc, "The log can't be written; events lost: ")?;
-    push_number(&mut line, number_in(value, "lost"))?;
-    Ok(line)
-}
-
-fn user_row(alloc: Global, value: &Value<'_>) -> Result<Row, AllocError> {
-    let mut row = Row::new(alloc, Tone::Plain);
-    row.push_number(alloc, number_in(value, "waiting"))?;
-    row.push_number(alloc, number_in(value, "capacity"))?;
-    row.push_text(alloc, text_in(value, "name").unwrap_or("?"))?;
-    Ok(row)
-}
-
-fn queued_row(alloc: Global, value: &Value<'_>) -> Result<Row, AllocError> {
-    let mut row = Row::new(alloc, Tone::Plain);
-    row.push_number(alloc, number_in(value, "number"))?;
-    row.push_text(alloc, text_in(value, "user").unwrap_or("?"))?;
-    row.push_number(alloc, number_in(value, "destination"))?;
-    row.push_number(alloc, number_in(value, "class"))?;
-    row.push_text(alloc, text_in(value, "since").unwrap_or("?"))?;
-    row.push(names_of(alloc, value)?)?;
-    Ok(row)
-}
-
-/// The names of a file at both ends.
-pub(crate) fn names_of(alloc: Global, value: &Value<'_>) -> Result<String, AllocError> {
-    let mut names = String::new(alloc);
-    push_name(alloc, &mut names, value, "file", "file_hex")?;
-    names.push_str(" to ")?;
-    push_name(alloc, &mut names, value, "to", "to_hex")?;
-    Ok(names)
-}
-
-fn remote_row(alloc: Global, value: &Value<'_>) -> Result<Row, AllocError> {
-    let is_held = is_set(value, "held");
-    let tone = if is_held { Tone::Faint } else { Tone::Plain };
-    let mut row = Row::new(alloc, tone);
-    row.push_number(alloc, number_in(value, "id"))?;
-    row.push_number(alloc, number_in(value, "datagrams_in"))?;
-    row.push(octets_in(alloc, value, "octets_in")?)?;
-    row.push_number(alloc, number_in(value, "datagrams_out"))?;
-    row.push(octets_in(alloc, value, "octets_out")?)?;
-    row.push_number(alloc, number_in(value, "failed_sends"))?;
-    let mut link = String::from_str(alloc, text_in(value, "address").unwrap_or("no address"))?;
-    if is_held {
-        link.push_str(", held since ")?;
-        push_or_unknown(&mut link, text_in(value, "held_since"))?;
+fn push_reading(alloc: Global, tables: &mut Tables, files: &[Value<'_>]) -> Result<(), AllocError> {
+    for file in files {
+        push_row(alloc, tables, Rows::Reading, file, NO_LOOK)?;
     }
-    row.push(link)?;
-    Ok(row)
+    Ok(())
 }
 
-/// An amount of octets as a cell.
-pub(crate) fn octets_in(
+fn push_log(alloc: Global, tables: &mut Tables, value: &Value<'_>) -> Result<(), AllocError> {
+    if is_set(value, "failing") {
+        push_head(alloc, tables, value, FAILING_LOG.as_slice())
+    } else {
+        Ok(())
+    }
+}
+
+// Adds a transaction; what is seen of one that is under way is noted for the next look.
+fn push_transaction(
+    alloc: Global,
+    tables: &mut Tables,
+    value: &Value<'_>,
+    seen: &Seen,
+    next: &mut Seen,
+) -> Result<(), AllocError> {
+    if text_in(value, "state") == Some("ended") {
+        return push_row(alloc, tables, Rows::Ended, value, NO_LOOK);
+    }
+    let look = look_at(value, seen, next)?;
+    push_row(alloc, tables, Rows::Of("transaction"), value, look)
+}
+
+// Adds a line above the tables.
+fn push_head(
+    alloc: Global,
+    tables: &mut Tables,
+    value: &Value<'_>,
+    parts: &[Part],
+) -> Result<(), AllocError> {
+    let mut line = String::new(alloc);
+    push_parts(alloc, &mut line, value, parts, NO_LOOK)?;
+    match tables.heads.push(line) {
+        Ok(()) => Ok(()),
+        Err(_) => Err(AllocError),
+    }
+}
+
+// Adds a row to the table that has such rows, if there is one.
+fn push_row(
+    alloc: Global,
+    tables: &mut Tables,
+    rows: Rows<'_>,
+    value: &Value<'_>,
+    look: Look,
+) -> Result<(), AllocError> {
+    for table in tables.tables.as_mut_slice() {
+        if is_same(table.layout.rows, rows) {
+            return push_row_to(alloc, table, value, look);
+        }
+    }
+    Ok(())
+}
+
+fn is_same(one: Rows<'_>, other: Rows<'_>) -> bool {
+    match (one, other) {
+        (Rows::Of(one), Rows::Of(other)) => one == other,
+        (Rows::Ended, Rows::Ended) | (Rows::Reading, Rows::Reading) => true,
+        _ => false,
+    }
+}
+
+fn push_row_to(
+    alloc: Global,
+    table: &mut Table,
+    value: &Value<'_>,
+    look: Look,
+) -> Result<(), AllocError> {
+    let row = Row {
+        tone: tone_by(table.layout.shade, value),
+        last: moment_in(value, "last").unwrap_or(0),
+        cells: cells_of(alloc, value, table.layout.columns, look)?,
+    };
+    match table.rows.push(row) {
+        Ok(()) => Ok(()),
+        Err(_) => Err(AllocError),
+    }
+}
+
+fn tone_by(shade: Shade, value: &Value<'_>) -> Tone {
+    match shade {
+        Shade::ByEnd => end_tone(value),
+        Shade::ByNotice if text_in(value, "notice").is_some() => Tone::Bad,
+        Shade::ByHold if is_set(value, "held") => Tone::Faint,
+        Shade::Plain | Shade::ByNotice | Shade::ByHold => Tone::Plain,
+    }
+}
+
+fn cells_of(
     alloc: Global,
     value: &Value<'_>,
-    name: &str,
-) -> Result<String, AllocError> {
-    let mut cell = String::new(alloc);
-    match number_in(value, name) {
-        Some(octets) => push_octets(&mut cell, octets)?,
-        None => cell.push('-')?,
+    columns: &[Column],
+    look: Look,
+) -> Result<Vec<String>, AllocError> {
+    let mut cells = Vec::new(alloc);
+    for column in columns {
+        let mut cell = String::new(alloc);
+        push_parts(alloc, &mut cell, value, column.parts(), look)?;
+        if cells.push(cell).is_err() {
+            return Err(AllocError);
+        }
     }
-    Ok(cell)
-}
-
-fn refusal_row(alloc: Global, value: &Value<'_>) -> Result<Row, AllocError> {
-    let mut row = Row::new(alloc, Tone::Plain);
-    row.push_number(alloc, number_in(value, "count"))?;
-    let mut name = String::new(alloc);
-    push_number(&mut name, number_in(value, "number"))?;
-    name.push(' ')?;
-    push_or_unknown(&mut name, text_in(value, "name"))?;
-    if let Some(fault) = number_in(value, "fault") {
-        write!(name, " {fault}")?;
-    }
-    row.push(name)?;
-    row.push_text(alloc, text_in(value, "last").unwrap_or("-"))?;
-    row.push_text(alloc, text_in(value, "from").unwrap_or("-"))?;
-    Ok(row)
+    Ok(cells)
 }

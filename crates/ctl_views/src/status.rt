@@ -1,12 +1,11 @@
 //! A status, look by look, as tables.
-use crate::fields::text_in;
-use crate::moments::milliseconds_of;
+use crate::columns::Rows;
+use crate::fields::{moment_in, text_in, value_of};
 use crate::page::{Page, Tone};
-use crate::rows::{Tables, push_record, push_row};
-use crate::table::Column::{Left, Right};
-use crate::table::{Column, Row, push_table};
-use crate::transactions::Seen;
-use json::{Error, Scratch, Value};
+use crate::rows::{Table, Tables, push_record};
+use crate::seen::Seen;
+use crate::table::push_table;
+use json::Scratch;
 use std::alloc::{AllocError, Global};
 
 // How many transactions are shown that have ended.
@@ -31,11 +30,10 @@ impl StatusView {
     /// Lays out the lines of a status, in so many columns. Rates are those since the last look. A line that isn't a JSON object
     /// of a kind that is known is passed over.
     pub fn look(&mut self, lines: &str, width: usize) -> Result<Page, AllocError> {
-        let mut tables = Tables::new(self.alloc);
+        let mut tables = Tables::new(self.alloc)?;
         let mut next = Seen::new(self.alloc);
         let mut scratch = Scratch::new(self.alloc);
         for line in lines.split('\n') {
-            scratch.reserve(line.len())?;
             take_line(
                 self.alloc,
                 line,
@@ -59,117 +57,46 @@ fn take_line(
     seen: &Seen,
     next: &mut Seen,
 ) -> Result<(), AllocError> {
-    match Value::parse(alloc, line, scratch) {
-        Ok(value) => {
+    match value_of(alloc, line, scratch)? {
+        Some(value) => {
             if text_in(&value, "kind") == Some("entity") {
-                next.now = text_in(&value, "now").and_then(|moment| milliseconds_of(moment));
+                next.now = moment_in(&value, "now");
             }
             push_record(alloc, tables, &value, seen, next)
         }
-        Err(Error::OutOfMemory) => Err(AllocError),
-        Err(_) => Ok(()),
+        None => Ok(()),
     }
 }
-
-const USERS: [Column; 3] = [Right("waiting"), Right("of"), Left("user")];
-
-const UNDER_WAY: [Column; 10] = [
-    Left("transaction"),
-    Left("user"),
-    Left("peer"),
-    Left("state"),
-    Left("progress"),
-    Right(""),
-    Right("octets"),
-    Right("rate"),
-    Right("last event"),
-    Left("file"),
-];
-
-const QUEUED: [Column; 6] = [
-    Right("number"),
-    Left("user"),
-    Right("to"),
-    Right("class"),
-    Left("since"),
-    Left("file"),
-];
-
-const ENDED_COLUMNS: [Column; 6] = [
-    Left("transaction"),
-    Left("user"),
-    Left("peer"),
-    Right("size"),
-    Left("end"),
-    Left("file"),
-];
-
-const REMOTES: [Column; 7] = [
-    Right("entity"),
-    Right("in"),
-    Right("octets in"),
-    Right("out"),
-    Right("octets out"),
-    Right("failed"),
-    Left("link"),
-];
-
-const REFUSALS: [Column; 4] = [Right("count"), Left("refusal"), Left("last"), Left("from")];
 
 // Lays out all tables.
 fn lay_out(alloc: Global, tables: &mut Tables, width: usize) -> Result<Page, AllocError> {
     let mut page = Page::new(alloc);
     push_heads(&mut page, tables.heads.as_slice())?;
-    let ended = last_ended(alloc, tables)?;
-    push_table(
-        alloc,
-        &mut page,
-        "Users",
-        &USERS,
-        tables.users.as_slice(),
-        width,
-    )?;
-    push_table(
-        alloc,
-        &mut page,
-        "Under way",
-        &UNDER_WAY,
-        tables.under_way.as_slice(),
-        width,
-    )?;
-    push_table(
-        alloc,
-        &mut page,
-        "Outbox",
-        &QUEUED,
-        tables.queued.as_slice(),
-        width,
-    )?;
-    push_table(
-        alloc,
-        &mut page,
-        "Ended",
-        &ENDED_COLUMNS,
-        ended.as_slice(),
-        width,
-    )?;
-    push_table(
-        alloc,
-        &mut page,
-        "Remotes",
-        &REMOTES,
-        tables.remotes.as_slice(),
-        width,
-    )?;
-    push_table(
-        alloc,
-        &mut page,
-        "Refusals",
-        &REFUSALS,
-        tables.refusals.as_slice(),
-        width,
-    )?;
+    for table in tables.tables.as_mut_slice() {
+        lay_out_one(alloc, &mut page, table, width)?;
+    }
     Ok(page)
+}
+
+// Lays out a table; of transactions that have ended the last ones, the last first.
+fn lay_out_one(
+    alloc: Global,
+    page: &mut Page,
+    table: &mut Table,
+    width: usize,
+) -> Result<(), AllocError> {
+    if matches!(table.layout.rows, Rows::Ended) {
+        table.rows.sort_by_key(|row| u64::MAX - row.last)?;
+        table.rows.truncate(ENDED);
+    }
+    push_table(
+        alloc,
+        page,
+        table.layout.title,
+        table.layout.columns,
+        table.rows.as_slice(),
+        width,
+    )
 }
 
 // Adds the lines above the tables, and an empty one.
@@ -181,15 +108,4 @@ fn push_heads(page: &mut Page, heads: &[String]) -> Result<(), AllocError> {
         page.push_line(Tone::Plain, line.as_str())?;
     }
     page.end_line()
-}
-
-// The rows of the transactions that ended last, the last first.
-fn last_ended(alloc: Global, tables: &mut Tables) -> Result<Vec<Row>, AllocError> {
-    tables.ended.sort_by_key(|ended| u64::MAX - ended.last)?;
-    tables.ended.truncate(ENDED);
-    let mut rows = Vec::new(alloc);
-    for one in tables.ended.drain(..) {
-        push_row(&mut rows, one.row)?;
-    }
-    Ok(rows)
 }

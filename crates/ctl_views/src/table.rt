@@ -1,5 +1,7 @@
 //! Tables that are as wide as is asked.
+use crate::columns::Column;
 use crate::page::{Page, Tone};
+use crate::rows::Row;
 use crate::shown::columns_of;
 use std::alloc::{AllocError, Global};
 
@@ -7,69 +9,6 @@ use std::alloc::{AllocError, Global};
 const GAP: usize = 2;
 
 const LEAST: usize = 12;
-
-/// A column of a table, by its head.
-#[derive(Clone, Copy)]
-pub(crate) enum Column {
-    /// Words, at the left.
-    Left(&'static str),
-    /// Numbers, at the right.
-    Right(&'static str),
-}
-
-impl Column {
-    fn head(&self) -> &'static str {
-        match self {
-            Column::Left(head) | Column::Right(head) => head,
-        }
-    }
-
-    fn is_right(&self) -> bool {
-        matches!(self, Column::Right(_))
-    }
-}
-
-/// A row of a table.
-#[derive(Drop)]
-pub(crate) struct Row {
-    pub(crate) tone: Tone,
-    pub(crate) cells: Vec<String>,
-}
-
-impl Row {
-    /// A row of no cells.
-    pub(crate) fn new(alloc: Global, tone: Tone) -> Row {
-        Row {
-            tone,
-            cells: Vec::new(alloc),
-        }
-    }
-
-    /// Adds a cell.
-    pub(crate) fn push(&mut self, cell: String) -> Result<(), AllocError> {
-        match self.cells.push(cell) {
-            Ok(()) => Ok(()),
-            Err(_) => Err(AllocError),
-        }
-    }
-
-    /// Adds a cell with this text.
-    pub(crate) fn push_text(&mut self, alloc: Global, text: &str) -> Result<(), AllocError> {
-        self.push(String::from_str(alloc, text)?)
-    }
-
-    /// Adds a cell with a number, or with a dash where there is none.
-    pub(crate) fn push_number(
-        &mut self,
-        alloc: Global,
-        number: Option<u64>,
-    ) -> Result<(), AllocError> {
-        match number {
-            Some(number) => self.push(format!(in alloc; "{number}")?),
-            None => self.push_text(alloc, "-"),
-        }
-    }
-}
 
 /// Lays out a table below its title, in so many columns: what is too wide is cut in the last column. A table without rows is
 /// left out.

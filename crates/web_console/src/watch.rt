@@ -1,4 +1,7 @@
 //! What the console knows of its station.
+ghost use Rattle.std.specs.Prelude.{IfOk};
+ghost use Rattle.web_console.specs.Shown.{AddsShown, IsShownAway, IsShownHere};
+
 use crate::events::Events;
 use crate::kept::{Kept, Lines};
 use station_client::{Station, StationFault};
@@ -157,25 +160,52 @@ fn text_of(lines: &Lines) -> Option<&str> {
     }
 }
 
-// Adds what a route makes of the lines of a status.
+// Adds what a route makes of the lines of a status, if there are some.
 fn push_status(
     alloc: Global,
     route: Route,
     lines: Option<&str>,
     text: &mut Vec<u8>,
-) -> Result<Found, AllocError> {
-    let (found, made) = match (route, lines) {
-        (Route::Metrics, Some(lines)) => (Found::Here, to_metrics(alloc, lines)?),
-        (Route::Metrics, None) => (Found::Here, no_metrics(alloc)?),
-        (Route::Status, Some(lines)) => (Found::Here, to_document(alloc, lines)?),
-        (_, Some(_)) => (Found::Here, Vec::from_slice(alloc, b"ok\n".as_slice())?),
-        (_, None) => (
-            Found::Away,
-            Vec::from_slice(alloc, b"the station does not answer\n".as_slice())?,
-        ),
-    };
-    text.extend_from_slice(made.as_slice())?;
-    Ok(found)
+) -> Result<Found, AllocError>
+    ensures { IfOk result (λ found. AddsShown route lines.entry found text.old.items text.new.items) }
+{
+    match lines {
+        Some(lines) => {
+            text.extend_from_slice(here_text(alloc, route, lines)?.as_slice())?;
+            Ok(Found::Here)
+        }
+        None => {
+            let (found, away) = away_text(alloc, route)?;
+            text.extend_from_slice(away.as_slice())?;
+            Ok(found)
+        }
+    }
+}
+
+// What a route shows where the station answers with these lines.
+fn here_text(alloc: Global, route: Route, lines: &str) -> Result<Vec<u8>, AllocError>
+    ensures { IfOk result (λ text. IsShownHere route text.items) }
+{
+    match route {
+        Route::Metrics => to_metrics(alloc, lines),
+        Route::Status => to_document(alloc, lines),
+        Route::Page | Route::Events | Route::Health | Route::Command => {
+            Vec::from_slice(alloc, b"ok\n".as_slice())
+        }
+    }
+}
+
+// What a route shows where the station doesn't answer, and whether that counts as an answer.
+fn away_text(alloc: Global, route: Route) -> Result<(Found, Vec<u8>), AllocError>
+    ensures { IfOk result (λ shown. IsShownAway route shown.1.items shown.0) }
+{
+    match route {
+        Route::Metrics => Ok((Found::Here, no_metrics(alloc)?)),
+        Route::Status | Route::Page | Route::Events | Route::Health | Route::Command => {
+            let text = Vec::from_slice(alloc, b"the station does not answer\n".as_slice())?;
+            Ok((Found::Away, text))
+        }
+    }
 }
 
 impl<'a, R: Wait + Net + Clock> Source for Watch<'a, R> {

@@ -1,15 +1,13 @@
 -- Reports in the making: numbers behind numbers, families behind families.
-use Rattle.std.proofs.Common.{◌≡◌, ℕ, ◌+◌, ◌<◌, List, [], ◌∷◌, ◌++◌, length, take, get_or, map, flat_map, refl, ap, sym, ◌∙◌, append-nil, arith}
+use Rattle.std.proofs.Common.{◌≡◌, All, ℕ, ◌+◌, ◌<◌, List, [], ◌∷◌, ◌++◌, length, take, get_or, map, refl, ap, sym, ◌∙◌, append-nil, arith}
 use Rattle.std.proofs.lemmas.Grind.{common_steps}
 use Rattle.std.proofs.lemmas.List.{take_more}
 use Rattle.web_lines.specs.declared.labels.Labels.{Labels}
+use Rattle.web_lines.specs.declared.lines.Line.{Line}
 use Rattle.web_lines.specs.declared.told.Told.{Told}
-use Rattle.web_lines.specs.Families.{Head, told_head, told_heads}
-use Rattle.web_lines.specs.Metrics.{AddsFamily, AddsReport, AddsSamples, Block, IsReport, Sample, block_text, head_text, sample_text, samples_text}
-
--- no number is added
-pub no_sample : (name text : List ℕ) → AddsSamples name text text
-no_sample name text = ([], grind (arith, common_steps))
+use Rattle.web_lines.specs.Document.{IsKnown}
+use Rattle.web_lines.specs.Families.{Row, row_of, told_rows}
+use Rattle.web_lines.specs.Metrics.{AddsCounts, AddsLine, AddsLines, AddsRows, AddsSamples, IsMetrics, Sample, head_text, sample_text, up_text}
 
 -- one number is added
 pub one_sample : (name word : List ℕ) (labels : Labels) (number : ℕ) (old new : List ℕ) → word ≡ name
@@ -22,56 +20,48 @@ one_sample name word labels number old new same is =
 pub more_samples : (name a b c : List ℕ) → AddsSamples name a b → AddsSamples name b c → AddsSamples name a c
 more_samples name a b c (xs, b_is) (ys, c_is) = (xs ++ ys, grind (arith, common_steps))
 
--- a head with the numbers behind it is a family
-pub family_with : (head : Head) (old text new : List ℕ) → text ≡ old ++ head_text head → AddsSamples head.name text new
-    → AddsFamily head old new
-family_with head old text new text_is (samples, new_is) = (samples, grind (arith, common_steps))
+-- the numbers of one more line come behind those of lines
+pub one_more_line : (row : Row) (lines : List Line) (line : Line) (a b c : List ℕ) → AddsLines row lines a b → AddsLine row line b c
+    → AddsLines row (lines ++ line ∷ []) a c
+one_more_line row [] line a b c same more = (c, rw (sym same) more, refl)
+one_more_line row (first ∷ lines) line a b c (middle, begins, rest) more =
+    (middle, begins, one_more_line row lines line middle b c rest more)
 
--- a head with one number behind it is a family
-pub family_of_one : (head : Head) (word : List ℕ) (labels : Labels) (number : ℕ) (old text new : List ℕ) → text ≡ old ++ head_text head
-    → word ≡ head.name → new ≡ text ++ sample_text word labels number → AddsFamily head old new
-family_of_one head word labels number old text new text_is same is =
-    family_with head old text new text_is (one_sample head.name word labels number text new same is)
+-- those up to the next line
+pub next_line : (row : Row) (lines : List Line) (place : ℕ) (other : Line) (a b c : List ℕ) → place < length lines
+    → AddsLines row (take place lines) a b → AddsLine row (get_or lines place other) b c
+    → AddsLines row (take (place + 1) lines) a c
+next_line row lines place other a b c within old more =
+    rw (take_more lines place other within) (one_more_line row (take place lines) (get_or lines place other) a b c old more)
 
--- no family is added
-pub no_family : (text : List ℕ) → AddsReport [] text text
-no_family text = ([], ([], refl, refl), grind (arith, common_steps))
-
--- one family is added
-pub one_family : (head : Head) (old new : List ℕ) → AddsFamily head old new → AddsReport (head ∷ []) old new
-one_family head old new (samples, new_is) =
-    let block : Block = record { head = head; samples = samples }
-    in (block_text block, (block ∷ [], refl, grind (arith, common_steps)), new_is)
-
--- families come behind families
-pub more_families : (hs ks : List Head) (a b c : List ℕ) → AddsReport hs a b → AddsReport ks b c → AddsReport (hs ++ ks) a c
-more_families hs ks a b c (more, (xs, hs_are, more_is), b_is) (rest, (ys, ks_are, rest_is), c_is) =
-    (more ++ rest, (xs ++ ys, grind (arith, common_steps), grind (arith, common_steps)), grind (arith, common_steps))
-
--- families behind nothing are a report
-pub whole : (heads : List Head) (old new : List ℕ) → old ≡ [] → AddsReport heads old new → IsReport heads new
-whole heads old new none (more, report, new_is) = rw (new_is ∙ ap (λ text. text ++ more) none) report
-
--- two families are a report
-pub two_families : (first second : Head) (a b c : List ℕ) → AddsFamily first a b → AddsFamily second b c
-    → AddsReport (first ∷ second ∷ []) a c
-two_families first second a b c one other =
-    more_families (first ∷ []) (second ∷ []) a b c (one_family first a b one) (one_family second b c other)
+-- one more family comes behind families
+pub one_more_row : (rows : List Row) (row : Row) (lines : List Line) (a b c : List ℕ) → AddsRows rows lines a b
+    → AddsLines row lines (b ++ head_text row.head) c → AddsRows (rows ++ row ∷ []) lines a c
+one_more_row [] row lines a b c same more = (c, rw (sym same) more, refl)
+one_more_row (first ∷ rows) row lines a b c (middle, begins, rest) more =
+    (middle, begins, one_more_row rows row lines middle b c rest more)
 
 -- the row at a place is the last of those up to there
-pub heads_to : (rows : List Told) (place : ℕ) (other : Told) → place < length rows
-    → map told_head (take (place + 1) rows) ≡ map told_head (take place rows) ++ told_head (get_or rows place other) ∷ []
-heads_to rows place other within = grind (arith, common_steps, take_more rows place other within)
+pub rows_to : (rows : List Told) (place : ℕ) (other : Told) → place < length rows
+    → map row_of (take (place + 1) rows) ≡ map row_of (take place rows) ++ row_of (get_or rows place other) ∷ []
+rows_to rows place other within = grind (arith, common_steps, take_more rows place other within)
 
--- the family of the next row is added
-pub next_family : (rows : List Told) (place : ℕ) (other : Told) (a b c : List ℕ) → place < length rows
-    → AddsReport (map told_head (take place rows)) a b → AddsFamily (told_head (get_or rows place other)) b c
-    → AddsReport (map told_head (take (place + 1) rows)) a c
-next_family rows place other a b c within report family =
-    rw (heads_to rows place other within)
-    (more_families _ (told_head (get_or rows place other) ∷ []) a b c report (one_family _ b c family))
+-- the family of the next row comes behind those of the rows before
+pub next_row : (rows : List Told) (place : ℕ) (other : Told) (lines : List Line) (a b c : List ℕ) → place < length rows
+    → AddsRows (map row_of (take place rows)) lines a b → AddsLines (row_of (get_or rows place other)) lines (b ++ head_text (row_of (get_or rows place other)).head) c
+    → AddsRows (map row_of (take (place + 1) rows)) lines a c
+next_row rows place other lines a b c within old more =
+    rw (rows_to rows place other within)
+    (one_more_row (map row_of (take place rows)) (row_of (get_or rows place other)) lines a b c old more)
 
--- the rows of the table make the families of the list
-pub told_report : (rows : List Told) (a b : List ℕ) → map told_head rows ≡ told_heads → AddsReport (map told_head rows) a b
-    → AddsReport told_heads a b
-told_report rows a b heads_are report = rw (sym heads_are) report
+-- the rows of the code's table are those of the definition
+pub told_report : (rows : List Told) (lines : List Line) (a b : List ℕ) → map row_of rows ≡ told_rows
+    → AddsRows (map row_of rows) lines a b → AddsRows told_rows lines a b
+told_report rows lines a b rows_are report = rw (sym rows_are) report
+
+-- all numbers of a station that answers
+pub whole_metrics : (known told_lines counted_lines : List Line) (old start told text : List ℕ) → All IsKnown known
+    → told_lines ≡ known → counted_lines ≡ known → old ≡ [] → start ≡ old ++ up_text 1
+    → AddsRows told_rows told_lines start told → AddsCounts counted_lines told text → IsMetrics text
+whole_metrics known told_lines counted_lines old start told text all told_same counted_same none start_is rows counts =
+    (known, all, (told, rw (start_is ∙ ap (λ t. t ++ up_text 1) none) at (rw told_same at rows), rw counted_same at counts))

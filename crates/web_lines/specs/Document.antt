@@ -1,5 +1,6 @@
 -- Meaning. Lines of a status, and the document that they make.
-use Rattle.std.specs.Prelude.{◌≡◌, ◌==◌, ℕ, if◌then◌else◌, List, [], ◌∷◌, ◌++◌, All, Option, Some, None, drop, flat_map, option_and_then, codes}
+use Rattle.std.specs.Prelude.{◌≡◌, ◌==◌, ℕ, Bool, if◌then◌else◌, List, [], ◌∷◌, ◌++◌, All, Option, Some, None, drop, flat_map, option_and_then, codes}
+use Rattle.std.specs.List.{count_by}
 use Rattle.std.specs.Str.{bytes_eq}
 use Rattle.json.specs.Json.{Json, document}
 use Rattle.json.specs.Find.{get, as_str}
@@ -43,6 +44,14 @@ place_of Transaction = 3
 place_of Remote = 4
 place_of Refusal = 5
 place_of Queued = 6
+
+-- a line is of a kind
+abbrev pub is_of_kind : Kind → Line → Bool
+is_of_kind kind line = place_of line.kind == place_of kind
+
+-- how many lines are of a kind
+abbrev pub count_of_kind : Kind → List Line → ℕ
+count_of_kind kind lines = count_by (is_of_kind kind) lines
 
 -- what a line adds to the list of a kind: a comma and its text, if it is of the kind
 abbrev pub listed : Kind → Line → List ℕ

@@ -1,3 +1,4 @@
 pub mod Document
 pub mod Families
 pub mod Metrics
+pub mod Numbers

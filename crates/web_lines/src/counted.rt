@@ -1,7 +1,8 @@
 //! Families that count lines.
-ghost use Rattle.std.specs.Prelude.{OnOk};
-ghost use Rattle.web_lines.specs.Families.{counted_heads, outbox_head, states_head};
-ghost use Rattle.web_lines.specs.Metrics.{AddsFamily, AddsReport, AddsSamples};
+ghost use Rattle.std.specs.Prelude.{◌≡◌, ◌++◌, OnOk};
+ghost use Rattle.web_lines.specs.Document.{count_of_kind};
+ghost use Rattle.web_lines.specs.Families.{states_head};
+ghost use Rattle.web_lines.specs.Metrics.{AddsCounts, AddsFamily, AddsSamples, outbox_text};
 
 use crate::families::{Family, push_head};
 use crate::kind::Kind;
@@ -62,7 +63,7 @@ pub(crate) fn push_counted(
     text: &mut Vec<u8>,
     lines: &[Line<'_>],
 ) -> Result<(), AllocError>
-    ensures { OnOk result (AddsReport counted_heads text.old.items text.new.items) }
+    ensures { OnOk result (AddsCounts lines.now text.old.items text.new.items) }
 {
     let states = count_states(alloc, lines)?;
     push_states(text, states)?;
@@ -130,17 +131,24 @@ fn count_line(
 
 // Adds how many files wait in the outbox.
 fn push_outbox(text: &mut Vec<u8>, lines: &[Line<'_>]) -> Result<(), AllocError>
-    ensures { OnOk result (AddsFamily outbox_head text.old.items text.new.items) }
+    ensures { OnOk result (text.new.items ≡ text.old.items ++ outbox_text lines.now) }
 {
-    let mut waiting = 0u64;
-    for line in lines {
-        if line.kind == Kind::Queued {
-            waiting = waiting.saturating_add(1);
-        }
-    }
     push_head(
         text,
         Family::Gauge("cfdp_outbox_files", "Files that wait in the outbox."),
     )?;
-    push_sample(text, "cfdp_outbox_files", Labels::Bare, waiting)
+    push_sample(text, "cfdp_outbox_files", Labels::Bare, count_queued(lines))
+}
+
+// How many files wait in the outbox.
+fn count_queued(lines: &[Line<'_>]) -> u64
+    ensures { result ≡ count_of_kind Kind.Queued lines.now }
+{
+    let mut waiting = 0u64;
+    for line in lines {
+        if line.kind.place() == Kind::Queued.place() {
+            waiting += 1;
+        }
+    }
+    waiting
 }

@@ -1,7 +1,6 @@
 //! The lines as numbers for Prometheus.
-ghost use Rattle.std.specs.Prelude.{◌∷◌, [], IfOk, OnOk};
-ghost use Rattle.web_lines.specs.Families.{all_heads, up_head};
-ghost use Rattle.web_lines.specs.Metrics.{AddsFamily, IsReport};
+ghost use Rattle.std.specs.Prelude.{◌≡◌, ◌++◌, IfOk, OnOk};
+ghost use Rattle.web_lines.specs.Metrics.{IsMetrics, up_text};
 
 use crate::counted::push_counted;
 use crate::families::{Family, push_head};
@@ -13,7 +12,7 @@ use std::alloc::{AllocError, Global};
 /// The numbers of a station's status, in Prometheus' text format. A line that is no JSON object of a known kind counts for
 /// nothing.
 pub fn to_metrics(alloc: Global, status: &str) -> Result<Vec<u8>, AllocError>
-    ensures { IfOk result (λ text. IsReport all_heads text.items) }
+    ensures { IfOk result (λ text. IsMetrics text.items) }
 {
     let lines = read_lines(alloc, status)?;
     let mut text = Vec::new(alloc);
@@ -25,7 +24,7 @@ pub fn to_metrics(alloc: Global, status: &str) -> Result<Vec<u8>, AllocError>
 
 /// What `to_metrics` gives where the station can't be asked: that it isn't up.
 pub fn no_metrics(alloc: Global) -> Result<Vec<u8>, AllocError>
-    ensures { IfOk result (λ text. IsReport (up_head ∷ []) text.items) }
+    ensures { IfOk result (λ text. text.items ≡ up_text 0) }
 {
     let mut text = Vec::new(alloc);
     push_up(&mut text, 0)?;
@@ -34,7 +33,7 @@ pub fn no_metrics(alloc: Global) -> Result<Vec<u8>, AllocError>
 
 // Adds whether the station answers.
 fn push_up(text: &mut Vec<u8>, is_up: u64) -> Result<(), AllocError>
-    ensures { OnOk result (AddsFamily up_head text.old.items text.new.items) }
+    ensures { OnOk result (text.new.items ≡ text.old.items ++ up_text is_up) }
 {
     push_head(
         text,

@@ -1,4 +1,9 @@
 //! Where numbers and labels stand in lines.
+ghost use Rattle.std.specs.Prelude.{◌≡◌, None, codes, option_map, option_and_then};
+ghost use Rattle.json.specs.Find.{as_bool, get};
+ghost use Rattle.json.specs.Value.{value_view};
+ghost use Rattle.web_lines.specs.Numbers.{IsNumberAt, IsWholeNumber, bit, spot_of};
+
 use crate::kind::Kind;
 use crate::labels::{Label, Labels};
 use json::Value;
@@ -14,20 +19,82 @@ pub(crate) enum Place {
     Truth(&'static str),
     /// A member that is there: 1.
     Known(&'static str),
+    /// A member that is a list: how many items it has.
+    Listed(&'static str),
 }
 
 impl Place {
     /// The number there, if there is one.
-    pub(crate) fn number_in(self, value: &Value<'_>) -> Option<u64> {
+    pub(crate) fn number_in(self, value: &Value<'_>) -> Option<u64>
+        ensures { IsNumberAt (spot_of self) (value_view value.now) result }
+    {
         match self {
-            Place::Member(name) => value.get(name)?.as_u64(),
-            Place::Counted(name) => value.get("counters")?.get(name)?.as_u64(),
-            Place::Truth(name) => Some(u64::from(value.get(name)?.as_bool()?)),
-            Place::Known(name) => {
-                let _member = value.get(name)?;
-                Some(1)
-            }
+            Place::Member(name) => whole_in(value, name),
+            Place::Counted(name) => counter_in(value, name),
+            Place::Truth(name) => truth_in(value, name),
+            Place::Known(name) => known_in(value, name),
+            Place::Listed(name) => listed_in(value, name),
         }
+    }
+}
+
+// The whole number of a member.
+fn whole_in(value: &Value<'_>, name: &str) -> Option<u64>
+    ensures { IsWholeNumber (get name.now (value_view value.now)) result }
+{
+    match value.get(name) {
+        Some(member) => member.as_u64(),
+        None => None,
+    }
+}
+
+// The whole number of a member of the member `counters`.
+fn counter_in(value: &Value<'_>, name: &str) -> Option<u64>
+    ensures { IsWholeNumber (option_and_then (get name.now) (get (codes "counters") (value_view value.now))) result }
+{
+    match value.get("counters") {
+        Some(counters) => whole_in(counters, name),
+        None => None,
+    }
+}
+
+// 1 where a member is true, and 0 where it is false.
+fn truth_in(value: &Value<'_>, name: &str) -> Option<u64>
+    ensures { result ≡ option_map bit (option_and_then as_bool (get name.now (value_view value.now))) }
+{
+    match value.get(name) {
+        Some(member) => bit_of(member.as_bool()),
+        None => None,
+    }
+}
+
+fn bit_of(truth: Option<bool>) -> Option<u64>
+    ensures { result ≡ option_map bit truth }
+{
+    match truth {
+        Some(true) => Some(1),
+        Some(false) => Some(0),
+        None => None,
+    }
+}
+
+// 1 where there is such a member.
+fn known_in(value: &Value<'_>, name: &str) -> Option<u64>
+    ensures { result ≡ option_map (λ value. 1) (get name.now (value_view value.now)) }
+{
+    match value.get(name) {
+        Some(_) => Some(1),
+        None => None,
+    }
+}
+
+// How many items the list has that a member is.
+fn listed_in(value: &Value<'_>, name: &str) -> Option<u64>
+    ensures { get name.now (value_view value.now) ≡ None → result ≡ None }
+{
+    match value.get(name) {
+        Some(Value::Array(items)) => Some(items.len() as u64),
+        _ => None,
     }
 }
 

@@ -1,7 +1,7 @@
 //! Families with the numbers that stand in lines.
-ghost use Rattle.std.specs.Prelude.{OnOk, map};
-ghost use Rattle.web_lines.specs.Families.{told_head, told_heads};
-ghost use Rattle.web_lines.specs.Metrics.{AddsFamily, AddsReport, AddsSamples};
+ghost use Rattle.std.specs.Prelude.{OnOk, ◌++◌, map};
+ghost use Rattle.web_lines.specs.Families.{row_of, told_rows};
+ghost use Rattle.web_lines.specs.Metrics.{AddsLine, AddsLines, AddsRows, head_text};
 
 use crate::families::push_head;
 use crate::labels::push_sample;
@@ -17,7 +17,7 @@ pub(crate) fn push_told(
     text: &mut Vec<u8>,
     lines: &[Line<'_>],
 ) -> Result<(), AllocError>
-    ensures { OnOk result (AddsReport told_heads text.old.items text.new.items) }
+    ensures { OnOk result (AddsRows told_rows lines.now text.old.items text.new.items) }
 {
     push_families(alloc, text, lines, TOLD.as_slice())
 }
@@ -29,7 +29,7 @@ fn push_families(
     lines: &[Line<'_>],
     rows: &[Told],
 ) -> Result<(), AllocError>
-    ensures { OnOk result (AddsReport (map told_head rows.now) text.old.items text.new.items) }
+    ensures { OnOk result (AddsRows (map row_of rows.now) lines.now text.old.items text.new.items) }
 {
     let mut scratch = Scratch::new(alloc);
     for told in rows {
@@ -46,7 +46,7 @@ fn push_family(
     told: Told,
     scratch: &mut Scratch,
 ) -> Result<(), AllocError>
-    ensures { OnOk result (AddsFamily (told_head told) text.old.items text.new.items) }
+    ensures { OnOk result (AddsLines (row_of told) lines.now (text.old.items ++ head_text (row_of told).head) text.new.items) }
 {
     push_head(text, told.0)?;
     for line in lines {
@@ -63,9 +63,9 @@ fn push_number(
     told: Told,
     scratch: &mut Scratch,
 ) -> Result<(), AllocError>
-    ensures { OnOk result (AddsSamples (told_head told).name text.old.items text.new.items) }
+    ensures { OnOk result (AddsLine (row_of told) line.entry text.old.items text.new.items) }
 {
-    if line.kind != told.1 {
+    if line.kind.place() != told.1.place() {
         return Ok(());
     }
     scratch.reserve(line.text.len())?;

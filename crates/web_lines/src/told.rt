@@ -4,14 +4,14 @@ use crate::families::Family::{Counter, Gauge};
 use crate::kind::Kind;
 use crate::kind::Kind::{Entity, Log, Refusal, Remote, User};
 use crate::place::Place;
-use crate::place::Place::{Counted, Known, Member, Truth};
+use crate::place::Place::{Counted, Known, Listed, Member, Truth};
 
 /// A family, the kind of the lines that have its numbers, and where they stand there.
 #[derive(Clone, Copy, Debug)]
 pub(crate) struct Told(pub(crate) Family, pub(crate) Kind, pub(crate) Place);
 
 /// The families whose numbers stand in lines.
-pub(crate) const TOLD: [Told; 28] = [
+pub(crate) const TOLD: [Told; 30] = [
     Told(
         Gauge(
             "cfdp_entity_info",
@@ -73,6 +73,14 @@ pub(crate) const TOLD: [Told; 28] = [
     ),
     Told(
         Counter(
+            "cfdp_ended_reads_total",
+            "Workers that read no more, since the socket failed.",
+        ),
+        Entity,
+        Counted("ended_reads"),
+    ),
+    Told(
+        Counter(
             "cfdp_foreign_datagrams_total",
             "Datagrams from addresses that the configuration does not have.",
         ),
@@ -115,6 +123,11 @@ pub(crate) const TOLD: [Told; 28] = [
         ),
         Entity,
         Counted("dropped_clients"),
+    ),
+    Told(
+        Gauge("cfdp_reading_files", "Files that are being read for Puts."),
+        Entity,
+        Listed("reading"),
     ),
     Told(
         Gauge("cfdp_log_failing", "Whether events do not reach the log."),

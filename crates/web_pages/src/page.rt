@@ -65,6 +65,8 @@ footer { max-width: 1600px; margin: 24px auto; padding: 0 16px; color: var(--dim
 <div class="scroll" tabindex="0" role="region" aria-labelledby="h-remotes"><table id="remotes"></table></div></section>
 <section aria-labelledby="h-outbox"><h2 id="h-outbox">Outbox</h2>
 <div class="scroll" tabindex="0" role="region" aria-labelledby="h-outbox"><table id="outbox"></table></div></section>
+<section aria-labelledby="h-reading"><h2 id="h-reading">Files being read</h2>
+<div class="scroll" tabindex="0" role="region" aria-labelledby="h-reading"><table id="reading"></table></div></section>
 <section aria-labelledby="h-refusals"><h2 id="h-refusals">Refusals</h2>
 <div class="scroll" tabindex="0" role="region" aria-labelledby="h-refusals"><table id="refusals"></table></div></section>
 </div>
@@ -237,6 +239,8 @@ const outbox = new Table("outbox", [
   ["File", named(names)], ["Class", plain(q => String(q.class))], ["Since", plain(q => moment(q.since))],
   ["", buttons(q => [["Drop", "drop " + number(q, "number"), "file " + number(q, "number") + " of the outbox"]])]
 ], "Nothing waits.");
+const dated = ms => { const d = new Date(ms); return isNaN(d) ? "" : moment(d.toISOString()); };
+const reading = new Table("reading", [["Since", plain(r => dated(r.since))], ["File", named(r => text(r, "file"))]], "No file is being read.");
 const refusals = new Table("refusals", [
   ["Refusal", plain(r => r.number + " " + r.name + (r.fault === undefined ? "" : ", fault " + r.fault))], ["Count", plain(r => String(r.count))],
   ["Last", plain(r => moment(r.last))], ["From", plain(r => r.from || "")], ["Octets", named(r => r.octets || "")]
@@ -277,6 +281,7 @@ function show(all) {
   users.show(all.users, u => u.name);
   remotes.show(all.remotes, r => number(r, "id"));
   outbox.show(all.outbox, q => number(q, "number"));
+  reading.show(entity.reading || [], r => r.since + " " + text(r, "file"));
   refusals.show(all.refusals, r => r.number + "." + r.fault);
   const c = entity.counters || {}, log = all.logs[0];
   at("title").textContent = "CFDP entity " + number(entity, "id");

@@ -1,8 +1,8 @@
 use std::test::Fail;
 use web_lines::{event_number, no_metrics, start_moment, to_document, to_metrics};
 
-const LINES: &str =
-    "{\"kind\":\"entity\",\"id\":2,\"version\":\"0.1\",\"started\":\"now\",\"counters\":{\"datagrams_in\":12}}\n\
+const LINES: &str = "{\"kind\":\"entity\",\"id\":2,\"version\":\"0.1\",\"started\":\"now\",\
+\"counters\":{\"datagrams_in\":12,\"ended_reads\":2},\"reading\":[{\"file\":\"a\",\"since\":7}]}\n\
 {\"kind\":\"user\",\"name\":\"a\\\"b\",\"waiting\":3,\"capacity\":8}\nno JSON\n{\"kind\":\"unknown\"}\n\
 {\"kind\":\"transaction\",\"seq\":9007199254740993,\"state\":\"active\"}\n\
 {\"kind\":\"refusal\",\"name\":\"DecodeFault\",\"fault\":3,\"count\":5}\n";
@@ -11,7 +11,8 @@ const LINES: &str =
 fn a_document_has_the_lines(rt: HostRuntime) -> Result<(), Fail> {
     let document = to_document(rt.alloc(), LINES)?;
     let wanted =
-        "{\"entities\":[{\"kind\":\"entity\",\"id\":2,\"version\":\"0.1\",\"started\":\"now\",\"counters\":{\"datagrams_in\":12}}],\
+        "{\"entities\":[{\"kind\":\"entity\",\"id\":2,\"version\":\"0.1\",\"started\":\"now\",\
+\"counters\":{\"datagrams_in\":12,\"ended_reads\":2},\"reading\":[{\"file\":\"a\",\"since\":7}]}],\
 \"logs\":[],\"users\":[{\"kind\":\"user\",\"name\":\"a\\\"b\",\"waiting\":3,\"capacity\":8}],\
 \"transactions\":[{\"kind\":\"transaction\",\"seq\":9007199254740993,\"state\":\"active\"}],\"remotes\":[],\
 \"refusals\":[{\"kind\":\"refusal\",\"name\":\"DecodeFault\",\"fault\":3,\"count\":5}],\"outbox\":[]}\n";
@@ -27,6 +28,8 @@ fn metrics_have_the_numbers(rt: HostRuntime) -> Result<(), Fail> {
         "cfdp_up 1\n",
         "cfdp_entity_info{id=\"2\",version=\"0.1\"} 1\n",
         "# TYPE cfdp_datagrams_received_total counter\ncfdp_datagrams_received_total 12\n",
+        "# TYPE cfdp_ended_reads_total counter\ncfdp_ended_reads_total 2\n",
+        "# TYPE cfdp_reading_files gauge\ncfdp_reading_files 1\n",
         "cfdp_queue_bundles{user=\"a\\\"b\"} 3\n",
         "cfdp_transactions{state=\"active\"} 1\ncfdp_transactions{state=\"suspended\"} 0\n",
         "cfdp_refused_datagrams_total{reason=\"DecodeFault\",fault=\"3\"} 5\n",

@@ -1,7 +1,7 @@
-use Rattle.web_lines.proofs.Reports.{more_families, one_family, whole}
+use Rattle.web_lines.proofs.Reports.{whole_metrics}
 use Rattle.web_lines.proofs.metrics.to_metrics.Goals as goal
 
 pub returns : goal.returns
 returns c =
-    whole _ _ _ c.new-text.ensures.items
-    (more_families _ _ _ _ _ (more_families _ _ _ _ _ (one_family _ _ _ c.in_ok-push_up.ensures) c.in_ok-push_told.ensures) c.in_ok-push_counted.ensures)
+    whole_metrics _ _ _ _ _ _ _ c.in_ok-lines.ensures c.as_slice.ensures.value c.as_slice-2.ensures.value c.new-text.ensures.items c.in_ok-push_up.ensures
+    c.in_ok-push_told.ensures c.in_ok-push_counted.ensures

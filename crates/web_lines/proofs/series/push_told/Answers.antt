@@ -1,10 +1,10 @@
 use Rattle.std.proofs.Common.{ap, map}
 use Rattle.std.proofs.lemmas.Result.{on_ok_weaker}
-use Rattle.web_lines.specs.Families.{told_head, told_heads}
+use Rattle.web_lines.specs.Families.{row_of, told_rows}
 use Rattle.web_lines.proofs.Reports.{told_report}
 use Rattle.web_lines.proofs.series.push_told.Goals as goal
 
 -- the table of the code is the list of the definition
 pub returns : goal.returns
-unfolding told_heads
-returns c = on_ok_weaker c.push_families.result (told_report _ _ _ (ap (map told_head) c.as_slice.ensures)) c.push_families.ensures
+unfolding told_rows
+returns c = on_ok_weaker c.push_families.result (told_report _ _ _ _ (ap (map row_of) c.as_slice.ensures)) c.push_families.ensures

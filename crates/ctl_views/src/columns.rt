@@ -1,0 +1,221 @@
+//! The tables of a status.
+use crate::columns::Column::{Left, Right};
+use crate::parts::Part;
+use crate::parts::Part::{
+    Age, Bar, Direction, End, Held, Moment, Name, Number, Octets, Percent, Rate, SomeNumber,
+    SomeText, Text, Words,
+};
+
+/// A column of a table: its head, and what its cells are made of.
+#[derive(Clone, Copy)]
+pub(crate) enum Column {
+    /// Words, at the left.
+    Left(&'static str, &'static [Part]),
+    /// Numbers, at the right.
+    Right(&'static str, &'static [Part]),
+}
+
+impl Column {
+    /// Its head.
+    pub(crate) fn head(&self) -> &'static str {
+        match self {
+            Left(head, _) | Right(head, _) => head,
+        }
+    }
+
+    /// What its cells are made of.
+    pub(crate) fn parts(&self) -> &'static [Part] {
+        match self {
+            Left(_, parts) | Right(_, parts) => parts,
+        }
+    }
+
+    /// Whether its cells stand at the right.
+    pub(crate) fn is_right(&self) -> bool {
+        matches!(self, Right(_, _))
+    }
+}
+
+/// What a table has a row for.
+#[derive(Clone, Copy)]
+pub(crate) enum Rows<'a> {
+    /// Each line of this kind, but for transactions that have ended.
+    Of(&'a str),
+    /// Each transaction that has ended.
+    Ended,
+    /// Each file that is being read for a Put.
+    Reading,
+}
+
+/// How the rows of a table are coloured.
+#[derive(Clone, Copy)]
+pub(crate) enum Shade {
+    Plain,
+    /// Good where the file is kept, and else bad.
+    ByEnd,
+    /// Bad where there is a notice.
+    ByNotice,
+    /// Faint where the link is held.
+    ByHold,
+}
+
+/// A table.
+#[derive(Clone, Copy)]
+pub(crate) struct Layout {
+    pub(crate) rows: Rows<'static>,
+    pub(crate) title: &'static str,
+    pub(crate) shade: Shade,
+    pub(crate) columns: &'static [Column],
+}
+
+/// The tables, in the order in which they are shown.
+pub(crate) const LAYOUTS: [Layout; 7] = [
+    Layout {
+        rows: Rows::Of("user"),
+        title: "Users",
+        shade: Shade::Plain,
+        columns: &[
+            Right("waiting", &[Number("waiting", "-")]),
+            Right("of", &[Number("capacity", "-")]),
+            Left("user", &[Text("name", "?")]),
+        ],
+    },
+    Layout {
+        rows: Rows::Of("transaction"),
+        title: "Under way",
+        shade: Shade::ByNotice,
+        columns: &[
+            Left(
+                "transaction",
+                &[Number("source", "?"), Words("."), Number("seq", "?")],
+            ),
+            Left("user", &[Text("user", "?")]),
+            Left("peer", &[Direction, Number("peer", "?")]),
+            Left("state", &[Text("state", "?")]),
+            Left("progress", &[Bar]),
+            Right("", &[Percent]),
+            Right("octets", &[Octets("octets", "0 B")]),
+            Right("rate", &[Rate]),
+            Right("last event", &[Age]),
+            Left(
+                "file",
+                &[
+                    Name("file", "file_hex"),
+                    Words(" to "),
+                    Name("to", "to_hex"),
+                    SomeText(" (", "notice", ")"),
+                ],
+            ),
+        ],
+    },
+    Layout {
+        rows: Rows::Of("queued"),
+        title: "Outbox",
+        shade: Shade::Plain,
+        columns: &[
+            Right("number", &[Number("number", "-")]),
+            Left("user", &[Text("user", "?")]),
+            Right("to", &[Number("destination", "-")]),
+            Right("class", &[Number("class", "-")]),
+            Left("since", &[Text("since", "?")]),
+            Left(
+                "file",
+                &[
+                    Name("file", "file_hex"),
+                    Words(" to "),
+                    Name("to", "to_hex"),
+                ],
+            ),
+        ],
+    },
+    Layout {
+        rows: Rows::Reading,
+        title: "Reading",
+        shade: Shade::Plain,
+        columns: &[
+            Left("since", &[Moment("since")]),
+            Left("file", &[Name("file", "file_hex")]),
+        ],
+    },
+    Layout {
+        rows: Rows::Ended,
+        title: "Ended",
+        shade: Shade::ByEnd,
+        columns: &[
+            Left(
+                "transaction",
+                &[Number("source", "?"), Words("."), Number("seq", "?")],
+            ),
+            Left("user", &[Text("user", "?")]),
+            Left("peer", &[Direction, Number("peer", "?")]),
+            Right("size", &[Octets("size", "-")]),
+            Left("end", &[End]),
+            Left(
+                "file",
+                &[
+                    Name("file", "file_hex"),
+                    Words(" to "),
+                    Name("to", "to_hex"),
+                    SomeText(" (", "notice", ")"),
+                ],
+            ),
+        ],
+    },
+    Layout {
+        rows: Rows::Of("remote"),
+        title: "Remotes",
+        shade: Shade::ByHold,
+        columns: &[
+            Right("entity", &[Number("id", "-")]),
+            Right("in", &[Number("datagrams_in", "-")]),
+            Right("octets in", &[Octets("octets_in", "-")]),
+            Right("out", &[Number("datagrams_out", "-")]),
+            Right("octets out", &[Octets("octets_out", "-")]),
+            Right("failed", &[Number("failed_sends", "-")]),
+            Left("link", &[Text("address", "no address"), Held]),
+        ],
+    },
+    Layout {
+        rows: Rows::Of("refusal"),
+        title: "Refusals",
+        shade: Shade::Plain,
+        columns: &[
+            Right("count", &[Number("count", "-")]),
+            Left(
+                "refusal",
+                &[
+                    Number("number", "?"),
+                    Words(" "),
+                    Text("name", "?"),
+                    SomeNumber(" ", "fault", ""),
+                ],
+            ),
+            Left("last", &[Text("last", "-")]),
+            Left("from", &[Text("from", "-")]),
+        ],
+    },
+];
+
+/// The line of the entity.
+pub(crate) const ENTITY: [Part; 8] = [
+    Words("Entity "),
+    Number("id", "?"),
+    Words(", cfdp_server "),
+    Text("version", "?"),
+    Words(", since "),
+    Text("started", "?"),
+    Words(", now "),
+    Text("now", "?"),
+];
+
+/// The line of its counters, where workers read no more.
+pub(crate) const ENDED_READS: [Part; 2] = [
+    Words("Workers that read no more, since the socket failed: "),
+    Number("ended_reads", "?"),
+];
+
+/// The line of a log that fails.
+pub(crate) const FAILING_LOG: [Part; 2] = [
+    Words("The log can't be written; events lost: "),
+    Number("lost", "?"),
+];

@@ -1,0 +1,225 @@
+//! Texts that are made of a JSON object, part by part.
+use crate::amounts::{push_age, push_bar, push_octets, push_rate};
+use crate::conditions::condition_words;
+use crate::ends::push_end;
+use crate::fields::{is_set, moment_in, number_in, push_name, share_in, text_in};
+use crate::moments::push_moment;
+use json::Value;
+use std::alloc::{AllocError, Global};
+
+/// A part of a text, most by the name of the member that it is made of. A part that begins with `Some` is left out where the
+/// member is missing.
+#[derive(Clone, Copy)]
+pub(crate) enum Part {
+    /// The words themselves.
+    Words(&'static str),
+    /// A number, or what stands for one that is missing.
+    Number(&'static str, &'static str),
+    /// A text, or what stands for one that is missing.
+    Text(&'static str, &'static str),
+    /// An amount of octets, or what stands for one that is missing.
+    Octets(&'static str, &'static str),
+    /// A file's name, by its two members.
+    Name(&'static str, &'static str),
+    /// A moment, given in milliseconds since 1970.
+    Moment(&'static str),
+    /// Words, a number, and words behind it.
+    SomeNumber(&'static str, &'static str, &'static str),
+    /// Words, a text, and words behind it.
+    SomeText(&'static str, &'static str, &'static str),
+    /// Words and an amount of octets.
+    SomeOctets(&'static str, &'static str),
+    /// The condition, in words.
+    Condition,
+    /// How the transaction ended.
+    End,
+    /// In front of the entity at the other end: which way the file goes.
+    Direction,
+    /// Since when the link is held, where it is.
+    Held,
+    /// How far the file is, as a bar.
+    Bar,
+    /// How far the file is, in percent.
+    Percent,
+    /// The octets a second since the last look.
+    Rate,
+    /// The time since the last event.
+    Age,
+}
+
+/// What parts say beside the object: the moment of the look in milliseconds, and the octets a second since the one before.
+#[derive(Clone, Copy)]
+pub(crate) struct Look {
+    pub(crate) now: Option<u64>,
+    pub(crate) rate: Option<u64>,
+}
+
+/// No look.
+pub(crate) const NO_LOOK: Look = Look {
+    now: None,
+    rate: None,
+};
+
+/// Adds all parts.
+pub(crate) fn push_parts(
+    alloc: Global,
+    text: &mut String,
+    value: &Value<'_>,
+    parts: &[Part],
+    look: Look,
+) -> Result<(), AllocError> {
+    for part in parts {
+        push_part(alloc, text, value, *part, look)?;
+    }
+    Ok(())
+}
+
+fn push_part(
+    alloc: Global,
+    text: &mut String,
+    value: &Value<'_>,
+    part: Part,
+    look: Look,
+) -> Result<(), AllocError> {
+    match part {
+        Part::Words(words) => text.push_str(words),
+        Part::Number(name, missing) => push_number(text, number_in(value, name), missing),
+        Part::Text(name, missing) => text.push_str(text_in(value, name).unwrap_or(missing)),
+        Part::Octets(name, missing) => push_amount(text, number_in(value, name), missing),
+        Part::Name(name, hex_name) => push_name(alloc, text, value, name, hex_name),
+        Part::Moment(name) => push_since(text, number_in(value, name)),
+        Part::SomeNumber(front, name, back) => {
+            push_some_number(text, front, number_in(value, name), back)
+        }
+        Part::SomeText(front, name, back) => push_some_text(
+            text,
+            front,
+            text_in(value, name),
+            back,
+        ),
+        Part::SomeOctets(front, name) => push_some_octets(text, front, number_in(value, name)),
+        Part::Condition => push_condition(text, number_in(value, "condition")),
+        Part::End => push_end(text, value),
+        Part::Direction => text.push_str(direction_of(text_in(value, "role"))),
+        Part::Held => push_held(text, value),
+        Part::Bar => push_share_bar(text, share_in(value)),
+        Part::Percent => push_share(text, share_in(value)),
+        Part::Rate => push_rate(text, look.rate),
+        Part::Age => push_age_since(text, look.now, moment_in(value, "last")),
+    }
+}
+
+fn push_number(
+    text: &mut String,
+    number: Option<u64>,
+    missing: &'static str,
+) -> Result<(), AllocError> {
+    match number {
+        Some(number) => write!(text, "{number}"),
+        None => text.push_str(missing),
+    }
+}
+
+fn push_amount(
+    text: &mut String,
+    octets: Option<u64>,
+    missing: &'static str,
+) -> Result<(), AllocError> {
+    match octets {
+        Some(octets) => push_octets(text, octets),
+        None => text.push_str(missing),
+    }
+}
+
+fn push_since(text: &mut String, milliseconds: Option<u64>) -> Result<(), AllocError> {
+    match milliseconds {
+        Some(milliseconds) => push_moment(text, milliseconds),
+        None => text.push('?'),
+    }
+}
+
+fn push_some_number(
+    text: &mut String,
+    front: &'static str,
+    number: Option<u64>,
+    back: &'static str,
+) -> Result<(), AllocError> {
+    match number {
+        Some(number) => write!(text, "{front}{number}{back}"),
+        None => Ok(()),
+    }
+}
+
+fn push_some_text(
+    text: &mut String,
+    front: &'static str,
+    word: Option<&str>,
+    back: &'static str,
+) -> Result<(), AllocError> {
+    match word {
+        Some(word) => write!(text, "{front}{word}{back}"),
+        None => Ok(()),
+    }
+}
+
+fn push_some_octets(
+    text: &mut String,
+    front: &'static str,
+    octets: Option<u64>,
+) -> Result<(), AllocError> {
+    match octets {
+        Some(octets) => {
+            text.push_str(front)?;
+            push_octets(text, octets)
+        }
+        None => Ok(()),
+    }
+}
+
+fn push_condition(text: &mut String, code: Option<u64>) -> Result<(), AllocError> {
+    match code {
+        Some(code) => text.push_str(condition_words(code)),
+        None => text.push('?'),
+    }
+}
+
+fn direction_of(role: Option<&str>) -> &'static str {
+    match role {
+        Some("sender") => "to ",
+        Some("receiver") => "from ",
+        _ => "",
+    }
+}
+
+fn push_held(text: &mut String, value: &Value<'_>) -> Result<(), AllocError> {
+    if !is_set(value, "held") {
+        return Ok(());
+    }
+    text.push_str(", held since ")?;
+    text.push_str(text_in(value, "held_since").unwrap_or("?"))
+}
+
+fn push_share_bar(text: &mut String, percent: Option<u64>) -> Result<(), AllocError> {
+    match percent {
+        Some(percent) => push_bar(text, percent),
+        None => Ok(()),
+    }
+}
+
+fn push_share(text: &mut String, percent: Option<u64>) -> Result<(), AllocError> {
+    match percent {
+        Some(percent) => write!(text, "{percent}%"),
+        None => Ok(()),
+    }
+}
+
+fn push_age_since(
+    text: &mut String,
+    now: Option<u64>,
+    last: Option<u64>,
+) -> Result<(), AllocError> {
+    match (now, last) {
+        (Some(now), Some(last)) => push_age(text, now.saturating_sub(last)),
+        _ => text.push('-'),
+    }
+}
