@@ -134,6 +134,28 @@ fn files_in_a_folder(rt: HostRuntime) -> Result<(), Fail> {
     Ok(())
 }
 
+const BAD_NAMES: &[&[u8]] = &[b"", b".", b"..", b"a/b", b"/a", b"a\0b", b"a\xff"];
+
+// Whether a store refuses each of the bad names.
+fn refuses<S: Files + AllocGlobal + Drop>(store: &mut FolderStore<S>) -> bool {
+    for name in BAD_NAMES {
+        if store.calls() >= 7 || store.deposit(name, b"abc") != Err(StoreFault::BadName) {
+            return false;
+        }
+    }
+    store.failures() == 7
+}
+
+// Nothing is left of them in the folder.
+#[test]
+fn bad_names(rt: HostRuntime) -> Result<(), Fail> {
+    let folder = new_folder(&rt, "names")?;
+    assert!(rt; refuses(&mut new_store(&rt, folder.as_str())?));
+    assert!(rt; has_count(&rt, folder.as_str(), 0)?);
+    fs::remove_dir_all(&rt, folder.as_str())?;
+    Ok(())
+}
+
 // The names of parts are free for files: the fourth deposit's part would have this one.
 fn keeps_odd<R: Files + AllocGlobal + Clone + Drop>(rt: &R, folder: &str) -> Result<bool, Fail> {
     let mut store = new_store(rt, folder)?;

@@ -50,6 +50,32 @@ fn read<R: Abort>(rt: &R, reader: &mut WordReader, all: &[(Told, bool)], is_end:
 
 const COMPLETE: Told = Told::Finished(Delivery::Complete);
 
+const INCOMPLETE: Told = Told::Finished(Delivery::Incomplete);
+
+const FOUR_SEGMENTS: &[(Told, bool)] = &[
+    (Told::Segment(0, 4), true),
+    (Told::Segment(8, 4), true),
+    (Told::Segment(2, 4), false),
+    (Told::Segment(4, 4), true),
+    (Told::Segment(12, 1), false),
+];
+
+const ABANDONED: &[(Told, bool)] = &[
+    (Told::Abandoned, true),
+    (Told::Segment(12, 1), false),
+    (Told::Suspended, false),
+    (INCOMPLETE, false),
+    (Told::Abandoned, false),
+];
+
+#[test]
+fn receiver_with_room_for_three_segments(rt: HostRuntime) -> Result<(), Fail> {
+    let mut reader = WordReader::with_room(rt.alloc(), Side::Receiver, 3)?;
+    read(&rt, &mut reader, FOUR_SEGMENTS, false);
+    read(&rt, &mut reader, ABANDONED, true);
+    Ok(())
+}
+
 // Behind the Metadata.
 const WHOLE_FILE: &[(Told, bool)] = &[
     (Told::Segment(8, 4), true),

@@ -1,10 +1,11 @@
-//! What the threads of a crowd tell lanes, again and again while a queue is full.
+//! What lanes get, and what comes of it.
 
 use crate::told::{pause, put};
 use cfdp_types::{TimerKind, TxnKey};
 use entity_routing::{Place, Request};
 use indications::Indication;
 use lane_table::Done;
+use pdu_codec::decode;
 use shared_entity::{Entity, EntityRefusal};
 use shared_lanes::{Gate, Held, Names, Point};
 use std::alloc::{AllocError, Global};
@@ -21,9 +22,13 @@ pub(crate) enum Act {
     Suspend(usize, TxnKey),
     Resume(usize, TxnKey),
     Cancel(usize, TxnKey),
+    Report(usize, TxnKey),
+    Abandon(usize, TxnKey),
     Pump(TxnKey),
     Deliver([u8; 17]),
     Acknowledge([u8; 10]),
+    /// A PDU that is read before the entity gets it.
+    Read(&'static [u8]),
     Stored(TxnKey, u32),
     Timer(TxnKey, TimerKind, u32),
 }
@@ -78,20 +83,42 @@ fn copy_of(alloc: Global, trace: &[Indication]) -> Result<Vec<Indication>, Alloc
 }
 
 // What a user asks for, a Put aside.
+fn request_of(act: &Act) -> Option<(usize, Request)> {
+    match act {
+        Act::Suspend(user, key) => Some((*user, Request::Suspend(*key))),
+        Act::Resume(user, key) => Some((*user, Request::Resume(*key))),
+        Act::Cancel(user, key) => Some((*user, Request::Cancel(*key))),
+        Act::Report(user, key) => Some((*user, Request::Report(*key))),
+        Act::Abandon(user, key) => Some((*user, Request::Abandon(*key))),
+        _ => None,
+    }
+}
+
 fn ask<N: Names, R: Wait + Copy>(
     rt: &R,
     gate: &Tracing,
     entity: &Entity<N, R>,
-    user: usize,
-    request: Request,
-) -> Result<Outcome, EntityRefusal> {
+    act: &Act,
+) -> Option<Result<Outcome, EntityRefusal>> {
+    let (user, request) = request_of(act)?;
     if matches!(&request, Request::Put(_, _)) || !entity.may_request(user, &request) {
-        return Ok(Outcome::Failed);
+        return None;
     }
-    entity.request(rt, gate, user, request)
+    Some(entity.request(rt, gate, user, request))
 }
 
-fn tell_once<N: Names, R: Wait + Copy>(
+fn read<N: Names, R: Wait + Copy>(
+    rt: &R,
+    gate: &Tracing,
+    entity: &Entity<N, R>,
+    octets: &[u8],
+) -> Option<Result<Outcome, EntityRefusal>> {
+    let pdu = decode(gate.alloc, octets).ok()?;
+    Some(entity.deliver_pdu(rt, gate, pdu))
+}
+
+/// Tells a lane once.
+pub(crate) fn tell_once<N: Names, R: Wait + Copy>(
     rt: &R,
     alloc: Global,
     entity: &Entity<N, R>,
@@ -99,20 +126,19 @@ fn tell_once<N: Names, R: Wait + Copy>(
 ) -> Outcome {
     let gate = Tracing { alloc };
     let answer = match act {
-        Act::Put(place) => match put(rt, alloc, entity, &gate, *place, 1) {
-            Some(answer) => answer,
-            None => return Outcome::Failed,
-        },
-        Act::Suspend(user, key) => ask(rt, &gate, entity, *user, Request::Suspend(*key)),
-        Act::Resume(user, key) => ask(rt, &gate, entity, *user, Request::Resume(*key)),
-        Act::Cancel(user, key) => ask(rt, &gate, entity, *user, Request::Cancel(*key)),
-        Act::Pump(key) => entity.pump(rt, &gate, *key),
-        Act::Deliver(octets) => entity.deliver(rt, &gate, octets),
-        Act::Acknowledge(octets) => entity.deliver(rt, &gate, octets),
-        Act::Stored(key, stamp) => entity.stored(rt, &gate, *key, *stamp, true),
-        Act::Timer(key, kind, stamp) => entity.timer(rt, &gate, *key, *kind, *stamp),
+        Act::Put(place) => put(rt, alloc, entity, &gate, *place, 1),
+        Act::Pump(key) => Some(entity.pump(rt, &gate, *key)),
+        Act::Deliver(octets) => Some(entity.deliver(rt, &gate, octets)),
+        Act::Acknowledge(octets) => Some(entity.deliver(rt, &gate, octets)),
+        Act::Read(octets) => read(rt, &gate, entity, octets),
+        Act::Stored(key, stamp) => Some(entity.stored(rt, &gate, *key, *stamp, true)),
+        Act::Timer(key, kind, stamp) => Some(entity.timer(rt, &gate, *key, *kind, *stamp)),
+        _ => ask(rt, &gate, entity, act),
     };
-    answer.unwrap_or(Outcome::Failed)
+    match answer {
+        Some(Ok(outcome)) => outcome,
+        _ => Outcome::Failed,
+    }
 }
 
 /// Tells a lane, again and again while its user's queue is full.

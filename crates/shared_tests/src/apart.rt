@@ -1,7 +1,7 @@
 //! A lane that is held back keeps no other waiting.
 
 use crate::runs::{Run, play};
-use crate::told::{pause, push_answer, push_answer_or, push_line, put};
+use crate::told::{pause, push_answer, push_line, put};
 use entity_config::Config;
 use entity_routing::Place;
 use lane_table::{Done, Refused};
@@ -225,7 +225,10 @@ fn push_noted<N: Names, R: Wait + Copy>(
 ) -> Result<(), AllocError> {
     let points = Points::new();
     let answer = put(rt, alloc, entity, &points, place, 1);
-    push_answer_or(text, answer, "no lane")?;
+    match answer {
+        Some(answer) => push_answer(text, answer)?,
+        None => push_line(text, "no lane")?,
+    }
     push_points(text, &points)
 }
 

@@ -1,6 +1,8 @@
-//! Eight threads work on all lanes of two users, while both users take.
+//! Eight threads work on all lanes of two users, while both users take. They try again while a queue is full.
 
 use crate::acts::TURNS;
+use crate::runs::{Run, play};
+use crate::steps::two_sources;
 use crate::told::{pause, push_lane, push_line};
 use crate::visits::{Ended, File, Kind, Worker};
 use crate::words::is_told;
@@ -11,6 +13,7 @@ use shared_lanes::Names;
 use std::alloc::{AllocError, Global};
 use std::sync::Wait;
 use std::sync::atomic::{AtomicU64, Ordering};
+use std::test::*;
 use std::thread;
 use std::thread::Threads;
 use user_queues::UserPort;
@@ -207,11 +210,24 @@ fn push_lanes(
             push_lane(text, lane)?;
         }
     }
-    if bundles
-        .iter()
-        .any(|bundle| bundle.user != user || bundle.lane >= 4)
-    {
-        push_line(text, "of others")?;
+    for bundle in bundles {
+        if bundle.user != user || bundle.lane >= 4 {
+            push_line(text, "of others")?;
+        }
+    }
+    Ok(())
+}
+
+// Where queues have room, and where each holds one bundle.
+#[test]
+fn eight_threads(rt: HostRuntime) -> Result<(), Fail> {
+    for capacity in [8, 1] {
+        let config = two_sources(rt.alloc(), capacity).ok_or("no configuration")?;
+        let text = play(rt, rt.alloc(), config, Run::Crowd)?;
+        assert_eq!(rt;
+            text.as_str(),
+            "worked\nworked\nworked\nworked\nworked\nworked\nworked\nworked\n0\n1\n2\n3\n0\n1\n2\n3\n"
+        );
     }
     Ok(())
 }

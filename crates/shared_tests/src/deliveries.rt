@@ -13,15 +13,15 @@ use std::thread;
 use std::thread::Threads;
 use user_queues::{LaneOutlet, UserPort};
 
-/// The Metadata of an empty file that entity 1 sends under a number, in class 1.
-pub(crate) fn metadata_of(seq: u8) -> [u8; 17] {
+// The Metadata of an empty file that entity 1 sends under a number, in class 1.
+fn metadata_of(seq: u8) -> [u8; 17] {
     [
         0x24, 0, 10, 0, 1, seq, 2, 7, 0, 0, 0, 0, 0, 1, 0x61, 1, 0x62,
     ]
 }
 
-/// Its EOF.
-pub(crate) fn eof_of(seq: u8) -> [u8; 17] {
+// Its EOF.
+fn eof_of(seq: u8) -> [u8; 17] {
     [0x24, 0, 10, 0, 1, seq, 2, 4, 0, 0, 0, 0, 0, 0, 0, 0, 0]
 }
 

@@ -7,21 +7,13 @@ mod acts;
 #[cfg(test)]
 mod apart;
 #[cfg(test)]
-mod calls;
-#[cfg(test)]
 mod crowd;
-#[cfg(test)]
-mod crowds;
 #[cfg(test)]
 mod deliveries;
 #[cfg(test)]
-mod looks;
-#[cfg(test)]
-mod narrow;
-#[cfg(test)]
 mod runs;
 #[cfg(test)]
-mod settings;
+mod steps;
 #[cfg(test)]
 mod told;
 #[cfg(test)]

@@ -2,7 +2,8 @@
 ghost use Rattle.std.specs.Prelude.{◌≡◌, All};
 ghost use Rattle.shared_entity.specs.Opening.{AreQueuesFor};
 
-use crate::{apart, calls, crowd, deliveries, looks, narrow, settings};
+use crate::steps::{Step, take_steps};
+use crate::{apart, crowd, deliveries};
 use entity_config::Config;
 use shared_entity::{Entity, queues_of};
 use shared_lanes::Names;
@@ -13,24 +14,16 @@ use std::thread::Threads;
 use user_queues::{Queues, UserPort};
 
 /// What is played.
-#[derive(Clone, Copy)]
+#[derive(Drop)]
 pub(crate) enum Run {
-    /// Each call is made once.
-    Calls,
+    /// Steps, one after the other.
+    Steps(&'static [Step]),
     /// Two threads deliver, and the entity is closed.
     Deliveries,
     /// A lane is held back while others go on.
     Apart,
     /// Eight threads work on all lanes.
     Crowd,
-    /// A lane is looked at while transactions run there.
-    Looks,
-    /// A queue is filled, and its user takes.
-    Full,
-    /// Two threads deliver to a queue that holds one bundle.
-    Narrow,
-    /// Files come from entities with parameters of their own.
-    Sources,
 }
 
 /// What a run says, line by line.
@@ -58,7 +51,7 @@ fn play_named<N: Names + Send + Sync, R: Threads + Wait + Copy + Send + Sync>(
     let (entity, ports) = Entity::<N, R>::open(alloc, config, queues)?;
     let played = match run {
         Run::Deliveries => play_first(&rt, alloc, &mut text, entity, ports),
-        _ => play_all(&rt, alloc, &mut text, &entity, ports, run),
+        _ => play_all(&rt, alloc, &mut text, &entity, ports, &run),
     };
     played?;
     Ok(text)
@@ -71,17 +64,13 @@ fn play_all<N: Names + Send + Sync, R: Threads + Wait + Copy + Send + Sync>(
     text: &mut String,
     entity: &Entity<N, R>,
     ports: Vec<UserPort>,
-    run: Run,
+    run: &Run,
 ) -> Result<(), AllocError> {
     match run {
-        Run::Calls => calls::call(rt, alloc, text, entity, ports),
+        Run::Steps(steps) => take_steps(rt, alloc, text, entity, ports, steps),
         Run::Deliveries => Ok(()),
         Run::Apart => apart::hold_back(rt, alloc, text, entity),
         Run::Crowd => crowd::crowd(rt, alloc, text, entity, ports),
-        Run::Looks => looks::look_on(rt, alloc, text, entity),
-        Run::Full => settings::fill(rt, alloc, text, entity, ports),
-        Run::Narrow => narrow::squeeze(rt, alloc, text, entity, ports),
-        Run::Sources => settings::listen(rt, text, entity),
     }
 }
 

@@ -6,7 +6,7 @@ use entity_routing::{Place, Request};
 use indications::{Bundle, Indication};
 use lane_table::{Done, Refused};
 use shared_entity::{Entity, EntityRefusal};
-use shared_lanes::{Gate, Names, NoGate};
+use shared_lanes::{Gate, Names};
 use std::alloc::{AllocError, Global};
 use std::sync::Wait;
 use std::thread::Parker;
@@ -42,18 +42,6 @@ pub(crate) fn push_answer(text: &mut String, answer: Answered) -> Result<(), All
     }
 }
 
-/// Adds such a line, or another where nothing was asked.
-pub(crate) fn push_answer_or(
-    text: &mut String,
-    answer: Option<Answered>,
-    none: &str,
-) -> Result<(), AllocError> {
-    match answer {
-        Some(answer) => push_answer(text, answer),
-        None => push_line(text, none),
-    }
-}
-
 /// Whether a lane took a step.
 pub(crate) fn is_done(answer: Answered) -> bool {
     matches!(answer, Ok(Ok(_)))
@@ -86,19 +74,6 @@ pub(crate) fn put<N: Names, R: Wait + Copy, G: Gate<N, R>>(
     Some(entity.request(rt, gate, place.user, Request::Put(place.lane, file)))
 }
 
-/// Adds a line for such a put.
-pub(crate) fn push_put<N: Names, R: Wait + Copy>(
-    rt: &R,
-    alloc: Global,
-    text: &mut String,
-    entity: &Entity<N, R>,
-    place: Place,
-    destination: u64,
-) -> Result<(), AllocError> {
-    let answer = put(rt, alloc, entity, &NoGate, place, destination);
-    push_answer_or(text, answer, "no lane")
-}
-
 /// All that a user takes until nothing is there.
 pub(crate) fn taken<R: Wait>(
     rt: &R,
@@ -116,18 +91,6 @@ pub(crate) fn taken<R: Wait>(
         bundles.push(bundle)?;
     }
     Ok(bundles)
-}
-
-/// Adds a line for how much a user takes.
-pub(crate) fn push_count<R: Wait>(
-    rt: &R,
-    alloc: Global,
-    text: &mut String,
-    port: UserPort,
-) -> Result<(), AllocError> {
-    let mut port = port;
-    let count = taken(rt, alloc, &mut port)?.len();
-    writeln!(text, "{count}")
 }
 
 fn word_of(indication: &Indication) -> &'static str {

@@ -144,7 +144,7 @@ impl<'e, N: Names, R: Wait + Copy> Worker<'e, N, R> {
 }
 
 /// How the reception of a file ends.
-#[derive(Clone, Copy, PartialEq, Eq)]
+#[derive(Drop)]
 pub(crate) enum Kind {
     Silent,
     Cancelled,
@@ -153,7 +153,7 @@ pub(crate) enum Kind {
 }
 
 /// An empty file that comes.
-#[derive(Clone, Copy)]
+#[derive(Drop)]
 pub(crate) struct File {
     pub(crate) place: Place,
     pub(crate) source: u8,
@@ -168,10 +168,9 @@ impl File {
 
     // The first octet of its datagrams.
     fn mode(&self) -> u8 {
-        if self.kind == Kind::Acknowledged {
-            0x20
-        } else {
-            0x24
+        match self.kind {
+            Kind::Acknowledged => 0x20,
+            _ => 0x24,
         }
     }
 

@@ -91,19 +91,32 @@ pub(crate) fn is_told(
     let Some(readings) = readings(alloc, side, bundles, place.lane)? else {
         return Ok(false);
     };
-    let there = ended.iter().filter(|ended| ended.place == place).count();
-    let are_whole = readings
-        .iter()
-        .all(|reading| is_whole(ended, place, reading));
-    Ok(there > 0 && readings.len() == there && are_whole)
+    for reading in &readings {
+        if !is_whole(ended, place, reading) {
+            return Ok(false);
+        }
+    }
+    let there = ended_at(ended, place);
+    Ok(there > 0 && readings.len() == there)
+}
+
+// How many transactions ended at a place.
+fn ended_at(ended: &[Ended], place: Place) -> usize {
+    let mut count = 0usize;
+    for ended in ended {
+        if ended.place == place {
+            count = count.saturating_add(1);
+        }
+    }
+    count
 }
 
 // Whether a transaction ended at a place, where its trace was what was read.
 fn is_whole(ended: &[Ended], place: Place, reading: &Reading) -> bool {
-    reading.reader.at_end()
-        && ended.iter().any(|ended| {
-            ended.place == place
-                && ended.key == reading.key
-                && ended.trace.as_slice() == reading.told.as_slice()
-        })
+    for ended in ended {
+        if ended.place == place && ended.key == reading.key {
+            return reading.reader.at_end() && ended.trace.as_slice() == reading.told.as_slice();
+        }
+    }
+    false
 }

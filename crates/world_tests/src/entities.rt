@@ -5,16 +5,21 @@ use cfdp_types::{Class, EntityId, Octets, PutFault, PutRequest, TimerKind, TxnKe
 use entity_config::{Config, read_config};
 use lane_table::Done;
 use std::alloc::Global;
-use test_configs::{ENTITY_ONE, text_of};
+use test_configs::{ENTITY_ONE, EntityText, text_of};
 use world_core::{EntityRefusal, Request, World, WorldEvent};
 
-/// Entity 1, to which nothing has happened.
-pub(crate) fn entity_one(alloc: Global) -> Option<World> {
-    let text = text_of(alloc, &ENTITY_ONE).ok()?;
+/// The entity of a text, to which nothing has happened.
+pub(crate) fn entity_of(alloc: Global, text: &EntityText) -> Option<World> {
+    let text = text_of(alloc, text).ok()?;
     match read_config(alloc, text.as_str()) {
         Ok(config) => World::open(alloc, config).ok(),
         Err(_) => None,
     }
+}
+
+/// Entity 1, to which nothing has happened.
+pub(crate) fn entity_one(alloc: Global) -> Option<World> {
+    entity_of(alloc, &ENTITY_ONE)
 }
 
 /// Entity 2, the reference, to which nothing has happened.

@@ -1,4 +1,4 @@
-//! What entities of one thread do that no script can show: two entities of which each is given what the other sent, in a
+//! What entities of one thread do that no script can show: files of two sources; two entities of which each is given what the other sent, in a
 //! worked run with its octets, and in a long one in which PDUs are lost, repeated and reordered as if by lot. And scripts over
 //! readers and writers that fail, and when their answers are written.
 #![tactic(auto)]
@@ -13,6 +13,8 @@ mod link;
 mod paces;
 #[cfg(test)]
 mod seen;
+#[cfg(test)]
+mod sources;
 #[cfg(test)]
 mod two_worlds;
 #[cfg(test)]

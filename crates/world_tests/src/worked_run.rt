@@ -110,12 +110,13 @@ fn text_of(
 
 fn given(alloc: Global, world: &mut World, digits: &str) -> Result<String, AllocError> {
     match hex::decode(alloc, digits) {
-        Ok(octets) => text_of(alloc, false, &deliver(world, Octets::from_vec(octets))),
+        Ok(octets) => text_of(alloc, false, &deliver(world, Octets::from_vec(octets)?)),
         Err(_) => String::from_str(alloc, "no hex"),
     }
 }
 
-fn next_of(world: &mut World, user: usize) -> Option<Bundle> {
+/// What a user takes next, if there is anything.
+pub(crate) fn next_of(world: &mut World, user: usize) -> Option<Bundle> {
     if user < world.users() {
         world.take(user)
     } else {
