@@ -33,52 +33,52 @@ pub const WRITTEN: &[(&[u8], &str, &str)] = &[
     (
         b"\x25\x00\x0e\x00\x01\x05\x02\x07\x00\x00\x00\x00\x00\x00\x00\x00\x03\x01\x61\x01\x62",
         "TowardReceiver One 1/1 1:5:2 large",
-        "Metadata(Metadata { closure: false, checksum_type: ChecksumType { number: 0 }, size: 3, source_name: Octets { items: [97] }, destination_name: Octets { items: [98] }, messages: Messages { items: [] } })",
+        "Metadata(Metadata { closure: false, checksum_type: ChecksumType { number: 0 }, size: 3, source_name: Octets { items: b\"a\" }, destination_name: Octets { items: b\"b\" }, messages: Messages { items: [] } })",
     ),
     (
         b"\x25\x00\x0e\x00\x01\x05\x02\x07\x00\x00\x00\x00\x00\xff\xff\xff\xff\x01\x61\x01\x62",
         "TowardReceiver One 1/1 1:5:2 large",
-        "Metadata(Metadata { closure: false, checksum_type: ChecksumType { number: 0 }, size: 4294967295, source_name: Octets { items: [97] }, destination_name: Octets { items: [98] }, messages: Messages { items: [] } })",
+        "Metadata(Metadata { closure: false, checksum_type: ChecksumType { number: 0 }, size: 4294967295, source_name: Octets { items: b\"a\" }, destination_name: Octets { items: b\"b\" }, messages: Messages { items: [] } })",
     ),
     (
         b"\x21\x00\x0e\x00\x01\x05\x02\x07\x0f\x00\x00\x00\x01\x00\x00\x00\x00\x01\x61\x01\x62",
         "TowardReceiver Two 1/1 1:5:2 large",
-        "Metadata(Metadata { closure: false, checksum_type: ChecksumType { number: 15 }, size: 4294967296, source_name: Octets { items: [97] }, destination_name: Octets { items: [98] }, messages: Messages { items: [] } })",
+        "Metadata(Metadata { closure: false, checksum_type: ChecksumType { number: 15 }, size: 4294967296, source_name: Octets { items: b\"a\" }, destination_name: Octets { items: b\"b\" }, messages: Messages { items: [] } })",
     ),
     (
         b"\x25\x00\x0e\x00\x01\x05\x02\x07\x00\xff\xff\xff\xff\xff\xff\xff\xff\x01\x61\x01\x62",
         "TowardReceiver One 1/1 1:5:2 large",
-        "Metadata(Metadata { closure: false, checksum_type: ChecksumType { number: 0 }, size: 18446744073709551615, source_name: Octets { items: [97] }, destination_name: Octets { items: [98] }, messages: Messages { items: [] } })",
+        "Metadata(Metadata { closure: false, checksum_type: ChecksumType { number: 0 }, size: 18446744073709551615, source_name: Octets { items: b\"a\" }, destination_name: Octets { items: b\"b\" }, messages: Messages { items: [] } })",
     ),
     (
         b"\x35\x00\x0b\x00\x01\x05\x02\x00\x00\x00\x00\x00\x00\x00\x00\x61\x62\x63",
         "TowardReceiver One 1/1 1:5:2 large",
-        "FileData(FileData { offset: 0, octets: Octets { items: [97, 98, 99] } })",
+        "FileData(FileData { offset: 0, octets: Octets { items: b\"abc\" } })",
     ),
     (
         b"\x31\x00\x0b\x00\x01\x05\x02\x00\x00\x00\x00\x00\x00\x00\x03\x61\x62\x63",
         "TowardReceiver Two 1/1 1:5:2 large",
-        "FileData(FileData { offset: 3, octets: Octets { items: [97, 98, 99] } })",
+        "FileData(FileData { offset: 3, octets: Octets { items: b\"abc\" } })",
     ),
     (
         b"\x35\x00\x0b\x00\x01\x05\x02\x00\x00\x00\x00\xff\xff\xff\xff\x61\x62\x63",
         "TowardReceiver One 1/1 1:5:2 large",
-        "FileData(FileData { offset: 4294967295, octets: Octets { items: [97, 98, 99] } })",
+        "FileData(FileData { offset: 4294967295, octets: Octets { items: b\"abc\" } })",
     ),
     (
         b"\x35\x00\x0b\x00\x01\x05\x02\x00\x00\x00\x01\x00\x00\x00\x00\x61\x62\x63",
         "TowardReceiver One 1/1 1:5:2 large",
-        "FileData(FileData { offset: 4294967296, octets: Octets { items: [97, 98, 99] } })",
+        "FileData(FileData { offset: 4294967296, octets: Octets { items: b\"abc\" } })",
     ),
     (
         b"\x35\x00\x0b\x00\x01\x05\x02\xff\xff\xff\xff\xff\xff\xff\xff\x61\x62\x63",
         "TowardReceiver One 1/1 1:5:2 large",
-        "FileData(FileData { offset: 18446744073709551615, octets: Octets { items: [97, 98, 99] } })",
+        "FileData(FileData { offset: 18446744073709551615, octets: Octets { items: b\"abc\" } })",
     ),
     (
         b"\x31\x00\x08\x00\x01\x05\x02\xff\xff\xff\xff\xff\xff\xff\xff",
         "TowardReceiver Two 1/1 1:5:2 large",
-        "FileData(FileData { offset: 18446744073709551615, octets: Octets { items: [] } })",
+        "FileData(FileData { offset: 18446744073709551615, octets: Octets { items: b\"\" } })",
     ),
     (
         b"\x29\x00\x21\x00\x01\x05\x02\x08\x00\x00\x00\x00\x00\x00\x00\x00\x00\x00\x00\x00\x00\x00\x00\x03\x00\x00\x00\x00\x00\x00\x00\x00\x00\x00\x00\x00\x00\x00\x00\x00",

@@ -130,46 +130,44 @@ pub const WRITTEN: &[(&[u8], &str, &str)] = &[
             \xa0\x05\x61\x61\x61\x61\x61\x04\x64\x65\x73\x74",
         "TowardReceiver One 5/3 1095216660481:658188:2",
         "Metadata(Metadata { closure: false, checksum_type: ChecksumType { number: 9 }, size: \
-            4000, source_name: Octets { items: [97, 97, 97, 97, 97] }, destination_name: Octets { \
-            items: [100, 101, 115, 116] }, messages: Messages { items: [] } })",
+            4000, source_name: Octets { items: b\"aaaaa\" }, destination_name: Octets { items: b\"dest\" }, messages: Messages { items: [] } })",
     ),
     (
         b"\x24\x00\x0e\x00\x01\x05\x02\x07\x4f\xff\xff\xff\xff\x01\x61\x01\x62\x02\x02\x68\x69",
         "TowardReceiver One 1/1 1:5:2",
         "Metadata(Metadata { closure: true, checksum_type: ChecksumType { number: 15 }, size: \
-            4294967295, source_name: Octets { items: [97] }, destination_name: Octets { items: [98] \
-            }, messages: Messages { items: [Octets { items: [104, 105] }] } })",
+            4294967295, source_name: Octets { items: b\"a\" }, destination_name: Octets { items: b\"b\" }, messages: Messages { items: [Octets { items: b\"hi\" }] } })",
     ),
     (
         b"\x24\x00\x1b\x00\x01\x05\x02\x07\x00\x00\x00\x00\x03\x01\x61\x01\x62\x02\x03\x6f\x6e\x65\
             \x02\x03\x74\x77\x6f\x02\x05\x74\x68\x72\x65\x65",
         "TowardReceiver One 1/1 1:5:2",
         "Metadata(Metadata { closure: false, checksum_type: ChecksumType { number: 0 }, size: 3, \
-            source_name: Octets { items: [97] }, destination_name: Octets { items: [98] }, messages: \
-            Messages { items: [Octets { items: [111, 110, 101] }, Octets { items: [116, 119, 111] }, \
-            Octets { items: [116, 104, 114, 101, 101] }] } })",
+            source_name: Octets { items: b\"a\" }, destination_name: Octets { items: b\"b\" }, messages: \
+            Messages { items: [Octets { items: b\"one\" }, Octets { items: b\"two\" }, \
+            Octets { items: b\"three\" }] } })",
     ),
     (
         b"\x24\x00\x0c\x00\x01\x05\x02\x07\x00\x00\x00\x00\x03\x01\x61\x01\x62\x02\x00",
         "TowardReceiver One 1/1 1:5:2",
         "Metadata(Metadata { closure: false, checksum_type: ChecksumType { number: 0 }, size: 3, \
-            source_name: Octets { items: [97] }, destination_name: Octets { items: [98] }, messages: \
-            Messages { items: [Octets { items: [] }] } })",
+            source_name: Octets { items: b\"a\" }, destination_name: Octets { items: b\"b\" }, messages: \
+            Messages { items: [Octets { items: b\"\" }] } })",
     ),
     (
         b"\x34\x00\x07\x00\x01\x05\x02\x00\x00\x00\x00\x61\x62\x63",
         "TowardReceiver One 1/1 1:5:2",
-        "FileData(FileData { offset: 0, octets: Octets { items: [97, 98, 99] } })",
+        "FileData(FileData { offset: 0, octets: Octets { items: b\"abc\" } })",
     ),
     (
         b"\x34\x00\x04\x00\x01\x05\x02\x00\x00\x00\x00",
         "TowardReceiver One 1/1 1:5:2",
-        "FileData(FileData { offset: 0, octets: Octets { items: [] } })",
+        "FileData(FileData { offset: 0, octets: Octets { items: b\"\" } })",
     ),
     (
         b"\x30\x00\x06\x11\x01\x01\x02\x03\x03\x02\xff\xff\xff\xff\x00\xff",
         "TowardReceiver Two 2/2 257:515:770",
-        "FileData(FileData { offset: 4294967295, octets: Octets { items: [0, 255] } })",
+        "FileData(FileData { offset: 4294967295, octets: Octets { items: b\"\\0\\xff\" } })",
     ),
 ];
 
