@@ -73,15 +73,7 @@ fn is_answered<
     let alloc: Global = rt.alloc();
     let mut written = Vec::new(alloc);
     let mut errors = Vec::new(alloc);
-    let status = serve(
-        rt,
-        &RuntimeFiles::new(rt),
-        words,
-        lines,
-        &mut written,
-        &mut errors,
-        false,
-    );
+    let status = serve(rt, files, words, lines, &mut written, &mut errors, false);
     status == 0 && written.as_slice() == text.as_bytes() && errors.is_empty()
 }
 

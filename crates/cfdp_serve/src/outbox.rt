@@ -114,6 +114,10 @@ impl<
         file: Result<Octets, ProgramFault>,
         now: u64,
     ) -> Result<(), AllocError> {
+        if self.station.is_held(waiting.file.destination) {
+            self.outgoing.give_back(waiting, now);
+            return Ok(());
+        }
         let file = match file {
             Ok(file) => file,
             Err(ProgramFault::NoMemory) => {

@@ -20,14 +20,15 @@ fn fault_of(error: &io::Error) -> ProgramFault {
     }
 }
 
-// The octets of a file, up to so many.
+// The octets of a file, up to so many, in room for so many at first.
 fn read_up_to<R: Files>(
     rt: &R,
     alloc: Global,
     path: &str,
     most: u64,
+    room: usize,
 ) -> Result<Vec<u8>, ProgramFault> {
-    let mut octets = Vec::new(alloc);
+    let mut octets = Vec::with_capacity(alloc, room)?;
     match File::open(rt, path) {
         Ok(file) => match file.take(most).read_to_end(&mut octets) {
             Ok(_) => Ok(octets),
@@ -46,7 +47,7 @@ pub(crate) fn read_configuration<R: Files>(
     alloc: Global,
     path: &str,
 ) -> Result<Result<Config, ConfigFault>, ProgramFault> {
-    let octets = read_up_to(rt, alloc, path, CONFIG_OCTETS)?;
+    let octets = read_up_to(rt, alloc, path, CONFIG_OCTETS, 0)?;
     match str::from_utf8(octets.as_slice()) {
         Ok(text) => Ok(read_config(alloc, text)),
         Err(_) => Ok(Err(ConfigFault::BadToml)),
@@ -66,7 +67,9 @@ pub fn load_config<R: Files>(rt: &R, alloc: Global, path: &str) -> Result<Config
 pub fn load_file<R: Files>(rt: &R, alloc: Global, path: &str) -> Result<Octets, ProgramFault> {
     match fs::metadata(rt, path) {
         Ok(found) if found.is_file() => {
-            let octets = read_up_to(rt, alloc, path, FILE_OCTETS as u64 + 1)?;
+            let most = FILE_OCTETS as u64 + 1;
+            let room = found.len().saturating_add(1).min(most) as usize;
+            let octets = read_up_to(rt, alloc, path, most, room)?;
             Ok(Octets::from_vec(octets)?)
         }
         Ok(_) => Err(ProgramFault::Read),

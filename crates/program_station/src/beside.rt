@@ -105,32 +105,17 @@ pub fn run_commanded<
         arrivals,
         forwarders,
     } = way_in;
-    let mut reader = reader;
     thread::scope(
         thread::scope_env(),
         rt,
         move |scope| -> Result<u8, ProgramFault> {
-            let Ok(_files) = scope.spawn(move || read_files(rt, alloc, files, desk)) else {
-                return Err(ProgramFault::Start);
-            };
             let Ok(workers) = scope.spawn(move || run_forwarders(
                 rt, alloc, entity, arrivals, forwarders, desk,
             )) else {
-                desk.close(rt);
                 return Err(ProgramFault::Start);
             };
             let config = entity.config();
-            let ended = match scope.spawn(move || read_lines(
-                rt,
-                alloc,
-                files,
-                config,
-                &mut reader,
-                desk,
-            )) {
-                Ok(_lines) => main_thread.work(),
-                Err(_) => Err(ProgramFault::Start),
-            };
+            let ended = work_commanded(rt, alloc, files, config, desk, reader, main_thread);
             desk.close(rt);
             wake_reader(socket);
             match workers.join(rt) {
@@ -181,6 +166,47 @@ pub fn run_controlled<
                 Ok(()) => ended,
                 Err(fault) => fault_beside(ended, fault),
             }
+        },
+    )
+}
+
+// The main thread's work beside a thread that reads files, and one that reads lines of commands.
+fn work_commanded<
+    'x,
+    R: Threads + Wait + Clock + Sync,
+    F: FileReader + Sync,
+    B: BufRead + Send + Drop,
+    M: MainThread + Drop,
+>(
+    rt: &'x R,
+    alloc: Global,
+    files: &'x F,
+    config: &'x Config,
+    desk: &'x Desk,
+    reader: B,
+    main_thread: M,
+) -> Result<u8, ProgramFault> {
+    let mut reader = reader;
+    thread::scope(
+        thread::scope_env(),
+        rt,
+        move |scope| -> Result<u8, ProgramFault> {
+            let Ok(_files) = scope.spawn(move || read_files(rt, alloc, files, desk)) else {
+                return Err(ProgramFault::Start);
+            };
+            let ended = match scope.spawn(move || read_lines(
+                rt,
+                alloc,
+                files,
+                config,
+                &mut reader,
+                desk,
+            )) {
+                Ok(_lines) => main_thread.work(),
+                Err(_) => Err(ProgramFault::Start),
+            };
+            desk.close(rt);
+            ended
         },
     )
 }

@@ -1,6 +1,7 @@
 use cfdp_types::Octets;
 use program_desk::{Desk, NextLine, Said, read_files};
 use program_seats::Asker;
+use program_start::RuntimeFiles;
 use server_lines::Command;
 use std::alloc::{AllocError, Global};
 use std::sync::Wait;
@@ -108,7 +109,7 @@ fn files(rt: HostRuntime) -> Result<(), Fail> {
     assert!(rt; desk.take_file(&rt).is_none() && desk.readings(&rt, alloc)?.is_empty());
     desk.want_file(&rt, Octets::from_slice(alloc, b"\xff")?);
     desk.close(&rt);
-    read_files(&rt, alloc, &desk);
+    read_files(&rt, alloc, &RuntimeFiles::new(rt), &desk);
     assert!(rt; desk.take_file(&rt).is_none());
     Ok(())
 }
