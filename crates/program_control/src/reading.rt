@@ -31,7 +31,7 @@ pub(crate) fn read_commands<R: Wait + Clock, F: FileReader, B: BufRead + Drop>(
             Ok(count) => {
                 if line.pop() == Some(b'\n') {
                     let said = said_by(rt, alloc, files, config, line.as_slice(), desk);
-                    ask(rt, asker, said, desk, seats) && line != b"quit".as_slice()
+                    ask(rt, asker, said, desk, seats) && line.as_slice() != b"quit".as_slice()
                 } else {
                     if count as u64 >= COMMAND_OCTETS {
                         let _answered = ask(rt, asker, Said::Nothing, desk, seats);
