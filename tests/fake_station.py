@@ -197,12 +197,13 @@ class Station:
                "clients": len(self.clients), "events": self.number,
                "counters": {"datagrams_in": 12, "octets_in": 9000, "datagrams_out": 3, "octets_out": 90, "failed_sends": 0,
                             "failed_reads": 0, "ended_reads": self.options.ended_reads, "foreign_datagrams": 0,
-                            "decode_faults": 1, "refused": 1, "stored": 1, "failed_stores": 0, "dropped_clients": 0},
-               "reading": [{"file": name, "since": int(self.begun * 1000)} for name in self.options.reading]}
+                            "decode_faults": 1, "refused": 1, "stored": 1, "failed_stores": 0, "dropped_clients": 0}}
         yield {"kind": "log", "failing": False, "written": self.number, "lost": 0}
         for name in self.options.users:
             yield {"kind": "user", "name": name, "waiting": 3, "capacity": 1024}
         yield from self.transactions()
+        for name in self.options.reading:
+            yield {"kind": "reading", "file": name, "since": moment(self.begun)}
         yield from self.queued()
         for number in (5, 7):
             held = self.held.get(number)

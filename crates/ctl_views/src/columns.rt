@@ -2,8 +2,8 @@
 use crate::columns::Column::{Left, Right};
 use crate::parts::Part;
 use crate::parts::Part::{
-    Age, Bar, Direction, End, Held, Moment, Name, Number, Octets, Percent, Rate, SomeNumber,
-    SomeText, Text, Words,
+    Age, Bar, Direction, End, Held, Name, Number, Octets, Percent, Rate, SomeNumber, SomeText,
+    Text, Words,
 };
 
 /// A column of a table: its head, and what its cells are made of.
@@ -43,8 +43,6 @@ pub(crate) enum Rows<'a> {
     Of(&'a str),
     /// Each transaction that has ended.
     Ended,
-    /// Each file that is being read for a Put.
-    Reading,
 }
 
 /// How the rows of a table are coloured.
@@ -129,11 +127,11 @@ pub(crate) const LAYOUTS: [Layout; 7] = [
         ],
     },
     Layout {
-        rows: Rows::Reading,
+        rows: Rows::Of("reading"),
         title: "Reading",
         shade: Shade::Plain,
         columns: &[
-            Left("since", &[Moment("since")]),
+            Left("since", &[Text("since", "?")]),
             Left("file", &[Name("file", "file_hex")]),
         ],
     },

@@ -68,31 +68,3 @@ fn number_at(octets: &[u8], from: usize, count: usize) -> Option<u64> {
     }
     Some(number)
 }
-
-/// Adds a moment in milliseconds since 1970, such as `2026-11-26T12:00:00.000Z`.
-pub(crate) fn push_moment(text: &mut String, milliseconds: u64) -> Result<(), AllocError> {
-    push_day(text, milliseconds / DAY)?;
-    let hours = milliseconds % DAY / HOUR;
-    let minutes = milliseconds % HOUR / MINUTE;
-    let seconds = milliseconds % MINUTE / SECOND;
-    let rest = milliseconds % SECOND;
-    write!(text, "T{hours:02}:{minutes:02}:{seconds:02}.{rest:03}Z")
-}
-
-// Adds a day of the Gregorian calendar by its number: 0 for the first of 1970. Days are counted in quarters, and in years that
-// begin in March, so that each month has 153 fifths of a day.
-fn push_day(text: &mut String, number: u64) -> Result<(), AllocError>
-    requires { number ≤ 213_503_982_334 }
-{
-    let quarters = 4 * (number + 719_468) + 3;
-    let in_century = quarters % 146_097 / 4 * 4 + 3;
-    let fifths = 5 * (in_century % 1461 / 4) + 461;
-    let year = 100 * (quarters / 146_097) + in_century / 1461;
-    let month = fifths / 153;
-    let day = fifths % 153 / 5 + 1;
-    if month > 12 {
-        write!(text, "{:04}-{:02}-{day:02}", year + 1, month - 12)
-    } else {
-        write!(text, "{year:04}-{month:02}-{day:02}")
-    }
-}

@@ -3,7 +3,6 @@ use crate::amounts::{push_age, push_bar, push_octets, push_rate};
 use crate::conditions::condition_words;
 use crate::ends::push_end;
 use crate::fields::{is_set, moment_in, number_in, push_name, share_in, text_in};
-use crate::moments::push_moment;
 use json::Value;
 use std::alloc::{AllocError, Global};
 
@@ -21,8 +20,6 @@ pub(crate) enum Part {
     Octets(&'static str, &'static str),
     /// A file's name, by its two members.
     Name(&'static str, &'static str),
-    /// A moment, given in milliseconds since 1970.
-    Moment(&'static str),
     /// Words, a number, and words behind it.
     SomeNumber(&'static str, &'static str, &'static str),
     /// Words, a text, and words behind it.
@@ -87,7 +84,6 @@ fn push_part(
         Part::Text(name, missing) => text.push_str(text_in(value, name).unwrap_or(missing)),
         Part::Octets(name, missing) => push_amount(text, number_in(value, name), missing),
         Part::Name(name, hex_name) => push_name(alloc, text, value, name, hex_name),
-        Part::Moment(name) => push_since(text, number_in(value, name)),
         Part::SomeNumber(front, name, back) => {
             push_some_number(text, front, number_in(value, name), back)
         }
@@ -128,13 +124,6 @@ fn push_amount(
     match octets {
         Some(octets) => push_octets(text, octets),
         None => text.push_str(missing),
-    }
-}
-
-fn push_since(text: &mut String, milliseconds: Option<u64>) -> Result<(), AllocError> {
-    match milliseconds {
-        Some(milliseconds) => push_moment(text, milliseconds),
-        None => text.push('?'),
     }
 }
 

@@ -68,14 +68,10 @@ pub(crate) fn push_record(
     }
 }
 
-// Adds the lines of the entity, and the files that are being read for Puts.
+// Adds the lines of the entity.
 fn push_entity(alloc: Global, tables: &mut Tables, value: &Value<'_>) -> Result<(), AllocError> {
     push_head(alloc, tables, value, ENTITY.as_slice())?;
-    push_ended_reads(alloc, tables, value)?;
-    match value.get("reading") {
-        Some(Value::Array(files)) => push_reading(alloc, tables, files.as_slice()),
-        _ => Ok(()),
-    }
+    push_ended_reads(alloc, tables, value)
 }
 
 // Adds how many workers read no more, where some don't.
@@ -90,13 +86,6 @@ fn push_ended_reads(
         }
         _ => Ok(()),
     }
-}
-
-fn push_reading(alloc: Global, tables: &mut Tables, files: &[Value<'_>]) -> Result<(), AllocError> {
-    for file in files {
-        push_row(alloc, tables, Rows::Reading, file, NO_LOOK)?;
-    }
-    Ok(())
 }
 
 fn push_log(alloc: Global, tables: &mut Tables, value: &Value<'_>) -> Result<(), AllocError> {
@@ -156,7 +145,7 @@ fn push_row(
 fn is_same(one: Rows<'_>, other: Rows<'_>) -> bool {
     match (one, other) {
         (Rows::Of(one), Rows::Of(other)) => one == other,
-        (Rows::Ended, Rows::Ended) | (Rows::Reading, Rows::Reading) => true,
+        (Rows::Ended, Rows::Ended) => true,
         _ => false,
     }
 }

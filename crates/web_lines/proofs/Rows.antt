@@ -44,7 +44,7 @@ names_of_kinds : map named (codes "entity" ∷ codes "queued" ∷ codes "entitie
 names_of_kinds = refl
 
 no_lines : document_text []
-    ≡ codes "{\"entities\":[],\"logs\":[],\"users\":[],\"transactions\":[],\"remotes\":[],\"refusals\":[],\"outbox\":[]}\n"
+    ≡ codes "{\"entities\":[],\"logs\":[],\"users\":[],\"transactions\":[],\"remotes\":[],\"refusals\":[],\"outbox\":[],\"reading\":[]}\n"
 unfolding document_text
 no_lines = refl
 

@@ -5,7 +5,7 @@ use Rattle.std.specs.Str.{bytes_eq}
 use Rattle.json.specs.Json.{Json, document}
 use Rattle.json.specs.Find.{get, as_str}
 use Rattle.web_lines.specs.declared.kind.Kind.{Kind}
-use Rattle.web_lines.specs.declared.kind.Kind.TheVariants.{Entity, Log, User, Transaction, Remote, Refusal, Queued}
+use Rattle.web_lines.specs.declared.kind.Kind.TheVariants.{Entity, Log, User, Transaction, Remote, Refusal, Queued, Reading}
 use Rattle.web_lines.specs.declared.lines.Line.{Line}
 
 -- the kind of this name
@@ -17,7 +17,8 @@ named name =
     else (if bytes_eq name (codes "transaction") then Some Transaction
     else (if bytes_eq name (codes "remote") then Some Remote
     else (if bytes_eq name (codes "refusal") then Some Refusal
-    else (if bytes_eq name (codes "queued") then Some Queued else None))))))
+    else (if bytes_eq name (codes "queued") then Some Queued
+    else (if bytes_eq name (codes "reading") then Some Reading else None)))))))
 
 -- the text of a value's member `kind`
 abbrev pub kind_name : Json → Option (List ℕ)
@@ -44,6 +45,7 @@ place_of Transaction = 3
 place_of Remote = 4
 place_of Refusal = 5
 place_of Queued = 6
+place_of Reading = 7
 
 -- a line is of a kind
 abbrev pub is_of_kind : Kind → Line → Bool
@@ -71,6 +73,7 @@ document_text lines =
     ++ codes "],\"remotes\":[" ++ list_text Remote lines
     ++ codes "],\"refusals\":[" ++ list_text Refusal lines
     ++ codes "],\"outbox\":[" ++ list_text Queued lines
+    ++ codes "],\"reading\":[" ++ list_text Reading lines
     ++ codes "]}\n"
 
 -- a document of lines that are whole JSON of their kinds

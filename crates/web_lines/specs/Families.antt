@@ -5,7 +5,7 @@ use Rattle.web_lines.specs.declared.told.Told.{Told}
 use Rattle.web_lines.specs.declared.families.Family.TheVariants.{Counter, Gauge}
 use Rattle.web_lines.specs.declared.kind.Kind.{Kind}
 use Rattle.web_lines.specs.declared.kind.Kind.TheVariants.{Entity, Log, Refusal, Remote, User}
-use Rattle.web_lines.specs.Numbers.{Spot, at_counter, at_known, at_list, at_member, at_truth, spot_of}
+use Rattle.web_lines.specs.Numbers.{Spot, at_counter, at_known, at_member, at_truth, spot_of}
 
 -- what is said of a family above its numbers
 pub record Head : Type 0 where
@@ -81,8 +81,6 @@ told_rows =
     Entity (at_counter (codes "failed_stores")) ∷
     told_row (counter (codes "cfdp_dropped_clients_total") (codes "Clients of the control socket that were cut because they did not read."))
     Entity (at_counter (codes "dropped_clients")) ∷
-    told_row (gauge (codes "cfdp_reading_files") (codes "Files that are being read for Puts."))
-    Entity (at_list (codes "reading")) ∷
     told_row (gauge (codes "cfdp_log_failing") (codes "Whether events do not reach the log."))
     Log (at_truth (codes "failing")) ∷
     told_row (counter (codes "cfdp_log_events_written_total") (codes "Events written to the log."))
@@ -117,9 +115,13 @@ states_head =
 abbrev pub outbox_head : Head
 outbox_head = gauge (codes "cfdp_outbox_files") (codes "Files that wait in the outbox.")
 
+-- how many files are being read
+abbrev pub reading_head : Head
+reading_head = gauge (codes "cfdp_reading_files") (codes "Files that are being read for Puts.")
+
 -- the families that count lines
 abbrev pub counted_heads : List Head
-counted_heads = states_head ∷ outbox_head ∷ []
+counted_heads = states_head ∷ outbox_head ∷ reading_head ∷ []
 
 -- all of them
 abbrev pub all_heads : List Head

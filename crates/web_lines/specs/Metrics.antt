@@ -6,8 +6,8 @@ use Rattle.web_lines.specs.declared.labels.Labels.{Labels}
 use Rattle.web_lines.specs.declared.labels.Labels.TheVariants.{Bare, One, Two}
 use Rattle.web_lines.specs.declared.lines.Line.{Line}
 use Rattle.web_lines.specs.Document.{IsKnown, count_of_kind, place_of}
-use Rattle.web_lines.specs.declared.kind.Kind.TheVariants.{Queued}
-use Rattle.web_lines.specs.Families.{Head, Row, outbox_head, states_head, told_rows, up_head}
+use Rattle.web_lines.specs.declared.kind.Kind.TheVariants.{Queued, Reading}
+use Rattle.web_lines.specs.Families.{Head, Row, outbox_head, reading_head, states_head, told_rows, up_head}
 use Rattle.web_lines.specs.Numbers.{IsNumberAt}
 
 -- an octet of a label's value: a backslash, a quote and a line feed have a backslash in front
@@ -68,9 +68,13 @@ up_text is_up = bare_text up_head is_up
 abbrev pub outbox_text : List Line → List ℕ
 outbox_text lines = bare_text outbox_head (count_of_kind Queued lines)
 
--- how many transactions are in each state and how many files wait come behind a text
+-- how many files are being read: the lines of that kind
+abbrev pub reading_text : List Line → List ℕ
+reading_text lines = bare_text reading_head (count_of_kind Reading lines)
+
+-- how many transactions are in each state, how many files wait and how many are being read come behind a text
 abbrev pub AddsCounts : List Line → List ℕ → List ℕ → Type 0
-AddsCounts lines old new = (states : List ℕ) × AddsFamily states_head old states × (new ≡ states ++ outbox_text lines)
+AddsCounts lines old new = (states : List ℕ) × AddsFamily states_head old states × (new ≡ states ++ outbox_text lines ++ reading_text lines)
 
 -- a number stands in a line of the row's kind, at its place
 abbrev pub IsToldBy : Row → Line → ℕ → Type 0

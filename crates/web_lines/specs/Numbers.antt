@@ -5,15 +5,14 @@ use Rattle.std.specs.Str.Parse.{ParsesUnsigned}
 use Rattle.json.specs.Json.{Json}
 use Rattle.json.specs.Find.{get, as_bool, as_number}
 use Rattle.web_lines.specs.declared.place.Place.{Place}
-use Rattle.web_lines.specs.declared.place.Place.TheVariants.{Member, Counted, Truth, Known, Listed}
+use Rattle.web_lines.specs.declared.place.Place.TheVariants.{Member, Counted, Truth, Known}
 
--- where a number stands: a member, a member of `counters`, one that is true or false, one that is there, or a list
+-- where a number stands: a member, a member of `counters`, one that is true or false, or one that is there
 pub data Spot : Type 0 where
   at_member : List ℕ → Spot
   at_counter : List ℕ → Spot
   at_truth : List ℕ → Spot
   at_known : List ℕ → Spot
-  at_list : List ℕ → Spot
 
 -- the place of the code
 abbrev pub spot_of : Place → Spot
@@ -21,7 +20,6 @@ spot_of (Member name) = at_member name.now
 spot_of (Counted name) = at_counter name.now
 spot_of (Truth name) = at_truth name.now
 spot_of (Known name) = at_known name.now
-spot_of (Listed name) = at_list name.now
 
 -- the whole number of 64 bits that a value is, if it is one
 abbrev pub IsWholeNumber : Option Json → Option ℕ → Type 0
@@ -34,10 +32,9 @@ abbrev pub bit : Bool → ℕ
 bit true = 1
 bit false = 0
 
--- the number at a place of a line, if there is one; of a list it is only said that it is none without the member
+-- the number at a place of a line, if there is one
 abbrev pub IsNumberAt : Spot → Json → Option ℕ → Type 0
 IsNumberAt (at_member name) line number = IsWholeNumber (get name line) number
 IsNumberAt (at_counter name) line number = IsWholeNumber (option_and_then (get name) (get (codes "counters") line)) number
 IsNumberAt (at_truth name) line number = number ≡ option_map bit (option_and_then as_bool (get name line))
 IsNumberAt (at_known name) line number = number ≡ option_map (λ value. 1) (get name line)
-IsNumberAt (at_list name) line number = get name line ≡ None → number ≡ None

@@ -2,7 +2,7 @@
 ghost use Rattle.std.specs.Prelude.{◌≡◌, ◌++◌, OnOk};
 ghost use Rattle.web_lines.specs.Document.{count_of_kind};
 ghost use Rattle.web_lines.specs.Families.{states_head};
-ghost use Rattle.web_lines.specs.Metrics.{AddsCounts, AddsFamily, AddsSamples, outbox_text};
+ghost use Rattle.web_lines.specs.Metrics.{AddsCounts, AddsFamily, AddsSamples, outbox_text, reading_text};
 
 use crate::families::{Family, push_head};
 use crate::kind::Kind;
@@ -57,7 +57,7 @@ impl States {
     }
 }
 
-/// Adds how many transactions are in each state, and how many files wait.
+/// Adds how many transactions are in each state, how many files wait, and how many are being read.
 pub(crate) fn push_counted(
     alloc: Global,
     text: &mut Vec<u8>,
@@ -67,7 +67,8 @@ pub(crate) fn push_counted(
 {
     let states = count_states(alloc, lines)?;
     push_states(text, states)?;
-    push_outbox(text, lines)
+    push_outbox(text, lines)?;
+    push_reading(text, lines)
 }
 
 // Adds how many transactions are in each state.
@@ -137,18 +138,31 @@ fn push_outbox(text: &mut Vec<u8>, lines: &[Line<'_>]) -> Result<(), AllocError>
         text,
         Family::Gauge("cfdp_outbox_files", "Files that wait in the outbox."),
     )?;
-    push_sample(text, "cfdp_outbox_files", Labels::Bare, count_queued(lines))
+    let waiting = count_lines(lines, Kind::Queued);
+    push_sample(text, "cfdp_outbox_files", Labels::Bare, waiting)
 }
 
-// How many files wait in the outbox.
-fn count_queued(lines: &[Line<'_>]) -> u64
-    ensures { result ≡ count_of_kind Kind.Queued lines.now }
+// Adds how many files are being read.
+fn push_reading(text: &mut Vec<u8>, lines: &[Line<'_>]) -> Result<(), AllocError>
+    ensures { OnOk result (text.new.items ≡ text.old.items ++ reading_text lines.now) }
 {
-    let mut waiting = 0u64;
+    push_head(
+        text,
+        Family::Gauge("cfdp_reading_files", "Files that are being read for Puts."),
+    )?;
+    let reading = count_lines(lines, Kind::Reading);
+    push_sample(text, "cfdp_reading_files", Labels::Bare, reading)
+}
+
+// How many lines are of a kind.
+fn count_lines(lines: &[Line<'_>], kind: Kind) -> u64
+    ensures { result ≡ count_of_kind kind lines.now }
+{
+    let mut count = 0u64;
     for line in lines {
-        if line.kind.place() == Kind::Queued.place() {
-            waiting += 1;
+        if line.kind.place() == kind.place() {
+            count += 1;
         }
     }
-    waiting
+    count
 }

@@ -16,6 +16,8 @@ pub enum Kind {
     Refusal,
     /// A file that waits in the outbox.
     Queued,
+    /// A file that is being read.
+    Reading,
 }
 
 impl Kind {
@@ -31,6 +33,7 @@ impl Kind {
             "remote" => Some(Kind::Remote),
             "refusal" => Some(Kind::Refusal),
             "queued" => Some(Kind::Queued),
+            "reading" => Some(Kind::Reading),
             _ => None,
         }
     }
@@ -47,6 +50,7 @@ impl Kind {
             Kind::Remote => 4,
             Kind::Refusal => 5,
             Kind::Queued => 6,
+            Kind::Reading => 7,
         }
     }
 

@@ -19,8 +19,6 @@ pub(crate) enum Place {
     Truth(&'static str),
     /// A member that is there: 1.
     Known(&'static str),
-    /// A member that is a list: how many items it has.
-    Listed(&'static str),
 }
 
 impl Place {
@@ -33,7 +31,6 @@ impl Place {
             Place::Counted(name) => counter_in(value, name),
             Place::Truth(name) => truth_in(value, name),
             Place::Known(name) => known_in(value, name),
-            Place::Listed(name) => listed_in(value, name),
         }
     }
 }
@@ -85,16 +82,6 @@ fn known_in(value: &Value<'_>, name: &str) -> Option<u64>
     match value.get(name) {
         Some(_) => Some(1),
         None => None,
-    }
-}
-
-// How many items the list has that a member is.
-fn listed_in(value: &Value<'_>, name: &str) -> Option<u64>
-    ensures { get name.now (value_view value.now) ≡ None → result ≡ None }
-{
-    match value.get(name) {
-        Some(Value::Array(items)) => Some(items.len() as u64),
-        _ => None,
     }
 }
 

@@ -4,14 +4,14 @@ use crate::families::Family::{Counter, Gauge};
 use crate::kind::Kind;
 use crate::kind::Kind::{Entity, Log, Refusal, Remote, User};
 use crate::place::Place;
-use crate::place::Place::{Counted, Known, Listed, Member, Truth};
+use crate::place::Place::{Counted, Known, Member, Truth};
 
 /// A family, the kind of the lines that have its numbers, and where they stand there.
 #[derive(Clone, Copy, Debug)]
 pub(crate) struct Told(pub(crate) Family, pub(crate) Kind, pub(crate) Place);
 
 /// The families whose numbers stand in lines.
-pub(crate) const TOLD: [Told; 30] = [
+pub(crate) const TOLD: [Told; 29] = [
     Told(
         Gauge(
             "cfdp_entity_info",
@@ -123,11 +123,6 @@ pub(crate) const TOLD: [Told; 30] = [
         ),
         Entity,
         Counted("dropped_clients"),
-    ),
-    Told(
-        Gauge("cfdp_reading_files", "Files that are being read for Puts."),
-        Entity,
-        Listed("reading"),
     ),
     Told(
         Gauge("cfdp_log_failing", "Whether events do not reach the log."),

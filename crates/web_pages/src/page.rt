@@ -239,8 +239,7 @@ const outbox = new Table("outbox", [
   ["File", named(names)], ["Class", plain(q => String(q.class))], ["Since", plain(q => moment(q.since))],
   ["", buttons(q => [["Drop", "drop " + number(q, "number"), "file " + number(q, "number") + " of the outbox"]])]
 ], "Nothing waits.");
-const dated = ms => { const d = new Date(ms); return isNaN(d) ? "" : moment(d.toISOString()); };
-const reading = new Table("reading", [["Since", plain(r => dated(r.since))], ["File", named(r => text(r, "file"))]], "No file is being read.");
+const reading = new Table("reading", [["Since", plain(r => moment(r.since))], ["File", named(r => text(r, "file"))]], "No file is being read.");
 const refusals = new Table("refusals", [
   ["Refusal", plain(r => r.number + " " + r.name + (r.fault === undefined ? "" : ", fault " + r.fault))], ["Count", plain(r => String(r.count))],
   ["Last", plain(r => moment(r.last))], ["From", plain(r => r.from || "")], ["Octets", named(r => r.octets || "")]
@@ -281,7 +280,7 @@ function show(all) {
   users.show(all.users, u => u.name);
   remotes.show(all.remotes, r => number(r, "id"));
   outbox.show(all.outbox, q => number(q, "number"));
-  reading.show(entity.reading || [], r => r.since + " " + text(r, "file"));
+  reading.show(all.reading, r => r.since + " " + text(r, "file"));
   refusals.show(all.refusals, r => r.number + "." + r.fault);
   const c = entity.counters || {}, log = all.logs[0];
   at("title").textContent = "CFDP entity " + number(entity, "id");

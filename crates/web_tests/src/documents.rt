@@ -2,7 +2,7 @@ use std::test::Fail;
 use web_lines::{event_number, no_metrics, start_moment, to_document, to_metrics};
 
 const LINES: &str = "{\"kind\":\"entity\",\"id\":2,\"version\":\"0.1\",\"started\":\"now\",\
-\"counters\":{\"datagrams_in\":12,\"ended_reads\":2},\"reading\":[{\"file\":\"a\",\"since\":7}]}\n\
+\"counters\":{\"datagrams_in\":12,\"ended_reads\":2}}\n{\"kind\":\"reading\",\"file\":\"a\"}\n\
 {\"kind\":\"user\",\"name\":\"a\\\"b\",\"waiting\":3,\"capacity\":8}\nno JSON\n{\"kind\":\"unknown\"}\n\
 {\"kind\":\"transaction\",\"seq\":9007199254740993,\"state\":\"active\"}\n\
 {\"kind\":\"refusal\",\"name\":\"DecodeFault\",\"fault\":3,\"count\":5}\n";
@@ -12,10 +12,10 @@ fn a_document_has_the_lines(rt: HostRuntime) -> Result<(), Fail> {
     let document = to_document(rt.alloc(), LINES)?;
     let wanted =
         "{\"entities\":[{\"kind\":\"entity\",\"id\":2,\"version\":\"0.1\",\"started\":\"now\",\
-\"counters\":{\"datagrams_in\":12,\"ended_reads\":2},\"reading\":[{\"file\":\"a\",\"since\":7}]}],\
+\"counters\":{\"datagrams_in\":12,\"ended_reads\":2}}],\
 \"logs\":[],\"users\":[{\"kind\":\"user\",\"name\":\"a\\\"b\",\"waiting\":3,\"capacity\":8}],\
 \"transactions\":[{\"kind\":\"transaction\",\"seq\":9007199254740993,\"state\":\"active\"}],\"remotes\":[],\
-\"refusals\":[{\"kind\":\"refusal\",\"name\":\"DecodeFault\",\"fault\":3,\"count\":5}],\"outbox\":[]}\n";
+\"refusals\":[{\"kind\":\"refusal\",\"name\":\"DecodeFault\",\"fault\":3,\"count\":5}],\"outbox\":[],\"reading\":[{\"kind\":\"reading\",\"file\":\"a\"}]}\n";
     assert_eq!(rt; str::from_utf8(document.as_slice())?, wanted);
     Ok(())
 }
