@@ -17,7 +17,7 @@ MEANING, CODE, ROWS = "Meaning", "Of the code", "Rows"
 
 # The crates whose public calls carry the promises of the README, as its table names them.
 PROMISING = """entity_routing user_queues world_table world_core world_laws shared_lanes shared_entity entity_workers
-ends_schedules pdu_codec entity_config script_replay server_lines web_lines web_pages""".split()
+ends_schedules pdu_codec entity_config script_replay server_lines web_lines web_pages web_console""".split()
 
 INTRO = """# What has to be believed
 
@@ -116,7 +116,7 @@ printed lines: indications; answers and refusals: answer_texts/ToldTexts AnswerT
 what a line of a script says: script_lines/Commands
 a reader's lines, what a writer gains, how the end of a run is reported: script_io/Lines Output Ending
 what a line does to a script's session, what it prints, and a whole script: script_replay/Sessions Texts Run
-what a line of a server's commands asks for: server_lines/Commands
+what a line of a server's commands asks for, and what of it is left at the desk: server_lines/Commands program_desk/Says
 options and words of the programs; numbers on a command line: program_words/Lines Numbers
 turns of files, timers and deposits; what becomes of a refusal: program_agenda/Turns Fates program_station/Obstacles
 the pace of what leaves, and its law: program_agenda/Paces PaceLaws
