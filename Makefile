@@ -1,6 +1,6 @@
 SHELL := /bin/bash
 .SHELLFLAGS := -o pipefail -c
-.PHONY: demo try build programs programs-at-once web transfer install install-web browser memory test bench soak
+.PHONY: demo try build programs web transfer install install-web browser memory test bench soak
 
 program := crates/cfdp_replay/out/cfdp_replay
 server := crates/cfdp_server/out/cfdp_server
@@ -30,19 +30,9 @@ build:
 	@rm -f crates/cfdp_replay/build.log
 	@echo "The program: $(program)"
 
-# the server, the put and the program that commands a server, proved and built
+# the server, the put and the program that commands a server, proved and built, with as many crates side by side as there are
+# processors and memory for; in a folder of its own, which keeps what was proved
 programs:
-	@echo "Proving the programs and all that they stand on, and building them: the first time takes as long as"
-	@echo "proving does, half an hour or more."
-	@for one in cfdp_server cfdp_put cfdp_ctl; do \
-	    (cd crates/$$one && rt run -- --version < /dev/null 2>&1 | tee build.log \
-	        | sed -un 's/^rt: chose --jobs [0-9]* for \(.*\)/    \1 .../p; s/^crate \([a-z_]*\): .*/    \1 is proved/p' \
-	        || { cat build.log; exit 1; }; rm -f build.log) || exit 1; \
-	done
-	@echo "The programs: $(server), $(put) and $(ctl)"
-
-# the same on all processors, in a folder of its own; not yet run to its end
-programs-at-once:
 	@tools/build.py cfdp_server cfdp_put cfdp_ctl
 
 # the console in the browser, proved and built: it stands on none of the server's crates, so this takes minutes
