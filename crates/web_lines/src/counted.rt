@@ -1,8 +1,8 @@
 //! Families that count lines.
 ghost use Rattle.std.specs.Prelude.{◌≡◌, ◌++◌, OnOk};
 ghost use Rattle.web_lines.specs.Document.{count_of_kind};
-ghost use Rattle.web_lines.specs.Families.{states_head};
-ghost use Rattle.web_lines.specs.Metrics.{AddsCounts, AddsFamily, AddsSamples, outbox_text, reading_text};
+ghost use Rattle.web_lines.specs.Families.{head_of, states_head};
+ghost use Rattle.web_lines.specs.Metrics.{AddsCounts, AddsFamily, AddsSamples, bare_text, outbox_text, reading_text};
 
 use crate::families::{Family, push_head};
 use crate::kind::Kind;
@@ -134,24 +134,24 @@ fn count_line(
 fn push_outbox(text: &mut Vec<u8>, lines: &[Line<'_>]) -> Result<(), AllocError>
     ensures { OnOk result (text.new.items ≡ text.old.items ++ outbox_text lines.now) }
 {
-    push_head(
-        text,
-        Family::Gauge("cfdp_outbox_files", "Files that wait in the outbox."),
-    )?;
-    let waiting = count_lines(lines, Kind::Queued);
-    push_sample(text, "cfdp_outbox_files", Labels::Bare, waiting)
+    let family = Family::Gauge("cfdp_outbox_files", "Files that wait in the outbox.");
+    push_bare(text, family, count_lines(lines, Kind::Queued))
 }
 
 // Adds how many files are being read.
 fn push_reading(text: &mut Vec<u8>, lines: &[Line<'_>]) -> Result<(), AllocError>
     ensures { OnOk result (text.new.items ≡ text.old.items ++ reading_text lines.now) }
 {
-    push_head(
-        text,
-        Family::Gauge("cfdp_reading_files", "Files that are being read for Puts."),
-    )?;
-    let reading = count_lines(lines, Kind::Reading);
-    push_sample(text, "cfdp_reading_files", Labels::Bare, reading)
+    let family = Family::Gauge("cfdp_reading_files", "Files that are being read for Puts.");
+    push_bare(text, family, count_lines(lines, Kind::Reading))
+}
+
+// Adds a family with one number, which has no labels.
+fn push_bare(text: &mut Vec<u8>, family: Family, number: u64) -> Result<(), AllocError>
+    ensures { OnOk result (text.new.items ≡ text.old.items ++ bare_text (head_of family) number) }
+{
+    push_head(text, family)?;
+    push_sample(text, family.name(), Labels::Bare, number)
 }
 
 // How many lines are of a kind.
