@@ -10,12 +10,12 @@ hostile := crates/hostile_runs/out/hostile_runs
 web := crates/cfdp_web/out/cfdp_web
 PREFIX ?= /usr/local
 
-# a first look: a file is received whose parts were lost and asked for again, and a file crosses loopback between both
-# programs; nothing is proved
+# a first look: a file is received whose segments were lost and asked for again, and a file crosses loopback between both
+# programs, which are compiled meanwhile; nothing is proved
 demo:
-	@examples/demo.sh examples/lost-segments.script
-	@echo
-	@examples/demo-transfer.sh 2000000
+	@log=$$(mktemp); examples/demo-transfer.sh 2000000 > $$log 2>&1 & transfer=$$!; \
+	    status=0; examples/demo.sh examples/lost-segments.script || status=$$?; echo; \
+	    tail -n +1 -f --pid=$$transfer $$log; wait $$transfer || status=$$?; rm -f $$log; exit $$status
 
 # all tests of crates, unproved, side by side: minutes in place of hours for who changes something; no gate
 try:
