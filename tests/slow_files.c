@@ -29,31 +29,20 @@ static mode_t mode_in(int flags, va_list rest)
     return flags & (O_CREAT | O_TMPFILE) ? va_arg(rest, mode_t) : 0;
 }
 
-#define OPENS(name)                                                                             \
-    int name(const char *path, int flags, ...)                                                  \
-    {                                                                                           \
-        va_list words;                                                                          \
-        va_start(words, flags);                                                                 \
-        mode_t mode = mode_in(flags, words);                                                    \
-        va_end(words);                                                                          \
-        rest(path);                                                                             \
-        int (*next)(const char *, int, ...) = (int (*)(const char *, int, ...))dlsym(RTLD_NEXT, #name); \
-        return next(path, flags, mode);                                                         \
+/* A call that opens a file, with the words that it takes and those that it hands on. */
+#define OPENS(name, takes, gives)                                       \
+    int name takes                                                      \
+    {                                                                   \
+        va_list words;                                                  \
+        va_start(words, flags);                                         \
+        mode_t mode = mode_in(flags, words);                            \
+        va_end(words);                                                  \
+        rest(path);                                                     \
+        int (*next) takes = (int (*) takes)dlsym(RTLD_NEXT, #name);     \
+        return next gives;                                              \
     }
 
-#define OPENS_AT(name)                                                                          \
-    int name(int folder, const char *path, int flags, ...)                                      \
-    {                                                                                           \
-        va_list words;                                                                          \
-        va_start(words, flags);                                                                 \
-        mode_t mode = mode_in(flags, words);                                                    \
-        va_end(words);                                                                          \
-        rest(path);                                                                             \
-        int (*next)(int, const char *, int, ...) = (int (*)(int, const char *, int, ...))dlsym(RTLD_NEXT, #name); \
-        return next(folder, path, flags, mode);                                                 \
-    }
-
-OPENS(open)
-OPENS(open64)
-OPENS_AT(openat)
-OPENS_AT(openat64)
+OPENS(open, (const char *path, int flags, ...), (path, flags, mode))
+OPENS(open64, (const char *path, int flags, ...), (path, flags, mode))
+OPENS(openat, (int folder, const char *path, int flags, ...), (folder, path, flags, mode))
+OPENS(openat64, (int folder, const char *path, int flags, ...), (folder, path, flags, mode))
