@@ -3,9 +3,11 @@
 
 usage: tools/build.py PROGRAM..
 
-The crates that the programs stand on are copied into a folder of their own, which keeps what was proved ($BINESUNSET_BUILD, or
-~/.cache/binesunset), and are proved there. Each program is put into its crate's folder out/.
+The crates that the programs stand on are copied into a folder of their own ($BINESUNSET_BUILD, or ~/.cache/binesunset), without
+the must-fail edits, and `rt ci` proves and builds them there. The programs go into their crates' folders out/. Where nothing has
+changed since the last build, it is taken as it is.
 """
+import hashlib
 import os
 import pathlib
 import re
@@ -15,9 +17,6 @@ import sys
 
 TOP = pathlib.Path(__file__).resolve().parent.parent
 ROOM = pathlib.Path(os.environ.get("BINESUNSET_BUILD") or pathlib.Path.home() / ".cache" / "binesunset")
-
-# How much memory a check takes, in bytes, with room to spare.
-CHECK_OCTETS = 4 * 2**30
 
 
 def crates():
@@ -42,56 +41,47 @@ def needed(programs, uses):
     return found
 
 
-def side_by_side():
-    """How many checks run at once."""
-    memory = os.sysconf("SC_PAGE_SIZE") * os.sysconf("SC_PHYS_PAGES")
-    return max(1, min(len(os.sched_getaffinity(0)), memory // CHECK_OCTETS))
+def sources(name):
+    """The files that a crate is made of, by their places below the crate's folder."""
+    folder = TOP / "crates" / name
+    paths = (path.relative_to(folder) for path in folder.rglob("*") if path.is_file())
+    return sorted(path for path in paths if path.parts[0] not in ("out", "must-fail"))
 
 
-def copy(names, lines):
-    """Copies the crates, where they have changed; what was proved there stays."""
+def sum_of(names, lines):
+    """A sum of all that the programs are made of, the kit included."""
+    found = hashlib.sha256(subprocess.run(["rt", "version"], stdout=subprocess.PIPE, check=True).stdout)
+    for name in sorted(names):
+        found.update(lines[name].encode())
+        for path in sources(name):
+            found.update(f"\n{name}/{path}\n".encode() + (TOP / "crates" / name / path).read_bytes())
+    return found.hexdigest()
+
+
+def copy(room, names, lines):
+    """Copies the crates into a new folder."""
+    shutil.rmtree(room, ignore_errors=True)
     for name in names:
-        source, target = TOP / "crates" / name, ROOM / "crates" / name
-        there = {path.relative_to(source) for path in source.rglob("*") if path.is_file() and "out" not in path.relative_to(source).parts}
-        for old in [path for path in target.rglob("*") if path.is_file() and "out" not in path.relative_to(target).parts]:
-            if old.relative_to(target) not in there:
-                old.unlink()
-        for path in there:
-            to = target / path
-            if not to.exists() or to.read_bytes() != (source / path).read_bytes():
-                to.parent.mkdir(parents=True, exist_ok=True)
-                shutil.copy2(source / path, to)
-    for gone in set(os.listdir(ROOM / "crates")) - names:
-        shutil.rmtree(ROOM / "crates" / gone)
-    (ROOM / "crates.txt").write_text("".join(lines[name] + "\n" for name in lines if name in names))
-    shutil.copy2(TOP / "HANDLES", ROOM / "HANDLES")
+        for path in sources(name):
+            to = room / "crates" / name / path
+            to.parent.mkdir(parents=True, exist_ok=True)
+            shutil.copy2(TOP / "crates" / name / path, to)
+    (room / "crates.txt").write_text("".join(lines[name] + "\n" for name in lines if name in names))
+    shutil.copy2(TOP / "HANDLES", room / "HANDLES")
 
 
-def prove(names):
-    """Proves the crates, and says how far it is."""
+def prove(room, names):
+    """Proves the crates and builds the programs, and says how far it is."""
     done, told = 0, []
-    with subprocess.Popen(["rt", "all", "check", "--jobs", str(side_by_side())], cwd=ROOM, stdin=subprocess.DEVNULL,
-                          stdout=subprocess.PIPE, stderr=subprocess.STDOUT, text=True, errors="replace") as run:
+    with subprocess.Popen(["rt", "ci"], cwd=room, stdin=subprocess.DEVNULL, stdout=subprocess.PIPE, stderr=subprocess.STDOUT,
+                          text=True, errors="replace") as run:
         for line in run.stdout:
             told.append(line)
-            if found := re.match(r"== (\w+)$", line):
+            if found := re.match(r"rt: (\w+) proved$", line):
                 done += 1
                 print(f"    {done} of {len(names)} crates: {found[1]}", flush=True)
     if run.returncode:
         sys.exit("".join(told[-200:]) + "tools/build.py: a proof failed")
-
-
-def build(program):
-    """Builds a program over what was proved, and puts it into its crate's folder."""
-    run = subprocess.run(["rt", "run", "--", "--version"], cwd=ROOM / "crates" / program, stdin=subprocess.DEVNULL,
-                         stdout=subprocess.PIPE, stderr=subprocess.STDOUT, text=True, errors="replace", check=False)
-    made = ROOM / "crates" / program / "out" / program
-    if run.returncode or not made.exists():
-        sys.exit(run.stdout[-20_000:] + f"tools/build.py: {program} was not built")
-    out = TOP / "crates" / program / "out"
-    out.mkdir(exist_ok=True)
-    shutil.copy2(made, out / program)
-    print(f"The program: {(out / program).relative_to(TOP)}", flush=True)
 
 
 def main():
@@ -100,12 +90,18 @@ def main():
     if not programs or any(program not in lines for program in programs):
         sys.exit(__doc__)
     names = needed(programs, uses)
-    print(f"Proving {len(names)} crates, {side_by_side()} side by side, and building {' and '.join(programs)}.", flush=True)
-    (ROOM / "crates").mkdir(parents=True, exist_ok=True)
-    copy(names, lines)
-    prove(names)
+    room, made_of = ROOM / "-".join(programs), sum_of(names, lines)
+    built = room / "built"
+    if not built.exists() or built.read_text() != made_of:
+        print(f"Proving {len(names)} crates, side by side, and building {' and '.join(programs)}.", flush=True)
+        copy(room, names, lines)
+        prove(room, names)
+        built.write_text(made_of)
     for program in programs:
-        build(program)
+        out = TOP / "crates" / program / "out"
+        out.mkdir(exist_ok=True)
+        shutil.copy2(room / "crates" / program / "out" / program, out / program)
+        print(f"The program: {(out / program).relative_to(TOP)}", flush=True)
 
 
 main()
