@@ -1,6 +1,6 @@
 #!/usr/bin/env bash
-# Moves a file between the server and the put over loopback, in class 2, and compares what came with what was sent. Both run
-# as they stand, with nothing proved.
+# Moves a file between the server and the put over loopback, in class 2, and compares what came with what was sent. Both
+# programs run unproved.
 # usage: examples/demo-transfer.sh OCTETS
 set -euo pipefail
 octets=$1
@@ -13,7 +13,7 @@ leave() {
 }
 trap leave EXIT
 
-# tells TEXT: the run did not go as it should.
+# tells TEXT: prints why the run failed, and ends it.
 tells() {
     echo "$1"
     tail -n 20 "$work"/server.log "$work"/put.log 2> /dev/null || true
@@ -35,7 +35,7 @@ with socket.socket(socket.AF_UNIX) as client:
 CLIENT
 }
 
-# runs PROGRAM WORDS..: runs a program of this repository as it stands.
+# runs PROGRAM WORDS..: runs a program of this repository, unproved.
 runs() {
     cd "$top/crates/$1"
     exec rt try --steps 1000000000000 --seconds 240 -- "${@:2}"

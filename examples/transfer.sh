@@ -1,13 +1,13 @@
 #!/usr/bin/env bash
 # Moves a file between two processes over loopback, and compares what came with what was sent.
 # usage: examples/transfer.sh SERVER PUT CLASS OCTETS LOSE_EACH DOUBLE_EACH [--closure]
-# Between them stands a relay that loses and doubles datagrams by a fixed pattern (0: none). All of it ends by itself.
+# A relay between them loses and doubles datagrams in a fixed pattern (0: none). Everything ends by itself.
 set -euo pipefail
 here=$(dirname "$(realpath "$0")")/transfer
 server=$(realpath "$1") put=$(realpath "$2")
 class=$3 octets=$4 lose=$5 double=$6
 closure=("${@:7}")
-# in class 1 nothing asks for what a full buffer lost, so it goes slowly enough that none is ever full
+# In class 1 nothing asks again for what a full buffer lost, so the rate is low enough that no buffer is ever full.
 rate=$([ "$class" = 1 ] && echo 500000 || echo 4000000)
 cd "$(mktemp -d)"
 started=()
@@ -17,14 +17,14 @@ leave() {
 }
 trap leave EXIT
 
-# tells TEXT: the run did not go as it should.
+# tells TEXT: prints why the run failed, and ends it.
 tells() {
     echo "transfer in class $class: $1"
     tail -n 5 relayed served printed told 2> /dev/null || true
     exit 1
 }
 
-# four ports that are free, for the server, the put, and both ends of the relay
+# four free ports: for the server, the put, and both ends of the relay
 read -r at_server at_put to_put to_server < <(python3 - <<'PORTS'
 import socket
 found = [socket.socket(socket.AF_INET, socket.SOCK_DGRAM) for _ in range(4)]
@@ -65,7 +65,7 @@ status=0
 timeout 240 "$put" --config spacecraft.toml --bind "127.0.0.1:$at_put" --user alice --remote 2 --class "$class" \
     --rate "$rate" "${closure[@]}" image image.received > printed 2> told || status=$?
 
-# what the server tells last of the file, and then the file itself
+# the last indication of the file at the server, and then the file itself
 for _ in $(seq 300); do
     grep -qs 'Transaction-Finished' served && break
     sleep 0.1
@@ -79,6 +79,6 @@ echo "class $class ${closure[*]}, $octets octets: $(tail -n 1 relayed)"
 echo "the put ended with status $status: $(tail -n 1 printed)"
 echo "the server told: $(grep 'Transaction-Finished' served || echo nothing of an end)"
 cmp image received/image.received || tells "the file that came is another"
-# a sender in class 1 hears how its file came only where it asks for closure
+# a sender in class 1 learns what became of its file only if it asks for closure
 [ "$status" = "$([ "$class${closure[*]}" = 1 ] && echo 2 || echo 0)" ] || tells "the put's status is $status"
 echo "the file came whole"

@@ -1,11 +1,11 @@
 #!/usr/bin/env python3
-"""Stands between two programs on loopback, and loses and doubles datagrams by a fixed pattern.
+"""A relay between two programs on loopback, which loses and doubles datagrams in a fixed pattern.
 
 usage: relay.py HERE_A PORT_A HERE_B PORT_B LOSE_EACH DOUBLE_EACH [SECONDS]
 
-What comes to port HERE_A goes to PORT_A, and what comes to HERE_B to PORT_B; of all datagrams each LOSE_EACH-th is
-lost and each DOUBLE_EACH-th is sent twice (0: none). It ends when its standard input does, or after so many seconds (300 where
-none are given), and then prints how many came, were lost and were doubled.
+What comes to port HERE_A goes to PORT_A, and what comes to HERE_B goes to PORT_B. Of all datagrams each LOSE_EACH-th is
+lost and each DOUBLE_EACH-th is sent twice (0: none). The relay ends when its standard input does, or after SECONDS
+seconds (300 if not given), and then prints how many datagrams came, were lost and were doubled.
 """
 import select
 import socket
