@@ -1,6 +1,6 @@
 use crate::octets::Octets;
 
-/// A received file, as it is handed to the filestore.
+/// A received file, as it is handed to the file store.
 #[derive(Debug, Drop, PartialEq, Eq)]
 pub struct Image {
     /// The file's name at the sender.

@@ -13,7 +13,7 @@ pub const SEGMENT_OCTETS_MOST: u16 = 1_400;
 /// Events in a lane's journal.
 pub const JOURNAL_ENTRIES: u32 = 262_144;
 
-/// The last places of the journal, reserved for the filestore's answer and for Abandon.
+/// The last places of the journal, reserved for the file store's answer and for Abandon.
 pub const JOURNAL_ENTRIES_KEPT: u32 = 2;
 
 /// Local users.

@@ -54,9 +54,9 @@ pub enum Delivery {
 pub enum FileStatus {
     /// Discarded deliberately.
     Discarded,
-    /// Discarded because the filestore rejected it.
+    /// Discarded because the file store rejected it.
     Rejected,
-    /// Retained in the filestore.
+    /// Retained in the file store.
     Retained,
     /// Not reported by the receiver.
     Unreported,

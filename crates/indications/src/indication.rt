@@ -14,7 +14,7 @@ pub enum Phase {
     /// None of the other phases.
     Active,
     Suspended,
-    /// The file is complete, and the filestore has not answered yet.
+    /// The file is complete, and the file store has not answered yet.
     Storing,
     /// The end is being agreed on with the other entity.
     Closing,

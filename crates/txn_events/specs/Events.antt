@@ -30,7 +30,7 @@ abbrev pub is_of_other_class : Class → What → Bool
 is_of_other_class class (what.Pdu pdu) = not (is_same_class pdu.header.class class)
 is_of_other_class class _ = false
 
--- JournalFull: the filestore's answer and Abandon are never refused so
+-- JournalFull: the file store's answer and Abandon are never refused so
 abbrev pub needs_room : What → Bool
 needs_room (what.Stored stamp kept) = false
 needs_room what.Abandon = false

@@ -11,6 +11,6 @@ pub struct Answer {
     pub pdus: Pdus,
     /// The operations on the transaction's timers, in order.
     pub timers: TimerOps,
-    /// A received file that is handed to the filestore; never at a sender.
+    /// A received file that is handed to the file store; never at a sender.
     pub deposit: Option<Deposit>,
 }

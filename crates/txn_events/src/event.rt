@@ -23,7 +23,7 @@ pub enum What {
     Pdu(Pdu),
     /// The timer that was armed with this stamp expired.
     Timer(TimerKind, u32),
-    /// The filestore answered the deposit with this stamp; true if it keeps the file.
+    /// The file store answered the deposit with this stamp; true if it keeps the file.
     Stored(u32, bool),
 }
 

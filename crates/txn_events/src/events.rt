@@ -20,7 +20,7 @@ pub fn is_of_other_class(class: Class, event: &What) -> bool
     }
 }
 
-/// Whether the event is refused when the journal is full. The filestore's answer and Abandon are not: places are
+/// Whether the event is refused when the journal is full. The file store's answer and Abandon are not: places are
 /// reserved for them.
 pub fn needs_room(event: &What) -> bool
     ensures { result ≡ asked.needs_room event.now }

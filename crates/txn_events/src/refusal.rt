@@ -19,7 +19,7 @@ pub enum Refusal {
     StaleTimer = 5,
     /// No deposit with this stamp is waiting for an answer.
     StaleStored = 6,
-    /// A deposit is waiting for the filestore's answer.
+    /// A deposit is waiting for the file store's answer.
     Storing = 7,
     /// The event is not possible in the state of the transaction.
     WrongState = 8,
