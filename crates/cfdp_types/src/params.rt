@@ -127,7 +127,7 @@ pub struct ParamsParts {
     pub timers: TimerLengths,
     /// Which expiration of each timer is a fault, counted from one.
     pub limits: ExpirationLimits,
-    /// What is done at a fault.
+    /// The fault table of each role.
     pub tables: FaultTables,
     /// The checksum of the files that this entity sends.
     pub checksum: Checksum,
@@ -222,7 +222,7 @@ impl Params {
         self.parts.limits
     }
 
-    /// What is done at a fault.
+    /// The fault table of each role.
     pub fn tables(&self) -> FaultTables
         ensures tables { result ≡ self.now.tables }
         ensures roles { AreFaultTables result }

@@ -65,7 +65,7 @@ pub record MaySend (outlet : OutletView) (bundle : Bundle) : Type 0 where
   pub of_lane : bundle.lane ≡ outlet.lane
   pub goes_on : IsSomeLaneList outlet.user outlet.lane (outlet.sent ++ bundle ∷ [])
 
--- what was taken of each lane is the beginning of what a lane may send
+-- what was taken of each lane is a lane list
 abbrev pub IsTakenInOrder : PortView → Type 0
 IsTakenInOrder port = (lane : ℕ) → IsSomeLaneList port.user lane (of_lane lane port.taken)
 

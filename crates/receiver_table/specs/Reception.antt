@@ -30,7 +30,7 @@ use Rattle.txn_events.specs.Logs as logs
 pub record Reception : Type 0 where
   pub key : TxnKey
   pub params : ParamsParts
-  -- of the PDU that opened it: its transmission mode gives the class, and its lengths are used in the PDUs sent
+  -- the header of the PDU that opened it: its mode gives the class, and its lengths are used in the PDUs sent
   pub header : Header
 
 -- an accepted event with its answer

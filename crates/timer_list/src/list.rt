@@ -95,7 +95,6 @@ impl TimerList {
 
     /// Removes the first timer in the list that has expired at `now`. The cost does not grow with the list where the
     /// least known deadline shows that none has expired. Otherwise the list is searched up to that timer or its end.
-    /// gone through up to that timer, and to its end where there is none.
     pub fn due(&mut self, now: u64) -> Option<Armed>
         ensures timer { result ≡ first_due now self.old }
         ensures others { self.new ≡ without_due now self.old }
