@@ -40,7 +40,7 @@ pub const NAK_REQUESTS: usize = 64;
 /// Expirations of one timer until the fault is declared.
 pub const EXPIRATIONS: u8 = 255;
 
-/// Milliseconds that a timer runs: one day.
+/// Milliseconds that a timer may run: one day.
 pub const TIMER_MILLISECONDS: u32 = 86_400_000;
 
 /// Octets in a file name.

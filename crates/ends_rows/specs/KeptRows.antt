@@ -165,7 +165,7 @@ says_complete_too_early said = waiting_is_not_kept (said.1 refl)
 pub says_no_metadata : (kept : Type 0) → IsSaidByReceiver kept (metadata_in Two) → ⊥
 says_no_metadata kept said = let goes = said.0 in absurd cc
 
--- so do the PDUs that are sent once the file store has accepted the file
+-- the PDUs that are sent once the file store has accepted the file keep to this
 pub stored_says : AllByRecursion (IsSaidByReceiver (HasKept (receiver_log (after stored)))) kept_answer.pdus
 stored_says = says_what_is_kept reception (answered_by 2 true kept_answer) waiting_log stored_schedule.receiver_legal
 
