@@ -19,7 +19,7 @@ pub enum Cover {
 /// The rounds that a file covers. Each Put of a sending lane takes the lane's next round; all lanes begin at the same.
 #[derive(Clone, Copy, Debug, PartialEq, Eq)]
 pub struct Rounds {
-    /// At least the next round of each lane.
+    /// No lane's next round is above this one.
     pub next: u64,
     /// All rounds below this one are covered.
     pub covered: u64,
