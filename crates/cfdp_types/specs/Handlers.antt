@@ -8,11 +8,11 @@ use Rattle.cfdp_types.specs.declared.names.Role.{Role}
 use Rattle.cfdp_types.specs.declared.names.Role.TheVariants.{Send, RecvOne, RecvTwo}
 use Rattle.cfdp_types.specs.declared.fault_table.Handlers.{Handlers}
 
--- a count or a time has run out: the transaction could still go on
+-- a limit was reached or a time ran out: the transaction could still go on
 abbrev pub is_limit : ℕ → Bool
 is_limit c = c == positive_ack_limit || c == nak_limit || c == inactivity || c == check_limit
 
--- the file can't be had whole: the transaction can only end
+-- the file can't be delivered whole: the transaction can only end
 abbrev pub is_failure : ℕ → Bool
 is_failure c =
     c == filestore_rejection || c == file_checksum_failure || c == file_size_error || c == unsupported_checksum_type
@@ -21,7 +21,7 @@ is_failure c =
 abbrev pub has_handler : ℕ → Bool
 has_handler c = is_limit c || is_failure c
 
--- a class 1 receiver has no way to go on once it was suspended
+-- whether a suspended transaction can be resumed: a class 1 receiver's can't
 abbrev pub can_resume : Role → Bool
 can_resume Send = true
 can_resume RecvOne = false
@@ -34,11 +34,11 @@ is_allowed role c Abandon = has_handler c
 is_allowed role c Ignore = is_limit c
 is_allowed role c Suspend = is_limit c && can_resume role
 
--- a table of the role may name each pair's handler for its condition
+-- the role may name the handler of each pair for that pair's condition
 abbrev pub AreAllowed : Role → List (ℕ × Handler) → Type 0
 AreAllowed role pairs = All (λ pair. IsTrue (is_allowed role pair.0 pair.1)) pairs
 
--- the handler of the last pair for a condition, or the one before all of them where no pair is for it
+-- the handler of the last pair for a condition, or `before` where no pair is for it
 abbrev pub act_after : Handler → List (ℕ × Handler) → ℕ → Handler
 act_after before [] c = before
 act_after before (pair ∷ pairs) c = act_after (cond (pair.0 == c) pair.1 before) pairs c
@@ -47,12 +47,12 @@ act_after before (pair ∷ pairs) c = act_after (cond (pair.0 == c) pair.1 befor
 abbrev pub act : List (ℕ × Handler) → ℕ → Handler
 act pairs c = act_after Cancel pairs c
 
--- a fault table: whose it is, and its handlers
+-- a fault table: its role and its handlers
 pub record FaultTableValue : Type 0 where
   pub role : Role
   pub handlers : Handlers
 
--- what a table says for a condition, Cancel where it has no handler
+-- the table's handler for a condition, Cancel where the condition has none
 abbrev pub handler_in : FaultTableValue → ℕ → Handler
 handler_in table c =
     cond (c == positive_ack_limit) table.handlers.positive_ack_limit
@@ -65,11 +65,11 @@ handler_in table c =
     (cond (c == unsupported_checksum_type) table.handlers.unsupported_checksum_type
     Cancel)))))))
 
--- every handler of a table is one that its role may name
+-- the role allows each handler of the table
 abbrev pub IsFaultTable : FaultTableValue → Type 0
 IsFaultTable table = (c : ℕ) → IsTrue (has_handler c) → IsTrue (is_allowed table.role c (handler_in table c))
 
--- the handlers with another one for a condition
+-- the handlers, with the one for a condition replaced
 abbrev pub handlers_with : Handlers → ℕ → Handler → Handlers
 handlers_with old c handler = record {
   positive_ack_limit = cond (c == positive_ack_limit) handler old.positive_ack_limit;

@@ -25,7 +25,7 @@ table_for tables Send = tables.send
 table_for tables RecvOne = tables.receive_one
 table_for tables RecvTwo = tables.receive_two
 
--- from one millisecond to a day
+-- a timer runs from one millisecond to a day
 pub record IsTimerLength (length : ℕ) : Type 0 where
   pub least : 1 ≤ length
   pub most : length ≤ TIMER_MILLISECONDS
@@ -37,33 +37,33 @@ pub record AreTimerLengths (timers : TimerLengths) : Type 0 where
   pub check : IsTimerLength timers.check
   pub inactivity : IsTimerLength timers.inactivity
 
--- the first expiration may be the one that is a fault
+-- a limit may be as low as one: the first expiration is then the fault
 pub record IsExpirationLimit (limit : ℕ) : Type 0 where
   pub least : 1 ≤ limit
   pub most : limit ≤ EXPIRATIONS
 
--- each timer with a limit has such a one
+-- each counted timer has such a limit
 pub record AreExpirationLimits (limits : ExpirationLimits) : Type 0 where
   pub ack : IsExpirationLimit limits.ack
   pub nak : IsExpirationLimit limits.nak
   pub check : IsExpirationLimit limits.check
 
--- the octets of a number in a header: the header has three bits for one less
+-- an ID or sequence number has 1 to 8 octets: the header has three bits for the length minus one
 pub record IsIdLength (octets : ℕ) : Type 0 where
   pub least : 1 ≤ octets
   pub most : octets ≤ ID_OCTETS
 
--- both numbers of a header have such lengths
+-- IDs and sequence numbers have such lengths
 pub record AreHeaderLengths (lengths : HeaderLengths) : Type 0 where
   pub entity : IsIdLength lengths.entity_octets
   pub sequence : IsIdLength lengths.sequence_octets
 
--- the octets of the file in one File Data that is sent
+-- a limit for the file octets in a File Data PDU that is sent
 pub record IsSegmentLength (octets : ℕ) : Type 0 where
   pub least : SEGMENT_OCTETS_LEAST ≤ octets
   pub most : octets ≤ SEGMENT_OCTETS_MOST
 
--- a fault table that is for the role
+-- the fault table is for this role
 pub record IsTableFor (role : Role) (table : FaultTableValue) : Type 0 where
   pub role_is : table.role ≡ role
   pub handlers : IsFaultTable table

@@ -11,7 +11,7 @@ use Rattle.cfdp_types.specs.declared.put_request.PutFault.TheVariants.{NoName, N
 pub record PutValue : Type 0 where
   pub destination : EntityId
   pub class : Class
-  -- whether the receiver is asked to say what became of the file; class 2 always is
+  -- whether the receiver is asked for a Finished PDU; in class 2 it always sends one
   pub closure : Bool
   pub source_name : List ℕ
   pub destination_name : List ℕ
@@ -23,7 +23,7 @@ pub record IsName (name : List ℕ) : Type 0 where
   pub least : 1 ≤ length name
   pub most : length name ≤ NAME_OCTETS
 
--- messages to the user that Metadata can hold, and not too many of them
+-- messages to the user that Metadata can hold, no more than a request may have
 pub record AreMessages (messages : List (List ℕ)) : Type 0 where
   pub count : length messages ≤ MESSAGES
   pub octets : All (λ message. length message ≤ MESSAGE_OCTETS) messages
@@ -34,11 +34,11 @@ pub record IsPut (put : PutValue) : Type 0 where
   pub destination_name : IsName put.destination_name
   pub messages : AreMessages put.messages
 
--- more octets than these
+-- whether there are more octets than `most`
 abbrev pub is_longer : ℕ → List ℕ → Bool
 is_longer most octets = nat_lt most (length octets)
 
--- why such names and messages are refused, the first that applies; want of memory aside
+-- why such names and messages are refused, the first that applies; NoMemory aside
 abbrev pub put_fault : List ℕ → List ℕ → List (List ℕ) → Option PutFault
 put_fault source_name destination_name messages =
     cond (length source_name == 0 || length destination_name == 0) (Some NoName)

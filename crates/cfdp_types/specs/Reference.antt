@@ -22,7 +22,7 @@ all_cancel role = record {
   };
 }
 
--- of entity 2, with numbers of one octet
+-- the parameters of entity 2, with IDs and sequence numbers of one octet
 abbrev pub reference : ParamsParts
 reference = record {
   local = record { 0 = 2 };

@@ -7,14 +7,14 @@ use Rattle.cfdp_types.specs.declared.names.TimerKind.TheVariants.{Ack, Nak, Chec
 use Rattle.cfdp_types.specs.declared.timer_op.TimerOp.{TimerOp}
 use Rattle.cfdp_types.specs.declared.timer_op.TimerOp.TheVariants as op
 
--- the place of a kind among the four
+-- the number of a kind, 0 to 3
 abbrev pub kind_number : TimerKind → ℕ
 kind_number Ack = 0
 kind_number Nak = 1
 kind_number Check = 2
 kind_number Inactivity = 3
 
--- two kinds are the same
+-- whether two kinds are the same
 abbrev pub is_kind : TimerKind → TimerKind → Bool
 is_kind kind other = kind_number kind == kind_number other
 
@@ -24,8 +24,8 @@ pub data Effect : Type 0 where
   keeps : Effect
   stops : Effect
 
--- the operation that tells it, with the step's own place as the stamp: none for a timer that goes on
--- as it was, or that did not run and does not
+-- the operation for the effect, stamped with the number of the step; none for a timer that keeps running
+-- or was not running
 abbrev pub operation : TxnKey → (TimerKind → ℕ) → ℕ → TimerKind → Effect → Option ℕ → List TimerOp
 operation key milliseconds place kind arms before = op.Arm key kind place (milliseconds kind) ∷ []
 operation key milliseconds place kind keeps before = []
@@ -40,7 +40,7 @@ operations key milliseconds place effect before =
     ++ operation key milliseconds place Check (effect Check) (before Check)
     ++ operation key milliseconds place Inactivity (effect Inactivity) (before Inactivity)
 
--- the place of the step that armed a timer of this kind last, unless one disarmed it since
+-- the number of the step that last armed the timer of this kind, None where it was disarmed since
 abbrev pub armed_after : ℕ → Option ℕ → List TimerOp → TimerKind → Option ℕ
 armed_after place before [] kind = before
 armed_after place before (op.Arm key armed stamp ms ∷ later) kind =
@@ -48,23 +48,23 @@ armed_after place before (op.Arm key armed stamp ms ∷ later) kind =
 armed_after place before (op.Disarm key disarmed stamp ∷ later) kind =
     armed_after place (if is_kind disarmed kind then None else before) later kind
 
--- ---- what the logs of both ends ask
+-- ---- used by the logs of both ends
 
--- what came first counts
+-- the old value, where there is one
 abbrev pub older_or : {A : Type 0} → Option A → Option A → Option A
 older_or None newer = newer
 older_or (Some old) newer = Some old
 
--- what came last counts
+-- the new value, where there is one
 abbrev pub newer_or : {A : Type 0} → Option A → Option A → Option A
 newer_or None older = older
 newer_or (Some new) older = Some new
 
--- a stamp is the one that is kept
+-- whether the stamp is the one that is kept
 abbrev pub is_stamp : Option ℕ → ℕ → Bool
 is_stamp None stamp = false
 is_stamp (Some kept) stamp = kept == stamp
 
--- a kind is among these
+-- whether the kind is in the list
 abbrev pub has_kind : List TimerKind → TimerKind → Bool
 has_kind kinds kind = list_any (is_kind kind) kinds

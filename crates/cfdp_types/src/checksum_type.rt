@@ -3,7 +3,7 @@ ghost use Rattle.std.specs.Prelude.{◌≡◌, ◌<◌};
 use crate::names::Checksum;
 use std::marker::Model;
 
-/// How a file's checksum is computed: its number in the registry of checksum types, 0 to 15.
+/// A checksum type, as its number in the registry of checksum types: 0 to 15.
 #[derive(Clone, Copy, Debug, PartialEq, Eq)]
 pub struct ChecksumType {
     number: u8,
@@ -24,13 +24,13 @@ impl Model for ChecksumType {
 impl ChecksumType {
     ghost use Rattle.cfdp_types.specs.ChecksumType.{type_of};
 
-    /// The sum of the file's four-octet words.
+    /// The modular checksum: the sum of the file's four-octet words.
     pub const MODULAR: ChecksumType = ChecksumType { number: 0 };
 
-    /// No checksum.
+    /// The null checksum: always 0.
     pub const NULL: ChecksumType = ChecksumType { number: 15 };
 
-    /// The type with a number.
+    /// The checksum type with this number.
     pub fn new(number: u8) -> ChecksumType
         requires { number < 16 }
         ensures { result ≡ number }
@@ -38,7 +38,7 @@ impl ChecksumType {
         ChecksumType { number }
     }
 
-    /// The type of a checksum that files are sent with.
+    /// The checksum type that Metadata names for this checksum.
     pub fn of(checksum: Checksum) -> ChecksumType
         ensures { result ≡ type_of checksum }
     {
@@ -48,7 +48,7 @@ impl ChecksumType {
         }
     }
 
-    /// Its number.
+    /// The number in the registry of checksum types.
     pub fn number(self) -> u8
         ensures value { result ≡ self }
         ensures below { result < 16 }

@@ -2,7 +2,7 @@ ghost use Rattle.std.specs.Prelude.{◌≡◌, ◌<◌};
 
 use std::marker::Model;
 
-/// A condition code, 0 to 15: why a transaction ended, or which fault came.
+/// A condition code, 0 to 15: why a transaction ended, or which fault was declared.
 #[derive(Clone, Copy, Debug, PartialEq, Eq)]
 pub struct Condition {
     code: u8,
@@ -21,7 +21,7 @@ impl Model for Condition {
 }
 
 impl Condition {
-    /// The transaction went as it should.
+    /// No fault.
     pub const NO_ERROR: Condition = Condition { code: 0 };
 
     pub const POSITIVE_ACK_LIMIT: Condition = Condition { code: 1 };
@@ -50,7 +50,7 @@ impl Condition {
 
     pub const CANCEL_REQUEST: Condition = Condition { code: 15 };
 
-    /// The condition with a code.
+    /// The condition with this code.
     pub fn new(code: u8) -> Condition
         requires { code < 16 }
         ensures { result ≡ code }
@@ -58,7 +58,7 @@ impl Condition {
         Condition { code }
     }
 
-    /// Its code.
+    /// The condition code.
     pub fn code(self) -> u8
         ensures value { result ≡ self }
         ensures below { result < 16 }

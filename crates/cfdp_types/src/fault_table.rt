@@ -5,7 +5,7 @@ use crate::condition::Condition;
 use crate::names::{Handler, Role};
 use std::marker::Model;
 
-/// The handler of each fault that a transaction can meet.
+/// The fault handler for each fault that a transaction can meet.
 #[derive(Clone, Copy, Debug, PartialEq, Eq)]
 pub struct Handlers {
     pub positive_ack_limit: Handler,
@@ -34,7 +34,7 @@ impl Handlers {
         unsupported_checksum_type: Handler::Cancel,
     };
 
-    // These handlers with another one for a condition.
+    // These handlers, with the one for `condition` replaced; unchanged where a condition has no handler.
     fn with(mut self, condition: Condition, handler: Handler) -> Handlers
         ensures { result ≡ handlers_with self condition handler }
     {
@@ -53,8 +53,8 @@ impl Handlers {
     }
 }
 
-/// What one end of a transaction does at each fault. Contracts see its role and its handlers, each
-/// of which the role allows.
+/// What one end of a transaction does at each fault. Contracts see the role and the handlers; the role
+/// allows each of them.
 #[derive(Clone, Copy, Debug, PartialEq, Eq)]
 pub struct FaultTable {
     role: Role,
@@ -77,7 +77,7 @@ impl FaultTable {
     ghost use Rattle.std.specs.Prelude.{◌≡◌, ℕ, IfOk, IsOk, IsTrue, ◌↔◌};
     ghost use Rattle.cfdp_types.specs.Handlers.{AreAllowed, IsFaultTable, act, handler_in, has_handler, is_allowed, with_handler};
 
-    /// The table of a role that does what the pairs name, and cancels at every other fault.
+    /// The table of a role with the handlers of the pairs (a later pair wins); it cancels at every other fault.
     pub fn new(role: Role, pairs: &[(Condition, Handler)]) -> Result<FaultTable, HandlerNotAllowed>
         ensures allowed { IsOk result ↔ AreAllowed role pairs.now }
         ensures role { IfOk result (λ table. table.role ≡ role) }
@@ -90,7 +90,7 @@ impl FaultTable {
         Ok(table)
     }
 
-    /// This table with another handler for one condition.
+    /// This table with another handler for one condition. The condition must be a fault.
     pub fn with(
         self,
         condition: Condition,
@@ -108,7 +108,7 @@ impl FaultTable {
         })
     }
 
-    // Cancels at every fault, whatever the role.
+    // The table of any role in which every fault cancels.
     fn cancelling(role: Role) -> FaultTable
         ensures role { result.role ≡ role }
         ensures handlers { (c : ℕ) → handler_in result c ≡ Handler.Cancel }
@@ -119,7 +119,7 @@ impl FaultTable {
         }
     }
 
-    /// Whose table it is.
+    /// The role that the table is for.
     pub fn role(&self) -> Role
         ensures role { result ≡ self.now.role }
         ensures handlers { IsFaultTable self.now }
@@ -127,7 +127,7 @@ impl FaultTable {
         self.role
     }
 
-    /// What is done at a fault; Cancel for a condition that is no fault.
+    /// The handler of a fault; `Cancel` for a condition that is not a fault.
     pub fn action(&self, condition: Condition) -> Handler
         ensures handler { result ≡ handler_in self.now condition }
         ensures allowed { IsTrue (has_handler condition) → IsTrue (is_allowed self.now.role condition result) }
@@ -147,12 +147,12 @@ impl FaultTable {
     }
 }
 
-/// The role does not allow the handler for the condition.
+/// The role does not allow this handler for the condition, or the condition is not a fault.
 #[derive(Clone, Copy, Debug, PartialEq, Eq)]
 pub struct HandlerNotAllowed;
 
 impl HandlerNotAllowed {
-    /// The number of the refusal.
+    /// The refusal's number.
     pub fn number(self) -> u8
         ensures { result ≡ 1 }
     {

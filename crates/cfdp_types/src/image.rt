@@ -1,12 +1,12 @@
 use crate::octets::Octets;
 
-/// A received file, as the file store gets it.
+/// A received file, as it is handed to the file store.
 #[derive(Debug, Drop, PartialEq, Eq)]
 pub struct Image {
-    /// The name of the file at the sender.
+    /// The file's name at the sender.
     pub source_name: Octets,
-    /// The name of the file here.
+    /// The file's name at the receiver.
     pub destination_name: Octets,
-    /// The octets of the file.
+    /// The file's content.
     pub octets: Octets,
 }

@@ -1,18 +1,18 @@
-/// The number of a protocol entity.
+/// An entity ID.
 #[derive(Clone, Copy, Debug, PartialEq, Eq, PartialOrd, Ord, Hash)]
 pub struct EntityId(pub u64);
 
-/// A transaction: the entity that sends the file, and the number that it gave the transaction.
+/// A transaction ID: the entity that sends the file, and the sequence number that it gave the transaction.
 #[derive(Clone, Copy, Debug, PartialEq, Eq, PartialOrd, Ord, Hash)]
 pub struct TxnKey {
     pub source: EntityId,
     pub seq: u64,
 }
 
-/// A received file that waits for the file store's answer.
+/// A received file that was handed to the file store, whose answer is awaited.
 #[derive(Clone, Copy, Debug, PartialEq, Eq)]
 pub struct Deposit {
     pub key: TxnKey,
-    /// The place in the journal of the event that handed the file out.
+    /// The number, in the lane's journal, of the event that handed the file over.
     pub stamp: u32,
 }

@@ -1,4 +1,4 @@
-//! The names and limits of the CCSDS File Delivery Protocol that every layer shares.
+//! The types and limits of the CCSDS File Delivery Protocol that all layers share.
 #![tactic(auto)]
 
 mod checksum_type;

@@ -30,7 +30,7 @@ impl Messages {
         }
     }
 
-    /// A copy of each of the slices, in order.
+    /// Copies the slices, in order.
     pub fn from_slices(alloc: Global, slices: &[&[u8]]) -> Result<Messages, AllocError>
         ensures { IfOk result (λ messages. messages ≡ map (λ slice. slice.now) slices.now) }
     {
@@ -41,7 +41,7 @@ impl Messages {
         Ok(Messages { items })
     }
 
-    /// A copy, with memory of its own.
+    /// A copy of the list, which shares the messages' octets.
     pub fn copy(&self) -> Result<Messages, AllocError>
         ensures { IfOk result (λ copy. copy ≡ self.now) }
     {
@@ -52,7 +52,7 @@ impl Messages {
         Ok(Messages { items })
     }
 
-    /// No message, with room for so many.
+    /// An empty list with room for `count` messages.
     pub fn with_capacity(alloc: Global, count: usize) -> Result<Messages, AllocError>
         ensures { IfOk result (λ messages. messages ≡ []) }
     {

@@ -7,7 +7,7 @@ pub enum Class {
     Two,
 }
 
-/// What the entity does when a fault is declared.
+/// A fault handler: what the entity does when a fault is declared.
 #[derive(Clone, Copy, Debug, PartialEq, Eq)]
 pub enum Handler {
     Cancel,
@@ -16,7 +16,7 @@ pub enum Handler {
     Abandon,
 }
 
-/// The end of a transaction that an entity has, with the class where the handlers depend on it.
+/// The role of an entity in a transaction: which end it is, and, for a receiver, the class.
 #[derive(Clone, Copy, Debug, PartialEq, Eq)]
 pub enum Role {
     Send,
@@ -24,12 +24,12 @@ pub enum Role {
     RecvTwo,
 }
 
-/// The checksum that a file is sent with.
+/// The checksum that files are sent with.
 #[derive(Clone, Copy, Debug, PartialEq, Eq)]
 pub enum Checksum {
-    /// The sum of the file's four-octet words.
+    /// The modular checksum: the sum of the file's four-octet words.
     Modular,
-    /// None: the checksum of every EOF is 0.
+    /// No checksum: the checksum in every EOF is 0.
     Null,
 }
 
@@ -42,22 +42,22 @@ pub enum TimerKind {
     Inactivity,
 }
 
-/// Whether the receiver has the whole file.
+/// The delivery code of a Finished PDU: whether the receiver has the whole file.
 #[derive(Clone, Copy, Debug, PartialEq, Eq)]
 pub enum Delivery {
     Complete,
     Incomplete,
 }
 
-/// What became of the file at the receiver.
+/// The file status of a Finished PDU: what the receiver did with the file.
 #[derive(Clone, Copy, Debug, PartialEq, Eq)]
 pub enum FileStatus {
     /// Discarded deliberately.
     Discarded,
-    /// Discarded, since the file store rejected it.
+    /// Discarded because the file store rejected it.
     Rejected,
-    /// Kept by the file store.
+    /// Retained in the file store.
     Retained,
-    /// The receiver did not say.
+    /// Not reported by the receiver.
     Unreported,
 }

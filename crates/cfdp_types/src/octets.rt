@@ -7,8 +7,8 @@ use bytes::Bytes;
 use std::alloc::{AllocError, Global};
 use std::marker::Model;
 
-/// Octets without a meaning of their own, such as a name or a part of a file. Copies and parts
-/// share one block of memory, which is given back with the last of them. Contracts see their list.
+/// A sequence of octets that is not interpreted, such as a name or a piece of a file. Copies and parts share one
+/// block of memory, which is freed with the last of them. Contracts see the list of octets.
 #[derive(Debug, Drop)]
 pub struct Octets {
     items: Bytes<Global>,
@@ -33,7 +33,7 @@ impl Octets {
         }
     }
 
-    /// Copies the octets into memory of their own.
+    /// Copies the octets into new memory.
     pub fn from_slice(alloc: Global, octets: &[u8]) -> Result<Octets, AllocError>
         ensures { IfOk result (λ o. o ≡ octets.now) }
     {
@@ -42,7 +42,7 @@ impl Octets {
         })
     }
 
-    /// Takes the octets without copying them.
+    /// Takes over the vector's octets without copying them.
     pub fn from_vec(items: Vec<u8>) -> Result<Octets, AllocError>
         ensures { IfOk result (λ o. o ≡ items.items) }
     {
@@ -51,7 +51,7 @@ impl Octets {
         })
     }
 
-    /// The same octets once more, in the same memory.
+    /// The same octets, sharing the memory.
     pub fn copy(&self) -> Result<Octets, AllocError>
         ensures { IfOk result (λ copy. copy ≡ self.now) }
     {
@@ -60,7 +60,7 @@ impl Octets {
         })
     }
 
-    /// The octets from one up to another, in the same memory.
+    /// The octets from `start` to `end` - 1, sharing the memory.
     pub fn part(&self, start: usize, end: usize) -> Result<Octets, AllocError>
         requires ordered { start ≤ end }
         requires inside { end ≤ length self.now }

@@ -19,7 +19,7 @@ impl TimerLengths {
     ghost use Rattle.std.specs.Prelude.{◌≡◌, ◌↔◌, IsTrue};
     ghost use Rattle.cfdp_types.specs.Params.{AreTimerLengths, IsTimerLength, timer_length};
 
-    /// How long the timers of a kind run.
+    /// How long a timer of this kind runs, in milliseconds.
     pub fn of(&self, kind: TimerKind) -> u32
         ensures { result ≡ timer_length self.now kind }
     {
@@ -42,7 +42,7 @@ impl TimerLengths {
     }
 }
 
-/// The number of the expiration of a timer that is a fault, counted from one.
+/// For each timer, the number of the expiration at which its fault is declared, counted from one.
 #[derive(Clone, Copy, Debug, PartialEq, Eq)]
 pub struct ExpirationLimits {
     pub ack: u8,
@@ -61,12 +61,12 @@ impl ExpirationLimits {
     }
 }
 
-/// How many octets the numbers in a PDU's header have.
+/// How many octets the IDs and the sequence number in a PDU header have.
 #[derive(Clone, Copy, Debug, PartialEq, Eq)]
 pub struct HeaderLengths {
-    /// Of an entity ID.
+    /// Octets of an entity ID.
     pub entity_octets: u8,
-    /// Of a transaction sequence number.
+    /// Octets of a transaction sequence number.
     pub sequence_octets: u8,
 }
 
@@ -82,7 +82,7 @@ impl HeaderLengths {
     }
 }
 
-/// What is done at a fault, for each role that an entity has.
+/// The fault table of each role that an entity can have.
 #[derive(Clone, Copy, Debug, PartialEq, Eq)]
 pub struct FaultTables {
     pub send: FaultTable,
@@ -114,26 +114,26 @@ impl FaultTables {
     }
 }
 
-/// What the transactions with one remote entity go by, part by part.
+/// The parameters of the transactions with one remote entity, as a plain record whose ranges are not checked.
 #[derive(Clone, Copy, Debug, PartialEq, Eq)]
 pub struct ParamsParts {
-    /// The ID of this entity.
+    /// This entity's ID.
     pub local: EntityId,
-    /// The lengths that this entity writes the numbers of a header with.
+    /// The lengths of the numbers in the headers that this entity writes.
     pub lengths: HeaderLengths,
-    /// The most octets of the file in a File Data PDU that this entity sends.
+    /// The most file octets in a File Data PDU that this entity sends.
     pub segment_octets: u16,
     /// How long each timer runs.
     pub timers: TimerLengths,
-    /// Which expiration of each timer is a fault.
+    /// Which expiration of each timer is a fault, counted from one.
     pub limits: ExpirationLimits,
-    /// What is done at a fault.
+    /// The fault table of each role.
     pub tables: FaultTables,
     /// The checksum of the files that this entity sends.
     pub checksum: Checksum,
 }
 
-/// What the transactions with one remote entity go by. Contracts see its parts, each of which is in
+/// The parameters of the transactions with one remote entity. Contracts see the parts, each of which is in
 /// its range.
 #[derive(Clone, Copy, Debug, PartialEq, Eq)]
 pub struct Params {
@@ -157,7 +157,7 @@ impl Params {
     ghost use Rattle.std.specs.Prelude.{◌≡◌, ◌≤◌, ◌↔◌, IfSome, IsSome};
     ghost use Rattle.cfdp_types.specs.Params.{AreExpirationLimits, AreFaultTables, AreHeaderLengths, AreTimerLengths, IsParams};
 
-    /// Parameters, where each part is in its range.
+    /// The parameters with these parts; None where a part is out of its range.
     pub fn new(parts: ParamsParts) -> Option<Params>
         ensures ranges { IsSome result ↔ IsParams parts }
         ensures kept { IfSome result (λ params. params ≡ parts) }
@@ -174,7 +174,7 @@ impl Params {
         Some(Params { parts })
     }
 
-    /// The parts.
+    /// The parts, each in its range.
     pub fn parts(&self) -> ParamsParts
         ensures parts { result ≡ self.now }
         ensures ranges { IsParams result }
@@ -182,14 +182,14 @@ impl Params {
         self.parts
     }
 
-    /// The ID of this entity.
+    /// This entity's ID.
     pub fn local(&self) -> EntityId
         ensures { result ≡ self.now.local }
     {
         self.parts.local
     }
 
-    /// The lengths that this entity writes the numbers of a header with.
+    /// The lengths of the numbers in the headers that this entity writes.
     pub fn lengths(&self) -> HeaderLengths
         ensures lengths { result ≡ self.now.lengths }
         ensures range { AreHeaderLengths result }
@@ -197,7 +197,7 @@ impl Params {
         self.parts.lengths
     }
 
-    /// The most octets of the file in a File Data PDU that this entity sends.
+    /// The most file octets in a File Data PDU that this entity sends.
     pub fn segment_octets(&self) -> u16
         ensures octets { result ≡ self.now.segment_octets }
         ensures least { SEGMENT_OCTETS_LEAST ≤ result }
@@ -206,7 +206,7 @@ impl Params {
         self.parts.segment_octets
     }
 
-    /// How long each timer runs.
+    /// How long each timer runs, in milliseconds.
     pub fn timers(&self) -> TimerLengths
         ensures timers { result ≡ self.now.timers }
         ensures range { AreTimerLengths result }
@@ -214,7 +214,7 @@ impl Params {
         self.parts.timers
     }
 
-    /// Which expiration of each timer is a fault.
+    /// Which expiration of each timer is a fault, counted from one.
     pub fn limits(&self) -> ExpirationLimits
         ensures limits { result ≡ self.now.limits }
         ensures range { AreExpirationLimits result }
@@ -222,7 +222,7 @@ impl Params {
         self.parts.limits
     }
 
-    /// What is done at a fault.
+    /// The fault table of each role.
     pub fn tables(&self) -> FaultTables
         ensures tables { result ≡ self.now.tables }
         ensures roles { AreFaultTables result }

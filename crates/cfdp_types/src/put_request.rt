@@ -11,23 +11,23 @@ use crate::octets::Octets;
 use std::alloc::{AllocError, Global};
 use std::marker::Model;
 
-/// Why a Put request can't be made: the first that applies.
+/// Why a Put request can't be made. Where several apply, the first is reported.
 #[derive(Clone, Copy, Debug, PartialEq, Eq)]
 pub enum PutFault {
     /// A file name is empty.
     NoName = 1,
-    /// A file name has more octets than Metadata can hold.
+    /// A file name is longer than Metadata can hold.
     NameTooLong = 2,
-    /// A message has more octets than Metadata can hold.
+    /// A message to the user is longer than Metadata can hold.
     MessageTooLong = 3,
-    /// More messages than the entity takes.
+    /// There are more messages than the entity supports.
     TooManyMessages = 4,
     /// Memory ran out.
     NoMemory = 5,
 }
 
 impl PutFault {
-    /// The number of the fault.
+    /// The fault's number.
     pub fn number(self) -> u8
         ensures { result ≡ put_fault_number self }
     {
@@ -43,8 +43,8 @@ impl From<AllocError> for PutFault {
     }
 }
 
-/// A local user's request to send a file (CCSDS 727.0-B-5, 3.4.1). Contracts see its parts, which
-/// keep the limits of names and messages.
+/// A local user's request to send a file (CCSDS 727.0-B-5, 3.4.1). Contracts see the parts, which keep the
+/// limits of names and messages.
 #[derive(Debug, Drop)]
 pub struct PutRequest {
     destination: EntityId,
@@ -86,7 +86,7 @@ impl PutRequest {
     ghost use Rattle.std.specs.Prelude.{◌≡◌, false, None, Some, Err, IfErr, IfOk, map};
     ghost use Rattle.cfdp_types.specs.Put.{AreMessages, IsName, IsPut, put_fault};
 
-    /// Copies what the user gave.
+    /// A request without closure. Copies the names, the messages and the file.
     pub fn new(
         alloc: Global,
         destination: EntityId,
@@ -125,7 +125,7 @@ impl PutRequest {
         )?)
     }
 
-    // A request for a file, with copies of names and messages that keep their limits.
+    // Copies names, messages and file into a request; the caller has checked their limits.
     fn copied(
         alloc: Global,
         destination: EntityId,
@@ -159,7 +159,7 @@ impl PutRequest {
         })
     }
 
-    /// A copy, which shares the octets.
+    /// A copy of the request, sharing the octets.
     pub fn copy(&self) -> Result<PutRequest, AllocError>
         ensures { IfOk result (λ copy. copy ≡ self.now) }
     {
@@ -174,8 +174,8 @@ impl PutRequest {
         })
     }
 
-    /// This request, with the receiver asked or not to say at the end what became of the file. That
-    /// changes nothing in class 2, whose receivers always do.
+    /// This request, with transaction closure or without: whether a class 1 receiver is asked for a Finished PDU.
+    /// In class 2 this changes nothing, as the receiver always sends one.
     pub fn with_closure(self, closure: bool) -> PutRequest
         ensures { result ≡ record self { closure = closure } }
     {
@@ -190,7 +190,7 @@ impl PutRequest {
         }
     }
 
-    /// This request, with another file. The octets are taken as they are, not copied.
+    /// This request with another file, whose octets are shared, not copied.
     pub fn with_file(self, file: Octets) -> PutRequest
         ensures { result ≡ record self { file = file } }
     {
@@ -205,28 +205,28 @@ impl PutRequest {
         }
     }
 
-    /// The entity that is to receive the file.
+    /// The receiving entity's ID.
     pub fn destination(&self) -> EntityId
         ensures { result ≡ self.now.destination }
     {
         self.destination
     }
 
-    /// The service class that is asked for.
+    /// The service class that the user requests.
     pub fn class(&self) -> Class
         ensures { result ≡ self.now.class }
     {
         self.class
     }
 
-    /// Whether the receiver is asked to say at the end what became of the file.
+    /// Whether the receiver is asked for a Finished PDU in class 1.
     pub fn closure(&self) -> bool
         ensures { result ≡ self.now.closure }
     {
         self.closure
     }
 
-    /// The name of the file here.
+    /// The file's name at the sender.
     pub fn source_name(&self) -> &Octets
         ensures name { result.now ≡ self.now.source_name }
         ensures range { IsName result.now }
@@ -234,7 +234,7 @@ impl PutRequest {
         &self.source_name
     }
 
-    /// The name of the file at the receiver.
+    /// The file's name at the receiver.
     pub fn destination_name(&self) -> &Octets
         ensures name { result.now ≡ self.now.destination_name }
         ensures range { IsName result.now }
@@ -250,7 +250,7 @@ impl PutRequest {
         &self.messages
     }
 
-    /// The octets of the file.
+    /// The file's content.
     pub fn file(&self) -> &Octets
         ensures { result.now ≡ self.now.file }
     {
@@ -258,7 +258,7 @@ impl PutRequest {
     }
 }
 
-// The first fault that names and messages have.
+// The first fault of the names and messages.
 #[tactic(auto, using(crate::proofs::PutLemmas::borrowed))]
 fn fault_of(source_name: &[u8], destination_name: &[u8], messages: &[&[u8]]) -> Option<PutFault>
     ensures { result ≡ put_fault source_name.now destination_name.now (map (λ m. m.now) messages.now) }
@@ -276,7 +276,7 @@ fn fault_of(source_name: &[u8], destination_name: &[u8], messages: &[&[u8]]) -> 
     }
 }
 
-// Whether a message is longer than Metadata can hold.
+// Whether a message is too long for Metadata.
 fn has_long_message(messages: &[&[u8]]) -> bool
     ensures { result ≡ list_any (λ m. is_longer MESSAGE_OCTETS m.now) messages.now }
 {

@@ -1,23 +1,23 @@
 use crate::key::TxnKey;
 use crate::names::TimerKind;
 
-/// What a step does to one timer of its transaction.
+/// An operation on one timer of a transaction, issued by a step.
 #[derive(Clone, Copy, Debug, PartialEq, Eq)]
 pub enum TimerOp {
-    /// The timer runs from now on, anew where it ran.
+    /// Start the timer, or restart it where it runs.
     Arm {
         key: TxnKey,
         kind: TimerKind,
-        /// The place in the journal of the event that arms the timer.
+        /// The number, in the lane's journal, of the event that arms the timer. An expiration quotes it.
         stamp: u32,
         /// Milliseconds until it expires.
         ms: u32,
     },
-    /// The timer runs no longer.
+    /// Stop the timer.
     Disarm {
         key: TxnKey,
         kind: TimerKind,
-        /// The place in the journal of the event that disarms the timer.
+        /// The number, in the lane's journal, of the event that disarms the timer.
         stamp: u32,
     },
 }

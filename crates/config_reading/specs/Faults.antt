@@ -1,4 +1,4 @@
--- Meaning. The faults of a configuration by number, its keys as they are written, and the key of each table of handlers.
+-- Meaning. The numbers of configuration faults, the keys as they are written, and the key of each handler table.
 use Rattle.std.specs.Prelude.{ℕ, List, codes}
 use Rattle.cfdp_types.specs.declared.names.Role.{Role}
 use Rattle.cfdp_types.specs.declared.names.Role.TheVariants.{Send, RecvOne, RecvTwo}
@@ -57,7 +57,7 @@ key_text key.Inactivity = codes "inactivity"
 key_text key.CheckLimitReached = codes "check_limit"
 key_text key.UnsupportedChecksum = codes "unsupported_checksum"
 
--- the key of a role's table
+-- the key of the handler table of a role
 abbrev pub table_key : Role → Key
 table_key Send = key.Send
 table_key RecvOne = key.ReceiveOne

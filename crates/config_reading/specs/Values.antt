@@ -1,4 +1,4 @@
--- Meaning. What a configuration holds, and the limits that it keeps.
+-- Meaning. What a configuration holds, and the limits that it must keep.
 use Rattle.std.specs.Prelude.{ℕ, ◌^◌, Bool, true, false, not, ◌&&◌, ◌==◌, nat_le, nat_lt, List, [], ◌∷◌, length, map, count_by, Option, Some, None}
 use Rattle.config_reading.specs.Texts.{is_address, is_same_text, is_user_name, is_within}
 use Rattle.std.specs.List.{list_all, list_any}
@@ -8,7 +8,7 @@ use Rattle.cfdp_types.specs.declared.params.ParamsParts.{ParamsParts}
 use Rattle.config_reading.specs.declared.entity.EntitySettings.{EntitySettings}
 use Rattle.config_reading.specs.declared.remote.Remote.{Remote}
 
--- a remote entity, and its address as it was written
+-- a remote entity, and its address as written
 pub record PeerValue : Type 0 where
   pub remote : Remote
   pub address : List ℕ
@@ -19,11 +19,11 @@ pub record ConfigValue : Type 0 where
   pub users : List (List ℕ)
   pub peers : List PeerValue
 
--- an ID that a configuration can name, in so many octets
+-- an ID that a configuration may name, where IDs have so many octets
 abbrev pub is_id : ℕ → ℕ → Bool
 is_id octets id = nat_le id CONFIGURED_NUMBER && nat_lt id (256 ^ octets)
 
--- the entity's own limits
+-- the entity's settings are within their limits
 abbrev pub is_entity : EntitySettings → Bool
 is_entity entity =
     is_within 1 ID_OCTETS entity.lengths.entity_octets
@@ -40,7 +40,7 @@ abbrev pub are_distinct : {A : Type 0} → (A → A → Bool) → List A → Boo
 are_distinct eq [] = true
 are_distinct eq (x ∷ xs) = not (list_any (eq x) xs) && are_distinct eq xs
 
--- the users' names
+-- the users' names are valid, distinct, and not too many
 abbrev pub are_users : List (List ℕ) → Bool
 are_users users = is_within 1 USERS (length users) && list_all is_user_name users && are_distinct is_same_text users
 
@@ -48,7 +48,7 @@ are_users users = is_within 1 USERS (length users) && list_all is_user_name user
 abbrev pub has_id : EntityId → PeerValue → Bool
 has_id id peer = peer.remote.id.0 == id.0
 
--- what a remote entity is, but for its parameters
+-- a remote entity without its parameters
 pub record Route : Type 0 where
   pub id : EntityId
   pub user : Option ℕ
@@ -65,7 +65,7 @@ goes_to user route = user_is route.user
     user_is None = false
     user_is (Some other) = other == user
 
--- not too many have the user of this one
+-- its user, if there is one, doesn't have too many sources
 abbrev pub has_room : List Route → Route → Bool
 has_room routes route = of_user route.user
   where
@@ -73,7 +73,7 @@ has_room routes route = of_user route.user
     of_user None = true
     of_user (Some user) = nat_le (count_by (goes_to user) routes) SOURCES_OF_A_USER
 
--- its user is one of so many
+-- its user, if there is one, is one of so many
 abbrev pub has_user : ℕ → Route → Bool
 has_user users route = is_below route.user
   where
@@ -81,11 +81,11 @@ has_user users route = is_below route.user
     is_below None = true
     is_below (Some user) = nat_lt user users
 
--- two have the same ID
+-- two routes have the same ID
 abbrev pub is_same_id : Route → Route → Bool
 is_same_id route other = route.id.0 == other.id.0
 
--- a remote entity that the entity can have
+-- a remote entity that this entity may have
 abbrev pub is_route : EntitySettings → ℕ → Route → Bool
 is_route entity users route =
     is_id entity.lengths.entity_octets route.id.0
@@ -93,7 +93,7 @@ is_route entity users route =
     && is_address route.address
     && has_user users route
 
--- the remote entities
+-- the remote entities are valid, distinct, and not too many
 abbrev pub are_routes : EntitySettings → ℕ → List Route → Bool
 are_routes entity users routes =
     nat_le (length routes) REMOTES
@@ -101,7 +101,7 @@ are_routes entity users routes =
     && are_distinct is_same_id routes
     && list_all (has_room routes) routes
 
--- parameters that say of the entity what its settings say
+-- the parameters agree with the entity's settings
 abbrev pub are_of : EntitySettings → ParamsParts → Bool
 are_of entity params =
     params.local.0 == entity.local.0
@@ -109,7 +109,7 @@ are_of entity params =
     && params.lengths.sequence_octets == entity.lengths.sequence_octets
     && params.segment_octets == entity.segment_octets
 
--- a configuration that keeps all limits; the ranges of its parameters are kept by their own type
+-- a configuration within all limits; the type of its parameters keeps their ranges
 abbrev pub is_config : ConfigValue → Bool
 is_config config =
     is_entity config.entity

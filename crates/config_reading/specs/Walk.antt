@@ -1,5 +1,5 @@
--- Meaning. How a configuration is read: the tables of the text one after the other, in each its keys in their order.
--- What is wrong first is reported.
+-- Meaning. How a configuration is read: the tables of the text in order, and in each table its keys in order.
+-- The first fault is reported.
 use Rattle.std.specs.Prelude.{ℕ, ◌+◌, ◌-◌, ◌^◌, Bool, true, false, not, ◌&&◌, nat_le, min, if◌then◌else◌, ℤ, pos, negsuc, List, [], ◌∷◌, ◌++◌, length, map, position, count_by, Option, Some, None, Result, Ok, Err, codes}
 use Rattle.std.specs.List.{list_any}
 use Rattle.toml.specs.Data.{Data, Items, no_items, item, Members, no_members, member, as_array, as_integer, as_str, as_table, get_member}
@@ -33,17 +33,17 @@ use Rattle.config_reading.specs.Values.{ConfigValue, PeerValue, goes_to, has_id,
 abbrev pub Read : Type 0 → Type 0
 Read A = Result A ConfigFault
 
--- what follows, where nothing was wrong before
+-- the next step, where nothing was wrong before it
 abbrev pub and_then : {A B : Type 0} → Read A → (A → Read B) → Read B
 and_then (Ok x) next = next x
 and_then (Err f) next = Err f
 
--- a fault where the test fails
+-- a fault where the test is false
 abbrev pub unless : {A : Type 0} → Bool → ConfigFault → Read A → Read A
 unless true f next = next
 unless false f next = Err f
 
--- a number in its range
+-- a number in a range
 abbrev pub number_from : Key → ℕ → ℕ → Option ℤ → Read ℕ
 number_from k least most None = Err (fault.WrongType k)
 number_from k least most (Some (pos n)) = if is_within least most n then Ok n else Err (fault.OutOfRange k)
@@ -52,7 +52,7 @@ number_from k least most (Some (negsuc n)) = Err (fault.OutOfRange k)
 abbrev pub number_of : Key → ℕ → ℕ → Data → Read ℕ
 number_of k least most d = number_from k least most (as_integer d)
 
--- what is there, or the value has the wrong type
+-- the value, or WrongType where it has another type
 abbrev pub typed : {A : Type 0} → Key → Option A → Read A
 typed k None = Err (fault.WrongType k)
 typed k (Some x) = Ok x
@@ -65,7 +65,7 @@ text_of k d = typed k (as_str d)
 abbrev pub table_of : Key → Data → Read Members
 table_of k d = typed k (as_table d)
 
--- tables, where each item is one
+-- the items as tables, where each is one
 abbrev pub tables_from : Key → Items → Read (List Members)
 tables_from k no_items = Ok []
 tables_from k (item d ds) = and_then (table_of k d) (λ first. and_then (tables_from k ds) (λ rest. Ok (first ∷ rest)))
@@ -74,12 +74,12 @@ tables_from k (item d ds) = and_then (table_of k d) (λ first. and_then (tables_
 abbrev pub tables_of : Key → Data → Read (List Members)
 tables_of k d = and_then (typed k (as_array d)) (tables_from k)
 
--- the value of a key, read
+-- the value of a required key, as read
 abbrev pub required : {A : Type 0} → Key → (Data → Read A) → Option Data → Read A
 required k read None = Err (fault.MissingKey k)
 required k read (Some d) = read d
 
--- the value of a key, read, or what stands for it where the key is absent
+-- the value of a key, as read, or a default where the key is absent
 abbrev pub optional : {A : Type 0} → A → (Data → Read A) → Option Data → Read A
 optional absent read None = Ok absent
 optional absent read (Some d) = read d
@@ -91,7 +91,7 @@ value_at k ms = get_member (key_text k) ms
 abbrev pub number_at : Key → ℕ → ℕ → Members → Read ℕ
 number_at k least most ms = required k (number_of k least most) (value_at k ms)
 
--- each key of the table is one of these
+-- the table has no keys but these
 abbrev pub has_only : List Key → Members → Bool
 has_only keys no_members = true
 has_only keys (member k d ms) = list_any (λ known. is_same_text (key_text known) k) keys && has_only keys ms
@@ -130,7 +130,7 @@ entity_in ms =
 abbrev pub name_of : Key → Data → Read (List ℕ)
 name_of k d = and_then (text_of k d) (λ name. unless (is_user_name name) (fault.OutOfRange k) (Ok name))
 
--- one table of a user, after some others
+-- one user's table, after those before it
 abbrev pub user_in : List (List ℕ) → Members → Read (List ℕ)
 user_in before ms =
     unless (has_only (key.Name ∷ []) ms) (fault.UnknownKey section.User)
@@ -150,13 +150,13 @@ handler_named word =
     else (if is_same_text word (codes "ignore") then Some Ignore
     else (if is_same_text word (codes "abandon") then Some Abandon else None)))
 
--- a handler that the role may have, in the fault table so far
+-- the fault table with one more handler, which must be known and allowed for the role
 abbrev pub with_named : Key → Role → ℕ → FaultTableValue → Option Handler → Read FaultTableValue
 with_named k role condition so_far None = Err (fault.HandlerNotAllowed k)
 with_named k role condition so_far (Some handler) =
     unless (is_allowed role condition handler) (fault.HandlerNotAllowed k) (Ok (with_handler so_far condition handler))
 
--- one key of a table of handlers
+-- one key of a handler table
 abbrev pub handler_at : Key → Role → Members → Key → ℕ → FaultTableValue → Read FaultTableValue
 handler_at k role ms condition_key condition so_far =
     optional so_far (λ d. and_then (text_of condition_key d) (λ word. with_named k role condition so_far (handler_named word))) (value_at condition_key ms)
@@ -178,7 +178,7 @@ abbrev pub handlers_from : Key → Role → Members → List (Key × ℕ) → Fa
 handlers_from k role ms [] so_far = Ok so_far
 handlers_from k role ms (pair ∷ pairs) so_far = and_then (handler_at k role ms pair.0 pair.1 so_far) (handlers_from k role ms pairs)
 
--- a table of handlers for a role
+-- the handler table of a role
 abbrev pub handlers_of : Role → Data → Read FaultTableValue
 handlers_of role d =
     and_then (table_of (table_key role) d) (λ ms.
@@ -192,7 +192,7 @@ handlers_at role ms = optional (all_cancel role) (handlers_of role) (value_at (t
 abbrev pub address_in : Data → Read (List ℕ)
 address_in d = and_then (text_of key.Address d) (λ text. unless (is_address text) fault.BadAddress (Ok text))
 
--- the number of a user that is one of these
+-- the number of the user that was found, or UnknownUser
 abbrev pub known_user : Option ℕ → Read (Option ℕ)
 known_user None = Err fault.UnknownUser
 known_user (Some user) = Ok (Some user)
@@ -200,7 +200,7 @@ known_user (Some user) = Ok (Some user)
 abbrev pub user_named : List (List ℕ) → Data → Read (Option ℕ)
 user_named users d = and_then (name_of key.User d) (λ name. known_user (position (is_same_text name) users))
 
--- the timers of a remote entity
+-- a remote entity's timers
 abbrev pub timers_in : Members → Read TimerLengths
 timers_in ms =
     and_then (number_at key.AckMilliseconds 1 TIMER_MILLISECONDS ms) (λ ack.
@@ -209,7 +209,7 @@ timers_in ms =
     and_then (number_at key.InactivityMilliseconds 1 TIMER_MILLISECONDS ms) (λ inactivity.
     Ok (record { ack = ack; nak = nak; check = check; inactivity = inactivity })))))
 
--- its limits of expirations
+-- a remote entity's limits of expirations
 abbrev pub limits_in : Members → Read ExpirationLimits
 limits_in ms =
     and_then (number_at key.AckLimit 1 EXPIRATIONS ms) (λ ack.
@@ -217,7 +217,7 @@ limits_in ms =
     and_then (number_at key.CheckLimit 1 EXPIRATIONS ms) (λ check.
     Ok (record { ack = ack; nak = nak; check = check }))))
 
--- its fault tables
+-- a remote entity's fault tables
 abbrev pub tables_in : Members → Read FaultTables
 tables_in ms =
     and_then (handlers_at Send ms) (λ send.
@@ -231,7 +231,7 @@ checksum_named word =
     if is_same_text word (codes "modular") then Some Modular
     else (if is_same_text word (codes "null") then Some Null else None)
 
--- a checksum that has a name
+-- the checksum that was found, or OutOfRange
 abbrev pub named_checksum : Option Checksum → Read Checksum
 named_checksum None = Err (fault.OutOfRange key.Checksum)
 named_checksum (Some checksum) = Ok checksum
@@ -239,11 +239,11 @@ named_checksum (Some checksum) = Ok checksum
 abbrev pub checksum_of : Data → Read Checksum
 checksum_of d = and_then (text_of key.Checksum d) (λ word. named_checksum (checksum_named word))
 
--- its checksum, modular where it has none
+-- a remote entity's checksum: modular where none is named
 abbrev pub checksum_at : Members → Read Checksum
 checksum_at ms = optional Modular checksum_of (value_at key.Checksum ms)
 
--- all its parameters
+-- all parameters of a remote entity
 abbrev pub params_in : EntitySettings → Members → Read ParamsParts
 params_in entity ms =
     and_then (timers_in ms) (λ timers.
@@ -260,12 +260,12 @@ params_in entity ms =
       checksum = checksum;
     })))))
 
--- the user has room for one more source
+-- the user may have one more source
 abbrev pub takes_source : List PeerValue → Option ℕ → Bool
 takes_source before None = true
 takes_source before (Some user) = nat_le (count_by (goes_to user) (map route_of before) + 1) SOURCES_OF_A_USER
 
--- one table of a remote entity, after some others
+-- one remote entity's table, after those before it
 abbrev pub remote_keys : List Key
 remote_keys =
     key.Id ∷ key.Address ∷ key.User ∷ key.AckMilliseconds ∷ key.NakMilliseconds ∷ key.CheckMilliseconds ∷ key.InactivityMilliseconds
@@ -290,11 +290,11 @@ abbrev pub remotes_in : EntitySettings → List (List ℕ) → List PeerValue �
 remotes_in entity users before [] = Ok before
 remotes_in entity users before (ms ∷ rest) = and_then (remote_in entity users before ms) (λ peer. remotes_in entity users (before ++ peer ∷ []) rest)
 
--- so many tables as the limit allows
+-- an array of tables, whose number is from `least` to `most`
 abbrev pub counted : Key → ℕ → ℕ → Data → Read (List Members)
 counted k least most d = and_then (tables_of k d) (λ ts. unless (is_within least most (length ts)) (fault.OutOfRange k) (Ok ts))
 
--- the whole table
+-- the whole configuration, from the top-level table
 abbrev pub config_in : Members → Read ConfigValue
 config_in ms =
     unless (has_only (key.Entity ∷ key.User ∷ key.Remote ∷ []) ms) (fault.UnknownKey section.Top)
@@ -306,11 +306,11 @@ config_in ms =
     and_then (remotes_in entity users [] remote_tables) (λ peers.
     Ok (record { entity = entity; users = users; peers = peers }))))))))
 
--- a table that was read, or none
+-- the configuration in the table, or BadToml where there is none
 abbrev pub config_from : Option Members → Read ConfigValue
 config_from None = Err fault.BadToml
 config_from (Some ms) = config_in ms
 
--- the configuration that a text gives, or why it is refused
+-- the configuration that a text gives, or its first fault
 abbrev pub config_of : List ℕ → Read ConfigValue
 config_of text = config_from (parse_document text)

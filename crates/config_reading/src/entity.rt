@@ -1,20 +1,20 @@
 use cfdp_types::{EntityId, HeaderLengths};
 
-/// What a configuration says of the entity itself.
+/// The part of a configuration that is about the entity itself.
 #[derive(Clone, Copy, Debug, PartialEq, Eq)]
 pub struct EntitySettings {
-    /// Its ID.
+    /// The entity's ID.
     pub local: EntityId,
-    /// The octets of IDs and of sequence numbers in the headers that it writes.
+    /// The octets of IDs and of sequence numbers in the headers that the entity writes.
     pub lengths: HeaderLengths,
-    /// The number that each sending lane begins with.
+    /// The sequence number that each sending lane begins with.
     pub first: u64,
-    /// Sending lanes of each user.
+    /// The number of sending lanes of each user.
     pub put_lanes: usize,
-    /// Receiving lanes of each source.
+    /// The number of receiving lanes of each source.
     pub receive_lanes: usize,
-    /// Bundles that the queue of each user has room for.
+    /// How many bundles each user's queue has room for.
     pub capacity: usize,
-    /// The most octets of the file in a File Data PDU that it sends.
+    /// The most file octets in a File Data PDU that the entity sends.
     pub segment_octets: u16,
 }

@@ -46,14 +46,14 @@ pub enum Key {
 /// The tables of a configuration.
 #[derive(Clone, Copy, Debug, PartialEq, Eq)]
 pub enum Section {
-    /// The text itself.
+    /// The top level of the text.
     Top,
     Entity,
     User,
     Remote,
 }
 
-/// Why a configuration, or a change of one, was refused.
+/// Why a configuration, or a change to one, was refused.
 #[derive(Clone, Copy, Debug, PartialEq, Eq, Error)]
 pub enum ConfigFault {
     #[error("the text is not TOML")]
@@ -86,7 +86,7 @@ impl ConfigFault {
     ghost use Rattle.std.specs.Prelude.{◌≡◌};
     ghost use Rattle.config_reading.specs.Faults.{fault_number};
 
-    /// The number of the fault.
+    /// The fault's number.
     pub fn number(self) -> u8
         ensures { result ≡ fault_number self }
     {
@@ -127,7 +127,7 @@ impl Key {
     ghost use Rattle.std.specs.Prelude.{◌≡◌};
     ghost use Rattle.config_reading.specs.Faults.{key_text, table_key};
 
-    /// The key of a role's table of handlers.
+    /// The key of the handler table of a role.
     pub fn of_table(role: Role) -> Key
         ensures { result ≡ table_key role }
     {
@@ -138,7 +138,7 @@ impl Key {
         }
     }
 
-    /// The key as it is written.
+    /// The key as it is written in the text.
     pub fn name(self) -> &'static str
         ensures { result.now ≡ key_text self }
     {

@@ -1,4 +1,4 @@
-//! How the configuration of an entity is read from a text: its parts, or what is wrong first.
+//! Reading an entity's configuration from a text: its parts, or the first fault.
 #![tactic(auto)]
 
 mod entity;

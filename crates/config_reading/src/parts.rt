@@ -1,13 +1,13 @@
 use crate::entity::EntitySettings;
 use crate::remote::Peer;
 
-/// What a text says of an entity, part by part.
+/// The parts of an entity's configuration, as read from a text.
 #[derive(Debug, Drop)]
 pub struct ConfigParts {
-    /// The entity itself.
+    /// The settings of the entity itself.
     pub entity: EntitySettings,
-    /// The names of its users, in their order.
+    /// The users' names, in the order of the text.
     pub users: Vec<String>,
-    /// The remote entities, in their order.
+    /// The remote entities, in the order of the text.
     pub peers: Vec<Peer>,
 }

@@ -1,4 +1,4 @@
-//! How a configuration is read from a text.
+//! Reading a configuration from a text.
 ghost use Rattle.std.specs.Prelude.{◌≡◌, ◌⊎◌, Err, IfErr, IfOk, IsTrue, Ok};
 ghost use Rattle.config_reading.specs.Reads.{Reads};
 ghost use Rattle.config_reading.specs.Shown.{parts_shown};
@@ -25,8 +25,8 @@ use cfdp_types::limits::{REMOTES, USERS};
 use std::alloc::Global;
 use toml::Table;
 
-/// Reads the parts of a configuration, a text in TOML. Reports the first fault in the order of the keys, whatever their
-/// order in the text; `NoMemory` says nothing of the text.
+/// Reads the parts of a configuration from a text in TOML. An error is the first fault in the order of the keys,
+/// whatever their order in the text; `NoMemory` says nothing about the text.
 pub fn read_parts(alloc: Global, text: &str) -> Result<ConfigParts, ConfigFault>
     ensures ok { IfOk result (λ parts. config_of text.now ≡ Ok (parts_shown parts)) }
     ensures limits { IfOk result (λ parts. IsTrue (is_config (parts_shown parts))) }
@@ -39,7 +39,7 @@ pub fn read_parts(alloc: Global, text: &str) -> Result<ConfigParts, ConfigFault>
     }
 }
 
-// The parts that the top table says.
+// The parts that the top-level table gives.
 fn parts_in(alloc: Global, table: &Table) -> Result<ConfigParts, ConfigFault>
     ensures parts { Reads parts_shown result (config_in (table_view table.now)) }
     ensures limits { IfOk result (λ parts. IsTrue (is_config (parts_shown parts))) }

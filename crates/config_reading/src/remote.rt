@@ -1,20 +1,20 @@
 use cfdp_types::{EntityId, Params};
 
-/// What a configuration says of a remote entity, its address aside.
+/// The part of a configuration that is about a remote entity, apart from its address.
 #[derive(Clone, Copy, Debug, PartialEq, Eq)]
 pub struct Remote {
-    /// Its ID.
+    /// The remote entity's ID.
     pub id: EntityId,
-    /// The number of the user that its files go to; none where it only receives.
+    /// The number of the user that its files go to; None where it only receives.
     pub user: Option<usize>,
-    /// What the transactions with it go by.
+    /// The parameters of the transactions with it.
     pub params: Params,
 }
 
-/// A remote entity and where it is.
+/// A remote entity and its address.
 #[derive(Debug, Drop)]
 pub struct Peer {
     pub remote: Remote,
-    /// Its address, as it was written.
+    /// The address as written in the text.
     pub address: String,
 }

@@ -1,4 +1,4 @@
--- Meaning. What happens in an entity of one thread, as moves of the ends that its lanes run.
+-- Meaning. Steps in an entity of one thread, as moves of the ends that its lanes run.
 use Rattle.std.specs.Prelude.{ℕ, List, ◌∷◌}
 use Rattle.indications.specs.declared.side.Side.{Side}
 use Rattle.txn_events.specs.declared.event.Event.{Event}
@@ -9,7 +9,7 @@ use Rattle.ends_schedules.specs.Schedules.{Move}
 use Rattle.world_table.specs.Histories.{Happening, steps, lane_after, AreIdle, IsHistory}
 use Rattle.ends_lanes.specs.LaneMoves.{ComesTo, HasMoved}
 
--- a lane of an entity that takes an event moves its end
+-- where a lane of an entity accepts an event, its end makes a move
 abbrev pub EntityStepsAreMoves : Type 0
 EntityStepsAreMoves = (lanes : ℕ → ℕ → State) (history : List Happening) (user lane : ℕ) (event : Event)
     (side : Side) (sending : Sending) (reception : Reception) (moves : List Move)

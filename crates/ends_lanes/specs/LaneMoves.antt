@@ -1,4 +1,4 @@
--- Meaning. What a lane answers, as a move of the end that it runs.
+-- Meaning. The answers of a lane, as moves of the end that it runs.
 use Rattle.std.specs.Prelude.{◌≡◌, ℕ, IfSome, Contains, List, [], ◌∷◌, Option, Some, None, Ok}
 use Rattle.cfdp_types.specs.declared.image.Image.{Image}
 use Rattle.cfdp_types.specs.declared.key.TxnKey.{TxnKey}
@@ -17,53 +17,53 @@ use Rattle.lane_table.specs.Steps.{IsKeyed, new_transaction, log_before, refusal
 use Rattle.ends_laws.specs.Agreement.{image_of_put}
 use Rattle.ends_schedules.specs.Schedules.{Move, echoes, sender_log, receiver_log, sent_by, ever_sent, pdu_of, IsSchedule}
 
--- the log that a schedule gives one of its ends
+-- the log of one end in a schedule
 abbrev pub log_at : Side → Sending → Reception → List Move → Log
 log_at Sender sending reception moves = sent sending (sender_log moves)
 log_at Receiver sending reception moves = received reception (receiver_log moves)
 
--- the PDU that an event of a lane is
+-- the PDU in an event of a lane, if there is one
 abbrev pub pdu_in : Event → Option PduValue
 pdu_in (On key event) = pdu_of event
 pdu_in (Put request params) = None
 
--- an event that is a PDU was sent by either end
+-- a PDU in the event was sent before, by either end
 abbrev pub IsCarried : List Move → Event → Type 0
 IsCarried moves event = IfSome (pdu_in event) (Contains (ever_sent moves))
 
--- a lane stands at one end of a schedule with one more move, and what its step gave is what that move sends
+-- the lane stands at one end of a schedule with one more move, which sends the PDUs of the lane's step
 pub record HasMoved (side : Side) (sending : Sending) (reception : Reception) (moves : List Move) (next : State) : Type 0 where
   pub move : Move
   pub is_schedule : IsSchedule sending reception (move ∷ moves)
   pub stands : log_of next ≡ Some (log_at side sending reception (move ∷ moves))
   pub sends : (done : Done) → IsDone next done → done.pdus ≡ sent_by move
 
--- an event comes to the log of one end, and is no PDU, or one that was sent
+-- the event finds the lane at the log of one end, and a PDU in it was sent before
 pub record ComesTo (side : Side) (sending : Sending) (reception : Reception) (moves : List Move) (state : State) (event : Event) : Type 0 where
   pub is_schedule : IsSchedule sending reception moves
   pub log_is : log_before state (new_transaction state event) ≡ Some (log_at side sending reception moves)
   pub carried : IsCarried moves event
 
--- where the lane takes it, it is a move; an event that opens comes to a log without entries
+-- where the lane accepts such an event, its end makes a move; an event that opens a transaction finds an empty log
 abbrev pub StepsAreMoves : Type 0
 StepsAreMoves = (side : Side) (sending : Sending) (reception : Reception) (moves : List Move) (state : State) (event : Event)
     → IsSound state → IsKeyed event → refusal_at state event ≡ None → ComesTo side sending reception moves state event
     → HasMoved side sending reception moves (stepped state event)
 
--- what is sent back to a PDU that is refused
+-- the echo of a PDU that is refused, as a move of the schedule
 pub record IsEchoed (sending : Sending) (reception : Reception) (moves : List Move) (event : Event) (echo : PduValue) : Type 0 where
   pub pdu : PduValue
   pub pdu_is : pdu_in event ≡ Some pdu
   pub is_schedule : IsSchedule sending reception (echoes pdu ∷ moves)
   pub sends : sent_by (echoes pdu) ≡ echo ∷ []
 
--- where a lane refuses an event and sends something all the same, it is the echo of a PDU, and a move
+-- where a lane sends a PDU on refusing an event, that is the echo of a PDU, and a move
 abbrev pub EchoesAreMoves : Type 0
 EchoesAreMoves = (sending : Sending) (reception : Reception) (moves : List Move) (state : State) (event : Event) (refused : Refused)
     → IsSchedule sending reception moves → IsCarried moves event → refusal_at state event ≡ Some refused
     → IfSome refused.echo (IsEchoed sending reception moves event)
 
--- the file that a lane gives by key and stamp, at the receiver's end of a schedule, is the one that was put
+-- the file that a lane gives at the receiver's end of a schedule, for a key and a stamp, is the one that was put
 abbrev pub LanesGiveThePut : Type 0
 LanesGiveThePut = (sending : Sending) (reception : Reception) (moves : List Move) (state : State) (key : TxnKey) (stamp : ℕ) (image : Image)
     → IsSchedule sending reception moves → log_of state ≡ Some (log_at Receiver sending reception moves)

@@ -1,4 +1,4 @@
-//! The lanes of entities as the two ends of a transaction, over their definitions alone.
+//! The lanes of entities as the two ends of a transaction, stated over their definitions alone.
 #![tactic(auto)]
 
 pub mod laws;

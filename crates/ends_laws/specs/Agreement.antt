@@ -1,4 +1,4 @@
--- Meaning. When what a PDU says of a file is what the file's Put says.
+-- Meaning. When a PDU's statements about a file agree with the file's Put.
 use Rattle.std.specs.Prelude.{◌≡◌, ℕ, ◌+◌, ◌<◌, List, length, slice_get}
 use Rattle.cfdp_types.specs.Condition as condition
 use Rattle.cfdp_types.specs.Put.{PutValue}
@@ -15,7 +15,7 @@ pub record Describes (put : PutValue) (m : Metadata) : Type 0 where
   pub source_name : m.source_name ≡ put.source_name
   pub destination_name : m.destination_name ≡ put.destination_name
 
--- a part has a file's octets at its offsets
+-- file data has the file's octets at its offsets
 abbrev pub HasOctetsOf : List ℕ → FileData → Type 0
 HasOctetsOf file d = (i : ℕ) → i < length d.octets → slice_get file (d.offset + i) ≡ slice_get d.octets i
 
@@ -23,13 +23,13 @@ HasOctetsOf file d = (i : ℕ) → i < length d.octets → slice_get file (d.off
 abbrev pub HasSizeOf : List ℕ → Eof → Type 0
 HasSizeOf file e = e.condition ≡ condition.no_error → e.size ≡ length file
 
--- what a PDU's body says of the file is what the Put says; the other kinds say nothing of it
+-- the body of a PDU agrees with the Put; kinds that say nothing of the file always do
 abbrev pub AgreesWith : PutValue → Body → Type 0
 AgreesWith put (body.Metadata m) = Describes put m
 AgreesWith put (body.FileData d) = HasOctetsOf put.file d
 AgreesWith put (body.Eof e) = HasSizeOf put.file e
 AgreesWith put _ = Unit {0}
 
--- the Put's file, as a file store is given it
+-- the image that a file store is given of the Put's file
 abbrev pub image_of_put : PutValue → Image
 image_of_put put = record { source_name = put.source_name; destination_name = put.destination_name; octets = put.file }

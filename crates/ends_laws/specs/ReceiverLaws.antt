@@ -1,5 +1,5 @@
--- Meaning. What holds of every receiver: what its file store gets where all that came agrees with a Put, and when
--- it says that the delivery was complete.
+-- Meaning. The laws of every receiver: which file its file store is given where all received PDUs agree with a Put,
+-- and when it reports a complete delivery.
 use Rattle.std.specs.Prelude.{◌≡◌, ℕ, true, IfSome, List, [], ◌∷◌, ◌++◌, Some, Ok}
 use Rattle.std.specs.List.{AllByRecursion}
 use Rattle.cfdp_types.specs.Put.{PutValue}
@@ -15,35 +15,35 @@ use Rattle.receiver_table.specs.Images.{image_at}
 use Rattle.receiver_laws.specs.LegalReceptions.{IsLegal}
 use Rattle.ends_laws.specs.Agreement.{AgreesWith, image_of_put}
 
--- every PDU that came agrees with the Put
+-- every received PDU agrees with the Put
 abbrev pub AllAgree : PutValue → List Entry → Type 0
 AllAgree put [] = Unit {0}
 AllAgree put (entry ∷ front) = IfSome (body_of_event entry.event) (AgreesWith put) × AllAgree put front
 
--- a deposit that is handed out is the Put's file
+-- the file of each deposit is the Put's
 abbrev pub DepositsThePut : Type 0
 DepositsThePut = (put : PutValue) (reception : Reception) (entry : Entry) (front : List Entry) (deposit : Deposit) → IsLegal reception (entry ∷ front)
     → AllAgree put (entry ∷ front) → entry.answer.deposit ≡ Some deposit
     → image_at (state_of (entry ∷ front)) deposit.stamp ≡ Ok (image_of_put put)
 
--- an image that is given is the Put's file, whenever and by whatever stamp it is asked for
+-- each image is the Put's file, whenever and with whatever stamp it is asked for
 abbrev pub GivesThePut : Type 0
 GivesThePut = (put : PutValue) (reception : Reception) (log : List Entry) (stamp : ℕ) (image : Image) → IsLegal reception log → AllAgree put log
     → image_at (state_of log) stamp ≡ Ok image → image ≡ image_of_put put
 
--- at some entry of the log the file store said yes to a deposit, and the deposit had given it this image until then
+-- at some entry of the log the file store accepted a deposit, whose image was this one until then
 pub record HasKept (log : List Entry) : Type 0 where
-  -- the entries after its yes, the deposit's stamp, what the yes was answered, and the entries before it
+  -- the entries after the acceptance, the deposit's stamp, the answer to the acceptance, and the entries before it
   pub later : List Entry
   pub stamp : ℕ
   pub answer : Answer
   pub front : List Entry
   pub log_is : log ≡ later ++ record { event = what.Stored stamp true; answer = answer } ∷ front
-  -- the file that whoever asks by this stamp was given while the deposit waited
+  -- the image that the stamp gave while the deposit was waiting
   pub image : Image
   pub image_is : image_at (state_of front) stamp ≡ Ok image
 
--- a PDU goes toward the sender, and is a Finished of a complete delivery only where this is so
+-- the PDU goes toward the sender, and it is a Finished of a complete delivery only where `kept` holds
 abbrev pub IsSaidByReceiver : Type 0 → PduValue → Type 0
 IsSaidByReceiver kept pdu = (is_toward_sender pdu.body ≡ true) × IfSome (finished_in pdu.body) (λ f. f.delivery ≡ Complete → kept)
 

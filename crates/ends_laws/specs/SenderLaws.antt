@@ -1,4 +1,4 @@
--- Meaning. What holds of every sender: what it says of its Put, and what it tells of the delivery.
+-- Meaning. The laws of every sender: what its PDUs say of its Put, and when it indicates a complete delivery.
 use Rattle.std.specs.Prelude.{◌≡◌, ℕ, false, List, ◌∷◌, Option, Contains}
 use Rattle.std.specs.List.{AllByRecursion}
 use Rattle.cfdp_types.specs.Put.{PutValue}
@@ -14,7 +14,7 @@ use Rattle.sender_table.specs.Sending.{Sending, Event, happens, Entry}
 use Rattle.sender_laws.specs.LegalSendings.{IsLegal}
 use Rattle.ends_laws.specs.Agreement.{AgreesWith}
 
--- a PDU goes toward the receiver, and agrees with the Put
+-- the PDU goes toward the receiver, and agrees with the Put
 abbrev pub IsSaidBySender : PutValue → PduValue → Type 0
 IsSaidBySender put pdu = (is_toward_sender pdu.body ≡ false) × AgreesWith put pdu.body
 
@@ -23,7 +23,7 @@ abbrev pub SendsItsPut : Type 0
 SendsItsPut = (sending : Sending) (entry : Entry) (front : List Entry) → IsLegal sending (entry ∷ front)
     → AllByRecursion (IsSaidBySender sending.request) entry.answer.pdus
 
--- an event is a Finished PDU of a complete delivery, with these values
+-- the event is the reception of a Finished PDU of a complete delivery, with these values
 pub record IsFinished (event : Event) (condition : ℕ) (status : FileStatus) : Type 0 where
   pub header : Header
   pub location : Option EntityId

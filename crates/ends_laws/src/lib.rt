@@ -1,4 +1,4 @@
-//! What each end of a transaction says of the file of a Put, over the definitions of both ends alone.
+//! Laws on the file of a Put at each end of its transaction, stated over the definitions of both ends alone.
 #![tactic(auto)]
 
 pub mod laws;

@@ -1,4 +1,4 @@
--- Rows. A worked run in class 1 whose sender asks the receiver to report at the end what became of the file.
+-- Rows. A worked run in class 1 whose sender requests transaction closure.
 use Rattle.std.specs.Prelude.{◌≡◌, true, Contains, List, [], ◌∷◌, ◌++◌, None, refl}
 use Rattle.std.proofs.Common.{arith}
 use Rattle.cfdp_types.specs.declared.names.Class.TheVariants.{One}
@@ -24,15 +24,15 @@ use Rattle.ends_schedules.proofs.ScheduleFacts.{tells_what_was_stored}
 use Rattle.ends_rows.specs.ScheduleRows.{absent}
 use Rattle.ends_rows.specs.WorkedSchedules.{sending_in, reception_in, header_in, to_receiver, part_in, eof_in, Step, at_receiver, came, came_back, moves_by, all_sent}
 
--- the Put asks for closure
+-- the Put requests closure
 abbrev pub closed : Sending
 closed = record (sending_in One) { request = record ((sending_in One).request) { closure = true } }
 
--- and so does its Metadata
+-- its Metadata requests closure too
 abbrev pub closing_metadata : PduValue
 closing_metadata = to_receiver One (body.Metadata (record (metadata_value 0 3) { closure = true }))
 
--- what the receiver sends in the end
+-- what the receiver sends at the end
 abbrev pub finished : PduValue
 finished = record {
   header = record (header_in One) { direction = TowardSender };
@@ -42,11 +42,11 @@ finished = record {
 abbrev pub after : List Step → List Move
 after steps = moves_by closed (reception_in One) [] steps
 
--- all comes, and the file is kept
+-- everything is received, and the file is kept
 abbrev pub stored : List Step
 stored = all_sent ++ came closing_metadata ∷ came (part_in One) ∷ came (eof_in One) ∷ at_receiver (what.Stored 2 true) ∷ []
 
--- the sender hears of it
+-- the sender receives the Finished PDU
 abbrev pub told_kept : List Step
 told_kept = stored ++ came_back finished ∷ []
 
@@ -66,7 +66,7 @@ pub sender_told : sender.issued (sender_log (after told_kept)) ≡ told.Transact
 unfolding sender.initial sender.step sender.state_of receiver.initial receiver.step receiver.state_of runs_of runs_from
 sender_told = refl
 
--- the entry that the Finished makes
+-- the sender's entry for the Finished
 abbrev pub finished_entry : sender.Entry
 finished_entry = record {
   event = sender.happens (what.Pdu finished);
@@ -80,9 +80,9 @@ tells_complete = (0, omega (arith), refl)
 pub was_stored : HasStored closed.request (receiver_log (after stored))
 was_stored = tells_what_was_stored closed (reception_in One) (after stored) finished_entry 0 Retained closed_schedule tells_complete
 
--- ---- no schedule
+-- ---- not a schedule
 
--- a Finished that no receiver sent: the sender would take it, and tell of a complete delivery
+-- a Finished that no receiver sent: the sender would accept it, and indicate a complete delivery
 abbrev pub forged : List Step
 forged = all_sent ++ came_back finished ∷ []
 

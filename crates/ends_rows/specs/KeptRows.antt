@@ -1,4 +1,4 @@
--- Rows. Rows on what is said of a file that is kept: what the file store said yes to, and what each end tells of it.
+-- Rows. Rows on kept files: what the file store accepted, and what each end reports of it.
 use Rattle.std.specs.Prelude.{◌≡◌, ℕ, Bool, true, false, List, [], ◌∷◌, ◌++◌, None, Option, Result, Ok, Err, refl}
 use Rattle.std.specs.List.{AllByRecursion}
 use Rattle.std.specs.Option.{option_map, option_and_then}
@@ -35,9 +35,9 @@ use Rattle.ends_schedules.specs.ScheduleLaws.{HasStored}
 use Rattle.ends_rows.specs.WorkedSchedules.{sending, reception, to_sender, metadata_in, nak, finished_acknowledged, after, deposited, stored, told_kept, whole}
 use Rattle.ends_rows.specs.ScheduleRows.{stored_schedule, told_schedule, deposit_is, finished_entry, tells_complete}
 
--- ---- what the file store said yes to
+-- ---- what the file store accepted
 
--- it says that it keeps a file
+-- whether the event is an answer that the file is kept
 abbrev pub is_yes : What → Bool
 is_yes (what.Stored stamp kept) = kept
 is_yes _ = false
@@ -48,7 +48,7 @@ IsNoYes entry = is_yes entry.event ≡ false
 abbrev pub answered_by : ℕ → Bool → Answer → Entry
 answered_by stamp kept answer = record { event = what.Stored stamp kept; answer = answer }
 
--- an entry somewhere in a log
+-- an entry anywhere in a log
 each_behind : (P : Entry → Type 0) (later front : List Entry) (entry : Entry) → AllByRecursion P (later ++ entry ∷ front) → P entry
 each_behind P [] front entry each = each.0
 each_behind P (other ∷ later) front entry each = each_behind P later front entry each.1
@@ -57,7 +57,7 @@ no_yes : (log later front : List Entry) (stamp : ℕ) (answer : Answer) → AllB
 no_yes log later front stamp answer each is =
     let no : true ≡ false = each_behind IsNoYes later front (answered_by stamp true answer) (subst (AllByRecursion IsNoYes) is each) in absurd cc
 
--- where it never said yes, it has kept nothing
+-- where the file store accepted nothing, nothing is kept
 none_kept : (log : List Entry) → AllByRecursion IsNoYes log → HasKept log → ⊥
 none_kept log each kept = no_yes log kept.later kept.front kept.stamp kept.answer each kept.log_is
 
@@ -83,12 +83,12 @@ kept_there stamp other answer given front behind [] image each is there =
 kept_there stamp other answer given front behind (entry ∷ later) image each is there =
     absurd (no_yes front later behind other given each (ap front_of is))
 
--- where it said yes once, and last, it has kept what was given by the stamp then
+-- where it accepted once, and last, the file is kept that the stamp gave then
 kept_once : (stamp : ℕ) (answer : Answer) (front : List Entry) → AllByRecursion IsNoYes front → (kept : HasKept (answered_by stamp true answer ∷ front))
     → image_at (state_of front) stamp ≡ Ok kept.image
 kept_once stamp answer front each kept = kept_there stamp kept.stamp answer kept.answer front kept.front kept.later kept.image each kept.log_is kept.image_is
 
--- the worked run: it is kept once the file store said so, and from then on
+-- in the worked run the file is kept once the file store has said so, and from then on
 abbrev pub kept_image : Image
 kept_image = record { source_name = 97 ∷ []; destination_name = 98 ∷ []; octets = abc }
 
@@ -111,7 +111,7 @@ pub kept_from_then_on : HasKept (receiver_log (after whole))
 kept_from_then_on =
     record { later = last_entry ∷ []; stamp = 2; answer = kept_answer; front = waiting_log; log_is = refl; image = kept_image; image_is = deposit_is }
 
--- and it is the Put's
+-- and it is the Put's file
 pub stored_when_stored : HasStored sending.request (receiver_log (after stored))
 unfolding kept_when_stored
 stored_when_stored = (kept_when_stored, refl)
@@ -120,16 +120,16 @@ stored_when_stored = (kept_when_stored, refl)
 pub waiting_is_not_kept : HasKept waiting_log → ⊥
 waiting_is_not_kept = none_kept waiting_log (refl, (refl, (refl, tt)))
 
--- nor where it says that it does not keep the file
+-- nothing is kept where the file store rejects the file
 pub rejected_is_not_kept : HasKept (answered_by 2 false empty_answer ∷ waiting_log) → ⊥
 rejected_is_not_kept = none_kept (answered_by 2 false empty_answer ∷ waiting_log) (refl, (refl, (refl, (refl, tt))))
 
--- nor where it answers for a deposit that does not wait
+-- nothing is kept where it answers for a deposit that isn't waiting
 pub stale_is_not_kept : HasKept (answered_by 3 true empty_answer ∷ waiting_log) → ⊥
 unfolding sender.initial sender.step sender.state_of initial step state_of runs_of runs_from
 stale_is_not_kept kept = let given = kept_once 3 empty_answer waiting_log (refl, (refl, (refl, tt))) kept in absurd cc
 
--- what was kept is the file of no other Put
+-- the kept file belongs to no other Put
 abbrev pub renamed : PutValue
 renamed = record sending.request { destination_name = 97 ∷ [] }
 
@@ -143,9 +143,9 @@ stored_is_no_other there =
     let names = ap name_in (sym deposit_is ∙ given ∙ ap (λ (i : Image). Ok i) there.1) in
     omega (arith, names)
 
--- ---- what each end says and tells of it
+-- ---- what each end reports of it
 
--- a Finished of a complete delivery is said only where the file is kept; another one always
+-- a Finished of a complete delivery is sent only where the file is kept; any other Finished may always be
 abbrev pub finished_as : Delivery → PduValue
 finished_as delivery = to_sender (body.Finished (record { condition = 0; delivery = delivery; status = Retained; location = None }))
 
@@ -161,22 +161,22 @@ says_nothing_of_it = (refl, tt)
 pub says_complete_too_early : IsSaidByReceiver (HasKept waiting_log) (finished_as Complete) → ⊥
 says_complete_too_early said = waiting_is_not_kept (said.1 refl)
 
--- and nothing that goes toward the receiver
+-- a receiver sends nothing that goes toward the receiver
 pub says_no_metadata : (kept : Type 0) → IsSaidByReceiver kept (metadata_in Two) → ⊥
 says_no_metadata kept said = let goes = said.0 in absurd cc
 
--- so it is with what is sent once the file store has said yes
+-- the PDUs that are sent once the file store has accepted the file keep to this
 pub stored_says : AllByRecursion (IsSaidByReceiver (HasKept (receiver_log (after stored)))) kept_answer.pdus
 stored_says = says_what_is_kept reception (answered_by 2 true kept_answer) waiting_log stored_schedule.receiver_legal
 
--- the sender tells of a complete delivery at a Finished with these values
+-- the sender indicates a complete delivery at a Finished with these values
 pub told_at_finished : IsFinished finished_entry.event 0 Retained
 told_at_finished = tells_what_came sending finished_entry (sender_log (after stored)) 0 Retained told_schedule.sender_legal tells_complete
 
 pub at_finished : IsFinished (happens (what.Pdu (finished_as Complete))) 0 Retained
 at_finished = record { header = nak.header; location = None; event_is = refl }
 
--- and at none with other values, nor at another event
+-- not at one with other values, nor at another event
 abbrev finished_at : sender.Event → Option Finished
 finished_at put = None
 finished_at (happens event) = option_and_then finished_in (body_of_event event)

@@ -1,4 +1,4 @@
--- Rows. Rows on lanes at the ends of the worked run: their steps and an echo are moves.
+-- Rows. Rows on lanes at the ends of the worked run, whose steps and echo are moves.
 use Rattle.std.specs.Prelude.{◌≡◌, ℕ, List, [], ◌∷◌, ◌++◌, Some, None, Ok, refl}
 use Rattle.std.proofs.Common.{arith}
 use Rattle.cfdp_types.specs.Reference.{reference}
@@ -37,7 +37,7 @@ use Rattle.ends_rows.specs.WorkedSchedules.{key, sending, reception, to_sender, 
 abbrev pub sending_lane : State
 sending_lane = idle (Sending (record { first = 1; lanes = 2; users = 2 }) 255) 0 0 (record { 0 = 2 })
 
--- a lane of entity 1, for what comes from entity 2
+-- a lane of entity 1 that receives from entity 2
 abbrev pub receiving_lane : State
 receiving_lane = idle (Receiving reception.params) 0 2 (record { 0 = 2 })
 
@@ -53,7 +53,7 @@ stepped_by state (event ∷ later) = stepped_by (stepped state event) later
 
 -- ---- steps
 
--- nothing happened yet
+-- nothing has happened yet
 pub nothing_schedule : IsSchedule sending reception []
 nothing_schedule = record { key = refl; sender_legal = tt; receiver_legal = tt; unforged = tt }
 
@@ -70,12 +70,12 @@ put_moves =
     steps_are_moves Sender sending reception [] sending_lane the_put (idle_sound sending_lane.side 0 0 (record { 0 = 2 }) (omega (arith), omega (arith)))
     tt put_taken put_comes
 
--- the log is that of the sender's first move
+-- the lane's log is that of the sender's first move
 pub put_log : log_of (stepped sending_lane the_put) ≡ Some (log_at Sender sending reception (after (at_sender put ∷ [])))
 unfolding sender.initial sender.step sender.state_of
 put_log = refl
 
--- all is sent
+-- everything was sent
 pub sent_schedule : IsSchedule sending reception (after all_sent)
 unfolding sender.initial sender.step sender.state_of sender_answers.answer_at runs_of runs_from width_from
 sent_schedule = record {
@@ -99,13 +99,13 @@ eof_moves =
     steps_are_moves Receiver sending reception (after all_sent) receiving_lane (pdu_came (eof_in Two)) (idle_sound receiving_lane.side 0 2 (record { 0 = 2 }) tt)
     (refl, refl) eof_taken eof_comes
 
--- it is carried only where it was sent
+-- a PDU is carried only where it was sent
 pub uncarried : IsCarried (after (at_sender put ∷ [])) (pdu_came (eof_in Two)) → ⊥
 uncarried there = let below = there.1 in omega (arith, below)
 
 -- ---- echoes
 
--- the user of the receiving lane abandons the transaction, and the EOF comes again
+-- the user of the receiving lane abandons the transaction, and the EOF is received again
 abbrev pub abandoned : State
 abandoned = stepped_by receiving_lane (pdu_came (eof_in Two) ∷ On key what.Abandon ∷ [])
 
@@ -116,7 +116,7 @@ pub echoes_eof : refusal_at abandoned (pdu_came (eof_in Two)) ≡ Some (record {
 unfolding receiver.initial receiver.step receiver.state_of runs_of runs_from
 echoes_eof = refl
 
--- so the schedule goes on with an echo, whatever came before
+-- so the schedule continues with an echo, whatever happened before
 pub echo_moves : IsEchoed sending reception (after all_sent) (pdu_came (eof_in Two)) echo
 echo_moves =
     echoes_are_moves sending reception (after all_sent) abandoned (pdu_came (eof_in Two)) (record { why = refusal.OldTransaction; echo = Some echo })
@@ -124,7 +124,7 @@ echo_moves =
 
 -- ---- an entity
 
--- every user has such a lane at each number
+-- the lanes of an entity, all of them such sending lanes
 abbrev pub lanes : ℕ → ℕ → State
 lanes user lane = idle (Sending (record { first = 1; lanes = 2; users = 2 }) 255) user lane (record { 0 = 2 })
 
@@ -139,7 +139,7 @@ entity_moves = entity_steps_are_moves lanes [] 0 0 the_put Sender sending recept
 
 -- ---- a file at a lane
 
--- the receiving lane where all came in order
+-- the receiving lane where all PDUs arrive in order
 abbrev pub in_order : List Step
 in_order = all_sent ++ came (metadata_in Two) ∷ came (part_in Two) ∷ came (eof_in Two) ∷ []
 

@@ -1,4 +1,4 @@
--- Rows. Rows on lanes at the ends of the worked run: what is a move of them and what is none, and echoes.
+-- Rows. Rows on lanes at the ends of the worked run: what is a move of theirs and what isn't, and echoes.
 use Rattle.std.specs.Prelude.{◌≡◌, IfSome, Contains, List, [], ◌∷◌, length, option_to_list, Option, Some, None, refl}
 use Rattle.std.specs.List.{AllByRecursion, list_any}
 use Rattle.std.proofs.Common.{ap, sym, subst, ◌∙◌, arith}
@@ -48,11 +48,11 @@ pub pump_moves : HasMoved Sender sending reception after_put pumped_lane
 unfolding sender.initial sender.step sender.state_of runs_of runs_from
 pump_moves = record { move = move_by sending reception after_put pump; is_schedule = pump_schedule; stands = refl; sends = λ done gives. gives.pdus }
 
--- a lane to which nothing happened has not moved
+-- a lane in which nothing happened has not moved
 pub idle_has_not_moved : HasMoved Sender sending reception [] sending_lane → ⊥
 idle_has_not_moved has = let nothing = has.stands in absurd cc
 
--- nor has one that stays where it is with what it sent before, whatever happens at the other end
+-- nor has a lane whose log is as before, whatever happens at the other end
 abbrev sent_log : Option Log → List sender.Entry
 sent_log (Some (sent s log)) = log
 sent_log _ = []
@@ -82,7 +82,7 @@ done_pumping = record { key = refl; pdus = refl; timers = refl; deposit = refl }
 pub stays_has_not_moved : HasMoved Sender sending reception after_pump pumped_lane → ⊥
 stays_has_not_moved has = stays has.move has.is_schedule has.stands (has.sends done_pump done_pumping)
 
--- nor one that took a PDU which nobody sent
+-- nor has a lane that accepted a PDU which nobody sent
 abbrev pub unsent_lane : State
 unsent_lane = stepped_by receiving_lane (pdu_came (eof_in Two) ∷ [])
 
@@ -107,9 +107,9 @@ unsent (echoes pdu) is stands = let longer = ap (λ (o : Option Log). length (re
 pub unsent_has_not_moved : HasMoved Receiver sending reception after_put unsent_lane → ⊥
 unsent_has_not_moved has = unsent has.move has.is_schedule has.stands
 
--- ---- what comes
+-- ---- events that find a lane's log
 
--- an event comes to the log that its end has, and not to an earlier one
+-- an event finds the log that the end has, not an earlier one
 pub pump_comes : ComesTo Sender sending reception after_pump pumped_lane (On key what.Pump)
 unfolding sender.initial sender.step sender.state_of runs_of runs_from
 pump_comes = record { is_schedule = pump_schedule; log_is = refl; carried = tt }
@@ -118,17 +118,17 @@ pub pump_comes_to_no_earlier : ComesTo Sender sending reception after_put pumped
 unfolding sender.initial sender.step sender.state_of runs_of runs_from
 pump_comes_to_no_earlier comes = let longer = ap (λ (o : Option Log). length (sent_log o)) comes.log_is in omega (arith, longer)
 
--- and no PDU comes before it was sent
+-- no PDU is received before it was sent
 pub eof_comes_to_none : ComesTo Receiver sending reception after_put receiving_lane (pdu_came (eof_in Two)) → ⊥
 eof_comes_to_none comes = uncarried comes.carried
 
--- nor anything to ends that no schedule has
+-- no event finds ends that no schedule has
 pub pump_comes_to_none : ComesTo Sender sending reception (after (pump ∷ [])) pumped_lane (On key what.Pump) → ⊥
 pump_comes_to_none comes = unput_is_none comes.is_schedule
 
 -- ---- echoes
 
--- an EOF that was sent is echoed by the ACK of a transaction that is over
+-- the echo of an EOF that was sent is the ACK of a terminated transaction
 pub eof_echoed : IsEchoed sending reception (after all_sent) (pdu_came (eof_in Two)) echo
 unfolding sender.initial sender.step sender.state_of runs_of runs_from width_from
 eof_echoed = record {
@@ -143,7 +143,7 @@ eof_echoed = record {
   sends = refl;
 }
 
--- by nothing else
+-- no other PDU is its echo
 some_pdu : (pdu other : PduValue) → Some pdu ≡ Some other → pdu ≡ other
 some_pdu pdu other is = cc
 
@@ -152,10 +152,10 @@ echoed_by_metadata is =
     let sends = subst (λ p. sent_by (echoes p) ≡ metadata_in Two ∷ []) (sym (some_pdu (eof_in Two) is.pdu is.pdu_is)) is.sends in
     absurd (false≢true (ap (λ (l : List PduValue). list_any sender.is_metadata l) sends))
 
--- not before it was sent
+-- there is no echo before the EOF was sent
 pub echoed_early : IsEchoed sending reception [] (pdu_came (eof_in Two)) echo → ⊥
 echoed_early is = let below = is.is_schedule.unforged.0.1 in omega (arith, below)
 
--- and an event that is no PDU never
+-- an event without a PDU has no echo
 pub abandon_echoed : IsEchoed sending reception (after all_sent) (On key what.Abandon) echo → ⊥
 abandon_echoed is = let none = is.pdu_is in absurd cc

@@ -1,5 +1,5 @@
--- Rows. Other courses of a schedule: with other parameters, timers that expire, suspensions, a cancelled Put, and a file
--- store that says no.
+-- Rows. Other courses of a schedule: with other parameters, expiring timers, suspensions, a cancelled Put, and a file
+-- store that rejects the file.
 use Rattle.std.specs.Prelude.{◌≡◌, true, false, IfSome, Contains, List, [], ◌∷◌, ◌++◌, Some, Ok, Err, refl}
 use Rattle.std.specs.List.{AllByRecursion}
 use Rattle.std.proofs.Common.{arith}
@@ -34,17 +34,17 @@ use Rattle.ends_schedules.specs.Schedules.{Move, sender_log, receiver_log, ever_
 use Rattle.ends_rows.specs.WorkedSchedules.{sending, reception, to_receiver, to_sender, metadata_in, part_in, eof_in, finished, Step, at_sender, at_receiver, came, came_back, pump, moves_by, after, all_sent}
 use Rattle.ends_rows.specs.ScheduleRows.{absent}
 
--- what happens at the sender behind its Put
+-- an event at the sender after its Put
 abbrev pub sender_takes : What → Step
 sender_takes event = at_sender (happens event)
 
--- ---- other parameters at each end, and timers that expire
+-- ---- other parameters at each end, and expiring timers
 
--- parts of two octets, and three expirations of each timer
+-- segments of two octets, and three expirations of each timer
 abbrev pub sending_parts : Sending
 sending_parts = record sending { params = record reference { segment_octets = 2; limits = record { ack = 3; nak = 3; check = 3 } } }
 
--- one expiration of each timer, and that of Nak is ignored
+-- one expiration of each timer, and the fault of Nak is ignored
 abbrev pub ignoring : Reception
 ignoring = record reception {
   params = record reference {
@@ -62,7 +62,7 @@ first_part = to_receiver Two (body.FileData (record { offset = 0; octets = 97 �
 abbrev pub second_part : PduValue
 second_part = to_receiver Two (body.FileData (record { offset = 2; octets = 99 ∷ [] }))
 
--- the first part is late: the receiver's Nak expires, and so does the sender's Ack, before it comes
+-- the first segment is late: the receiver's Nak expires, and so does the sender's Ack, before it arrives
 abbrev pub in_parts : List Step
 in_parts =
     at_sender put ∷ pump ∷ pump ∷ pump ∷ pump ∷ came (metadata_in Two) ∷ came second_part ∷ came (eof_in Two)
@@ -94,7 +94,7 @@ in_parts_complete = refl
 
 -- ---- both ends are suspended for a while
 
--- the file comes whole meanwhile, and is handed out only when the receiver goes on
+-- the whole file arrives meanwhile, and is handed to the file store only after the receiver's Resume
 abbrev pub paused : List Step
 paused =
     at_sender put ∷ pump ∷ sender_takes what.Suspend ∷ sender_takes what.Resume ∷ pump ∷ pump ∷ came (metadata_in Two) ∷ at_receiver what.Suspend
@@ -131,7 +131,7 @@ cancelling = to_receiver Two (body.Eof (record (eof_value 15 0x6162_6300 3) { lo
 abbrev pub cancelling_acknowledged : PduValue
 cancelling_acknowledged = to_sender (body.Ack (record { of = acknowledged.Eof; condition = 15; status = Terminated }))
 
--- its EOF is sent twice, since the Ack timer expires
+-- its EOF is sent twice, because the Ack timer expires
 abbrev pub cancelled : List Step
 cancelled =
     at_sender put ∷ pump ∷ pump ∷ sender_takes what.Cancel ∷ sender_takes (what.Timer Ack 3) ∷ came (metadata_in Two) ∷ came (part_in Two)
@@ -186,7 +186,7 @@ pub refused_is_told : sender.issued (sender_log (after refused_told)) ≡ told.T
 unfolding sender.initial sender.step sender.state_of receiver.initial receiver.step receiver.state_of runs_of runs_from
 refused_is_told = refl
 
--- ---- the file store says no
+-- ---- the file store rejects the file
 
 abbrev pub finished_rejected : PduValue
 finished_rejected =
@@ -214,7 +214,7 @@ pub rejected_is_told : sender.issued (sender_log (after rejected_told)) ≡ told
 unfolding sender.initial sender.step sender.state_of receiver.initial receiver.step receiver.state_of runs_of runs_from
 rejected_is_told = refl
 
--- ---- in none of these does a Finished of a complete delivery come that no receiver sent
+-- ---- in none of these may a Finished of a complete delivery be added that no receiver sent
 
 abbrev pub IsIncomplete : PduValue → Type 0
 IsIncomplete pdu = IfSome (finished_in pdu.body) (λ f. f.delivery ≡ Incomplete)

@@ -1,4 +1,4 @@
--- Rows. Rows on what a PDU says of the file of a Put, and what the laws of one end give of the worked run.
+-- Rows. Rows on what a PDU says of a Put's file, and on what the laws of one end give for the worked run.
 use Rattle.std.specs.Prelude.{◌≡◌, ℕ, zero, suc, List, [], ◌∷◌, Ok, Option, unwrap_or, refl}
 use Rattle.std.specs.List.{AllByRecursion}
 use Rattle.std.proofs.Common.{ap, arith, get_or}
@@ -22,7 +22,7 @@ use Rattle.ends_schedules.proofs.ScheduleFacts.{images_are_the_put}
 use Rattle.ends_rows.specs.WorkedSchedules.{key, sending, reception, metadata_in, nak, finished, after, sent_again, deposited, stored}
 use Rattle.ends_rows.specs.ScheduleRows.{told_schedule, deposited_schedule, data_entry, data_deposits, deposit_is, finished_entry, altered}
 
--- "abc", named "a", to be kept as "b"
+-- a file "abc", named "a", to be stored as "b"
 abbrev pub put : PutValue
 put = sending.request
 
@@ -88,7 +88,7 @@ nak_agrees = tt
 pub finished_agrees : AgreesWith put finished.body
 finished_agrees = tt
 
--- ---- what a sender says
+-- ---- what a sender's PDUs say
 
 pub metadata_said : IsSaidBySender put (metadata_in Two)
 metadata_said = (refl, metadata_agrees)
@@ -99,7 +99,7 @@ altered_unsaid said = let octets = ap (λ (o : Option ℕ). unwrap_or o 0) (said
 pub nak_unsaid : IsSaidBySender put nak → ⊥
 nak_unsaid said = let goes = said.0 in absurd cc
 
--- ---- what came at a receiver
+-- ---- what a receiver received
 
 abbrev pub entry_of : Body → Entry
 entry_of b = record { event = what.Pdu (record nak { body = b }); answer = empty_answer }
@@ -117,7 +117,7 @@ last_disagrees agree = other_first agree.0
 pub first_disagrees : AllAgree put (entry_of (part_as 0 abc) ∷ entry_of (metadata_as 4 (97 ∷ []) (98 ∷ [])) ∷ []) → ⊥
 first_disagrees agree = other_size agree.1.0
 
--- ---- the laws, over the worked run
+-- ---- the laws, for the worked run
 
 pub sent_is_said : AllByRecursion (IsSaidBySender put) finished_entry.answer.pdus
 sent_is_said = sends_its_put sending finished_entry (sender_log (after stored)) told_schedule.sender_legal

@@ -1,4 +1,4 @@
--- Rows. Rows on schedules: what the laws give of the worked run, other runs, and what is no schedule.
+-- Rows. Rows on schedules: what the laws give for the worked run, other runs, and what is not a schedule.
 use Rattle.std.specs.Prelude.{◌≡◌, ℕ, true, Contains, List, [], ◌∷◌, ◌++◌, length, map, Some, None, Result, Ok, Err, refl}
 use Rattle.std.specs.List.{AllByRecursion}
 use Rattle.std.proofs.Common.{ap, arith, get_or}
@@ -35,9 +35,9 @@ use Rattle.ends_schedules.specs.ScheduleLaws.{HasStored}
 use Rattle.ends_schedules.proofs.ScheduleFacts.{schedule_before, begins_as_schedule, deposits_are_the_put, tells_what_was_stored}
 use Rattle.ends_rows.specs.WorkedSchedules.{key, sending_in, reception_in, sending, reception, to_receiver, metadata_in, part_in, eof_in, finished, finished_acknowledged, Step, at_sender, at_receiver, came, came_back, pump, move_by, moves_by, after, all_sent, sent_again, deposited, stored, told_kept, whole, whole_schedule}
 
--- ---- the laws, over the worked run
+-- ---- the laws, for the worked run
 
--- each moment of it is a schedule
+-- it is a schedule at each moment
 pub told_schedule : IsSchedule sending reception (after told_kept)
 told_schedule = schedule_before sending reception (move_by sending reception (after told_kept) (came finished_acknowledged)) (after told_kept) whole_schedule
 
@@ -51,7 +51,7 @@ pub deposited_schedule : IsSchedule sending reception (after deposited)
 deposited_schedule =
     schedule_before sending reception (move_by sending reception (after deposited) (at_receiver (what.Stored 2 true))) (after deposited) stored_schedule
 
--- the entry that the data makes
+-- the receiver's entry for the data
 abbrev pub data_entry : receiver.Entry
 data_entry = record { event = what.Pdu (part_in Two); answer = receiver_logs.answer_behind reception (receiver_log (after sent_again)) (what.Pdu (part_in Two)) }
 
@@ -63,7 +63,7 @@ data_deposits = refl
 pub deposit_is : image_at (receiver.state_of (receiver_log (after deposited))) 2 ≡ Ok (record { source_name = 97 ∷ []; destination_name = 98 ∷ []; octets = abc })
 deposit_is = deposits_are_the_put sending reception (after sent_again) data_entry (record { key = key; stamp = 2 }) deposited_schedule data_deposits
 
--- the entry that the Finished makes
+-- the sender's entry for the Finished
 abbrev pub finished_entry : sender.Entry
 finished_entry = record { event = sender.happens (what.Pdu finished); answer = sender_logs.answer_behind sending (sender_log (after stored)) (sender.happens (what.Pdu finished)) }
 
@@ -76,7 +76,7 @@ was_stored = tells_what_was_stored sending reception (after stored) finished_ent
 
 -- ---- other runs
 
--- in any order, and as often as they like
+-- the PDUs arrive in any order and any number of times
 abbrev pub repeated : List Step
 repeated = all_sent ++ came (part_in Two) ∷ came (metadata_in Two) ∷ came (part_in Two) ∷ came (metadata_in Two) ∷ came (eof_in Two) ∷ []
 
@@ -89,7 +89,7 @@ repeated_schedule = record {
   unforged = ((0, omega (arith), refl), ((2, omega (arith), refl), ((1, omega (arith), refl), ((2, omega (arith), refl), ((1, omega (arith), refl), (tt, (tt, (tt, (tt, tt)))))))));
 }
 
--- an EOF that comes once the receiver has ended is echoed
+-- an EOF that arrives after the receiver's end gets an echo
 pub late_schedule : IsSchedule sending reception (echoes (eof_in Two) ∷ after whole)
 unfolding sender.initial sender.step sender.state_of receiver.initial receiver.step receiver.state_of runs_of runs_from width_from
 late_schedule = record {
@@ -103,7 +103,7 @@ pub late_octets : map written (sent_by (echoes (eof_in Two))) ≡ digits 10 0x28
 unfolding written spelling digits width_from
 late_octets = refl
 
--- class 1: the sender ends with its EOF, and hears nothing
+-- class 1: the sender ends with its EOF, and receives nothing
 abbrev pub in_one : List Step
 in_one = all_sent ++ came (eof_in One) ∷ came (part_in One) ∷ came (metadata_in One) ∷ []
 
@@ -119,18 +119,18 @@ one_schedule = record {
   unforged = ((2, omega (arith), refl), ((1, omega (arith), refl), ((0, omega (arith), refl), (tt, (tt, (tt, (tt, tt)))))));
 }
 
--- what the receiver gives is the Put's all the same
+-- the receiver still gives the Put's file
 pub one_gives : image_at (receiver.state_of (receiver_log after_in_one)) 2 ≡ Ok (image_of_put (sending_in One).request)
 unfolding sender.initial sender.step sender.state_of receiver.initial receiver.step receiver.state_of runs_of runs_from
 one_gives = refl
 
--- ---- no schedules
+-- ---- not schedules
 
--- what is not among these
+-- a PDU without a property is not in a list whose PDUs all have it
 pub absent : (P : PduValue → Type 0) (pdus : List PduValue) (pdu : PduValue) → AllByRecursion P pdus → (P pdu → ⊥) → Contains pdus pdu → ⊥
 absent P pdus pdu each not there = not (each_contained P pdus pdu each there)
 
--- a Finished that no receiver sent: the sender would take it, and tell of a complete delivery
+-- a Finished that no receiver sent: the sender would accept it, and indicate a complete delivery
 abbrev pub forged : List Step
 forged = all_sent ++ came_back finished ∷ []
 
@@ -161,7 +161,7 @@ altered_is_none is =
     absent (λ pdu. octets_in pdu.body ≡ abc) (ever_sent (after all_sent)) altered (refl, (refl, (refl, tt)))
     (λ same. let third = ap (λ (l : List ℕ). get_or l 2 0) same in omega (arith, third)) is.unforged.0
 
--- a PDU that comes before it is sent
+-- a PDU that is received before it is sent
 pub early_is_none : IsSchedule sending reception (after (at_sender put ∷ came (metadata_in Two) ∷ pump ∷ [])) → ⊥
 early_is_none is = let below = is.unforged.1.0.1 in omega (arith, below)
 
@@ -172,7 +172,7 @@ unput_is_none is = is.sender_legal.1
 pub put_twice_is_none : IsSchedule sending reception (after (at_sender put ∷ at_sender put ∷ [])) → ⊥
 put_twice_is_none is = is.sender_legal.1
 
--- a receiver that finishes at an EOF of its own accord
+-- a receiver that sends a Finished at an EOF, against its table
 abbrev pub finishing : receiver.Entry
 finishing = record { event = what.Pdu (eof_in Two); answer = record empty_answer { pdus = finished ∷ [] } }
 
@@ -184,7 +184,7 @@ pub finishing_is_none : IsSchedule sending reception (receives finishing ∷ aft
 unfolding sender.initial sender.step sender.state_of receiver.initial receiver.step receiver.state_of receiver_answers.answer_at runs_of runs_from
 finishing_is_none is = let two_is_one = ap pdus_in is.receiver_legal.2 in omega (arith, two_is_one)
 
--- ends of two transactions
+-- the ends of two different transactions
 abbrev pub other_reception : Reception
 other_reception = record reception { key = record key { seq = 5 } }
 

@@ -1,4 +1,4 @@
--- Rows. A file that is put at one entity and comes to another: a worked run of both ends, with all octets on the way.
+-- Rows. A file put at one entity and received by another: a worked run of both ends, with all octets that are sent.
 use Rattle.std.specs.Prelude.{◌≡◌, true, false, List, [], ◌∷◌, ◌++◌, map, None, Err, refl}
 use Rattle.std.proofs.Common.{arith}
 use Rattle.cfdp_types.specs.Reference.{reference}
@@ -35,11 +35,11 @@ use Rattle.ends_schedules.specs.Schedules.{Move, sends, receives, echoes, sender
 
 -- ---- the transaction
 
--- the fourth one of entity 2
+-- the transaction with number 4 of entity 2
 abbrev pub key : TxnKey
 key = record { source = record { 0 = 2 }; seq = 4 }
 
--- "a", to be kept as "b" at entity 1
+-- a Put of "a", to be stored as "b" at entity 1
 abbrev pub sending_in : Class → Sending
 sending_in class = record { key = key; params = reference; request = put_value class abc }
 
@@ -55,11 +55,11 @@ header_in class = record {
   destination = record { 0 = 1 };
 }
 
--- as entity 1 receives it
+-- the reception of it at entity 1
 abbrev pub reception_in : Class → Reception
 reception_in class = record { key = key; params = record reference { local = record { 0 = 1 } }; header = header_in class }
 
--- both in class 2
+-- the sending end in class 2
 abbrev pub sending : Sending
 sending = sending_in Two
 
@@ -83,7 +83,7 @@ part_in class = to_receiver class (body.FileData (record { offset = 0; octets = 
 abbrev pub eof_in : Class → PduValue
 eof_in class = to_receiver class (body.Eof (eof_value 0 0x6162_6300 3))
 
--- the NAK of all but the EOF
+-- the NAK for everything but the EOF
 abbrev pub nak : PduValue
 nak = to_sender (body.Nak (record { start = 0; end = 3; requests = record { start = 0; end = 0 } ∷ record { start = 0; end = 3 } ∷ [] }))
 
@@ -95,7 +95,7 @@ finished_acknowledged = to_receiver Two (body.Ack (record { of = acknowledged.Fi
 
 -- ---- runs
 
--- what happens at the ends, without the answers
+-- what happens at the ends, without their answers
 pub data Step : Type 0 where
   at_sender : sender.Event → Step
   at_receiver : What → Step
@@ -110,28 +110,28 @@ came_back pdu = at_sender (happens (what.Pdu pdu))
 abbrev pub pump : Step
 pump = at_sender (happens what.Pump)
 
--- a step as a move, answered by the tables
+-- a step as a move, with the answer of the tables
 abbrev pub move_by : Sending → Reception → List Move → Step → Move
 move_by s r earlier (at_sender event) = sends (record { event = event; answer = sender_logs.answer_behind s (sender_log earlier) event })
 move_by s r earlier (at_receiver event) = receives (record { event = event; answer = receiver_logs.answer_behind r (receiver_log earlier) event })
 move_by s r earlier (refused pdu) = echoes pdu
 
--- the moves of these steps in turn
+-- the moves of these steps in order
 abbrev pub moves_by : Sending → Reception → List Move → List Step → List Move
 moves_by s r earlier [] = earlier
 moves_by s r earlier (first ∷ later) = moves_by s r (move_by s r earlier first ∷ earlier) later
 
--- of the transaction of class 2
+-- the moves of these steps, in the class 2 transaction
 abbrev pub after : List Step → List Move
 after steps = moves_by sending reception [] steps
 
--- ---- the worked run: Metadata and data are lost at first, and asked for
+-- ---- the worked run: Metadata and data are lost at first, and requested again
 
--- all is sent
+-- everything is sent
 abbrev pub all_sent : List Step
 all_sent = at_sender put ∷ pump ∷ pump ∷ pump ∷ []
 
--- the EOF comes, the Metadata after it, and the NAK
+-- the EOF arrives, the Metadata after it, and the NAK
 abbrev pub asked_for : List Step
 asked_for = all_sent ++ came (eof_in Two) ∷ came (metadata_in Two) ∷ came_back nak ∷ []
 
@@ -139,7 +139,7 @@ asked_for = all_sent ++ came (eof_in Two) ∷ came (metadata_in Two) ∷ came_ba
 abbrev pub sent_again : List Step
 sent_again = asked_for ++ pump ∷ pump ∷ []
 
--- the data comes
+-- the data arrives
 abbrev pub deposited : List Step
 deposited = sent_again ++ came (part_in Two) ∷ []
 
@@ -147,15 +147,15 @@ deposited = sent_again ++ came (part_in Two) ∷ []
 abbrev pub stored : List Step
 stored = deposited ++ at_receiver (what.Stored 2 true) ∷ []
 
--- the sender hears of it
+-- the sender receives the Finished
 abbrev pub told_kept : List Step
 told_kept = stored ++ came_back finished ∷ []
 
--- and the receiver of that
+-- the receiver receives its ACK
 abbrev pub whole : List Step
 whole = told_kept ++ came finished_acknowledged ∷ []
 
--- all octets that were sent, the last PDU first: of two PDUs of one step the ACK comes before the NAK
+-- all octets that were sent, the last PDU first: of the two PDUs of one step, the ACK comes before the NAK
 pub octets_sent : map written (ever_sent (after whole))
     ≡ digits 10 0x20000300020401065102
     ∷ digits 9 0x280002000204010502
@@ -170,7 +170,7 @@ pub octets_sent : map written (ever_sent (after whole))
 unfolding sender.initial sender.step sender.state_of receiver.initial receiver.step receiver.state_of runs_of runs_from written spelling digits width_from
 octets_sent = refl
 
--- after both were sent again nothing remains
+-- after both were sent again, nothing remains to be sent
 pub third_pump_refused : sender_answers.answer_at sending (sender.state_of sending (sender_log (after deposited))) (happens what.Pump) ≡ Err refusal.WrongState
 unfolding sender.initial sender.step sender.state_of sender_answers.answer_at receiver.initial receiver.step receiver.state_of runs_of runs_from
 third_pump_refused = refl

@@ -1,4 +1,4 @@
--- Meaning. What holds of every schedule of two ends.
+-- Meaning. The laws of every schedule of two ends.
 use Rattle.std.specs.Prelude.{◌≡◌, ℕ, Contains, List, ◌∷◌, ◌++◌, Some, Ok}
 use Rattle.cfdp_types.specs.Put.{PutValue}
 use Rattle.cfdp_types.specs.declared.image.Image.{Image}
@@ -13,18 +13,18 @@ use Rattle.ends_laws.specs.Agreement.{image_of_put}
 use Rattle.ends_laws.specs.ReceiverLaws.{HasKept}
 use Rattle.ends_schedules.specs.Schedules.{Move, sends, receives, receiver_log, IsSchedule}
 
--- what a schedule begins with is one
+-- each beginning of a schedule is a schedule
 abbrev pub BeginsAsSchedule : Type 0
 BeginsAsSchedule = (sending : sender.Sending) (reception : receiver.Reception) (later earlier : List Move)
     → IsSchedule sending reception (later ++ earlier) → IsSchedule sending reception earlier
 
--- a file that is handed out to be stored is the one that was put
+-- the file of each deposit is the one that was put
 abbrev pub DepositsAreThePut : Type 0
 DepositsAreThePut = (sending : sender.Sending) (reception : receiver.Reception) (earlier : List Move) (entry : receiver.Entry) (deposit : Deposit)
     → IsSchedule sending reception (receives entry ∷ earlier) → entry.answer.deposit ≡ Some deposit
     → image_at (receiver.state_of (receiver_log (receives entry ∷ earlier))) deposit.stamp ≡ Ok (image_of_put sending.request)
 
--- and so is each file that is given, whenever it is asked for
+-- each image is the file that was put, whenever it is asked for
 abbrev pub ImagesAreThePut : Type 0
 ImagesAreThePut = (sending : sender.Sending) (reception : receiver.Reception) (moves : List Move) (stamp : ℕ) (image : Image)
     → IsSchedule sending reception moves → image_at (receiver.state_of (receiver_log moves)) stamp ≡ Ok image
@@ -34,7 +34,7 @@ ImagesAreThePut = (sending : sender.Sending) (reception : receiver.Reception) (m
 abbrev pub HasStored : PutValue → List receiver.Entry → Type 0
 HasStored put log = (kept : HasKept log) × (kept.image ≡ image_of_put put)
 
--- the sender tells of a complete delivery only where it had before
+-- the sender indicates a complete delivery only where the file store has kept the Put's file before
 abbrev pub TellsWhatWasStored : Type 0
 TellsWhatWasStored = (sending : sender.Sending) (reception : receiver.Reception) (earlier : List Move) (entry : sender.Entry) (condition : ℕ) (status : FileStatus)
     → IsSchedule sending reception (sends entry ∷ earlier)

@@ -1,4 +1,4 @@
--- Meaning. Two ends of one transaction, and what passes between them in any way that a network may have it.
+-- Meaning. Two ends of one transaction, with every exchange of PDUs that a network may allow between them.
 use Rattle.std.specs.Prelude.{◌≡◌, IfSome, Contains, List, [], ◌∷◌, ◌++◌, option_to_list, Option, Some, None}
 use Rattle.pdu_values.specs.Pdu.{PduValue}
 use Rattle.txn_events.specs.Events.{echo_of}
@@ -9,8 +9,8 @@ use Rattle.sender_laws.specs.LegalSendings as sender_logs
 use Rattle.receiver_table.specs.Reception as receiver
 use Rattle.receiver_laws.specs.LegalReceptions as receiver_logs
 
--- what happens at the ends: the sender takes an event, the receiver takes one, or either refuses a PDU and
--- answers its echo; a list of moves has the newest first
+-- a move: the sender accepts an event, the receiver accepts one, or either end refuses a PDU and sends its echo;
+-- a list of moves has the newest first
 pub data Move : Type 0 where
   sends : sender.Entry → Move
   receives : receiver.Entry → Move
@@ -41,29 +41,29 @@ abbrev pub ever_sent : List Move → List PduValue
 ever_sent [] = []
 ever_sent (move ∷ earlier) = sent_by move ++ ever_sent earlier
 
--- the PDU that an event is
+-- the PDU of an event, if it is a reception
 abbrev pub pdu_of : What → Option PduValue
 pdu_of (what.Pdu pdu) = Some pdu
 pdu_of _ = None
 
--- the PDU that an event of a sender is
+-- the PDU of a sender's event, if it is a reception
 abbrev pub pdu_to_sender : sender.Event → Option PduValue
 pdu_to_sender sender.put = None
 pdu_to_sender (sender.happens event) = pdu_of event
 
--- the PDU that a move hands in
+-- the PDU that a move receives, if there is one
 abbrev pub handed_in : Move → Option PduValue
 handed_in (sends entry) = pdu_to_sender entry.event
 handed_in (receives entry) = pdu_of entry.event
 handed_in (echoes pdu) = Some pdu
 
--- each PDU that is handed in was sent before, by either end: any of them comes as often and as late as it likes
+-- each received PDU was sent before, by either end: a PDU may arrive any number of times, at any later moment
 abbrev pub AreSentBefore : List Move → Type 0
 AreSentBefore [] = Unit {0}
 AreSentBefore (move ∷ earlier) = IfSome (handed_in move) (Contains (ever_sent earlier)) × AreSentBefore earlier
 
--- what may happen at two ends of one transaction: the sender's log is legal, so that its Put comes first, the
--- receiver's log is legal or empty, and no PDU is altered or forged
+-- a schedule: the sender's log is legal, so that its Put comes first; the receiver's log is legal or empty; and no
+-- PDU is altered or forged
 pub record IsSchedule (sending : sender.Sending) (reception : receiver.Reception) (moves : List Move) : Type 0 where
   pub key : reception.key ≡ sending.key
   pub sender_legal : sender_logs.IsLegal sending (sender_log moves)

@@ -1,5 +1,5 @@
-//! What is promised between the two ends of a transaction, however PDUs are lost, repeated and reordered on
-//! their way, over the definitions of both ends alone.
+//! What is guaranteed between the two ends of a transaction, however PDUs are lost, repeated and reordered on
+//! their way. Stated over the definitions of both ends alone.
 #![tactic(auto)]
 
 pub mod laws;

@@ -1,4 +1,4 @@
--- Rows. The configuration that worked examples and scripts run with.
+-- Rows. The configuration that worked examples and scripts use.
 use Rattle.std.specs.Prelude.{[], ◌∷◌, Some, codes}
 use Rattle.cfdp_types.specs.Reference.{reference}
 use Rattle.config_reading.specs.Values.{ConfigValue}

@@ -29,23 +29,23 @@ with_params change peer = record { remote = record { id = peer.remote.id; user =
 abbrev pub with_all_params : (ParamsParts → ParamsParts) → ConfigValue → ConfigValue
 with_all_params change config = record config { peers = map (with_params change) config.peers }
 
--- limits of expirations with another one
+-- limits of expirations, one of them changed
 abbrev pub limit_changed : Limited → ℕ → ExpirationLimits → ExpirationLimits
 limit_changed Ack limit limits = record limits { ack = limit }
 limit_changed Nak limit limits = record limits { nak = limit }
 limit_changed Check limit limits = record limits { check = limit }
 
--- parameters with another limit of expirations
+-- parameters with one limit of expirations changed
 abbrev pub with_limit : Limited → ℕ → ParamsParts → ParamsParts
 with_limit limited limit params = record params { limits = limit_changed limited limit params.limits }
 
--- the fault tables with another handler in the role's own
+-- fault tables with one handler changed in the table of the role
 abbrev pub tables_changed : Role → ℕ → Handler → FaultTables → FaultTables
 tables_changed Send condition handler tables = record tables { send = with_handler tables.send condition handler }
 tables_changed RecvOne condition handler tables = record tables { receive_one = with_handler tables.receive_one condition handler }
 tables_changed RecvTwo condition handler tables = record tables { receive_two = with_handler tables.receive_two condition handler }
 
--- parameters with another handler
+-- parameters with one handler changed
 abbrev pub with_role_handler : Role → ℕ → Handler → ParamsParts → ParamsParts
 with_role_handler role condition handler params = record params { tables = tables_changed role condition handler params.tables }
 
@@ -53,15 +53,15 @@ with_role_handler role condition handler params = record params { tables = table
 abbrev pub with_checksum : Checksum → ParamsParts → ParamsParts
 with_checksum checksum params = record params { checksum = checksum }
 
--- what holds within the range, and else that the key is out of range
+-- the configuration where the number is in the range, else OutOfRange for the key
 abbrev pub if_within : Key → ℕ → ℕ → ℕ → ConfigValue → Result ConfigValue ConfigFault
 if_within k least most n config = if is_within least most n then Ok config else Err (fault.OutOfRange k)
 
--- the configuration with a limit in every remote, and else that the key is out of range
+-- the configuration with a limit changed for every remote entity, or OutOfRange for the key
 abbrev pub limit_set : Limited → Key → ℕ → ConfigValue → Result ConfigValue ConfigFault
 limit_set limited k n config = if_within k 1 EXPIRATIONS n (with_all_params (with_limit limited n) config)
 
--- the configuration with the setting, or why it is refused
+-- the configuration with the setting changed, or the fault
 abbrev pub with_setting : Setting → ConfigValue → Result ConfigValue ConfigFault
 with_setting (setting.Capacity n) config = if_within key.Capacity 1 QUEUE_BUNDLES n (record config { entity = record config.entity { capacity = n } })
 with_setting (setting.First n) config = if_within key.First 0 CONFIGURED_NUMBER n (record config { entity = record config.entity { first = n } })

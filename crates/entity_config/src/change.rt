@@ -1,4 +1,4 @@
-//! Changes of the parameters of remote entities.
+//! Changing the parameters of remote entities.
 ghost use Rattle.std.specs.Prelude.{◌≡◌, ◌≤◌, map, IsTrue};
 ghost use Rattle.cfdp_types.specs.Handlers.{is_allowed};
 ghost use Rattle.cfdp_types.specs.Params.{AreExpirationLimits, AreFaultTables};
@@ -18,7 +18,7 @@ pub(crate) enum Limited {
     Check,
 }
 
-// Parameters with other limits.
+// The parameters with other limits.
 fn with_limits(params: Params, limits: ExpirationLimits) -> Params
     requires { AreExpirationLimits limits }
     ensures { result ≡ record params { limits = limits } }
@@ -30,7 +30,7 @@ fn with_limits(params: Params, limits: ExpirationLimits) -> Params
     Params::new(parts).unwrap_or(params)
 }
 
-// Parameters with other fault tables.
+// The parameters with other fault tables.
 fn with_tables(params: Params, tables: FaultTables) -> Params
     requires { AreFaultTables tables }
     ensures { result ≡ record params { tables = tables } }
@@ -42,7 +42,7 @@ fn with_tables(params: Params, tables: FaultTables) -> Params
     Params::new(parts).unwrap_or(params)
 }
 
-// Parameters with another checksum.
+// The parameters with another checksum.
 fn params_with_checksum(params: Params, checksum: Checksum) -> Params
     ensures { result ≡ with_checksum checksum params }
 {
@@ -79,7 +79,7 @@ fn params_with_limit(params: Params, limited: Limited, limit: u8) -> Params
     with_limits(params, limits_with(params.limits(), limited, limit))
 }
 
-/// Changes a limit for every remote entity.
+/// Changes one timer's limit for every remote entity.
 pub(crate) fn change_limit(peers: &mut Vec<Peer>, limited: Limited, limit: u8)
     requires { 1 ≤ limit }
     ensures { map peer_shown peers.new.items
@@ -130,7 +130,7 @@ fn params_with_handler(params: Params, role: Role, condition: Condition, handler
     )
 }
 
-/// Changes a handler for every remote entity.
+/// Changes one handler for every remote entity.
 pub(crate) fn change_handler(
     peers: &mut Vec<Peer>,
     role: Role,

@@ -25,7 +25,7 @@ const REFERENCE: EntitySettings = EntitySettings {
     segment_octets: 256,
 };
 
-/// A configuration. Contracts see what it holds; it keeps all limits.
+/// A configuration within all limits. Contracts see the settings, users and remote entities.
 #[derive(Debug, Drop)]
 pub struct Config {
     entity: EntitySettings,
@@ -59,8 +59,8 @@ impl Config {
     ghost use Rattle.std.specs.Prelude.{◌≤◌, ◌<◌, IfSome};
     ghost use Rattle.cfdp_types.specs.declared.limits.TheConstants.{REMOTES};
 
-    /// The configuration that worked examples and scripts run with: entity 2 with the users alice and bob,
-    /// and entity 1, whose files go to alice.
+    /// The configuration that worked examples and scripts use: entity 2 with the users alice and bob, and the remote
+    /// entity 1, whose files go to alice.
     pub fn reference(alloc: Global) -> Result<Config, AllocError>
         ensures { IfOk result (λ config. config ≡ reference_config) }
     {
@@ -83,7 +83,7 @@ impl Config {
         })
     }
 
-    /// The configuration of parts that keep all limits.
+    /// The configuration with parts that are within all limits.
     pub(crate) fn of_parts(parts: ConfigParts) -> Config
         requires { IsTrue (is_config (parts_shown parts)) }
         ensures { result ≡ parts_shown parts }
@@ -95,7 +95,7 @@ impl Config {
         }
     }
 
-    /// What it says of the entity itself.
+    /// The settings of the entity itself.
     pub fn entity(&self) -> EntitySettings
         ensures entity { result ≡ self.now.entity }
         ensures range { IsTrue (is_entity result) }
@@ -118,14 +118,14 @@ impl Config {
         self.peers.len()
     }
 
-    /// The number of the user with a name.
+    /// The number of the user with this name, counted from 0.
     pub fn user_of(&self, name: &str) -> Option<usize>
         ensures { result ≡ position (is_same_text name.now) self.now.users }
     {
         place_of(&self.users, name)
     }
 
-    /// The name of a user.
+    /// The name of the user with this number.
     pub fn name_of(&self, user: usize) -> Option<&str>
         ensures { option_copied result ≡ slice_get self.now.users user }
     {
@@ -139,7 +139,7 @@ impl Config {
         peer_of(&self.peers, id)
     }
 
-    /// The address of the remote entity with an ID.
+    /// The address of the remote entity with this ID.
     pub fn address_of(&self, id: EntityId) -> Option<&str>
         ensures { option_copied result ≡ option_map (λ peer. peer.address) (find (has_id id) self.now.peers) }
     {
@@ -149,7 +149,7 @@ impl Config {
         }
     }
 
-    /// The remote entity with an ID.
+    /// The remote entity with this ID.
     pub fn remote_of(&self, id: EntityId) -> Option<Remote>
         ensures { result ≡ option_map (λ peer. peer.remote) (find (has_id id) self.now.peers) }
     {
@@ -191,8 +191,8 @@ impl Config {
         source_among(&self.peers, user, place)
     }
 
-    /// Changes one setting; a limit, a handler or the checksum changes for every remote entity. A number out of the
-    /// setting's range, and a handler that its role does not allow for the condition, change nothing.
+    /// Changes one setting; a limit, a handler or the checksum changes for every remote entity. A number out of range,
+    /// or a handler that its role does not allow for the condition, changes nothing.
     pub fn set(&mut self, setting: Setting) -> Result<(), ConfigFault>
         ensures ok { OnOk result (with_setting setting self.old ≡ Ok self.new) }
         ensures refused { IfErr result (λ fault. with_setting setting self.old ≡ Err fault) }
@@ -275,7 +275,7 @@ impl Config {
     }
 }
 
-// The first of some remote entities with an ID.
+// The first remote entity with this ID.
 fn peer_of(peers: &[Peer], id: EntityId) -> Option<&Peer>
     ensures { option_copied result ≡ find (λ peer. peer.remote.id.0 == id.0) peers.now }
 {
@@ -292,14 +292,14 @@ fn is_source(peer: &Peer, user: usize) -> bool
     }
 }
 
-// How many of some remote entities are sources of a user.
+// How many of the remote entities are sources of a user.
 fn sources_among(peers: &[Peer], user: usize) -> usize
     ensures { result ≡ length (filter (λ peer. goes_to user (route_of (peer_shown peer))) peers.now) }
 {
     peers.iter().filter(|peer| is_source(peer, user)).count()
 }
 
-// The place of the first with an ID among the sources of a user.
+// The place, among the sources of a user, of the first with this ID.
 fn source_place_among(peers: &[Peer], user: usize, id: EntityId) -> Option<usize>
     ensures { result ≡ position (λ peer. has_id id (peer_shown peer))
         (filter (λ peer. goes_to user (route_of (peer_shown peer))) peers.now) }
@@ -310,7 +310,7 @@ fn source_place_among(peers: &[Peer], user: usize, id: EntityId) -> Option<usize
         .position(|peer| peer.remote.id == id)
 }
 
-// The one at a place among the sources of a user.
+// The source of a user at a place.
 fn source_among(peers: &[Peer], user: usize, place: usize) -> Option<Remote>
     ensures { result ≡ option_map (λ peer. peer.remote)
         (slice_get (filter (λ peer. goes_to user (route_of (peer_shown peer))) peers.now) place) }

@@ -5,9 +5,9 @@ use crate::config::Config;
 use config_reading::{ConfigFault, read_parts};
 use std::alloc::Global;
 
-/// Reads a configuration, a text in TOML: the entity, its users and the remote entities. `docs/configuration.md` says
-/// which keys it has, in which ranges. Reports the first fault in the order of the keys, whatever their order in
-/// the text; `NoMemory` says nothing of the text.
+/// Reads a configuration from a text in TOML: the entity, its users and the remote entities. `docs/configuration.md`
+/// lists the keys and their ranges. An error is the first fault in the order of the keys, whatever their order in
+/// the text; `NoMemory` says nothing about the text.
 pub fn read_config(alloc: Global, text: &str) -> Result<Config, ConfigFault>
     ensures ok { IfOk result (λ config. config_of text.now ≡ Ok config) }
     ensures refused { IfErr result (λ fault. (fault ≡ ConfigFault.NoMemory) ⊎ (config_of text.now ≡ Err fault)) }

@@ -1,4 +1,4 @@
-//! The configuration that worked examples and scripts run with.
+//! The configuration that worked examples and scripts use.
 ghost use Rattle.std.specs.Prelude.{◌≡◌};
 ghost use Rattle.cfdp_types.specs.Reference.{reference};
 
@@ -8,7 +8,7 @@ use cfdp_types::{
 };
 use config_reading::cancelling;
 
-/// Timers of a second, two expirations of each, every fault cancels, and the checksum is modular.
+/// Timers of one second, two expirations of each, Cancel for every fault, and the modular checksum.
 pub(crate) fn reference_params() -> Params
     ensures { result ≡ reference }
 {

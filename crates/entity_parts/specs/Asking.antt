@@ -1,4 +1,4 @@
--- Meaning. What the caller of an entity sees to when a user asks for something.
+-- Meaning. The condition on a user's request that the caller of an entity must ensure.
 use Rattle.std.specs.Prelude.{ℕ, ◌<◌, length}
 use Rattle.config_reading.specs.Values.{ConfigValue}
 use Rattle.entity_routing.specs.declared.world_event.Request.{Request}

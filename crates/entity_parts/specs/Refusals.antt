@@ -1,4 +1,4 @@
--- Meaning. Why an entity has no answer of a lane to give, and why it does not read a datagram.
+-- Meaning. Why an entity refuses an event, and why it cannot read a datagram.
 use Rattle.std.specs.Prelude.{◌≡◌, ℕ, Bool, true, false, List, Result, Ok, Err, IsOk, codes}
 use Rattle.pdu_reading.specs.Reading.{reading}
 use Rattle.pdu_reading.specs.declared.fault.DecodeFault.{DecodeFault}
@@ -12,19 +12,19 @@ use Rattle.entity_routing.specs.declared.refusal.RouteRefusal.TheVariants as rou
 use Rattle.entity_parts.specs.declared.refusal.EntityRefusal.{EntityRefusal}
 use Rattle.entity_parts.specs.declared.refusal.EntityRefusal.TheVariants as answer
 
--- the number that is printed for a refusal
+-- the number of a refusal, as it is printed
 abbrev pub number_of : EntityRefusal → ℕ
 number_of (answer.Route why) = entities.refusal_number why
 number_of (answer.Lane refused) = lanes.refusal_number refused.why
 number_of answer.WrongLane = 26
 
--- the name that is printed for a refusal, as octets
+-- the name of a refusal, as it is printed, in octets
 abbrev pub name_of : EntityRefusal → List ℕ
 name_of (answer.Route why) = entities.refusal_name why
 name_of (answer.Lane refused) = lanes.refusal_name refused.why
 name_of answer.WrongLane = codes "WrongLane"
 
--- it passes by: there was no memory, or a user's queue was full
+-- whether the refusal is temporary: memory ran out, or a user's queue was full
 abbrev pub is_passing : EntityRefusal → Bool
 is_passing (answer.Lane refused) = passes refused.why
   where
@@ -34,7 +34,7 @@ is_passing (answer.Lane refused) = passes refused.why
     passes _ = false
 is_passing _ = false
 
--- nothing more can come of its transaction: there is none, it has ended, or no lane has it
+-- whether the event's transaction is out of reach: it does not exist, has ended, or the event has no lane
 abbrev pub is_final : EntityRefusal → Bool
 is_final (answer.Lane refused) = is_gone refused.why
   where
@@ -44,11 +44,11 @@ is_final (answer.Lane refused) = is_gone refused.why
     is_gone _ = false
 is_final _ = true
 
--- why octets are not read: they are no PDU, or there was no memory for it
+-- why octets are not read: they are not a PDU, or memory ran out
 abbrev pub IsNotRead : Result PduValue DecodeFault → EntityRefusal → Type 0
 IsNotRead (Err fault) why = why ≡ answer.Route (routes.DecodeFault fault)
 IsNotRead (Ok pdu) why = why ≡ answer.Lane (plainly refusal.NoMemory)
 
--- octets are a PDU, for which there was no memory
+-- the octets are a PDU, but memory ran out
 abbrev pub IsUnreadFrom : {A : Type 0} → List ℕ → Result A EntityRefusal → Type 0
 IsUnreadFrom octets result = IsOk (reading octets) × (result ≡ Err (answer.Lane (plainly refusal.NoMemory)))

@@ -4,7 +4,7 @@ ghost use Rattle.entity_parts.specs.Asking.{MayRequest};
 use entity_config::Config;
 use entity_routing::Request;
 
-/// Whether an entity may be asked for this: the user is one of its own, and a Put names one of the user's sending lanes.
+/// Whether a request is admissible: the user is one of the entity's, and a Put names one of the user's sending lanes.
 pub fn may_request(config: &Config, user: usize, request: &Request) -> bool
     ensures may { result ≡ true → MayRequest config.now user request.now }
     ensures never { result ≡ false → MayRequest config.now user request.now → ⊥ }

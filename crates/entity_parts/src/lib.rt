@@ -1,5 +1,5 @@
-//! What both entities have: the lanes that a configuration gives to their users, as they stand at first; what a user may
-//! ask for; how a datagram is read; and why an entity has no answer of a lane to give.
+//! What the entity of one thread and the shared entity have in common: the users' new lanes, the requests that a user
+//! may make, reading datagrams, and why an entity refuses an event.
 #![tactic(auto)]
 
 mod asking;

@@ -1,4 +1,4 @@
-//! How a user's lane is made, by the configuration.
+//! Making the lanes of users, as configured.
 ghost use Rattle.std.specs.Prelude.{◌≡◌, ◌^◌, ◌-◌, IsTrue};
 ghost use Rattle.config_reading.specs.Texts.{is_within};
 ghost use Rattle.lane_table.specs.Lane.{IsSound};
@@ -10,7 +10,7 @@ use lane_table::Numbers;
 use std::alloc::Global;
 use txn_lane::Lane;
 
-/// A lane of a user, to which nothing has happened.
+/// A user's lane, still without a transaction.
 #[tactic(auto, using(crate::proofs::FirstFacts::receiving_sound))]
 pub fn lane_for(alloc: Global, config: &Config, user: usize, lane: usize) -> Lane
     ensures lane { result ≡ first_lane config.now user lane }
@@ -22,7 +22,7 @@ pub fn lane_for(alloc: Global, config: &Config, user: usize, lane: usize) -> Lan
     }
 }
 
-// A lane for what the user puts.
+// A sending lane, for the user's Puts.
 #[tactic(auto, using(crate::proofs::FirstFacts::sending_sound))]
 fn sending_lane(alloc: Global, config: &Config, user: usize, lane: usize) -> Lane
     ensures lane { result ≡ first_sending config.now user lane }
@@ -38,7 +38,7 @@ fn sending_lane(alloc: Global, config: &Config, user: usize, lane: usize) -> Lan
     Lane::sending(alloc, user, lane, entity.local, numbers, greatest)
 }
 
-// The greatest number that so many octets hold.
+// The greatest number of so many octets.
 fn greatest_in(octets: u8) -> u64
     requires { IsTrue (is_within 1 8 octets) }
     ensures { result ≡ 256 ^ octets - 1 }

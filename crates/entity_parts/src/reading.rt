@@ -9,7 +9,7 @@ use pdu_codec::{DecodeFault, Pdu, decode};
 use std::alloc::Global;
 use txn_events::Refusal;
 
-/// The PDU that octets are read as.
+/// Decodes a datagram. An error is the decoding fault as a route refusal, or NoMemory.
 pub fn read_pdu(alloc: Global, octets: &[u8]) -> Result<Pdu, EntityRefusal>
     ensures read { IfOk result (λ pdu. reading octets.now ≡ Ok pdu) }
     ensures refused { IfErr result (IsNotRead (reading octets.now)) }

@@ -5,20 +5,20 @@ use entity_routing::RouteRefusal;
 use lane_table::Refused;
 use txn_events::Refusal;
 
-/// Why an entity does not take an event, which then changes nothing.
+/// Why an entity refuses an event, which then changes nothing.
 #[derive(Debug, Drop)]
 pub enum EntityRefusal {
-    /// No lane gets it.
+    /// No lane gets the event.
     Route(RouteRefusal),
-    /// Its lane refuses it. Where memory runs out before there is a lane, this says so too.
+    /// The lane refuses the event. NoMemory is reported like this too where memory runs out before a lane is found.
     Lane(Refused),
-    /// What lies behind a lock is not the lane that the event goes to. That happens only to an entity that threads
-    /// share, and only where a gate does more with lanes than to have them step.
+    /// The lane behind a lock is not the one that the event goes to. This is possible only in the shared entity, and
+    /// only where a gate does more with lanes than have them step.
     WrongLane,
 }
 
 impl EntityRefusal {
-    /// The number that is printed for the refusal.
+    /// The refusal's number, as it is printed.
     pub fn number(&self) -> u8
         ensures { result ≡ number_of self.now }
     {
@@ -29,7 +29,7 @@ impl EntityRefusal {
         }
     }
 
-    /// The name that is printed for the refusal.
+    /// The refusal's name, as it is printed.
     pub fn name(&self) -> &'static str
         ensures { result.now ≡ name_of self.now }
     {
@@ -40,7 +40,7 @@ impl EntityRefusal {
         }
     }
 
-    /// Whether it passes by: there was no memory, or a user's queue was full. The same may be asked again soon.
+    /// Whether the refusal is temporary: memory ran out, or a user's queue was full. The event may be tried again soon.
     pub fn is_passing(&self) -> bool
         ensures { result ≡ is_passing self.now }
     {
@@ -53,7 +53,7 @@ impl EntityRefusal {
         }
     }
 
-    /// Whether nothing more can come of its transaction: there is none, it has ended, or no lane has it.
+    /// Whether the event's transaction is out of reach: it does not exist, has ended, or the event has no lane.
     pub fn is_final(&self) -> bool
         ensures { result ≡ is_final self.now }
     {

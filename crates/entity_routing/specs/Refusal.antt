@@ -1,9 +1,9 @@
--- Meaning. The numbers and names of the refusals that come before a lane is looked at.
+-- Meaning. The numbers and names of the refusals that apply before a lane is found.
 use Rattle.std.specs.Prelude.{ℕ, List, codes}
 use Rattle.entity_routing.specs.declared.refusal.RouteRefusal.{RouteRefusal}
 use Rattle.entity_routing.specs.declared.refusal.RouteRefusal.TheVariants as refusals
 
--- the number that is printed for a refusal
+-- the number of a refusal, as it is printed
 abbrev pub refusal_number : RouteRefusal → ℕ
 refusal_number (refusals.DecodeFault fault) = 20
 refusal_number refusals.NotForUs = 21
@@ -12,7 +12,7 @@ refusal_number refusals.NoRoute = 23
 refusal_number refusals.NotYours = 24
 refusal_number refusals.UnknownRemote = 25
 
--- the name that is printed for a refusal, as octets
+-- the name of a refusal, as it is printed, in octets
 abbrev pub refusal_name : RouteRefusal → List ℕ
 refusal_name (refusals.DecodeFault fault) = codes "DecodeFault"
 refusal_name refusals.NotForUs = codes "NotForUs"

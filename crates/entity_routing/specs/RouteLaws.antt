@@ -1,4 +1,4 @@
--- Meaning. What holds of every route.
+-- Meaning. The laws of every route.
 use Rattle.std.specs.Prelude.{◌≡◌, ◌-◌, ◌%◌, ◌<◌, ◌↔◌, true, false, IsTrue, length, Some, None, Ok}
 use Rattle.cfdp_types.specs.declared.key.TxnKey.{TxnKey}
 use Rattle.cfdp_types.specs.declared.key.EntityId.{EntityId}
@@ -12,7 +12,7 @@ use Rattle.entity_routing.specs.Routes.{Routed, goes_back, key_of_header, key_pl
 
 -- ---- places
 
--- a place is a lane of a user that the configuration has
+-- the place is a lane of a user in the configuration
 pub record IsWithin (config : ConfigValue) (place : Place) : Type 0 where
   pub user : place.user < length config.users
   pub lane : place.lane < lanes_of config place.user
@@ -21,7 +21,7 @@ pub record IsWithin (config : ConfigValue) (place : Place) : Type 0 where
 abbrev pub PlacesAreWithin : Type 0
 PlacesAreWithin = (config : ConfigValue) (key : TxnKey) (place : Place) → IsTrue (is_config config) → place_of config key ≡ Some place → IsWithin config place
 
--- the lane receives from a source: from the remote entity with its ID
+-- the lane receives from the remote entity with this ID
 pub record IsFrom (config : ConfigValue) (source : EntityId) (place : Place) : Type 0 where
   pub peer : PeerValue
   pub found : source_of_lane config place.user place.lane ≡ Some peer
@@ -37,7 +37,7 @@ abbrev pub OthersAreReceived : Type 0
 OthersAreReceived = (config : ConfigValue) (key : TxnKey) (place : Place) → IsTrue (is_config config) → is_local config key.source ≡ false → place_of config key ≡ Some place
     → IsFrom config key.source place
 
--- of the lanes that receive from a source, the number of its transaction tells the one that it is in
+-- among the lanes that receive from a source, the number of a transaction determines its lane
 abbrev pub NumbersTellLanes : Type 0
 NumbersTellLanes = (config : ConfigValue) (key : TxnKey) (place : Place) → IsTrue (is_config config) → IsFrom config key.source place
     → (place_of config key ≡ Some place)
@@ -45,12 +45,12 @@ NumbersTellLanes = (config : ConfigValue) (key : TxnKey) (place : Place) → IsT
 
 -- ---- what a lane gets
 
--- a lane gets a PDU under the PDU's own key
+-- a lane gets each PDU with the PDU's own key
 abbrev pub PdusKeepKeys : Type 0
 PdusKeepKeys = (config : ConfigValue) (pdu : PduValue) (routed : Routed) → routed_pdu config pdu ≡ Ok routed
     → routed.event ≡ On (key_of_header pdu.header) (what.Pdu pdu)
 
--- a PDU that goes somewhere goes where its transaction is; that is one of the entity's own exactly where it goes toward the sender
+-- a PDU goes to its transaction's lane; it goes toward the sender exactly where the transaction is the entity's own
 abbrev pub PdusGoTheirWay : Type 0
 PdusGoTheirWay = (config : ConfigValue) (pdu : PduValue) (place : Place) → pdu_place config pdu ≡ Ok place
     → (key_place config (key_of_header pdu.header) ≡ Ok place) × (is_local config pdu.header.source ≡ goes_back pdu.header.direction)

@@ -1,4 +1,4 @@
--- Meaning. Which lane gets what happens to an entity, and as which event; or why none does.
+-- Meaning. Which lane gets an event of the entity, and as which event of the lane; or why none does.
 use Rattle.std.specs.Prelude.{ℕ, Bool, true, false, not, ◌==◌, ◌&&◌, if◌then◌else◌, find, Option, Some, None, Result, Ok, Err}
 use Rattle.cfdp_types.specs.declared.key.TxnKey.{TxnKey}
 use Rattle.cfdp_types.specs.declared.key.EntityId.{EntityId}
@@ -32,7 +32,7 @@ pub record Routed : Type 0 where
 
 -- ---- places
 
--- a place, or that there is no route
+-- the place, or NoRoute
 abbrev pub or_no_route : Option Place → Result Place RouteRefusal
 or_no_route None = Err refusals.NoRoute
 or_no_route (Some place) = Ok place
@@ -41,40 +41,40 @@ or_no_route (Some place) = Ok place
 abbrev pub key_place : ConfigValue → TxnKey → Result Place RouteRefusal
 key_place config key = or_no_route (place_of config key)
 
--- a place, unless it is another user's
+-- the place, unless it is another user's: then NotYours
 abbrev pub if_own : ℕ → Result Place RouteRefusal → Result Place RouteRefusal
 if_own user (Err why) = Err why
 if_own user (Ok place) = if place.user == user then Ok place else Err refusals.NotYours
 
--- the lane of a user's own transaction
+-- the lane of a transaction, if it belongs to this user
 abbrev pub own_place : ConfigValue → ℕ → TxnKey → Result Place RouteRefusal
 own_place config user key = if_own user (key_place config key)
 
 -- ---- PDUs
 
--- the transaction that a PDU is of
+-- the key of the transaction that a PDU belongs to
 abbrev pub key_of_header : Header → TxnKey
 key_of_header header = record { source = header.source; seq = header.sequence }
 
--- a direction is toward the sender
+-- whether a direction is toward the sender
 abbrev pub goes_back : Direction → Bool
 goes_back TowardReceiver = false
 goes_back TowardSender = true
 
--- a direction is the one of the kind of body
+-- whether a direction fits the kind of body
 abbrev pub is_direction_of : Body → Direction → Bool
 is_direction_of body TowardReceiver = not (is_toward_sender body)
 is_direction_of body TowardSender = is_toward_sender body
 
--- a PDU is for the entity: by its destination, or, toward the sender, by its source
+-- whether a PDU is for the entity: by its destination or, toward the sender, by its source
 abbrev pub is_for_us : ConfigValue → Header → Bool
 is_for_us config header = is_local config (if goes_back header.direction then header.source else header.destination)
 
--- a PDU says that it comes from the entity itself, which is no source of what is received
+-- whether a PDU toward the receiver names the entity itself as its source; the entity receives nothing from itself
 abbrev pub is_from_itself : ConfigValue → Header → Bool
 is_from_itself config header = not (goes_back header.direction) && is_local config header.source
 
--- the lane that a PDU goes to
+-- the lane that gets a PDU
 abbrev pub pdu_place : ConfigValue → PduValue → Result Place RouteRefusal
 pdu_place config pdu =
     if not (is_for_us config pdu.header) then Err refusals.NotForUs
@@ -82,43 +82,43 @@ pdu_place config pdu =
     else (if is_from_itself config pdu.header then Err refusals.NoRoute
     else key_place config (key_of_header pdu.header)))
 
--- ---- files to be sent
+-- ---- Puts
 
--- what the transactions with a remote entity go by, if there is one
+-- the parameters of transactions with a remote entity, if there is one
 abbrev pub params_of_peer : Option PeerValue → Result ParamsParts RouteRefusal
 params_of_peer None = Err refusals.UnknownRemote
 params_of_peer (Some peer) = Ok peer.remote.params
 
--- what the transactions with a destination go by
+-- the parameters of transactions with a destination
 abbrev pub put_params : ConfigValue → EntityId → Result ParamsParts RouteRefusal
 put_params config destination = params_of_peer (find (has_id destination) config.peers)
 
 -- ---- the whole
 
--- something happens to a transaction, at a place if there is one
+-- an event of a transaction, for the lane at a place, if there is one
 abbrev pub routed_on : TxnKey → What → Result Place RouteRefusal → Result Routed RouteRefusal
 routed_on key happens (Err why) = Err why
 routed_on key happens (Ok place) = Ok (record { place = place; event = On key happens })
 
--- a file is to be sent from a place, by parameters if there are some
+-- a Put, for the lane at a place, with parameters, if there are any
 abbrev pub routed_put : Place → PutValue → Result ParamsParts RouteRefusal → Result Routed RouteRefusal
 routed_put place put (Err why) = Err why
 routed_put place put (Ok params) = Ok (record { place = place; event = Put put params })
 
--- a PDU comes
+-- a received PDU
 abbrev pub routed_pdu : ConfigValue → PduValue → Result Routed RouteRefusal
 routed_pdu config pdu = routed_on (key_of_header pdu.header) (what.Pdu pdu) (pdu_place config pdu)
 
--- the PDU that octets are read as comes, if they are read
+-- a received PDU as read from octets, or the fault
 abbrev pub routed_reading : ConfigValue → Result PduValue DecodeFault → Result Routed RouteRefusal
 routed_reading config (Err fault) = Err (refusals.DecodeFault fault)
 routed_reading config (Ok pdu) = routed_pdu config pdu
 
--- a user asks for something to happen to a transaction
+-- a user's request on a transaction
 abbrev pub routed_own : ConfigValue → ℕ → TxnKey → What → Result Routed RouteRefusal
 routed_own config user key happens = routed_on key happens (own_place config user key)
 
--- a user asks
+-- a user's request
 abbrev pub routed_request : ConfigValue → ℕ → Request → Result Routed RouteRefusal
 routed_request config user (requests.Put lane put) = routed_put (record { user = user; lane = lane }) put (put_params config put.destination)
 routed_request config user (requests.Cancel key) = routed_own config user key what.Cancel
@@ -127,11 +127,11 @@ routed_request config user (requests.Resume key) = routed_own config user key wh
 routed_request config user (requests.Report key) = routed_own config user key what.Report
 routed_request config user (requests.Abandon key) = routed_own config user key what.Abandon
 
--- something happens inside the entity to a transaction
+-- an event of a transaction that arises inside the entity
 abbrev pub routed_key : ConfigValue → TxnKey → What → Result Routed RouteRefusal
 routed_key config key happens = routed_on key happens (key_place config key)
 
--- the lane that gets what happens, and the event that it gets
+-- the lane that gets an event of the entity, and the lane's event; or why none does
 abbrev pub route : ConfigValue → WorldEvent → Result Routed RouteRefusal
 route config (events.Request user request) = routed_request config user request
 route config (events.Deliver octets) = routed_reading config (reading octets)

@@ -1,8 +1,8 @@
-//! What holds of every route, over the definitions alone.
+//! Laws of every route, stated over the definitions alone.
 
 ghost use Rattle.entity_routing.specs.RouteLaws.{NumbersTellLanes, OthersAreReceived, OwnAreSent, PdusGoTheirWay, PdusKeepKeys, PlacesAreWithin};
 
-/// A transaction that has a lane has one that the configuration gives to one of its users.
+/// The lane of a transaction, if it has one, is one that the configuration gives to one of its users.
 pub fn within()
     ensures { PlacesAreWithin }
 {}
@@ -17,18 +17,17 @@ pub fn received()
     ensures { OthersAreReceived }
 {}
 
-/// Of the lanes that receive from a source, a transaction of that source is in the one that its number tells, and in no
-/// other.
+/// Among the lanes that receive from a source, the number of a transaction determines its lane.
 pub fn numbers()
     ensures { NumbersTellLanes }
 {}
 
-/// A PDU goes where its transaction is, and toward the sender only to one of the entity's own.
+/// A PDU goes to the lane of its transaction; it goes toward the sender exactly where that is one of the entity's own.
 pub fn ways()
     ensures { PdusGoTheirWay }
 {}
 
-/// A lane gets a PDU under the PDU's own key.
+/// A lane gets each PDU with the PDU's own key.
 pub fn keys()
     ensures { PdusKeepKeys }
 {}

@@ -1,4 +1,4 @@
-//! Where what happens to an entity goes: which lane of which user gets it, or why none does.
+//! Routing: which lane of which user gets an event of the entity, or why none does.
 #![tactic(auto)]
 
 pub mod laws;

@@ -3,25 +3,25 @@ ghost use Rattle.entity_routing.specs.Refusal.{refusal_name, refusal_number};
 
 use pdu_reading::DecodeFault;
 
-/// Why no lane gets what happens: the first that applies. It then changes nothing.
+/// Why no lane gets an event, which then changes nothing. Where several reasons apply, the first is reported.
 #[derive(Clone, Copy, Debug, PartialEq, Eq)]
 pub enum RouteRefusal {
-    /// The octets are no PDU that the entity takes.
+    /// The octets are not a PDU that the entity accepts.
     DecodeFault(DecodeFault),
-    /// The PDU goes to another entity, or to the sender of another entity's transaction.
+    /// The PDU is addressed to another entity, or to the sender of another entity's transaction.
     NotForUs,
-    /// The PDU's direction is not the one of its kind.
+    /// The PDU's direction does not fit its kind.
     WrongDirection,
-    /// The source is neither the entity itself, nor one whose files go to a user.
+    /// The source is neither the entity itself nor a remote entity whose files go to a user.
     NoRoute,
     /// The transaction belongs to another user than the one who asks.
     NotYours,
-    /// A file is to go to an entity that the configuration does not name.
+    /// The configuration does not name the destination entity of a Put.
     UnknownRemote,
 }
 
 impl RouteRefusal {
-    /// The number that is printed for the refusal.
+    /// The refusal's number, as it is printed.
     pub fn number(self) -> u8
         ensures { result ≡ refusal_number self }
     {
@@ -35,7 +35,7 @@ impl RouteRefusal {
         }
     }
 
-    /// The name that is printed for the refusal.
+    /// The refusal's name, as it is printed.
     pub fn name(self) -> &'static str
         ensures { result.now ≡ refusal_name self }
     {

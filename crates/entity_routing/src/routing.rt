@@ -1,4 +1,4 @@
-//! Which lane gets what happens to a transaction, and what a caller takes from an event to tell it.
+//! Which lane gets the events of a transaction, and the functions with which callers find that lane.
 ghost use Rattle.std.specs.Prelude.{◌≡◌, ◌<◌};
 ghost use Rattle.std.specs.Option.{option_map};
 ghost use Rattle.cfdp_types.specs.declared.limits.TheConstants.{REMOTES};
@@ -17,7 +17,7 @@ fn is_local(config: &Config, id: EntityId) -> bool
     id == config.entity().local
 }
 
-// The lane of the entity's own transaction.
+// The lane of one of the entity's own transactions.
 fn sending_place(config: &Config, seq: u64) -> Place
     ensures { result ≡ places.sending_place config.now seq }
 {
@@ -38,7 +38,7 @@ fn receiving_lane(config: &Config, place: usize, seq: u64) -> usize
     entity.put_lanes + place * entity.receive_lanes + within
 }
 
-// The lane of a remote entity's transaction.
+// The lane of a remote entity's transaction, if its files go to a user.
 fn receiving_place(config: &Config, key: TxnKey) -> Option<Place>
     ensures { result ≡ places.receiving_place config.now key }
 {
@@ -68,7 +68,7 @@ pub fn place_of_key(config: &Config, key: TxnKey) -> Result<Place, RouteRefusal>
     place_of(config, key).ok_or(RouteRefusal::NoRoute)
 }
 
-/// The lane that a transaction belongs to, for a user who asks, and who has to be its own.
+/// The lane of a transaction, if it belongs to this user.
 pub fn place_of_own(config: &Config, user: usize, key: TxnKey) -> Result<Place, RouteRefusal>
     ensures { result ≡ routes.own_place config.now user key }
 {
@@ -80,7 +80,7 @@ pub fn place_of_own(config: &Config, user: usize, key: TxnKey) -> Result<Place, 
     }
 }
 
-/// What a transaction with a destination goes by.
+/// The parameters of transactions with a destination. `UnknownRemote` if the configuration does not name it.
 pub fn params_of_put(config: &Config, destination: EntityId) -> Result<Params, RouteRefusal>
     ensures { result ≡ routes.put_params config.now destination }
 {
@@ -90,7 +90,7 @@ pub fn params_of_put(config: &Config, destination: EntityId) -> Result<Params, R
     }
 }
 
-/// The transaction that a PDU is of.
+/// The key of the transaction that a PDU belongs to.
 pub fn key_of_pdu(pdu: &Pdu) -> TxnKey
     ensures { result ≡ routes.key_of_header pdu.now.header }
 {
@@ -110,7 +110,7 @@ fn is_for_us(config: &Config, header: &Header) -> bool
     }
 }
 
-// Whether the direction is the one of the PDU's kind.
+// Whether the direction fits the kind of the PDU.
 fn is_direction_of(pdu: &Pdu, direction: Direction) -> bool
     ensures { result ≡ routes.is_direction_of pdu.now.body direction }
 {
@@ -120,7 +120,7 @@ fn is_direction_of(pdu: &Pdu, direction: Direction) -> bool
     }
 }
 
-// Whether the entity itself would be the source that a PDU comes from.
+// Whether a PDU toward the receiver names the entity itself as its source.
 fn is_from_itself(config: &Config, header: &Header) -> bool
     ensures { result ≡ routes.is_from_itself config.now header.now }
 {
@@ -130,7 +130,7 @@ fn is_from_itself(config: &Config, header: &Header) -> bool
     }
 }
 
-/// The lane that a PDU goes to.
+/// The lane that gets a PDU.
 pub fn place_of_pdu(config: &Config, pdu: &Pdu) -> Result<Place, RouteRefusal>
     ensures { result ≡ routes.pdu_place config.now pdu.now }
 {
@@ -147,7 +147,7 @@ pub fn place_of_pdu(config: &Config, pdu: &Pdu) -> Result<Place, RouteRefusal>
     place_of_key(config, key_of_pdu(pdu))
 }
 
-/// How many lanes a user has.
+/// The number of lanes of a user.
 pub fn lanes_of(config: &Config, user: usize) -> usize
     ensures { result ≡ places.lanes_of config.now user }
 {
@@ -155,7 +155,7 @@ pub fn lanes_of(config: &Config, user: usize) -> usize
     entity.put_lanes + config.sources(user) * entity.receive_lanes
 }
 
-/// The remote entity whose transactions a user's lane receives; none for a sending lane, nor behind the last.
+/// The remote entity whose transactions a user's lane receives; None for a sending lane, or beyond the last lane.
 pub fn source_of_lane(config: &Config, user: usize, lane: usize) -> Option<Remote>
     ensures { result ≡ option_map (λ peer. peer.remote) (places.source_of_lane config.now user lane) }
 {

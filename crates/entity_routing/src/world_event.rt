@@ -1,9 +1,9 @@
 use cfdp_types::{Octets, PutRequest, TimerKind, TxnKey};
 
-/// What a user asks for.
+/// A user's request.
 #[derive(Debug, Drop)]
 pub enum Request {
-    /// A file is to be sent, from this one of the user's sending lanes.
+    /// Send a file, from this one of the user's sending lanes.
     Put(usize, PutRequest),
     Cancel(TxnKey),
     Suspend(TxnKey),
@@ -12,17 +12,17 @@ pub enum Request {
     Abandon(TxnKey),
 }
 
-/// What happens to an entity.
+/// An event of the entity.
 #[derive(Debug, Drop)]
 pub enum WorldEvent {
-    /// A user asks for something.
+    /// A user, by number, makes a request.
     Request(usize, Request),
-    /// A datagram comes.
+    /// A datagram was received.
     Deliver(Octets),
-    /// The next PDU of a transaction is to be sent.
+    /// The next PDU of a transaction is due to be sent.
     Pump(TxnKey),
-    /// A transaction's timer that was armed with this stamp expires.
+    /// A transaction's timer that was armed with this stamp expired.
     Timer(TxnKey, TimerKind, u32),
-    /// The file store answers a transaction's deposit with this stamp: whether it keeps the file.
+    /// The file store answered a transaction's deposit with this stamp; true if it keeps the file.
     Stored(TxnKey, u32, bool),
 }

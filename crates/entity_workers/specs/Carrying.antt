@@ -1,4 +1,4 @@
--- Meaning. What a worker may be answered.
+-- Meaning. The answers that a worker may get.
 use Rattle.std.specs.Prelude.{◌≡◌, ℕ, List, Result, Ok}
 use Rattle.atomic_table.specs.Seated.{TableId}
 use Rattle.txn_events.specs.declared.event.Event.{Event}
@@ -10,7 +10,7 @@ use Rattle.entity_parts.specs.declared.refusal.EntityRefusal.{EntityRefusal}
 use Rattle.shared_lanes.specs.Held.{HeldValue}
 use Rattle.shared_entity.specs.Answering.{MayAnswer}
 
--- whatever an entity may answer to a PDU that some octets are read as is accepted
+-- every answer is accepted that the entity may give to a PDU which some octets are read as
 abbrev pub AcceptsAnswers : {A : Type 0} → (ℕ → TableId) → (HeldValue → Event → A → HeldValue → Type 0) → ConfigValue → (Result A EntityRefusal → Type 0) → Type 0
 AcceptsAnswers queue gives config accepts =
     (octets : List ℕ) (pdu : PduValue) (answer : _) → reading octets ≡ Ok pdu → MayAnswer queue gives (routed_pdu config pdu) answer → accepts answer

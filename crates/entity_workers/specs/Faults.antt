@@ -1,4 +1,4 @@
--- Meaning. The faults of an intake and of workers by number, and when an intake takes no datagram.
+-- Meaning. The numbers of the faults of an intake and of workers, and why an intake refuses a datagram.
 use Rattle.std.specs.Prelude.{◌≡◌, ◌⊎◌, ℕ, Result, Ok, Err}
 use Rattle.pdu_reading.specs.declared.fault.DecodeFault.{DecodeFault}
 use Rattle.pdu_values.specs.Pdu.{PduValue}
@@ -18,8 +18,8 @@ abbrev pub workers_number : WorkersFault → ℕ
 workers_number workers.NoMemory = 1
 workers_number workers.Start = 2
 
--- why a datagram is not taken, by what its octets are read as: the first of what is wrong with them, or, where they are a PDU,
--- that there is no memory for it or that nobody takes it
+-- why a datagram is refused: the decoding fault of its octets or, where they are a PDU, that memory ran out or that no
+-- worker is left
 abbrev pub IsNotTaken : Result PduValue DecodeFault → IntakeFault → Type 0
 IsNotTaken (Err fault) why = why ≡ intake.Decode fault
 IsNotTaken (Ok pdu) why = (why ≡ intake.NoMemory) ⊎ (why ≡ intake.Closed)

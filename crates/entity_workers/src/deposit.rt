@@ -1,4 +1,4 @@
-//! A received file goes into a store, and its lane is notified whether the store keeps it.
+//! Depositing a received file in a store, and notifying its lane whether the store keeps it.
 ghost use Rattle.std.specs.Prelude.{◌≡◌, ◌<◌, MatchOption, MatchResult};
 ghost use Rattle.entity_workers.specs.Depositing.{IsAskedOnce, HasAnswered, IsHandedIn, IsDeposited};
 ghost use Rattle.entity_routing.specs.Routes.{key_place};
@@ -11,17 +11,17 @@ use shared_entity::{Entity, EntityRefusal};
 use shared_lanes::{Names, NoGate};
 use std::sync::Wait;
 
-/// What is left to be done of a deposit: all of it, or to tell its lane what the store answered.
+/// What remains to be done for a deposit: all of it, or only notifying its lane of the store's answer.
 #[derive(Debug, Drop)]
 pub struct DepositRest {
     pub deposit: Deposit,
-    /// Whether the store keeps the file, once it was asked.
+    /// Whether the store keeps the file, if it was asked already.
     pub answer: Option<bool>,
-    /// Why the deposit went no further.
+    /// Why the deposit could not be completed.
     pub refusal: EntityRefusal,
 }
 
-/// Takes the file of a deposit to a store, and tells the lane whether the store keeps it.
+/// Deposits the file in a store, and notifies the lane whether the store keeps it.
 pub fn deposit_one<N: Names, R: Wait + Copy, S: Filestore>(
     rt: &R,
     entity: &Entity<N, R>,
@@ -41,7 +41,7 @@ pub fn deposit_one<N: Names, R: Wait + Copy, S: Filestore>(
     }
 }
 
-/// Goes on with a deposit. A store that was asked is not asked again.
+/// Continues a deposit. A store that was asked already is not asked again.
 pub fn finish<N: Names, R: Wait + Copy, S: Filestore>(
     rt: &R,
     entity: &Entity<N, R>,
@@ -59,7 +59,7 @@ pub fn finish<N: Names, R: Wait + Copy, S: Filestore>(
     }
 }
 
-// Takes the file of a deposit to a store; whether the store keeps it.
+// Deposits the file in a store, and returns whether the store keeps it.
 fn store_image<N: Names, R: Wait + Copy, S: Filestore>(
     rt: &R,
     entity: &Entity<N, R>,
@@ -77,7 +77,7 @@ fn store_image<N: Names, R: Wait + Copy, S: Filestore>(
     Ok(answer.is_ok())
 }
 
-// Tells the lane of a deposit whether the store keeps the file.
+// Notifies the lane of a deposit whether the store keeps the file.
 fn hand_in<N: Names, R: Wait + Copy>(
     rt: &R,
     entity: &Entity<N, R>,

@@ -1,16 +1,16 @@
 use pdu_codec::DecodeFault;
 use thiserror::Error;
 
-/// Why a datagram does not wait for the workers.
+/// Why a datagram was not queued for the workers.
 #[derive(Clone, Copy, Debug, PartialEq, Eq, Error)]
 pub enum IntakeFault {
-    /// It is no PDU that the entity takes.
+    /// It is not a PDU that the entity accepts.
     #[error("the datagram is no PDU")]
     Decode(DecodeFault),
-    /// No worker takes datagrams any more.
+    /// No worker receives datagrams any more.
     #[error("the intake is closed")]
     Closed,
-    /// There was no memory for it.
+    /// Memory ran out.
     #[error("out of memory")]
     NoMemory,
 }
@@ -19,7 +19,7 @@ impl IntakeFault {
     ghost use Rattle.std.specs.Prelude.{◌≡◌};
     ghost use Rattle.entity_workers.specs.Faults.{intake_number};
 
-    /// The number of the fault.
+    /// The fault's number.
     pub fn number(self) -> u8
         ensures { result ≡ intake_number self }
     {
@@ -34,10 +34,10 @@ impl IntakeFault {
 /// Why not all workers ran.
 #[derive(Clone, Copy, Debug, PartialEq, Eq, Error)]
 pub enum WorkersFault {
-    /// There was no memory for them. None ran.
+    /// Memory ran out; no worker ran.
     #[error("out of memory")]
     NoMemory,
-    /// A thread could not be started. Those before it ran to their end.
+    /// A thread could not be started. The workers started before it ran to their end.
     #[error("a thread could not be started")]
     Start,
 }
@@ -46,7 +46,7 @@ impl WorkersFault {
     ghost use Rattle.std.specs.Prelude.{◌≡◌};
     ghost use Rattle.entity_workers.specs.Faults.{workers_number};
 
-    /// The number of the fault.
+    /// The fault's number.
     pub fn number(self) -> u8
         ensures { result ≡ workers_number self }
     {

@@ -1,4 +1,4 @@
-//! The way in: datagrams are decoded, and wait for the workers.
+//! The intake: datagrams are decoded, and wait for the workers.
 ghost use Rattle.std.specs.Prelude.{◌≡◌, ◌<◌, Err, IfErr, IsErr, IsOk};
 ghost use Rattle.pdu_reading.specs.Reading.{reading, IsUnlessMemory};
 ghost use Rattle.entity_workers.specs.Faults.{IsNotTaken};
@@ -10,24 +10,24 @@ use pdu_codec::{DecodeFault, decode};
 use std::alloc::{AllocError, Global};
 use std::sync::Wait;
 
-/// The way in for datagrams: what one end takes, workers receive at the other.
+/// A bounded queue of decoded datagrams, from those who receive them to the workers.
 pub struct Intake;
 
-/// Where datagrams come in.
+/// The sending end of an intake, for datagrams.
 #[derive(Drop)]
 pub struct IntakeSend {
     to: Sender<Message>,
     alloc: Global,
 }
 
-/// Where workers receive them.
+/// The receiving end of an intake, for workers.
 #[derive(Drop)]
 pub struct IntakeEnd {
     from: Receiver<Message>,
 }
 
 impl Intake {
-    /// Both ends of an intake in which so many datagrams may wait.
+    /// Both ends of an intake with room for `capacity` datagrams.
     pub fn new(alloc: Global, capacity: usize) -> Result<(IntakeSend, IntakeEnd), AllocError>
         requires { 0 < capacity }
     {
@@ -37,8 +37,8 @@ impl Intake {
 }
 
 impl IntakeSend {
-    /// Takes a datagram, and waits for room. Octets that are not read as a PDU are reported first, then want of memory,
-    /// and last that no worker is left to receive.
+    /// Decodes a datagram and queues it, waiting for room. Of several faults the first is reported: the octets are not
+    /// a PDU, memory ran out, no worker is left to receive it.
     pub fn send<R: Wait>(&self, rt: &R, octets: &[u8]) -> Result<(), IntakeFault>
         ensures why { IfErr result (IsNotTaken (reading octets.now)) }
         ensures unread { IsErr (reading octets.now) → IsErr result }
@@ -56,7 +56,7 @@ impl IntakeSend {
     }
 }
 
-/// A datagram that came, as workers get it.
+/// Decodes a datagram into a message for the workers.
 pub fn message_of(alloc: Global, octets: &[u8]) -> Result<Message, DecodeFault>
     ensures exact { IsUnlessMemory result (reading octets.now) }
     ensures memory { result ≡ Err DecodeFault.NoMemory → IsOk (reading octets.now) }
@@ -65,7 +65,7 @@ pub fn message_of(alloc: Global, octets: &[u8]) -> Result<Message, DecodeFault>
 }
 
 impl IntakeEnd {
-    /// The next datagram, or nothing once no sender is left and none waits.
+    /// The next message, waiting for one. None once no sender is left and no message is waiting.
     pub fn receive<R: Wait>(&self, rt: &R) -> Option<Message> {
         self.from.recv(rt).ok()
     }

@@ -1,5 +1,5 @@
-//! Threads round an entity: datagrams are decoded and wait, workers bring them to their lanes, and received files go into a
-//! store.
+//! Threads around an entity: datagrams are decoded and queued, workers bring them to their lanes, and received files
+//! are deposited in a store.
 #![tactic(auto)]
 
 mod carrier;

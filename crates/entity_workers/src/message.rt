@@ -1,7 +1,7 @@
 use pdu_codec::Pdu;
 use std::marker::Model;
 
-/// A PDU that came in a datagram, and waits for a worker. Contracts see it.
+/// A PDU from a datagram, waiting for a worker. Contracts see the PDU.
 #[derive(Drop)]
 pub struct Message {
     pdu: Pdu,
@@ -22,7 +22,7 @@ impl Message {
     ghost use Rattle.std.specs.Prelude.{◌≡◌};
     ghost use Rattle.entity_workers.specs.Messages.{HasCome};
 
-    /// A PDU that was read from a datagram.
+    /// A message with a PDU that was read from a datagram.
     pub fn new(pdu: Pdu) -> Message
         requires { HasCome pdu }
         ensures { result ≡ pdu }
@@ -30,7 +30,7 @@ impl Message {
         Message { pdu }
     }
 
-    /// The PDU alone.
+    /// Takes the PDU out of the message.
     pub fn into_pdu(self) -> Pdu
         ensures pdu { result ≡ self }
         ensures came { HasCome result }

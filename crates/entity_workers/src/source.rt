@@ -3,18 +3,18 @@ use crate::intake::IntakeEnd;
 use crate::message::Message;
 use std::sync::Wait;
 
-/// Where workers get their datagrams from: one source for all of them.
+/// Where workers get their datagrams: one source for all of them.
 pub trait Source<R, A, C: Carrier<A>> {
     ghost use Rattle.std.specs.Prelude.{Result};
     ghost use Rattle.entity_parts.specs.declared.refusal.EntityRefusal.{EntityRefusal};
 
-    /// Waits for the next datagram, for the worker with this carrier, or answers nothing once no more can come. What the
-    /// carrier could be given before, it may be given after.
+    /// Waits for the next datagram, for the worker with this carrier; None once no more can come. The carrier still
+    /// accepts all answers that it accepted before.
     fn next(&self, rt: &R, carrier: &mut C) -> Option<Message>
         ensures { (other : Result A EntityRefusal) → C.accepts carrier.old other → C.accepts carrier.new other };
 }
 
-/// What waits in the intake. The carrier is left alone.
+/// Takes the messages of the intake, and leaves the carrier alone.
 impl<R: Wait, A, C: Carrier<A>> Source<R, A, C> for IntakeEnd {
     fn next(&self, rt: &R, _carrier: &mut C) -> Option<Message> {
         self.receive(rt)

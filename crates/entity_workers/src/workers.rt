@@ -1,4 +1,4 @@
-//! Workers take datagrams to the lanes of an entity, each in a thread of its own.
+//! Workers, each in its own thread, which bring datagrams to the lanes of an entity.
 ghost use Rattle.std.specs.Prelude.{◌≡◌, All, IfOk, vec_len};
 ghost use Rattle.entity_workers.specs.Carrying.{AcceptsAnswers};
 
@@ -13,7 +13,7 @@ use std::sync::Wait;
 use std::thread;
 use std::thread::Threads;
 
-/// Has a worker for each carrier bring datagrams from an intake to their lanes ([`run_workers_from`]).
+/// Runs a worker for each carrier, which brings datagrams from an intake to their lanes ([`run_workers_from`]).
 pub fn run_workers<
     N: Names + Send + Sync,
     R: Threads + Wait + Copy + Send + Sync,
@@ -33,9 +33,9 @@ pub fn run_workers<
     run_workers_from(rt, alloc, entity, intake, carriers, gate)
 }
 
-/// Has a worker for each carrier bring datagrams from a source to their lanes until no more can come, and gives the carriers back in
-/// their order. All room is made before the first thread starts. Where one can't be started, those before it run to their end all
-/// the same.
+/// Runs a worker for each carrier, which brings datagrams from a source to their lanes until no more can come. Returns
+/// the carriers in their order. All memory is allocated before the first thread starts. If a thread can't be started,
+/// the workers before it still run to their end.
 pub fn run_workers_from<
     N: Names + Send + Sync,
     R: Threads + Wait + Copy + Send + Sync,
@@ -90,7 +90,7 @@ pub fn run_workers_from<
     )
 }
 
-// Brings datagrams to their lanes until no more can come.
+// Brings datagrams to their lanes until no more can come, and returns the carrier.
 fn work<N: Names, R: Wait + Copy, G: Gate<N, R>, C: Carrier<G::Answer>, S: Source<R, G::Answer, C>>(
     rt: &R,
     entity: &Entity<N, R>,

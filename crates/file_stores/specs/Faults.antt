@@ -1,4 +1,4 @@
--- Meaning. The faults of a store by number.
+-- Meaning. The numbers of the faults of a store.
 use Rattle.std.specs.Prelude.{ℕ}
 use Rattle.file_stores.specs.declared.filestore.StoreFault.{StoreFault}
 use Rattle.file_stores.specs.declared.filestore.StoreFault.TheVariants.{BadName, Failed}

@@ -1,4 +1,4 @@
--- Meaning. A store in memory: what it holds, and what a deposit does to it.
+-- Meaning. A store in memory: what it holds, and the effect of a deposit.
 use Rattle.std.specs.Prelude.{◌≡◌, ℕ, List, [], ◌∷◌, ◌++◌, Result, MatchResult}
 use Rattle.file_stores.specs.declared.filestore.StoreFault.{StoreFault}
 use Rattle.file_stores.specs.declared.filestore.StoreFault.TheVariants.{Failed}
@@ -10,7 +10,7 @@ pub record MemoryStoreValue : Type 0 where
   pub calls : ℕ
   pub failures : ℕ
 
--- the file goes last, or the files stay
+-- the file is added at the end, or the files stay the same
 abbrev pub Deposits : MemoryStoreValue → List ℕ → List ℕ → Result (Unit {0}) StoreFault → MemoryStoreValue → Type 0
 Deposits before name octets result after =
     MatchResult result

@@ -2,13 +2,13 @@ ghost use Rattle.std.specs.Prelude.{◌≡◌, ◌+◌, ◌<◌, ◌≤◌, ℕ,
 
 use thiserror::Error;
 
-/// Why a store doesn't keep a file.
+/// Why a store does not keep a file.
 #[derive(Clone, Copy, Debug, PartialEq, Eq, Error)]
 pub enum StoreFault {
-    /// The store can't have a file of that name.
+    /// The name is not valid in this store.
     #[error("the store can't have a file of that name")]
     BadName,
-    /// The file couldn't be kept; want of memory too.
+    /// The file couldn't be kept, for another reason; running out of memory is one.
     #[error("the file could not be kept")]
     Failed,
 }
@@ -17,7 +17,7 @@ impl StoreFault {
     ghost use Rattle.std.specs.Prelude.{◌≡◌};
     ghost use Rattle.file_stores.specs.Faults.{fault_number};
 
-    /// The number of the fault.
+    /// The fault's number.
     pub fn number(self) -> u8
         ensures { result ≡ fault_number self }
     {
@@ -28,7 +28,7 @@ impl StoreFault {
     }
 }
 
-/// Where received files go. A store counts the deposits that were tried and those that failed.
+/// A file store for received files. It counts the deposits that were tried and those that failed.
 pub trait Filestore {
     ghost use Rattle.file_stores.specs.declared.filestore.StoreFault.{StoreFault};
 
@@ -36,10 +36,10 @@ pub trait Filestore {
 
     ghost failed: { Self → ℕ };
 
-    // what a deposit of a name and octets does to the store
+    // The effect of a deposit of a name and octets on the store.
     ghost deposits: { Self → List ℕ → List ℕ → Result (Unit {0}) StoreFault → Self → Type 0 };
 
-    /// Keeps a file under a name. What becomes of one that had the name before, the store says.
+    /// Keeps a file under a name. Each store says what happens to an existing file with that name.
     fn deposit(&mut self, name: &[u8], octets: &[u8]) -> Result<(), StoreFault>
         requires { tried self.old < u64.MAX }
         ensures tried { tried self.new ≡ tried self.old + 1 }

@@ -11,14 +11,15 @@ use std::marker::Model;
 use std::rt::Files;
 use std::{fs, io};
 
-/// How many names are tried for the file that is written before it gets its own name.
+/// How many names are tried for the temporary file.
 const PART_NAMES: u64 = 100_000;
 
-/// A store that keeps each file in one folder, under its name; a file that is there is replaced whole. A file is written
-/// beside its place, flushed, and renamed once it is whole, so that no half file is ever seen under its name; then the
-/// folder is flushed, and only then the deposit has succeeded. Where the folder can't be flushed the deposit fails, though
-/// the file has its name by then. Until it is renamed a file has a name that nothing in the folder had, and that is not its
-/// own: `.part-` and a number. No name is kept for that: a file that comes may be called so, too.
+/// A store that keeps each file in one folder, under its name, replacing an existing file as a whole. The octets
+/// are written to a temporary file in that folder, flushed, and renamed once they are complete, so that no incomplete
+/// file is seen under its name. Then the folder is flushed, and only after that the deposit has succeeded. Where the
+/// folder can't be flushed, the deposit fails although the file has its name already. The temporary name is `.part-`
+/// and a number. It is unused in the folder, and not the file's own; but it is not reserved, and a received file may
+/// have such a name too.
 #[derive(Drop)]
 pub struct FolderStore<R: Files + AllocGlobal + Drop> {
     rt: R,
@@ -39,7 +40,7 @@ impl<R: Files + AllocGlobal + Drop> Model for FolderStore<R> {
 }
 
 impl<R: Files + AllocGlobal + Drop> FolderStore<R> {
-    /// A store over a folder, which has to be there when a file comes.
+    /// A store in a folder, which must exist when a file is deposited.
     pub fn new(rt: R, folder: String) -> FolderStore<R>
         ensures { result ≡ record { calls = 0; failures = 0 } }
     {
@@ -79,7 +80,7 @@ impl<R: Files + AllocGlobal + Drop> Filestore for FolderStore<R> {
     }
 }
 
-// A name for a file of a folder, as text.
+// The name as text, if it is a valid name for a file in the folder.
 fn file_name(name: &[u8]) -> Option<&str>
     ensures { IsSome result ↔ IsFileName name.now }
 {
@@ -89,21 +90,21 @@ fn file_name(name: &[u8]) -> Option<&str>
     str::from_utf8(name).ok()
 }
 
-// A name that stays in its folder.
+// Whether the name stays in its folder.
 fn is_plain(name: &[u8]) -> bool
     ensures { result ≡ is_plain_name name.now }
 {
     !name.is_empty() && name != b".".as_slice() && name != b"..".as_slice() && !has_separator(name)
 }
 
-// A slash, or the octet that ends a name.
+// Whether the name has a slash, or a zero octet, which would end it.
 fn has_separator(name: &[u8]) -> bool
     ensures { result ≡ list_any (λ octet. octet == 47 || octet == 0) name.now }
 {
     name.iter().any(|octet| *octet == b'/' || *octet == 0)
 }
 
-// Writes a file into a folder, under its name. The names of parts are numbered from `first_part` on.
+// Writes a file into the folder, under its name. Temporary names are numbered from `first_part` on.
 fn keep<R: Files + AllocGlobal>(
     rt: &R,
     folder: &str,
@@ -123,7 +124,7 @@ fn keep<R: Files + AllocGlobal>(
     Ok(())
 }
 
-// Writes the octets under another name first, and then renames the file.
+// Writes the octets to a temporary file, and then renames it.
 fn write_beside<R: Files + AllocGlobal>(
     rt: &R,
     folder: &str,
@@ -145,12 +146,12 @@ fn write_beside<R: Files + AllocGlobal>(
     flush_folder(rt, folder)
 }
 
-// Has the system write out the names in a folder, so that a file which was renamed there is found after a power cut.
+// Flushes the folder, so that a file renamed there is found after a power failure.
 fn flush_folder<R: Files + AllocGlobal>(rt: &R, folder: &str) -> io::Result<()> {
     fs::File::open(rt, folder)?.sync_all()
 }
 
-// Makes a new file of the folder for a part of the file with a name, and gives it with its path.
+// Creates a temporary file in the folder, and returns it with its path.
 fn new_part<R: Files + AllocGlobal>(
     rt: &R,
     folder: &str,
@@ -171,7 +172,7 @@ fn new_part<R: Files + AllocGlobal>(
     Err(io::ErrorKind::AlreadyExists.into())
 }
 
-// The name with a number for a part of a file, unless that is the file's own.
+// The temporary name with a number, unless that is the file's own name.
 fn part_for(alloc: Global, name: &str, number: u64) -> Result<Option<String>, AllocError>
     ensures { IfOk result (λ part. option_map string_bytes part ≡ part_for name.now number) }
 {

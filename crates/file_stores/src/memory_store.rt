@@ -5,14 +5,14 @@ use cfdp_types::Octets;
 use std::alloc::{AllocError, Global};
 use std::marker::Model;
 
-/// A file as it was stored.
+/// A stored file.
 #[derive(Debug, Drop, PartialEq, Eq)]
 pub struct StoredFile {
     pub name: Octets,
     pub octets: Octets,
 }
 
-/// A store that keeps each file that it was given, in order, in memory.
+/// A store that keeps all files in memory, in the order of their deposits.
 #[derive(Debug, Drop)]
 pub struct MemoryStore {
     files: Vec<StoredFile>,
@@ -33,7 +33,7 @@ impl Model for MemoryStore {
 }
 
 impl MemoryStore {
-    /// A store without files.
+    /// An empty store.
     pub fn new(alloc: Global) -> MemoryStore
         ensures { result ≡ record { files = []; calls = 0; failures = 0 } }
     {
@@ -45,7 +45,7 @@ impl MemoryStore {
         }
     }
 
-    /// The files, in the order in which they came.
+    /// The files, in the order of their deposits.
     pub fn files(&self) -> &[StoredFile]
         ensures { result.now ≡ self.now.files }
     {
@@ -87,7 +87,7 @@ impl Filestore for MemoryStore {
     }
 }
 
-// A file with a copy of a name and of octets.
+// A file with copies of a name and of octets.
 fn stored_file(alloc: Global, name: &[u8], octets: &[u8]) -> Result<StoredFile, AllocError>
     ensures { IfOk result (λ file. file ≡ record { name = name.now; octets = octets.now }) }
 {

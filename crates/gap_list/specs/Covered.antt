@@ -3,7 +3,7 @@ use Rattle.std.specs.Prelude.{ℕ, ◌+◌, ◌≤◌, Bool, List, length, Optio
 use Rattle.gap_list.specs.declared.run.Run.{Run}
 use Rattle.gap_list.specs.Runs.{in_runs}
 
--- what contracts see of a gap list: its runs, which make up a set, and for how many more there is room
+-- what contracts see of a gap list: its runs, which make up the set, and for how many more there is room
 pub record GapsValue : Type 0 where
   pub runs : List Run
   pub room : ℕ
@@ -12,7 +12,7 @@ pub record GapsValue : Type 0 where
 unfoldable pub covered : GapsValue → ℕ → Bool
 covered gaps offset = in_runs gaps.runs offset
 
--- there is room for so many more runs than those of a set, in it or in a spare one to which it may move
+-- there is room for `count` more runs than the set has: in the set, or in the spare one to which it may move
 abbrev pub HasRoomWith : GapsValue → Option GapsValue → ℕ → Type 0
 HasRoomWith gaps None count = count ≤ gaps.room
 HasRoomWith gaps (Some spare) count = length gaps.runs + count ≤ spare.room

@@ -1,28 +1,28 @@
--- Of the code. What the runs from a place on say of an offset, where those before it end below.
+-- Of the code. What the runs from a place on say about an offset, where all runs before that place end below it.
 use Rattle.std.specs.Prelude.{◌≡◌, ℕ, Bool, true, nat_le, nat_lt, min, if◌then◌else◌, List, [], ◌∷◌, refl}
 use Rattle.gap_list.specs.declared.run.Run.{Run}
 
--- the end of the first run, where it begins at or below an offset, and else the offset
+-- the end of the first run if it begins at or below the offset, else the offset
 abbrev pub end_or : ℕ → List Run → ℕ
 end_or offset [] = offset
 end_or offset (run ∷ runs) = if nat_le run.start offset then run.end else offset
 
--- where the first run begins, but no more than a limit
+-- the start of the first run, but at most the limit
 abbrev pub start_or : ℕ → List Run → ℕ
 start_or limit [] = limit
 start_or limit (run ∷ runs) = min run.start limit
 
--- the first run begins at or above an offset
+-- whether the first run begins at or above the offset
 abbrev pub begins_from : ℕ → List Run → Bool
 begins_from offset [] = true
 begins_from offset (run ∷ runs) = nat_le offset run.start
 
--- where the last run ends, or an offset where there is none
+-- the end of the last run, or the offset where there is none
 abbrev pub last_end : ℕ → List Run → ℕ
 last_end offset [] = offset
 last_end offset (run ∷ runs) = last_end run.end runs
 
--- runs with one before them, where it is not empty
+-- the runs, with one put before them unless it is empty
 abbrev pub kept : Run → List Run → List Run
 kept run runs = if nat_lt run.start run.end then run ∷ runs else runs
 

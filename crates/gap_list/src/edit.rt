@@ -1,4 +1,4 @@
-//! Ranges that are added to rising runs and taken out of them, in room that is there.
+//! Adding ranges to a vector of rising runs and removing them, in memory reserved beforehand.
 ghost use Rattle.std.specs.Prelude.{◌≡◌, ℕ, ◌+◌, ◌<◌, ◌≤◌, ◌++◌, ◌∷◌, take, drop, vec_len, vec_capacity};
 ghost use Rattle.std.specs.List.{insert};
 ghost use Rattle.gap_list.specs.Places.{kept};
@@ -7,7 +7,7 @@ ghost use Rattle.gap_list.specs.Runs.{in_runs, with_range, without_range, SameSe
 use crate::run::Run;
 use crate::search::{begun_by, ended_below};
 
-// Takes the runs from one place to another out.
+// Removes the runs from place `first` to place `last` - 1.
 fn cut(runs: &mut Vec<Run>, first: usize, last: usize)
     requires ordered { first ≤ last }
     requires within { last ≤ vec_len runs.old }
@@ -20,7 +20,7 @@ fn cut(runs: &mut Vec<Run>, first: usize, last: usize)
     runs.truncate(first + (len - last));
 }
 
-// Puts a run in the place of those from one place to another.
+// Replaces the runs from place `first` to place `last` - 1 by one run.
 fn replace(runs: &mut Vec<Run>, first: usize, last: usize, run: Run)
     requires ordered { first < last }
     requires within { last ≤ vec_len runs.old }
@@ -32,7 +32,7 @@ fn replace(runs: &mut Vec<Run>, first: usize, last: usize, run: Run)
     cut(runs, first + 1, last);
 }
 
-// Puts a run at a place, in room that is there.
+// Inserts a run at a place, without allocating.
 fn insert_run(runs: &mut Vec<Run>, place: usize, run: Run)
     requires within { place ≤ vec_len runs.old }
     requires room { vec_len runs.old < vec_capacity runs.old }
@@ -44,7 +44,7 @@ fn insert_run(runs: &mut Vec<Run>, place: usize, run: Run)
     inserted.unwrap()
 }
 
-// Adds a range: one run with those that it touches.
+// Adds a range, merging it with the runs that it touches.
 pub fn add(runs: &mut Vec<Run>, start: u32, end: u32)
     requires filled { start < end }
     requires rising { IsRisingFrom 0 runs.old.items }
@@ -66,7 +66,7 @@ pub fn add(runs: &mut Vec<Run>, start: u32, end: u32)
     }
 }
 
-// Puts a run at a place where it is not empty, in room that is there.
+// Inserts a run at a place unless it is empty, without allocating.
 fn insert_filled(runs: &mut Vec<Run>, place: usize, run: Run)
     requires within { place ≤ vec_len runs.old }
     requires room { vec_len runs.old < vec_capacity runs.old }
@@ -80,7 +80,7 @@ fn insert_filled(runs: &mut Vec<Run>, place: usize, run: Run)
     }
 }
 
-// Takes a range out: of the runs that it meets, what lies below and above it stays.
+// Removes a range: a run that it meets keeps what lies below and above the range.
 pub fn remove(runs: &mut Vec<Run>, start: u32, end: u32)
     requires filled { start < end }
     requires rising { IsRisingFrom 0 runs.old.items }
@@ -106,7 +106,7 @@ pub fn remove(runs: &mut Vec<Run>, start: u32, end: u32)
     }
 }
 
-// Moves all runs into a vector that has room for them.
+// Moves all runs into `spare`, which has room for them, and keeps that vector.
 pub fn move_to(runs: &mut Vec<Run>, mut spare: Vec<Run>)
     requires { vec_len runs.old ≤ vec_capacity spare }
     ensures items { runs.new.items ≡ runs.old.items }

@@ -3,10 +3,10 @@ use crate::{edit, search, walk};
 use std::alloc::{AllocError, Global};
 use std::marker::Model;
 
-/// Which offsets of a file are covered, as a set: contracts see it by `covered`, and for how many more
-/// runs there is room.
+/// The set of a file's offsets that are covered. Contracts see it by `covered`, and for how many more runs there is
+/// room.
 ///
-/// The runs rise and don't touch, so that data in order costs one of them.
+/// It is kept as rising runs that don't touch, so a file that arrives in order costs one run.
 #[derive(Debug, Drop)]
 pub struct Gaps {
     runs: Vec<Run>,
@@ -30,7 +30,7 @@ impl Gaps {
     ghost use Rattle.gap_list.specs.Covered.{covered, HasRoomWith};
     ghost use Rattle.gap_list.specs.Runs.{SameSet, IsFree, with_range, without_range, new_runs, missing_runs, first_run, IsExtent};
 
-    /// Covers nothing.
+    /// The empty set.
     pub fn new(alloc: Global) -> Gaps
         ensures { (offset : ℕ) → covered result offset ≡ false }
     {
@@ -39,7 +39,7 @@ impl Gaps {
         }
     }
 
-    /// Covers nothing, with room for so many runs.
+    /// The empty set, with room for `count` runs.
     pub fn with_room(alloc: Global, count: usize) -> Result<Gaps, AllocError>
         ensures none { IfOk result (λ gaps. (offset : ℕ) → covered gaps offset ≡ false) }
         ensures room { IfOk result (λ gaps. count ≤ gaps.room) }
@@ -49,7 +49,7 @@ impl Gaps {
         })
     }
 
-    /// Makes room for so many more runs: each `add` and each `remove` takes one at the most.
+    /// Makes room for `count` more runs. Each `add` and each `remove` takes at most one.
     pub fn reserve(&mut self, count: usize) -> Result<(), AllocError>
         ensures same { SameSet (covered self.new) (covered self.old) }
         ensures room { OnOk result (count ≤ self.new.room) }
@@ -58,9 +58,9 @@ impl Gaps {
         self.runs.reserve(count)
     }
 
-    /// A set that covers nothing and has room for the runs here and so many more, where there is no
-    /// room for these here. It has room for the runs here twice, so that sets which grow rarely move;
-    /// an error also where that number of runs is none.
+    /// An empty set to move to, with room for the runs here and `count` more; None where there is room here already.
+    /// It has room for at least twice the runs here, so that growing sets rarely move. An overflow of that number
+    /// is an error too.
     pub fn spare(&self, count: usize) -> Result<Option<Gaps>, AllocError>
         ensures room { IfOk result (λ spare. HasRoomWith self.now spare count) }
         ensures none { count ≤ self.now.room → result ≡ Ok None }
@@ -77,7 +77,7 @@ impl Gaps {
         Ok(Some(spare))
     }
 
-    /// Moves to a spare set, where there is one. What that one covers is given up.
+    /// Moves the runs into the spare set, if one is given; what the spare set covered is dropped.
     pub fn move_to(&mut self, spare: Option<Gaps>)
         requires { HasRoomWith self.old spare 0 }
         ensures same { SameSet (covered self.new) (covered self.old) }
@@ -88,7 +88,7 @@ impl Gaps {
         }
     }
 
-    /// Adds the offsets from `start` to `end` - 1, in room that is there.
+    /// Covers the offsets from `start` to `end` - 1, without allocating.
     pub fn add(&mut self, start: u32, end: u32)
         requires ordered { start ≤ end }
         requires room { 0 < self.old.room }
@@ -100,7 +100,7 @@ impl Gaps {
         }
     }
 
-    /// Takes the offsets from `start` to `end` - 1 out, in room that is there: a run may be cut in two.
+    /// Uncovers the offsets from `start` to `end` - 1, without allocating; this may split a run.
     pub fn remove(&mut self, start: u32, end: u32)
         requires ordered { start ≤ end }
         requires room { 0 < self.old.room }
@@ -112,8 +112,8 @@ impl Gaps {
         }
     }
 
-    /// Adds the offsets from `start` to `end` - 1. The answer is what of them was not there before, as
-    /// maximal runs from the lowest up.
+    /// Covers the offsets from `start` to `end` - 1, and returns those that are new, as maximal runs from the
+    /// lowest up.
     pub fn cover(&mut self, start: u32, end: u32) -> Result<Vec<Run>, AllocError>
         requires { start ≤ end }
         ensures added { OnOk result
@@ -127,7 +127,7 @@ impl Gaps {
         Ok(new)
     }
 
-    /// What of the offsets from `start` to `end` - 1 isn't covered, as maximal runs from the lowest up.
+    /// The offsets from `start` to `end` - 1 that aren't covered, as maximal runs from the lowest up.
     pub fn new_within(&self, start: u32, end: u32) -> Result<Vec<Run>, AllocError>
         ensures { IfOk result (λ runs. runs.items ≡ new_runs (covered self.now) start end) }
     {
@@ -143,14 +143,14 @@ impl Gaps {
         start >= end || search::is_free(self.runs.as_slice(), start, end)
     }
 
-    /// The maximal runs below the limit that aren't covered, rising.
+    /// The offsets below the limit that aren't covered, as maximal runs from the lowest up.
     pub fn missing(&self, limit: u32) -> Result<Vec<Run>, AllocError>
         ensures { IfOk result (λ runs. runs.items ≡ missing_runs (covered self.now) limit) }
     {
         self.missing_first(limit, limit as usize)
     }
 
-    /// The first so many of the maximal runs below the limit that aren't covered.
+    /// The first `count` of the runs that `missing` gives.
     pub fn missing_first(&self, limit: u32, count: usize) -> Result<Vec<Run>, AllocError>
         ensures { IfOk result (λ runs. runs.items ≡ take count (missing_runs (covered self.now) limit)) }
     {
@@ -159,8 +159,8 @@ impl Gaps {
         Ok(missing)
     }
 
-    /// The first so many of the maximal runs below the limit that aren't covered once the offsets from `start` to
-    /// `end` - 1 are.
+    /// The first `count` of the runs that `missing` would give once the offsets from `start` to `end` - 1 are
+    /// covered.
     pub fn missing_first_with(
         &self,
         start: u32,
@@ -183,14 +183,14 @@ impl Gaps {
         Ok(missing)
     }
 
-    /// The lowest of the maximal runs below the limit of what is covered from an offset on.
+    /// The lowest maximal run of covered offsets from `offset` up to the limit.
     pub fn first_from(&self, offset: u32, limit: u32) -> Option<Run>
         ensures { result ≡ first_run (without_range (covered self.now) 0 offset) limit }
     {
         search::first_run(self.runs.as_slice(), offset, limit)
     }
 
-    /// One that covers the same offsets.
+    /// A copy of the set.
     pub fn copy(&self) -> Result<Gaps, AllocError>
         ensures { IfOk result (λ gaps. SameSet (covered gaps) (covered self.now)) }
     {
@@ -199,21 +199,21 @@ impl Gaps {
         })
     }
 
-    /// Whether nothing is missing below the limit.
+    /// Whether all offsets below the limit are covered.
     pub fn is_full(&self, limit: u32) -> bool
         ensures { IsTrue result ↔ ((offset : ℕ) → offset < limit → IsTrue (covered self.now offset)) }
     {
         limit <= search::end_from(self.runs.as_slice(), 0)
     }
 
-    /// Whether nothing is missing below the limit once the offsets from `start` to `end` - 1 are added.
+    /// Whether all offsets below the limit are covered once those from `start` to `end` - 1 are added.
     pub fn is_full_with(&self, start: u32, end: u32, limit: u32) -> bool
         ensures { IsTrue result ↔ ((offset : ℕ) → offset < limit → IsTrue (with_range (covered self.now) start end offset)) }
     {
         limit <= search::end_with(self.runs.as_slice(), start, end)
     }
 
-    /// One more than the greatest covered offset, or 0 where nothing is covered.
+    /// One more than the greatest covered offset; 0 where nothing is covered.
     pub fn extent(&self) -> u32
         ensures { IsExtent (covered self.now) result }
     {

@@ -1,4 +1,4 @@
-//! Which octets of a file have come and which are missing.
+//! Sets of file offsets: which octets of a file were received and which are missing.
 #![tactic(auto)]
 
 mod edit;

@@ -1,11 +1,11 @@
-//! Where an offset stands among rising runs, found by halves.
+//! Binary search: the place of an offset among rising runs.
 ghost use Rattle.std.specs.Prelude.{◌≡◌, ◌↔◌, ℕ, ◌<◌, ◌≤◌, true, false, IsTrue, nat_le, nat_lt, length, take, drop, All};
 ghost use Rattle.gap_list.specs.Runs.{in_runs, with_range, without_range, first_run, IsFree, IsExtent, IsRisingFrom};
 ghost use Rattle.gap_list.specs.Places.{end_or, start_or, begins_from, last_end};
 
 use crate::run::Run;
 
-// How many runs end below the offset.
+// The number of runs that end below the offset.
 pub fn ended_below(runs: &[Run], offset: u32) -> usize
     requires { IsRisingFrom 0 runs.now }
     ensures within { result ≤ length runs.now }
@@ -19,7 +19,7 @@ pub fn ended_below(runs: &[Run], offset: u32) -> usize
     )
 }
 
-// How many runs begin at or below the offset.
+// The number of runs that begin at or below the offset.
 pub fn begun_by(runs: &[Run], offset: u32) -> usize
     requires { IsRisingFrom 0 runs.now }
     ensures within { result ≤ length runs.now }
@@ -33,7 +33,7 @@ pub fn begun_by(runs: &[Run], offset: u32) -> usize
     )
 }
 
-// The end of the run at a place, where it begins at or below the offset, and else the offset.
+// The end of the run at a place if it begins at or below the offset, else the offset.
 fn end_at(runs: &[Run], place: usize, offset: u32) -> u32
     ensures { result ≡ end_or offset (drop place runs.now) }
 {
@@ -43,7 +43,7 @@ fn end_at(runs: &[Run], place: usize, offset: u32) -> u32
     }
 }
 
-// Where the run at a place begins, but no more than the limit.
+// The start of the run at a place, but at most the limit.
 fn start_at(runs: &[Run], place: usize, limit: u32) -> u32
     ensures { result ≡ start_or limit (drop place runs.now) }
 {
@@ -53,7 +53,7 @@ fn start_at(runs: &[Run], place: usize, limit: u32) -> u32
     }
 }
 
-// Whether no run from a place on begins below the offset.
+// Whether the run at a place begins at or above the offset; true where there is no such run.
 fn begins_at(runs: &[Run], place: usize, offset: u32) -> bool
     ensures { result ≡ begins_from offset (drop place runs.now) }
 {
@@ -63,7 +63,7 @@ fn begins_at(runs: &[Run], place: usize, offset: u32) -> bool
     }
 }
 
-// The first offset from this one on that no run has.
+// The first offset from this one on that is in no run.
 pub fn end_from(runs: &[Run], offset: u32) -> u32
     requires { IsRisingFrom 0 runs.now }
     ensures at_or_after { offset ≤ result }
@@ -73,7 +73,7 @@ pub fn end_from(runs: &[Run], offset: u32) -> u32
     end_at(runs, ended_below(runs, offset), offset)
 }
 
-// The first offset above this one that a run has, or the limit where there is none below it.
+// The first offset above this one that is in a run, but at most the limit.
 pub fn gap_end(runs: &[Run], offset: u32, limit: u32) -> u32
     requires rising { IsRisingFrom 0 runs.now }
     requires gap { (offset < limit) × (in_runs runs.now offset ≡ false) }
@@ -85,7 +85,7 @@ pub fn gap_end(runs: &[Run], offset: u32, limit: u32) -> u32
     start_at(runs, begun_by(runs, offset), limit)
 }
 
-// The first offset that neither a run nor the range from start to end - 1 has.
+// The first offset that is neither in a run nor in the range from `start` to `end` - 1.
 pub fn end_with(runs: &[Run], start: u32, end: u32) -> u32
     requires { IsRisingFrom 0 runs.now }
     ensures covered { (i : ℕ) → i < result → with_range (in_runs runs.now) start end i ≡ true }
@@ -99,7 +99,7 @@ pub fn end_with(runs: &[Run], start: u32, end: u32) -> u32
     }
 }
 
-// The first offset from this one on that a run has, or one that is no lower than the limit.
+// The first offset from this one on that is in a run, or one at or above the limit.
 fn begin_from(runs: &[Run], offset: u32, limit: u32) -> u32
     requires { IsRisingFrom 0 runs.now }
     ensures at_or_after { offset ≤ result }
@@ -113,7 +113,7 @@ fn begin_from(runs: &[Run], offset: u32, limit: u32) -> u32
     }
 }
 
-// The lowest maximal run below the limit of the offsets from one on that a run has.
+// The lowest maximal run of covered offsets from `offset` up to the limit.
 pub fn first_run(runs: &[Run], offset: u32, limit: u32) -> Option<Run>
     requires { IsRisingFrom 0 runs.now }
     ensures { result ≡ first_run (without_range (in_runs runs.now) 0 offset) limit }
@@ -129,7 +129,7 @@ pub fn first_run(runs: &[Run], offset: u32, limit: u32) -> Option<Run>
     }
 }
 
-// Whether no run has any of the offsets from start to end - 1.
+// Whether no run has an offset from `start` to `end` - 1.
 pub fn is_free(runs: &[Run], start: u32, end: u32) -> bool
     requires rising { IsRisingFrom 0 runs.now }
     requires filled { start < end }
@@ -138,7 +138,7 @@ pub fn is_free(runs: &[Run], start: u32, end: u32) -> bool
     begins_at(runs, ended_below(runs, start + 1), end)
 }
 
-// One more than the greatest offset of the runs, or 0.
+// One more than the greatest offset in the runs; 0 where there are none.
 pub fn greatest_end(runs: &[Run]) -> u32
     requires { IsRisingFrom 0 runs.now }
     ensures { IsExtent (in_runs runs.now) result }
@@ -146,7 +146,7 @@ pub fn greatest_end(runs: &[Run]) -> u32
     last_end(runs)
 }
 
-// Where the last run ends, or 0.
+// The end of the last run; 0 where there are none.
 fn last_end(runs: &[Run]) -> u32
     ensures { result ≡ last_end 0 runs.now }
 {

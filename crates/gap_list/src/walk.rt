@@ -1,4 +1,4 @@
-//! What rising runs leave out.
+//! The gaps between rising runs.
 ghost use Rattle.std.specs.Prelude.{◌≡◌, ◌≤◌, ◌-◌, ◌++◌, OnOk, length, take, []};
 ghost use Rattle.gap_list.specs.Places.{kept};
 ghost use Rattle.gap_list.specs.Runs.{in_runs, new_runs, missing_runs, with_range, IsRisingFrom};
@@ -7,7 +7,7 @@ use crate::run::Run;
 use crate::search::ended_below;
 use std::alloc::AllocError;
 
-// Adds a run at the end, where it is not empty.
+// Appends a run unless it is empty.
 fn put(gaps: &mut Vec<Run>, run: Run) -> Result<(), AllocError>
     ensures { OnOk result (gaps.new.items ≡ gaps.old.items ++ kept run []) }
 {
@@ -17,8 +17,8 @@ fn put(gaps: &mut Vec<Run>, run: Run) -> Result<(), AllocError>
     Ok(())
 }
 
-// Adds the runs of the offsets from `start` to `end` - 1 that no run has, from the lowest up, until
-// there are so many in all.
+// Appends the gaps among the offsets from `start` to `end` - 1, from the lowest up, until the list has `most`
+// runs.
 pub fn put_gaps(
     gaps: &mut Vec<Run>,
     runs: &[Run],
@@ -48,7 +48,7 @@ pub fn put_gaps(
     Ok(())
 }
 
-// Adds the first so many runs of the offsets below the limit that neither a run nor the range has.
+// Appends the first `most` runs of offsets below the limit that are neither in a run nor in the range.
 pub fn put_gaps_with(
     gaps: &mut Vec<Run>,
     runs: &[Run],

@@ -1,4 +1,4 @@
--- Of the code. What the kinds of the issued indications say of the next one.
+-- Of the code. What the indications so far, by their kinds, say about the next one.
 use Rattle.std.specs.Prelude.{List}
 use Rattle.std.specs.List.{list_any}
 use Rattle.indications.specs.declared.indication.Indication.{Indication}

@@ -1,4 +1,4 @@
-//! Reads the indications of one transaction in their order, and says whether they are a word.
+//! Checks whether the indications of one transaction, read in order, are a word.
 #![tactic(auto)]
 
 mod marks;

@@ -6,7 +6,7 @@ ghost use Rattle.ind_words.specs.Marks.{marks_of};
 use cfdp_types::Delivery;
 use indications::{Indication, IndicationKind};
 
-/// What the kinds of the issued indications say of what may be issued next.
+/// What the indications so far, by their kinds, say about what may be issued next.
 #[derive(Clone, Copy)]
 pub struct Marks {
     pub opened: bool,
@@ -18,7 +18,7 @@ pub struct Marks {
 }
 
 impl Marks {
-    /// Before any indication.
+    /// The marks before any indication.
     pub const NONE: Marks = Marks {
         opened: false,
         eof_sent: false,
@@ -65,7 +65,7 @@ impl Marks {
         }
     }
 
-    /// Whether a sender that has issued no end may issue the indication next.
+    /// Whether a sender that has issued no end may issue this indication next.
     pub fn allow_sender(self, indication: &Indication) -> bool
         ensures exact { (before : List Indication) → self ≡ marks_of before
             → (IsTrue result ↔ IsNextOfSender before indication.now) }
@@ -82,8 +82,8 @@ impl Marks {
         }
     }
 
-    /// Whether a receiver that has issued no end may issue the indication next, if it is no segment:
-    /// the caller says whether the segments are all offsets below some size.
+    /// Whether a receiver that has issued no end may issue this indication next; false for a segment. `initial` says
+    /// whether the reported segments are exactly the offsets below some size.
     pub fn allow_receiver(self, indication: &Indication, initial: bool) -> bool
         ensures exact { (before : List Indication) → self ≡ marks_of before → (IsTrue initial ↔ IsFilled before)
             → is_segment indication.now ≡ false → (IsTrue result ↔ IsNext before indication.now) }
@@ -101,7 +101,7 @@ impl Marks {
         }
     }
 
-    // Whether a receiver may tell that it finished.
+    // Whether a receiver may issue Transaction-Finished with this delivery code.
     fn allow_delivery(self, delivery: Delivery, initial: bool) -> bool
         ensures { (before : List Indication) → self ≡ marks_of before → (IsTrue initial ↔ IsFilled before)
             → (IsTrue result ↔ MayFinish before delivery) }

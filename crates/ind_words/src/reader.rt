@@ -9,13 +9,13 @@ use std::alloc::{AllocError, Global};
 #[derive(Clone, Copy, Debug, PartialEq, Eq)]
 pub struct NotAWord;
 
-/// Reads the indications of one transaction, at its sender or at its receiver, in their order, and
-/// takes those that keep a beginning of a word.
+/// Reads the indications of one transaction in order, at its sender or at its receiver, and accepts each that
+/// keeps them the beginning of a word.
 #[derive(Drop)]
 pub struct WordReader {
     side: Side,
     marks: Marks,
-    // None where there is room for no segment.
+    // None where there is no room for segments.
     segments: Option<Segments>,
 }
 
@@ -29,14 +29,14 @@ impl WordReader {
     ghost use Rattle.ind_words.specs.Reading.{covers, room_left, StandsAfter, Knows, MayGoOn, HasRoom, HasAdded};
     ghost use Rattle.indications.specs.Words.{IsNextOf, IsNext, IsWordOf, is_end};
 
-    /// A reader that has room for no segment. Takes no memory.
+    /// A reader without room for segments. Does not allocate.
     pub fn new(side: Side) -> WordReader
         ensures { StandsAfter result side 0 [] }
     {
         WordReader::of(side, None)
     }
 
-    /// A reader that has room for so many segments.
+    /// A reader with room for `room` segments.
     pub fn with_room(alloc: Global, side: Side, room: usize) -> Result<WordReader, AllocError>
         ensures { IfOk result (λ reader. StandsAfter reader side room []) }
     {
@@ -44,9 +44,8 @@ impl WordReader {
         Ok(WordReader::of(side, Some(segments)))
     }
 
-    /// Takes an indication, where it may come next and there is room for its segment. Takes no
-    /// memory; a segment costs a search by halves among the runs of those before it, and a move of
-    /// the runs above it.
+    /// Accepts an indication if it may come next and there is room for its segment. Does not allocate. A segment
+    /// costs a binary search among the runs of the segments before it, and moving the runs above it.
     pub fn next(&mut self, indication: &Indication) -> Result<(), NotAWord>
         ensures exact { (side : Side) (room : ℕ) (word : List Indication) → StandsAfter self.old side room word
             → (IsOk result ↔ MayGoOn side room word indication.now) }
@@ -62,7 +61,7 @@ impl WordReader {
         }
     }
 
-    /// Whether the indications taken are a whole word, which ends with an end of the transaction.
+    /// Whether the accepted indications are a whole word, which has an end of the transaction.
     pub fn at_end(&self) -> bool
         ensures { (side : Side) (room : ℕ) (word : List Indication) → StandsAfter self.now side room word
             → (IsTrue result ↔ IsWordOf side word) }
@@ -81,7 +80,7 @@ impl WordReader {
         }
     }
 
-    // Takes an indication, where it may come next.
+    // Accepts an indication if it may come next.
     fn accept(&mut self, indication: &Indication) -> bool
         ensures exact { (side : Side) (room : ℕ) (before : List Indication) → Knows self.old side room before
             → (IsTrue result
@@ -98,8 +97,8 @@ impl WordReader {
         true
     }
 
-    // Whether a side that has issued no end may issue the indication. The offsets of a segment are
-    // taken at once, and no mark is.
+    // Whether a side that has issued no end may issue the indication. Adds the offsets of a segment, but changes
+    // no mark.
     fn allow(&mut self, indication: &Indication) -> bool
         ensures exact { (side : Side) (room : ℕ) (before : List Indication) → Knows self.old side room before
             → (IsTrue result ↔ (IsNextOf side before indication.now × HasRoom room before indication.now)) }
@@ -129,7 +128,7 @@ impl WordReader {
         }
     }
 
-    // Whether the segments taken are all offsets below some size.
+    // Whether the accepted segments are exactly the offsets below some size.
     fn is_initial(&self) -> bool
         ensures { IsTrue result ↔ IsInitial (covers self.now.segments) }
     {
@@ -145,8 +144,8 @@ ghost use Rattle.cfdp_types.specs.declared.limits.TheConstants.{FILE_OCTETS};
 ghost use Rattle.gap_list.specs.Runs.{SameSet, with_range, IsFree};
 ghost use Rattle.ind_words.specs.Reading.{covers, room_left};
 
-// Takes a segment that is within a file and shares no offset with those before it, while there is
-// room.
+// Accepts a segment that lies within the largest file and shares no offset with those before it, while there
+// is room.
 fn take_segment(segments: &mut Option<Segments>, offset: u32, length: u32) -> bool
     ensures exact { IsTrue result ↔ ((0 < length) × (offset + length ≤ FILE_OCTETS)
         × IsFree (covers segments.old) offset (offset + length) × (0 < room_left segments.old)) }
@@ -164,7 +163,7 @@ fn take_segment(segments: &mut Option<Segments>, offset: u32, length: u32) -> bo
     }
 }
 
-// The offsets of a segment, where it is not empty and within a file.
+// The offsets of a segment; None where it is empty or exceeds the largest file.
 fn run_of(offset: u32, length: u32) -> Option<Run>
     ensures some { IfSome result (λ run. (run.start ≡ offset) × (run.end ≡ offset + length)
         × (0 < length) × (offset + length ≤ FILE_OCTETS)) }

@@ -1,4 +1,4 @@
-//! The file segments that were indicated, as a set of offsets in reserved room.
+//! The file segments reported so far, as a set of offsets in memory reserved beforehand.
 ghost use Rattle.std.specs.Prelude.{◌≡◌, ℕ, ◌+◌, ◌<◌, ◌≤◌, ◌↔◌, true, false, IsTrue, IfOk};
 ghost use Rattle.gap_list.specs.Covered.{covered};
 ghost use Rattle.gap_list.specs.Runs.{SameSet, with_range, IsFree};
@@ -10,13 +10,13 @@ use std::alloc::{AllocError, Global};
 #[derive(Drop)]
 pub struct Segments {
     offsets: Gaps,
-    // How many more segments there is room for.
+    // For how many more segments there is room.
     left: usize,
     ghost room: { left ≤ offsets.room },
 }
 
 impl Segments {
-    /// Room for so many segments, and none yet.
+    /// No segments, with room for `room` of them.
     pub fn with_room(alloc: Global, room: usize) -> Result<Segments, AllocError>
         ensures room { IfOk result (λ s. s.left ≡ room) }
         ensures none { IfOk result (λ s. (i : ℕ) → covered s.offsets i ≡ false) }
@@ -27,7 +27,7 @@ impl Segments {
         })
     }
 
-    /// Takes a segment that shares no offset with those before it, while there is room.
+    /// Accepts a segment that shares no offset with those before it, while there is room.
     pub fn take(&mut self, segment: Run) -> bool
         requires { segment.start < segment.end }
         ensures exact { IsTrue result
@@ -45,7 +45,7 @@ impl Segments {
         true
     }
 
-    /// Whether the segments are all offsets below some size.
+    /// Whether the segments are exactly the offsets below some size.
     pub fn is_initial(&self) -> bool
         ensures { IsTrue result ↔ IsInitial (covered self.now.offsets) }
     {

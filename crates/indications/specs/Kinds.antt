@@ -1,4 +1,4 @@
--- Meaning. Indications by what they say of their transaction: the one place that lists them all.
+-- Meaning. The kind of each indication, listed here only: what it changes in the user's view of its transaction.
 use Rattle.std.specs.Prelude.{ℕ, ◌+◌, Bool, true, false, ◌&&◌, nat_lt, nat_le}
 use Rattle.cfdp_types.specs.declared.names.Delivery.TheVariants.{Complete, Incomplete}
 use Rattle.indications.specs.declared.indication.Indication.{Indication}
@@ -6,7 +6,7 @@ use Rattle.indications.specs.declared.indication.Indication.TheVariants as told
 use Rattle.indications.specs.declared.kind.IndicationKind.{IndicationKind}
 use Rattle.indications.specs.declared.kind.IndicationKind.TheVariants as kind
 
--- an abandoned transaction claims no complete file; reports and faults change nothing
+-- an abandoned transaction doesn't claim a complete file; reports and faults change nothing
 abbrev pub kind_of : Indication → IndicationKind
 kind_of told.Transaction = kind.Opening
 kind_of told.EofSent = kind.EofSent
@@ -20,7 +20,7 @@ kind_of (told.Report phase progress) = kind.Notice
 kind_of (told.Fault condition progress) = kind.Notice
 kind_of (told.Abandoned condition progress) = kind.End Incomplete
 
--- ---- what a kind is
+-- ---- tests of a kind
 
 abbrev pub is_opening : IndicationKind → Bool
 is_opening kind.Opening = true
@@ -50,7 +50,7 @@ abbrev pub is_ending : IndicationKind → Bool
 is_ending (kind.End delivery) = true
 is_ending _ = false
 
--- an end that claims a complete file
+-- an end that claims the file is complete
 abbrev pub is_complete_end : IndicationKind → Bool
 is_complete_end (kind.End Complete) = true
 is_complete_end _ = false
@@ -60,7 +60,7 @@ abbrev pub has_octet : ℕ → IndicationKind → Bool
 has_octet i (kind.Segment offset length) = nat_le offset i && nat_lt i (offset + length)
 has_octet i _ = false
 
--- whether the transaction is suspended behind it, where it was or wasn't before
+-- whether the transaction is suspended after an indication of this kind, given whether it was before
 abbrev pub suspended_behind : IndicationKind → Bool → Bool
 suspended_behind kind.Suspension before = true
 suspended_behind kind.Resumption before = false

@@ -1,4 +1,4 @@
--- Meaning. What a lane sends to its user: the bundles of one transaction after those of another.
+-- Meaning. What a lane sends to its user: the bundles of its transactions, one transaction after the other.
 use Rattle.std.specs.Prelude.{◌≡◌, ℕ, ◌<◌, ◌==◌, Bool, true, not, All, List, [], ◌∷◌, length, flat_map, if◌then◌else◌}
 use Rattle.std.specs.List.{filter, list_any}
 use Rattle.std.specs.List.Sorted.{IsNonDecreasingBy}
@@ -21,7 +21,7 @@ of_lane lane bundles = filter (λ bundle. bundle.lane == lane) bundles
 abbrev pub of_number : ℕ → List Bundle → List Bundle
 of_number number bundles = filter (λ bundle. number_of bundle == number) bundles
 
--- all indications of bundles, in order
+-- all indications in the bundles, in order
 abbrev pub told_in : List Bundle → List Indication
 told_in bundles = flat_map (λ bundle. bundle.inds) bundles
 
@@ -29,32 +29,32 @@ told_in bundles = flat_map (λ bundle. bundle.inds) bundles
 abbrev pub told_of : ℕ → List Bundle → List Indication
 told_of number bundles = told_in (of_number number bundles)
 
--- a bundle has this number
+-- whether some bundle is of the transaction with this number
 abbrev pub has_number : ℕ → List Bundle → Bool
 has_number number bundles = list_any (λ bundle. number_of bundle == number) bundles
 
--- a bundle tells at least one indication
+-- whether a bundle has at least one indication
 abbrev pub tells : Bundle → Bool
 tells bundle = not (length bundle.inds == 0)
 
--- only a sender tells Transaction
+-- the side that issues this as its first indication: only a sender issues Transaction
 abbrev pub side_by : Indication → Side
 side_by first = if is_transaction first then Sender else Receiver
 
--- the side of a transaction here, by its first indication
+-- the side of a transaction, judged by its first indication
 abbrev pub side_of : List Indication → Side
 side_of [] = Receiver
 side_of (first ∷ rest) = side_by first
 
--- a transaction's indications so far are the beginning of its side's word
+-- the indications of a transaction so far are the beginning of a word of its side
 abbrev pub IsBegunGroup : List Indication → Type 0
 IsBegunGroup told = IsBegunOf (side_of told) told
 
--- a transaction's indications are a word of its side
+-- the indications of a transaction are a word of its side
 abbrev pub IsWordGroup : List Indication → Type 0
 IsWordGroup told = IsWordOf (side_of told) told
 
--- what one lane of a user sends: its transactions one after the other, of one source and with rising numbers
+-- what one lane of a user sends: its transactions in order, all of one source and with rising numbers
 pub record IsLaneList (user lane : ℕ) (source : EntityId) (bundles : List Bundle) : Type 0 where
   pub told : All (λ bundle. tells bundle ≡ true) bundles
   pub users : All (λ bundle. bundle.user ≡ user) bundles

@@ -8,15 +8,15 @@ use cfdp_types::{Condition, Delivery, EntityId, FileStatus, Messages, Octets};
 use std::alloc::{AllocError, Global};
 use std::marker::Model;
 
-/// What a transaction does at the moment of a report.
+/// How far a transaction is at the moment of a report.
 #[derive(Clone, Copy, Debug, PartialEq, Eq)]
 pub enum Phase {
-    /// None of the others.
+    /// None of the other phases.
     Active,
     Suspended,
-    /// The file is whole, and the file store has not yet answered.
+    /// The file is complete, and the file store has not answered yet.
     Storing,
-    /// The end is agreed on with the other entity.
+    /// The end is being agreed on with the other entity.
     Closing,
 }
 
@@ -63,21 +63,21 @@ pub enum Indication {
 }
 
 impl Indication {
-    /// A copy, with memory of its own.
+    /// A copy of the indication.
     pub fn copy(&self) -> Result<Indication, AllocError>
         ensures { IfOk result (λ copy. copy ≡ self.now) }
     {
         self.clone()
     }
 
-    /// Whether it tells the end of the transaction.
+    /// Whether it indicates the end of the transaction.
     pub fn is_end(&self) -> bool
         ensures { result ≡ is_end self.now }
     {
         matches!(self.kind(), IndicationKind::End(_))
     }
 
-    /// What it says of its transaction.
+    /// The indication's kind: what it changes in the user's view of the transaction.
     pub fn kind(&self) -> IndicationKind
         ensures { result ≡ kind_of self.now }
     {
@@ -99,7 +99,7 @@ impl Indication {
     }
 }
 
-/// The indications of one step or of one transaction, in order. Contracts see their list.
+/// The indications of one step or of one transaction, in order. Contracts see the list of them.
 #[derive(Debug, Drop)]
 pub struct Indications {
     items: Vec<Indication>,
@@ -115,7 +115,7 @@ impl Model for Indications {
 }
 
 impl Indications {
-    /// No indication.
+    /// An empty list.
     pub fn new(alloc: Global) -> Indications
         ensures { result ≡ [] }
     {
@@ -138,14 +138,14 @@ impl Indications {
         self.items
     }
 
-    /// Whether one of them tells the end of the transaction.
+    /// Whether one of them indicates the end of the transaction.
     pub fn has_end(&self) -> bool
         ensures { result ≡ list_any is_end self.now }
     {
         self.items.iter().any(|indication| indication.is_end())
     }
 
-    /// A copy, with memory of its own.
+    /// A copy of the list.
     pub fn copy(&self) -> Result<Indications, AllocError>
         ensures { IfOk result (λ copy. copy ≡ self.now) }
     {

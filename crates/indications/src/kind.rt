@@ -1,22 +1,23 @@
 use cfdp_types::Delivery;
 
-/// What an indication says of its transaction, as far as the next indications depend on it.
+/// The kind of an indication: what it changes in the user's view of the transaction, as far as later indications
+/// depend on it.
 #[derive(Clone, Copy, Debug, PartialEq, Eq)]
 pub enum IndicationKind {
-    /// A sender has begun.
+    /// The sender has started the transaction.
     Opening,
     /// A sender has sent its EOF.
     EofSent,
-    /// The EOF came.
+    /// The receiver has received the EOF.
     EofRecv,
-    /// The Metadata came.
+    /// The receiver has received the Metadata.
     Metadata,
-    /// Octets of the file came.
+    /// The receiver has received new octets of the file.
     Segment { offset: u32, length: u32 },
     Suspension,
     Resumption,
-    /// The end, and what it claims of the file.
+    /// The transaction has ended; the delivery code says whether the file is claimed to be complete.
     End(Delivery),
-    /// What changes nothing.
+    /// Nothing changes.
     Notice,
 }

@@ -1,4 +1,4 @@
-//! Indications: what a local user learns of a transaction, and in which order it may learn it.
+//! Indications: what the server reports to a local user about a transaction, and in which order.
 #![tactic(auto)]
 
 mod bundle;

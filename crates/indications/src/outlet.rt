@@ -4,25 +4,25 @@ ghost use Rattle.indications.specs.declared.bundle.Bundle.{Bundle as BundleValue
 
 use crate::bundle::Bundle;
 
-/// The end of a user's queue that one lane puts its bundles into.
+/// An outlet: the end of a user's queue into which one lane puts its bundles.
 pub trait Outlet {
-    /// The number of the user.
+    /// The user's number.
     ghost user: { Self → ℕ };
 
-    /// The number of the user's lane.
+    /// The lane's number among the user's lanes.
     ghost lane: { Self → ℕ };
 
-    /// The outlet may be where the lane has sent these bundles, and no others.
+    /// What the lane has sent may be exactly these bundles, as far as the outlet shows.
     ghost stands: { Self → List BundleValue → Type 0 };
 
-    /// What an offer that is taken does.
+    /// The effect of an offer that is accepted.
     ghost takes: { Self → BundleValue → Self → Type 0 };
 
-    /// What an offer that is not taken does.
+    /// The effect of an offer that is refused.
     ghost returns: { Self → Self → Type 0 };
 
-    /// Puts a bundle of this lane into the queue, behind what the lane sent before, or gives it back
-    /// where the queue is full.
+    /// Appends a bundle of this lane to the queue, after what the lane sent before; gives it back where the queue
+    /// is full.
     fn offer(&mut self, bundle: Bundle) -> Result<(), Bundle>
         requires of_user { bundle.user ≡ user self.old }
         requires of_lane { bundle.lane ≡ lane self.old }
@@ -32,12 +32,12 @@ pub trait Outlet {
         ensures same { IfErr result (λ back. back ≡ bundle) }
         ensures returned { OnErr result (returns self.old self.new) };
 
-    /// An offer that is taken makes what the lane has sent one bundle longer.
+    /// An accepted offer adds the bundle to what the lane has sent.
     ghost takes_adds: { (old new : Self) (bundle : BundleValue) → takes old bundle new
         → (user new ≡ user old) × (lane new ≡ lane old)
         × ((bundles : List BundleValue) → stands old bundles → stands new (bundles ++ bundle ∷ [])) };
 
-    /// One that is not taken leaves it.
+    /// A refused offer leaves what the lane has sent as it was.
     ghost returns_keeps: { (old new : Self) → returns old new
         → (user new ≡ user old) × (lane new ≡ lane old)
         × ((bundles : List BundleValue) → stands old bundles → stands new bundles) };

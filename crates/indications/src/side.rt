@@ -1,4 +1,4 @@
-/// The end of a transaction whose indications are read.
+/// The end of a transaction that issues the indications.
 #[derive(Clone, Copy, Debug, PartialEq, Eq)]
 pub enum Side {
     Sender,

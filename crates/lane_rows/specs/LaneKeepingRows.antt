@@ -1,4 +1,4 @@
--- Rows. What lanes take over a run and what they send, and the numbers of sending lanes, computed.
+-- Rows. What lanes accept and send in a run, and the numbers of sending lanes.
 use Rattle.std.proofs.Common.{◌≡◌, ◌≤◌, ℕ, List, [], ◌∷◌, Option, Some, ap, arith, refl}
 use Rattle.cfdp_types.specs.Reference.{reference}
 use Rattle.cfdp_types.specs.declared.key.EntityId.{EntityId}
@@ -32,11 +32,11 @@ use Rattle.lane_rows.specs.SendingLaneRows as sending
 
 -- ---- the key of an event
 
--- the key of a PDU is the PDU's own
+-- an event with a PDU has the PDU's key
 pub keyed_pdu : IsKeyed (receiving.metadata Two 5)
 keyed_pdu = (refl, refl)
 
--- a PDU of number 5 under the key of another number, and under that of another source
+-- a PDU of number 5, with the key of another number and with that of another source
 abbrev pub prompt_of_five : What
 prompt_of_five = what.Pdu (record { header = header Two; body = body.Prompt prompt.Nak })
 
@@ -55,7 +55,7 @@ other_source keyed = no_one keyed.0
     no_one : (receiving.key 5).source ≡ (sending.key 5).source → ⊥
     no_one e = one_two 1 2 (ap (λ (id : EntityId). id.0) e) refl refl
 
--- nothing else can have another
+-- other events may have any key
 pub keyed_report : IsKeyed (On (receiving.key 6) what.Report)
 keyed_report = tt
 
@@ -64,7 +64,7 @@ keyed_put = tt
 
 -- ---- numbers
 
--- three lanes of each of five users, which count from one
+-- five users with three lanes each, which count from one
 abbrev pub numbers : Numbers
 numbers = record { first = 1; lanes = 3; users = 5 }
 
@@ -74,11 +74,11 @@ first_number = refl
 pub second_number : number_after numbers 4 2 (Some 29) ≡ 44
 second_number = refl
 
--- they give back user and lane
+-- the numbers give back user and lane
 pub gives_back : IsNumberOf numbers 4 2 44
 gives_back = record { of_user = refl; of_lane = refl }
 
--- no number, where there is no lane or no user
+-- without lanes, or without users, there are no numbers
 pub numbered : IsNumbered (Sending (record { first = 1; lanes = 3; users = 5 }) 255)
 numbered = (omega (arith), omega (arith))
 
@@ -93,18 +93,18 @@ receiving_numbered = tt
 
 -- ---- runs
 
--- a lane that takes nothing sends nothing
+-- a lane that accepts nothing sends nothing
 pub nothing_taken : AreTaken receiving.fresh []
 nothing_taken = tt
 
 pub nothing_sent : sent_after receiving.fresh [] ≡ []
 nothing_sent = refl
 
--- and keeps that of no bundle
+-- and it knows that it sent no bundle
 pub nothing_kept : Keeps receiving.fresh []
 nothing_kept = idle_keeps (Receiving reference) 0 2 (record { 0 = 1 })
 
--- a Put, which is cancelled, and another one
+-- a Put, which is cancelled, and another Put
 abbrev pub puts : List Event
 puts = sending.put One ∷ sending.on 4 what.Cancel ∷ sending.put One ∷ []
 
@@ -132,11 +132,11 @@ first_events = refl
 pub second_events : events_of 8 sending.fresh puts ≡ sending.put One ∷ []
 second_events = refl
 
--- so what it sends is a lane list
+-- so what the lane sends is a lane list
 pub puts_list : IsLaneList 0 0 (record { 0 = 2 }) (sent_after sending.fresh puts)
 puts_list = sends_lane_lists sending.fresh.side 0 0 (record { 0 = 2 }) puts (omega (arith), omega (arith)) puts_taken
 
--- it has no bundle of a number between the one before and the last
+-- there is no bundle with a number between the one before the last and the last
 abbrev ended_and_begun : List Bundle
 ended_and_begun = bundle 4 (told.Transaction ∷ told.TransactionFinished 15 Incomplete Unreported ∷ []) ∷ bundle 8 (told.Transaction ∷ []) ∷ []
 
@@ -147,7 +147,7 @@ not_above_the_one_before sent =
     not_the_last : (let last : Option ℕ = Some 8 in last) ≡ Some 4 → ⊥
     not_the_last e = let number : 8 ≡ 4 = some_is 8 4 e in omega (arith, number)
 
--- nor one of the other end
+-- nor a bundle of the other end
 no_receiver : side.Receiver ≡ side.Sender → ⊥
 no_receiver e = cc
 

@@ -1,4 +1,4 @@
--- Rows. Worked steps of a lane that receives, computed.
+-- Rows. Worked steps of a receiving lane.
 use Rattle.std.specs.Prelude.{◌≡◌, ℕ, nat_lt, Bool, true, not, ◌&&◌, is_some, List, [], ◌∷◌, ◌++◌, length, map, Option, Some, None, Err, Ok, refl}
 use Rattle.std.specs.Option.{option_to_list}
 use Rattle.cfdp_types.specs.Reference.{reference}
@@ -35,15 +35,15 @@ use Rattle.lane_table.specs.Steps.{refusal_at, stepped, answer_of, image_of}
 
 -- ---- the lane
 
--- lane 2 of user 0, for what comes from entity 1
+-- lane 2 of user 0, for transactions from entity 1
 abbrev pub fresh : State
 fresh = idle (Receiving reference) 0 2 (record { 0 = 1 })
 
--- the key of a number
+-- the key with a number
 abbrev pub key : ℕ → TxnKey
 key number = record { source = record { 0 = 1 }; seq = number }
 
--- a PDU that came
+-- a received PDU
 abbrev pub pdu : Class → ℕ → Body → Event
 pdu class number b = On (key number) (what.Pdu (record { header = record (header class) { sequence = number }; body = b }))
 
@@ -51,15 +51,15 @@ pdu class number b = On (key number) (what.Pdu (record { header = record (header
 abbrev pub metadata : Class → ℕ → Event
 metadata class number = pdu class number (body.Metadata (metadata_value 0 3))
 
--- its octets
+-- the octets of "abc"
 abbrev pub part : Class → ℕ → Event
 part class number = pdu class number (body.FileData (record { offset = 0; octets = abc }))
 
--- its EOF
+-- the EOF of "abc"
 abbrev pub eof : Class → ℕ → Event
 eof class number = pdu class number (body.Eof (eof_value 0 0x6162_6300 3))
 
--- what else happens to a transaction
+-- another event of a transaction
 abbrev pub on : ℕ → What → Event
 on number event = On (key number) event
 
@@ -70,7 +70,7 @@ abbrev pub after : State → List Event → State
 after state [] = state
 after state (event ∷ events) = after (stepped state event) events
 
--- each of these events is taken
+-- whether each of these events is accepted
 abbrev pub are_taken : State → List Event → Bool
 are_taken state [] = true
 are_taken state (event ∷ events) = not (is_some (refusal_at state event)) && are_taken (stepped state event) events
@@ -86,7 +86,7 @@ plain why = Some (record { why = why; echo = None })
 
 -- ---- the first transaction
 
--- its Metadata opens it
+-- its Metadata opens a transaction
 pub metadata_opens : refusal_at fresh (metadata One 5) ≡ None
 unfolding initial step state_of
 metadata_opens = refl
@@ -98,7 +98,7 @@ pub metadata_told : (answer_of (after fresh (metadata One 5 ∷ []))).inds ≡ t
 unfolding initial step state_of runs_of runs_from
 metadata_told = refl
 
--- so do File Data and EOF, and nothing else does
+-- so do File Data and EOF, but nothing else
 pub part_opens : refusal_at fresh (part Two 5) ≡ None
 unfolding initial step state_of
 part_opens = refl
@@ -113,41 +113,41 @@ prompt_opens_not = refl
 pub report_opens_not : refusal_at fresh (on 5 what.Report) ≡ plain refusal.NoTransaction
 report_opens_not = refl
 
--- a Put has no place here
+-- a Put is not possible here
 pub put_opens_not : refusal_at fresh (Put (put_value Two abc) reference) ≡ plain refusal.WrongState
 put_opens_not = refl
 
--- however large its file is
+-- whatever the size of its file
 pub large_put_opens_not : (file : List ℕ) → nat_lt FILE_OCTETS (length file) ≡ true
     → refusal_at fresh (Put (put_value Two file) reference) ≡ plain refusal.WrongState
 large_put_opens_not file large = refl
 
--- Metadata of a file that is too large
+-- Metadata of a file that is too large is refused
 pub too_large_opens_not : refusal_at fresh (pdu One 5 (body.Metadata (metadata_value 0 16777217))) ≡ plain refusal.TooLarge
 unfolding initial step state_of
 too_large_opens_not = refl
 
--- from another source
+-- an event from another source is unknown
 pub other_source : refusal_at fresh (On (record { source = record { 0 = 3 }; seq = 5 }) what.Report) ≡ plain refusal.NoTransaction
 other_source = refl
 
--- ---- while it runs
+-- ---- while a transaction runs
 
 -- the lane that runs number 5
 abbrev pub running : Class → State
 running class = after fresh (metadata class 5 ∷ [])
 
--- what opens a higher number has to wait, and what opens none is unknown
+-- an event that would open a higher number has to wait; any other with a higher number is unknown
 pub higher_is_busy : refusal_at (running One) (metadata One 7) ≡ plain refusal.LaneBusy
 unfolding initial step state_of runs_of runs_from
 higher_is_busy = refl
 
--- so has a Put
+-- a Put has to wait too
 pub put_is_busy : refusal_at (running One) (Put (put_value Two abc) reference) ≡ plain refusal.LaneBusy
 unfolding initial step state_of runs_of runs_from
 put_is_busy = refl
 
--- also where its file is too large
+-- even if the file is too large
 pub higher_is_busy_before_too_large : refusal_at (running One) (pdu One 7 (body.Metadata (metadata_value 0 16777217))) ≡ plain refusal.LaneBusy
 unfolding initial step state_of runs_of runs_from
 higher_is_busy_before_too_large = refl
@@ -156,7 +156,7 @@ pub higher_is_unknown : refusal_at (running One) (on 7 what.Report) ≡ plain re
 unfolding initial step state_of runs_of runs_from
 higher_is_unknown = refl
 
--- a lower number is old, also one that was never opened: a class 2 EOF has its echo, Metadata has none
+-- a lower number is old, even if it was never opened; a class 2 EOF gets its echo, Metadata does not
 pub lower_is_old : refusal_at (running One) (metadata Two 3) ≡ plain refusal.OldTransaction
 unfolding initial step state_of runs_of runs_from
 lower_is_old = refl
@@ -180,17 +180,17 @@ foreign_eof class number = On (record { source = record { 0 = 3 }; seq = number 
   body = body.Eof (eof_value 0 0x6162_6300 3);
 }))
 
--- it is unknown, also with the number that runs, and has no echo
+-- it is unknown and gets no echo, even with the number that runs
 pub foreign_running_eof : refusal_at (running Two) (foreign_eof Two 5) ≡ plain refusal.NoTransaction
 unfolding initial step state_of runs_of runs_from
 foreign_running_eof = refl
 
--- and so it is with a lower number
+-- the same with a lower number
 pub foreign_lower_eof : refusal_at (running Two) (foreign_eof Two 3) ≡ plain refusal.NoTransaction
 unfolding initial step state_of runs_of runs_from
 foreign_lower_eof = refl
 
--- what the end itself refuses
+-- refusals of the transaction's end
 pub other_mode : refusal_at (running One) (part Two 5) ≡ plain refusal.ModeMismatch
 unfolding initial step state_of runs_of runs_from
 other_mode = refl
@@ -199,7 +199,7 @@ pub nothing_stored : refusal_at (running One) (on 5 (what.Stored 0 true)) ≡ pl
 unfolding initial step state_of runs_of runs_from
 nothing_stored = refl
 
--- ---- one transaction after the other
+-- ---- transactions in sequence
 
 -- number 5 is cancelled
 abbrev pub cancelled : List Event
@@ -214,17 +214,17 @@ pub cancelled_runs_not : not (is_running (after fresh cancelled)) ≡ true
 unfolding initial step state_of runs_of runs_from
 cancelled_runs_not = refl
 
--- then number 7 opens, number 5 is old, and so is 6, which never came
+-- then number 7 opens; number 5 is old, and so is 6, which was never opened
 pub next_opens : are_taken fresh (cancelled ++ metadata One 7 ∷ part One 7 ∷ []) ≡ true
 unfolding initial step state_of runs_of runs_from
 next_opens = refl
 
--- after class 1 there may be class 2
+-- class 2 may follow class 1
 pub other_class_opens : are_taken fresh (cancelled ++ metadata Two 7 ∷ part Two 7 ∷ []) ≡ true
 unfolding initial step state_of runs_of runs_from
 other_class_opens = refl
 
--- and the new class is the one that counts then
+-- then the new class counts
 pub first_class_then_mismatches : refusal_at (after fresh (cancelled ++ metadata Two 7 ∷ [])) (part One 7) ≡ plain refusal.ModeMismatch
 unfolding initial step state_of runs_of runs_from
 first_class_then_mismatches = refl
@@ -249,14 +249,14 @@ pub never_opened_is_old : refusal_at (after fresh (cancelled ++ metadata One 7 �
 unfolding initial step state_of runs_of runs_from
 never_opened_is_old = refl
 
--- what has ended is not opened again
+-- an ended transaction is not opened again
 pub ended_is_old : refusal_at (after fresh cancelled) (metadata One 5) ≡ plain refusal.OldTransaction
 unfolding initial step state_of runs_of runs_from
 ended_is_old = refl
 
 -- ---- a whole transaction of class 2
 
--- the file comes and is kept, and the Finished PDU is acknowledged
+-- the file is received and kept, and the Finished PDU is acknowledged
 abbrev pub whole : List Event
 whole = metadata Two 5 ∷ part Two 5 ∷ eof Two 5 ∷ on 5 (what.Stored 2 true) ∷ on 5 (finished_acknowledged 0) ∷ []
 
@@ -269,12 +269,12 @@ pub whole_told : issued_by (after fresh whole)
 unfolding initial step state_of runs_of runs_from
 whole_told = refl
 
--- then its EOF is echoed, and its Metadata is not
+-- afterwards its EOF gets an echo, and its Metadata does not
 pub eof_again_is_echoed : echoed (refusal_at (after fresh whole) (eof Two 5)) ≡ digits 10 0x28000300010502064002 ∷ []
 unfolding initial step state_of runs_of runs_from written spelling digits width_from
 eof_again_is_echoed = refl
 
--- the PDU alone says what is echoed, and how: a Finished PDU has its echo here too
+-- the echo depends on the PDU alone: a Finished PDU gets its echo here too
 abbrev pub finished : Event
 finished = on 5 (what.Pdu (record {
   header = record (header Two) { direction = TowardSender };
@@ -291,7 +291,7 @@ metadata_again_is_not = refl
 
 -- ---- what a step gives
 
--- Metadata arms Inactivity, at its place in the journal
+-- Metadata arms Inactivity, stamped with its number in the journal
 pub metadata_timers : (answer_of (running Two)).timers ≡ op.Arm (key 5) Inactivity 0 1000 ∷ []
 unfolding initial step state_of runs_of runs_from
 metadata_timers = refl
@@ -301,13 +301,13 @@ pub eof_pdus : map written (answer_of (after (running Two) (part Two 5 ∷ eof T
 unfolding initial step state_of runs_of runs_from written spelling digits width_from
 eof_pdus = refl
 
--- ---- the file that waits for the file store
+-- ---- the file of a waiting deposit
 
--- the lane that asks the file store
+-- a lane that is waiting for the file store
 abbrev pub storing : State
 storing = after fresh (metadata One 5 ∷ part One 5 ∷ eof One 5 ∷ [])
 
--- its deposit has the key of the transaction and the place of the EOF
+-- its deposit has the transaction's key and the EOF's number in the journal
 pub deposit_given : (answer_of storing).deposit ≡ Some (record { key = key 5; stamp = 2 })
 unfolding initial step state_of runs_of runs_from
 deposit_given = refl
@@ -327,7 +327,7 @@ pub other_key : image_of storing (key 6) 2 ≡ Err refusal.StaleStored
 unfolding initial step state_of runs_of runs_from
 other_key = refl
 
--- the right number and stamp, but another source
+-- with the right number and stamp but another source there is no file
 pub other_source_of_image : image_of storing (record { source = record { 0 = 3 }; seq = 5 }) 2 ≡ Err refusal.StaleStored
 unfolding initial step state_of runs_of runs_from
 other_source_of_image = refl

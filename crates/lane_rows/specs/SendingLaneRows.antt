@@ -1,4 +1,4 @@
--- Rows. Worked steps of a lane that sends, computed.
+-- Rows. Worked steps of a sending lane.
 use Rattle.std.specs.Prelude.{◌≡◌, ℕ, nat_lt, true, false, List, [], ◌∷◌, length, map, Some, None, Err, refl}
 use Rattle.cfdp_types.specs.Reference.{reference}
 use Rattle.cfdp_types.specs.declared.key.TxnKey.{TxnKey}
@@ -32,7 +32,7 @@ use Rattle.lane_rows.specs.ReceivingLaneRows.{after, are_taken, echoed, plain}
 
 -- ---- the lane
 
--- a lane of entity 2, where each of two users has two lanes, and numbers have one octet
+-- a lane of entity 2, where two users have two lanes each, and sequence numbers have one octet
 abbrev pub sending_lane : ℕ → ℕ → ℕ → State
 sending_lane first user lane = idle (Sending (record { first = first; lanes = 2; users = 2 }) 255) user lane (record { 0 = 2 })
 
@@ -40,19 +40,19 @@ sending_lane first user lane = idle (Sending (record { first = first; lanes = 2;
 abbrev pub fresh : State
 fresh = sending_lane 1 0 0
 
--- the key of a number
+-- the key with a number
 abbrev pub key : ℕ → TxnKey
 key number = record { source = record { 0 = 2 }; seq = number }
 
--- a file is put
+-- a Put of a file
 abbrev pub puts : Class → List ℕ → Event
 puts class file = Put (put_value class file) reference
 
--- "abc" is put
+-- a Put of "abc"
 abbrev pub put : Class → Event
 put class = puts class abc
 
--- what else happens to a transaction
+-- another event of a transaction
 abbrev pub on : ℕ → What → Event
 on number event = On (key number) event
 
@@ -67,7 +67,7 @@ number_of_bob = refl
 pub number_of_second_lane : next_number (sending_lane 1 0 1) ≡ 6
 number_of_second_lane = refl
 
--- the next ones of the lane
+-- the lane's next numbers
 pub next_numbers : next_number (after fresh (put One ∷ on 4 what.Cancel ∷ [])) ≡ 8
 unfolding initial step state_of runs_of runs_from
 next_numbers = refl
@@ -76,7 +76,7 @@ pub next_numbers_again : next_number (after fresh (put One ∷ on 4 what.Cancel 
 unfolding initial step state_of runs_of runs_from
 next_numbers_again = refl
 
--- ---- a Put opens
+-- ---- opening by a Put
 
 pub put_taken : refusal_at fresh (put One) ≡ None
 unfolding initial step state_of runs_of runs_from
@@ -94,7 +94,7 @@ pub put_is_busy : refusal_at (after fresh (put One ∷ [])) (puts One []) ≡ pl
 unfolding initial step state_of runs_of runs_from
 put_is_busy = refl
 
--- nothing else opens
+-- nothing else opens a transaction
 pub nothing_else_opens : refusal_at fresh (on 4 what.Pump) ≡ plain refusal.NoTransaction
 nothing_else_opens = refl
 
@@ -102,14 +102,14 @@ pub number_above_is_unknown : refusal_at (after fresh (put One ∷ [])) (on 8 wh
 unfolding initial step state_of runs_of runs_from
 number_above_is_unknown = refl
 
--- a PDU that goes toward the receiver, of a file of this entity's own
+-- a PDU toward the receiver, of one of this entity's own transactions
 abbrev pub sent_back : ℕ → Body → Event
 sent_back number b = on number (what.Pdu (record {
   header = record (header Two) { source = record { 0 = 2 }; sequence = number; destination = record { 0 = 1 } };
   body = b;
 }))
 
--- Metadata of such a file opens nothing here, also with a higher number while a transaction runs
+-- such Metadata opens nothing here, even with a higher number while a transaction runs
 pub metadata_opens_not : refusal_at fresh (sent_back 4 (body.Metadata (metadata_value 0 3))) ≡ plain refusal.NoTransaction
 metadata_opens_not = refl
 
@@ -117,7 +117,7 @@ pub metadata_above_is_unknown : refusal_at (after fresh (put One ∷ [])) (sent_
 unfolding initial step state_of runs_of runs_from
 metadata_above_is_unknown = refl
 
--- another source's transaction is unknown, also under the number that runs
+-- a transaction of another source is unknown, even with the number that runs
 pub other_source : refusal_at (after fresh (put One ∷ [])) (On (record { source = record { 0 = 1 }; seq = 4 }) what.Pump) ≡ plain refusal.NoTransaction
 unfolding initial step state_of runs_of runs_from
 other_source = refl
@@ -151,22 +151,22 @@ pub whole_told : issued_by (after fresh whole) ≡ told.Transaction ∷ told.Eof
 unfolding initial step state_of runs_of runs_from
 whole_told = refl
 
--- then the Finished PDU is echoed
+-- afterwards the Finished PDU gets an echo
 pub finished_again_is_echoed : echoed (refusal_at (after fresh whole) (on 4 (what.Pdu (finished 4)))) ≡ digits 10 0x20000300020401065102 ∷ []
 unfolding initial step state_of runs_of runs_from written spelling digits width_from
 finished_again_is_echoed = refl
 
--- the PDU alone says what is echoed, and how: an EOF has its echo here too
+-- the echo depends on the PDU alone: an EOF gets its echo here too
 pub eof_is_echoed : echoed (refusal_at (after fresh whole) (sent_back 4 (body.Eof (eof_value 0 0x6162_6300 3)))) ≡ digits 10 0x28000300020401064002 ∷ []
 unfolding initial step state_of runs_of runs_from written spelling digits width_from
 eof_is_echoed = refl
 
--- one with a number above the last is unknown, and has no echo
+-- a PDU with a number above the last is unknown and gets no echo
 pub finished_above_is_unknown : refusal_at (after fresh whole) (on 8 (what.Pdu (finished 8))) ≡ plain refusal.NoTransaction
 unfolding initial step state_of runs_of runs_from
 finished_above_is_unknown = refl
 
--- so it is while the transaction runs
+-- the same while a transaction runs
 pub finished_above_is_unknown_before : refusal_at (after fresh (put Two ∷ [])) (on 8 (what.Pdu (finished 8))) ≡ plain refusal.NoTransaction
 unfolding initial step state_of runs_of runs_from
 finished_above_is_unknown_before = refl
@@ -175,7 +175,7 @@ pub pump_is_old : refusal_at (after fresh whole) (on 4 what.Pump) ≡ plain refu
 unfolding initial step state_of runs_of runs_from
 pump_is_old = refl
 
--- a sender has no file for the file store
+-- a sender has no file for a file store
 pub no_image : image_of (after fresh (put One ∷ [])) (key 4) 0 ≡ Err refusal.StaleStored
 unfolding initial step state_of runs_of runs_from
 no_image = refl
@@ -187,12 +187,12 @@ pub metadata_sent : map written (answer_of (after fresh (put One ∷ on 4 what.P
 unfolding initial step state_of runs_of runs_from written spelling digits width_from
 metadata_sent = refl
 
--- the third one sends the EOF, which class 2 arms Ack for, at its place in the journal
+-- the third one sends the EOF, which in class 2 arms Ack, stamped with its number in the journal
 pub eof_timers : (answer_of (after fresh (put Two ∷ on 4 what.Pump ∷ on 4 what.Pump ∷ on 4 what.Pump ∷ []))).timers ≡ op.Arm (key 4) Ack 3 1000 ∷ []
 unfolding initial step state_of runs_of runs_from
 eof_timers = refl
 
--- ---- the end of the numbers
+-- ---- running out of numbers
 
 -- a lane that counts from 63 has one number left
 abbrev pub last_number : State
@@ -209,12 +209,12 @@ pub then_exhausted : refusal_at (after last_number (puts One [] ∷ on 252 what.
 unfolding initial step state_of runs_of runs_from
 then_exhausted = refl
 
--- while the last one runs the lane is busy
+-- while the transaction with the last number runs, the lane is busy
 pub busy_before_exhausted : refusal_at (after last_number (puts One [] ∷ [])) (puts One []) ≡ plain refusal.LaneBusy
 unfolding initial step state_of runs_of runs_from
 busy_before_exhausted = refl
 
--- both come before a look at the file, however large it is
+-- both come before TooLarge, whatever the size of the file
 pub exhausted_before_large : (file : List ℕ) → nat_lt FILE_OCTETS (length file) ≡ true
     → refusal_at (after last_number (puts One [] ∷ on 252 what.Cancel ∷ [])) (puts One file) ≡ plain refusal.SeqExhausted
 unfolding initial step state_of runs_of runs_from
@@ -225,29 +225,29 @@ pub busy_before_large : (file : List ℕ) → nat_lt FILE_OCTETS (length file) �
 unfolding initial step state_of runs_of runs_from
 busy_before_large file large = refl
 
--- where there is a number, a file that is too large is refused for that
+-- where there is a number, a file that is too large is refused as TooLarge
 pub large_is_refused : (file : List ℕ) → nat_lt FILE_OCTETS (length file) ≡ true → refusal_at last_number (puts One file) ≡ plain refusal.TooLarge
 unfolding initial step state_of runs_of runs_from
 large_is_refused file large = rw large refl
 
--- lane 1 of user 1, which has the greatest number left
+-- lane 1 of user 1, which has only the greatest number left
 abbrev pub greatest_number : State
 greatest_number = sending_lane 63 1 1
 
--- it is the greatest of one octet
+-- that number is the greatest of one octet
 pub greatest_is_next : next_number greatest_number ≡ 255
 greatest_is_next = refl
 
--- a Put is taken
+-- a Put is accepted
 pub greatest_is_taken : refusal_at greatest_number (puts One []) ≡ None
 unfolding initial step state_of runs_of runs_from
 greatest_is_taken = refl
 
--- under that number
+-- it gets that number
 pub greatest_key : key_of (after greatest_number (puts One [] ∷ [])) ≡ Some (key 255)
 greatest_key = refl
 
--- the next Put finds none
+-- the next Put gets no number
 pub exhausted_after_greatest : refusal_at (after greatest_number (puts One [] ∷ on 255 what.Cancel ∷ [])) (puts One []) ≡ plain refusal.SeqExhausted
 unfolding initial step state_of runs_of runs_from
 exhausted_after_greatest = refl

@@ -1,3 +1,3 @@
-//! Worked steps of lanes, computed by the checker from the definitions of `txn_lane`. There is no code
-//! here: each row is a lemma in `specs/`.
+//! Worked steps of lanes, which the checker computes from the definitions of `lane_table`. There is no code here:
+//! each row is a lemma in `specs/`.
 #![tactic(auto)]

@@ -1,4 +1,4 @@
--- Meaning. What a look at a lane shows of the transaction that it runs or ran last.
+-- Meaning. What a glance at a lane shows of the transaction that it runs or ran last.
 use Rattle.std.specs.Prelude.{◌≡◌, [], ◌∷◌, Option, Some, Ok, length}
 use Rattle.std.specs.Option.{option_map}
 use Rattle.cfdp_types.specs.Put.{PutValue}
@@ -18,15 +18,15 @@ use Rattle.lane_table.specs.declared.glance.GlancedFile.{GlancedFile}
 use Rattle.lane_table.specs.Logs.{Log, sent, received, answered_behind}
 use Rattle.lane_table.specs.Lane.{State, log_of}
 
--- the file of a Put
+-- the file in a Put
 abbrev pub file_of_put : PutValue → GlancedFile
 file_of_put put = record { size = length put.file; source_name = put.source_name; destination_name = put.destination_name }
 
--- the file that Metadata describes
+-- the file in a Metadata
 abbrev pub file_of_metadata : Metadata → GlancedFile
 file_of_metadata m = record { size = m.size; source_name = m.source_name; destination_name = m.destination_name }
 
--- a look at a sender
+-- the glance at a sender
 abbrev pub glance_at_sender : sender.Sending → sender.State → Glance
 glance_at_sender sending state = record {
   key = sending.key;
@@ -40,7 +40,7 @@ glance_at_sender sending state = record {
   file = Some (file_of_put sending.request);
 }
 
--- a look at a receiver
+-- the glance at a receiver
 abbrev pub glance_at_receiver : receiver.Reception → receiver.State → Glance
 glance_at_receiver reception state = record {
   key = reception.key;
@@ -54,16 +54,16 @@ glance_at_receiver reception state = record {
   file = option_map file_of_metadata state.metadata;
 }
 
--- a look at a transaction, by its log
+-- the glance at a transaction, from its log
 abbrev pub glance_in : Log → Glance
 glance_in (sent sending log) = glance_at_sender sending (sender.state_of sending log)
 glance_in (received reception log) = glance_at_receiver reception (receiver.state_of log)
 
--- a look at a lane, nothing where no transaction was opened
+-- the glance at a lane, None where no transaction was opened
 abbrev pub glance_of : State → Option Glance
 glance_of state = option_map glance_in (log_of state)
 
--- a Report that is taken would say what the look shows
+-- a Report that is accepted says what the glance shows
 abbrev pub SaysAsReport : Type 0
 SaysAsReport = (log : Log) (key : TxnKey) (answer : Answer) → answered_behind log (On key what.Report) ≡ Ok answer
     → answer.inds ≡ told.Report (glance_in log).phase (glance_in log).progress ∷ []

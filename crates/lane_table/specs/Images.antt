@@ -1,4 +1,4 @@
--- Meaning. Of which reception an image is that a lane gives.
+-- Meaning. To which reception the image belongs that a lane gives.
 use Rattle.std.specs.Prelude.{◌≡◌, ℕ, List, Some, Ok}
 use Rattle.cfdp_types.specs.declared.image.Image.{Image}
 use Rattle.cfdp_types.specs.declared.key.TxnKey.{TxnKey}
@@ -9,7 +9,8 @@ use Rattle.lane_table.specs.Logs.{received}
 use Rattle.lane_table.specs.Lane.{State, IsSound, log_of}
 use Rattle.lane_table.specs.Steps.{image_of}
 
--- an image is the good file of the log that a lane stands at, which is legal, of a reception under a key, and waits for the deposit of the stamp
+-- the lane's log is a legal one of a reception with the key, the deposit with the stamp waits, and the image is its
+-- good file
 pub record IsOwnFile (state : State) (key : TxnKey) (stamp : ℕ) (image : Image) : Type 0 where
   pub reception : Reception
   pub log : List Entry
@@ -20,6 +21,6 @@ pub record IsOwnFile (state : State) (key : TxnKey) (stamp : ℕ) (image : Image
   pub given : IsGiven (state_of log) stamp
   pub image_is : given.image ≡ image
 
--- what a sound lane gives by key and stamp is so
+-- the image that a sound lane gives for a key and a stamp is such a file
 abbrev pub GivesOwnFiles : Type 0
 GivesOwnFiles = (state : State) (key : TxnKey) (stamp : ℕ) (image : Image) → IsSound state → image_of state key stamp ≡ Ok image → IsOwnFile state key stamp image

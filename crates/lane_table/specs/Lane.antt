@@ -1,4 +1,4 @@
--- Meaning. What a lane stands at: the transaction that it runs or ran last, and the one before.
+-- Meaning. The state of a lane: the transaction that it runs or ran last, and the number of the one before.
 use Rattle.std.specs.Prelude.{◌≡◌, ℕ, ◌+◌, ◌*◌, ◌/◌, ◌%◌, ◌<◌, Bool, true, false, not, nat_lt, List, [], ◌∷◌, length, Option, Some, None}
 use Rattle.std.specs.Option.{option_map}
 use Rattle.cfdp_types.specs.declared.key.EntityId.{EntityId}
@@ -11,25 +11,25 @@ use Rattle.lane_table.specs.declared.lane_side.Numbers.{Numbers}
 use Rattle.lane_table.specs.Logs.{Log, log_by, opened_by, issued, has_ended, entries_of, IsLegal}
 
 pub record State : Type 0 where
-  -- what it runs: sending transactions, or those that come from one source
+  -- what it runs: sending transactions, or receptions from one source
   pub side : LaneSide
   pub user : ℕ
   pub lane : ℕ
   -- the entity that sends the files of its transactions
   pub source : EntityId
-  -- the number of the transaction that it opened last, and of the one before that
+  -- the number of the transaction that it opened last, and of the one opened before that
   pub last : Option ℕ
   pub before : Option ℕ
-  -- the events of the last transaction that were taken, oldest first
+  -- the accepted events of the last transaction, oldest first
   pub journal : List Event
 
--- nothing was opened
+-- a lane that has opened no transaction
 abbrev pub idle : LaneSide → ℕ → ℕ → EntityId → State
 idle side user lane source = record { side = side; user = user; lane = lane; source = source; last = None; before = None; journal = [] }
 
 -- ---- numbers
 
--- the key of a number here
+-- the key with this number, at this source
 abbrev pub key_at : EntityId → ℕ → TxnKey
 key_at source number = record { source = source; seq = number }
 
@@ -37,7 +37,7 @@ key_at source number = record { source = source; seq = number }
 abbrev pub key_of : State → Option TxnKey
 key_of state = option_map (key_at state.source) state.last
 
--- a number is above the last, or there is none
+-- a number is above the last, or there is no last
 abbrev pub is_above : ℕ → Option ℕ → Bool
 is_above number None = true
 is_above number (Some last) = nat_lt last number
@@ -46,17 +46,17 @@ is_above number (Some last) = nat_lt last number
 abbrev pub number_at : Numbers → ℕ → ℕ → ℕ → ℕ
 number_at numbers user lane n = (n * numbers.lanes + lane) * numbers.users + user
 
--- after a number, that of the next n
+-- the number after a lane's last one
 abbrev pub number_after : Numbers → ℕ → ℕ → Option ℕ → ℕ
 number_after numbers user lane None = number_at numbers user lane numbers.first
 number_after numbers user lane (Some last) = last + numbers.lanes * numbers.users
 
--- a number gives back whose lane it is of, and which
+-- the number gives back its user and its lane
 pub record IsNumberOf (numbers : Numbers) (user lane number : ℕ) : Type 0 where
   pub of_user : number % numbers.users ≡ user
   pub of_lane : number / numbers.users % numbers.lanes ≡ lane
 
--- the numbers are of some lane and user, so that they rise
+-- a sending lane has users and lanes to count, so that its numbers rise
 abbrev pub IsNumbered : LaneSide → Type 0
 IsNumbered (Sending numbers greatest) = (0 < numbers.lanes) × (0 < numbers.users)
 IsNumbered (Receiving params) = Unit {0}
@@ -72,7 +72,7 @@ log_from side source last journal = None
 abbrev pub log_of : State → Option Log
 log_of state = log_from state.side state.source state.last state.journal
 
--- it has not ended
+-- whether there is a transaction that has not ended
 abbrev pub goes_on : Option Log → Bool
 goes_on None = false
 goes_on (Some log) = not (has_ended log)
@@ -80,7 +80,7 @@ goes_on (Some log) = not (has_ended log)
 abbrev pub is_running : State → Bool
 is_running state = goes_on (log_of state)
 
--- all indications of it, in order
+-- all its indications, in order
 abbrev pub issued_in : Option Log → List Indication
 issued_in None = []
 issued_in (Some log) = issued log
@@ -88,14 +88,14 @@ issued_in (Some log) = issued log
 abbrev pub issued_by : State → List Indication
 issued_by state = issued_in (log_of state)
 
--- the number of its entries, none where there is no transaction
+-- the number of its entries, 0 where there is no transaction
 abbrev pub entries_in : Option Log → ℕ
 entries_in None = 0
 entries_in (Some log) = entries_of log
 
--- ---- what holds of every lane
+-- ---- what is true of every lane
 
--- there is a transaction exactly where a number was opened, and its log is legal
+-- there is a transaction exactly where a number was assigned, and its log is legal
 abbrev pub IsRun : Option ℕ → Option Log → Type 0
 IsRun None None = Unit {0}
 IsRun (Some number) (Some log) = IsLegal log

@@ -1,4 +1,4 @@
--- Meaning. A transaction at either of its ends, with its log, and what a lane asks of both in the same words.
+-- Meaning. A transaction at either end, with its log, and what a lane needs of both ends in the same form.
 use Rattle.std.specs.Prelude.{◌≡◌, ℕ, Bool, if◌then◌else◌, List, [], ◌∷◌, length, map, Option, Some, None, Result, Err}
 pub use Rattle.txn_events.specs.declared.answer.Answer.{Answer}
 pub use Rattle.txn_events.specs.Events.{body_opens}
@@ -26,7 +26,7 @@ use Rattle.txn_events.specs.declared.event.Event.TheVariants.{Put, On}
 use Rattle.lane_table.specs.declared.lane_side.LaneSide.{LaneSide}
 use Rattle.lane_table.specs.declared.lane_side.LaneSide.TheVariants.{Sending, Receiving}
 
--- what is settled when a transaction opens, at the end that sends or at the one that receives
+-- what is fixed when a transaction opens, at the sending or at the receiving end
 pub data Transaction : Type 0 where
   sends : sender.Sending → Transaction
   receives : receiver.Reception → Transaction
@@ -38,44 +38,44 @@ pub data Log : Type 0 where
 
 -- ---- what opens a transaction
 
--- the transaction that an event opens at a side, under a key
+-- the transaction that an event opens at a side, with a key
 abbrev pub opened_by : LaneSide → TxnKey → Event → Option Transaction
 opened_by (Sending numbers greatest) key (Put request params) = Some (sends (record { key = key; params = params; request = request }))
 opened_by (Receiving params) key (On named (what.Pdu pdu)) =
     if body_opens pdu.body then Some (receives (record { key = key; params = params; header = pdu.header })) else None
 opened_by side key event = None
 
--- a PDU is of a key
+-- an event with a PDU has the PDU's key
 abbrev pub IsOfKey : Event → TxnKey → Type 0
 IsOfKey (On named (what.Pdu pdu)) key = (pdu.header.source ≡ key.source) × (pdu.header.sequence ≡ key.seq)
 IsOfKey event key = Unit {0}
 
 -- ---- events as the ends see them
 
--- as a sender sees one
+-- an event as a sender has it
 abbrev pub to_sender : Event → sender.Event
 to_sender (Put request params) = sender.put
 to_sender (On key event) = sender.happens event
 
--- as a receiver sees them: there is no Put
+-- events as a receiver has them: without a Put
 abbrev pub to_receiver : List Event → List What
 to_receiver [] = []
 to_receiver (Put request params ∷ later) = to_receiver later
 to_receiver (On key event ∷ later) = event ∷ to_receiver later
 
--- the one log that a transaction has with these events, the oldest first
+-- the log of a transaction after these events, oldest first
 abbrev pub log_by : Transaction → List Event → Log
 log_by (sends sending) events = sent sending (sender_logs.log_of sending (map to_sender events))
 log_by (receives reception) events = received reception (receiver_logs.log_of reception (to_receiver events))
 
--- ---- what a log says
+-- ---- what a log gives
 
--- the end that a lane's transactions have here
+-- the end of its transactions that a lane runs
 abbrev pub end_of : LaneSide → Side
 end_of (Sending numbers greatest) = Sender
 end_of (Receiving params) = Receiver
 
--- the end that it is of
+-- the end that the log belongs to
 abbrev pub side_of : Log → Side
 side_of (sent sending log) = Sender
 side_of (received reception log) = Receiver
@@ -85,7 +85,7 @@ abbrev pub issued : Log → List Indication
 issued (sent sending log) = sender.issued log
 issued (received reception log) = receiver.issued log
 
--- an end was indicated
+-- whether an end was issued
 abbrev pub has_ended : Log → Bool
 has_ended (sent sending log) = (sender.state_of sending log).ended
 has_ended (received reception log) = (receiver.state_of log).ended
@@ -95,41 +95,41 @@ abbrev pub entries_of : Log → ℕ
 entries_of (sent sending log) = length log
 entries_of (received reception log) = length log
 
--- its end can have it
+-- the log is legal for its end
 abbrev pub IsLegal : Log → Type 0
 IsLegal (sent sending log) = sender_logs.IsLegal sending log
 IsLegal (received reception log) = receiver_logs.IsLegal reception log
 
--- why the end refuses an event behind it, if it does
+-- why the end refuses an event after this log, None where it accepts it
 abbrev pub refused_behind : Log → Event → Option Refusal
 refused_behind (sent sending log) event = sender_refusals.refusal_at sending (sender.state_of sending log) (to_sender event)
 refused_behind (received reception log) (On key event) = receiver_refusals.refusal_at reception (receiver.state_of log) event
 refused_behind (received reception log) (Put request params) = Some WrongState
 
--- what the end answers to an event behind it, or why it refuses it
+-- the end's answer to an event after this log, or its refusal
 abbrev pub answered_behind : Log → Event → Result Answer Refusal
 answered_behind (sent sending log) event = sender_answers.answer_at sending (sender.state_of sending log) (to_sender event)
 answered_behind (received reception log) (On key event) = receiver_answers.answer_at reception (receiver.state_of log) event
 answered_behind (received reception log) (Put request params) = Err WrongState
 
--- what the end of a transaction that opens answers to the event that opens it
+-- the answer to the event that opens a transaction
 abbrev pub first_answer : Option Transaction → Event → Result Answer Refusal
 first_answer None event = Err NoTransaction
 first_answer (Some transaction) event = answered_behind (log_by transaction []) event
 
--- a log with one event more, which was answered so; no Put stands behind a reception
+-- the log with one more event and its answer; a reception gets no Put
 abbrev pub extended : Log → Event → Answer → Log
 extended (sent sending log) event answer = sent sending (record { event = to_sender event; answer = answer } ∷ log)
 extended (received reception log) (On key event) answer = received reception (record { event = event; answer = answer } ∷ log)
 extended (received reception log) (Put request params) answer = received reception log
 
--- what its last event was answered
+-- the answer to its last event
 abbrev pub last_answer : Log → Answer
 last_answer (sent sending (entry ∷ front)) = entry.answer
 last_answer (received reception (entry ∷ front)) = entry.answer
 last_answer log = empty_answer
 
--- the file of a deposit that waits, by its stamp
+-- the file of the waiting deposit with this stamp
 abbrev pub image_in : Log → ℕ → Result Image Refusal
 image_in (sent sending log) stamp = Err StaleStored
 image_in (received reception log) stamp = image_at (receiver.state_of log) stamp

@@ -1,15 +1,15 @@
 use cfdp_types::{Deposit, TxnKey};
 use txn_events::{Pdus, TimerOps};
 
-/// What a step gives, but for its user's indications.
+/// The result of a step, apart from the indications, which go to the user's queue.
 #[derive(Debug, Drop)]
 pub struct Done {
-    /// The transaction that the step is of.
+    /// The transaction of the step.
     pub key: TxnKey,
-    /// What goes to the other entity, in order.
+    /// The PDUs for the other entity, in order.
     pub pdus: Pdus,
-    /// What the step does to the timers of its transaction, in order.
+    /// The operations on the transaction's timers, in order.
     pub timers: TimerOps,
-    /// A received file that is handed out.
+    /// A received file that is handed to the file store.
     pub deposit: Option<Deposit>,
 }

@@ -1,10 +1,10 @@
 use cfdp_types::Params;
 
-/// How a sending lane numbers its transactions. They leave numbers free for the other sending lanes
-/// of the user, and for those of the other users.
+/// How a sending lane numbers its transactions. The numbers in between are left to the user's other sending lanes
+/// and to those of the other users.
 #[derive(Clone, Copy, Debug, PartialEq, Eq)]
 pub struct Numbers {
-    /// What the lane counts its transactions from.
+    /// Where the lane begins to count its transactions.
     pub first: u64,
     /// The number of sending lanes that each user has.
     pub lanes: u64,
@@ -16,7 +16,7 @@ impl Numbers {
     ghost use Rattle.std.specs.Prelude.{◌≡◌, ◌≤◌, ◌<◌, ◌^◌, ◌*◌, IfSome, IfNone};
     ghost use Rattle.lane_table.specs.Lane.{number_after, number_at};
 
-    /// The number of the first transaction of a lane, unless it is beyond all numbers.
+    /// The number of a lane's first transaction, None if it exceeds 64 bits.
     fn first_of(&self, user: usize, lane: usize) -> Option<u64>
         requires { 0 < self.now.users }
         ensures some { IfSome result (λ number. number ≡ number_at self.now user lane self.now.first) }
@@ -28,7 +28,7 @@ impl Numbers {
         base.checked_add(user as u64)
     }
 
-    /// The number of the transaction after the last one of a lane, unless it is beyond all numbers.
+    /// The number after that of a lane's last transaction, None if it exceeds 64 bits.
     fn after(&self, user: usize, lane: usize, last: Option<u64>) -> Option<u64>
         requires { 0 < self.now.users }
         ensures some { IfSome result (λ number. number ≡ number_after self.now user lane last) }
@@ -43,7 +43,7 @@ impl Numbers {
         }
     }
 
-    /// The number of the transaction after the last one of a lane, unless it is above the greatest.
+    /// The number after that of a lane's last transaction, None if it exceeds `greatest`.
     pub fn up_to(&self, greatest: u64, user: usize, lane: usize, last: Option<u64>) -> Option<u64>
         requires { 0 < self.now.users }
         ensures some { IfSome result (λ number. (number ≡ number_after self.now user lane last) × (number ≤ greatest)) }
@@ -56,11 +56,11 @@ impl Numbers {
     }
 }
 
-/// The end of its transactions that a lane runs.
+/// Which end of its transactions a lane runs.
 #[derive(Clone, Copy, Debug, PartialEq, Eq)]
 pub enum LaneSide {
-    /// It sends, with these numbers, up to the greatest that the sequence length holds.
+    /// The lane sends, with these numbers, up to the greatest that the configured sequence length holds.
     Sending { numbers: Numbers, greatest: u64 },
-    /// It receives, by these parameters.
+    /// The lane receives, with these parameters.
     Receiving(Params),
 }

@@ -1,5 +1,5 @@
-//! What a lane answers to each event, for sending and for receiving lanes, and what holds of every lane:
-//! where it stands, its numbers, what it refuses, which bundles fit what it sent, and which files it hands out.
+//! Sending and receiving lanes: the state of a lane, its answer to each event, its numbers, its refusals, the bundles
+//! that fit what it sent, and the files that it hands out; and the laws of every lane.
 #![tactic(auto)]
 
 mod done;

@@ -1,10 +1,10 @@
 use pdu_values::Pdu;
 use txn_events::Refusal;
 
-/// Why a lane does not take an event, which then changes nothing.
+/// Why a lane refuses an event, which then changes nothing.
 #[derive(Debug, Drop)]
 pub struct Refused {
     pub why: Refusal,
-    /// To a PDU of an old transaction, what is sent back all the same.
+    /// The PDU to send back to a PDU of an old transaction, if it gets one.
     pub echo: Option<Pdu>,
 }

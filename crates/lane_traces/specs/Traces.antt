@@ -1,4 +1,4 @@
--- Meaning. How far a lane's transaction is.
+-- Meaning. The progress of a lane's transaction.
 use Rattle.std.specs.Prelude.{◌≡◌, ◌↔◌, ◌-◌, ◌==◌, ◌&&◌, Bool, true, false, nat_lt, if◌then◌else◌, List, length, slice_get, Option, Some, None, Result, Ok, Err}
 use Rattle.cfdp_types.specs.declared.key.TxnKey.{TxnKey}
 use Rattle.indications.specs.declared.indication.Indication.{Indication}
@@ -15,23 +15,23 @@ abbrev pub is_end_told : Option Indication → Bool
 is_end_told None = false
 is_end_told (Some indication) = is_end indication
 
--- the user's last indication is an end
+-- the last indication is an end
 abbrev pub is_over : List Indication → Bool
 is_over told = is_end_told (slice_get told (length told - 1))
 
--- how far a transaction is, by its events and by its indications
+-- the progress of a transaction, from its events and its indications
 abbrev pub traced_by : List Event → List Indication → Traced
 traced_by journal told = record { entries = length journal; ended = is_over told }
 
--- a key is another
+-- two keys are the same
 abbrev pub is_same_key : TxnKey → TxnKey → Bool
 is_same_key one other = one.source.0 == other.source.0 && one.seq == other.seq
 
--- a key is of the same source and of a lower number than another
+-- the key is of the last one's source, with a lower number
 abbrev pub is_older_than : TxnKey → TxnKey → Bool
 is_older_than last key = last.source.0 == key.source.0 && nat_lt key.seq last.seq
 
--- how far the transaction of a key is, by the key of the last transaction, its events and its indications
+-- the progress of the transaction with a key, from the lane's last key and that transaction's events and indications
 abbrev pub how_far_by : Option TxnKey → List Event → List Indication → TxnKey → Result Traced Refusal
 how_far_by None journal told key = Err NoTransaction
 how_far_by (Some last) journal told key =
@@ -39,11 +39,11 @@ how_far_by (Some last) journal told key =
     else if is_older_than last key then Err OldTransaction
     else Err NoTransaction
 
--- how far the transaction of a key is at a lane, or why the lane can't tell
+-- the progress of the transaction with a key at a lane, or the refusal
 abbrev pub how_far : State → TxnKey → Result Traced Refusal
 how_far state key = how_far_by (key_of state) state.journal (issued_by state) key
 
--- what is reported of how far a transaction is holds of the log that a lane stands at, which is legal, under a key
+-- the reported progress is true of the lane's log, which is legal and has the key
 pub record IsHowFar (state : State) (key : TxnKey) (traced : Traced) : Type 0 where
   pub log : Log
   pub log_is : log_of state ≡ Some log
@@ -53,6 +53,6 @@ pub record IsHowFar (state : State) (key : TxnKey) (traced : Traced) : Type 0 wh
   pub begun : IsBegunOf (side_of log) (issued log)
   pub ended : (traced.ended ≡ true) ↔ IsWordOf (side_of log) (issued log)
 
--- what a sound lane tells of how far a transaction is holds
+-- the progress that a sound lane reports is true
 abbrev pub TellsHowFar : Type 0
 TellsHowFar = (state : State) (key : TxnKey) (traced : Traced) → IsSound state → how_far state key ≡ Ok traced → IsHowFar state key traced

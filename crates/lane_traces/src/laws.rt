@@ -1,9 +1,9 @@
-//! What holds of every lane that stands as its journal says, over the definitions alone.
+//! Laws of every sound lane, stated over the definitions alone.
 
 ghost use Rattle.lane_traces.specs.Traces.{TellsHowFar};
 
-/// The report of how far a transaction is holds of the legal log that the lane stands at, of a transaction under the
-/// key that was asked for: it has ended exactly where all its indications are a whole word, and not a beginning alone.
+/// A trace is true of the legal log of the lane's transaction, which has the requested key: the transaction has ended
+/// exactly where all its indications are a whole word, not only the beginning of one.
 pub fn traces()
     ensures { TellsHowFar }
 {}

@@ -1,4 +1,4 @@
-//! How far a lane's transaction is.
+//! Traces: the progress of a lane's transaction.
 #![tactic(auto)]
 
 pub mod laws;

@@ -7,18 +7,18 @@ use cfdp_types::TxnKey;
 use indications::Indication;
 use txn_events::{Event, Refusal};
 
-/// How far a transaction is.
+/// The progress of a transaction.
 #[derive(Clone, Copy, Debug, PartialEq, Eq)]
 pub struct Traced {
-    /// The number of its events that were taken.
+    /// The number of events that it has accepted.
     pub entries: u32,
     /// Whether its end was indicated.
     pub ended: bool,
 }
 
-/// How far the transaction of a key is at a lane, by the key of the lane's last transaction, that transaction's events, of
-/// which a lane has no more than a journal may have, and all its indications. It looks at the last indication
-/// alone. A number above the last is refused with `NoTransaction`, one below with `OldTransaction`.
+/// The progress of the transaction with `key` at a lane, from the lane's last key and that transaction's events and
+/// indications, of which only the last is read. An older number of the same source is refused with `OldTransaction`,
+/// any other key with `NoTransaction`.
 pub fn how_far(
     last: Option<TxnKey>,
     journal: &[Event],
@@ -38,7 +38,7 @@ pub fn how_far(
     }
 }
 
-// How far a transaction is, by its events and by its indications.
+// The progress of a transaction, from its events and its indications.
 fn told_by(journal: &[Event], told: &[Indication]) -> Traced
     requires { length journal.now ≤ JOURNAL_ENTRIES }
     ensures { result ≡ traced_by journal.now told.now }
@@ -49,7 +49,7 @@ fn told_by(journal: &[Event], told: &[Indication]) -> Traced
     }
 }
 
-// Whether the user's last indication is an end.
+// Whether the last indication is an end.
 fn is_over(told: &[Indication]) -> bool
     ensures { result ≡ is_over told.now }
 {

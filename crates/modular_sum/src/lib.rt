@@ -11,8 +11,8 @@ ghost use Rattle.modular_sum.specs.Sum.{sum};
 use crate::words::with_words;
 pub use running::Running;
 
-/// The modular checksum of a whole file: its octets as big-endian words of four, the last one
-/// filled up with zeros, added modulo 2^32.
+/// The modular checksum of a whole file: its octets as big-endian words of four, the last word padded with
+/// zeros, added modulo 2^32.
 pub fn sum_of(octets: &[u8]) -> u32
     ensures { result ≡ sum octets.now }
 {

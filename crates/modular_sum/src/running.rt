@@ -4,8 +4,8 @@ ghost use Rattle.modular_sum.specs.Pieces.{sum_with};
 use crate::words::with_row;
 use std::marker::Model;
 
-/// The checksum of a file whose octets come at their offsets, in any order: each adds what it counts
-/// for where it stands, modulo 2^32. Contracts see the sum so far.
+/// The modular checksum of a file whose pieces arrive in any order: each octet adds its value, weighted by its
+/// offset, modulo 2^32. Contracts see the sum so far.
 #[derive(Clone, Copy, Debug, PartialEq, Eq)]
 pub struct Running {
     word: u32,
@@ -24,14 +24,14 @@ impl Model for Running {
 }
 
 impl Running {
-    /// The sum of no octets.
+    /// The sum before any octet was added: 0.
     pub fn new() -> Running
         ensures { result ≡ 0 }
     {
         Running { word: 0 }
     }
 
-    /// Adds octets, the first of which stands at the offset. An octet that is added twice counts twice.
+    /// Adds octets, the first of which is at `offset` in the file. An octet that is added twice counts twice.
     #[tactic(auto, using(crate::proofs::SumLemmas::total_from_place))]
     pub fn add(&mut self, offset: u32, octets: &[u8])
         ensures { self.new ≡ sum_with self.old offset octets.now }

@@ -2,8 +2,8 @@ ghost use Rattle.std.specs.Prelude.{◌≡◌, ◌<◌, ◌≤◌, ◌+◌, ◌*
 ghost use Rattle.modular_sum.specs.Sum.{weight_of};
 ghost use Rattle.modular_sum.specs.Pieces.{sum_with};
 
-// A sum with octets in a row, the first of which has a place in its word: those up to the next word
-// one by one, and then by words.
+// Adds consecutive octets, the first of which is at `place` in its word: up to the next word one by one, then by
+// words.
 #[tactic(auto, using(crate::proofs::SumLemmas::sum_with_row))]
 pub fn with_row(word: u32, place: usize, octets: &[u8]) -> u32
     requires { place < 4 }
@@ -17,7 +17,7 @@ pub fn with_row(word: u32, place: usize, octets: &[u8]) -> u32
     with_words(with_octets(word, place, front), rest)
 }
 
-// A sum with octets in a row, the first of which begins a word.
+// Adds consecutive octets, the first of which begins a word.
 #[tactic(auto, using(crate::proofs::SumLemmas::total_after_word_at))]
 pub fn with_words(word: u32, octets: &[u8]) -> u32
     ensures { result ≡ sum_with word 0 octets.now }
@@ -29,7 +29,7 @@ pub fn with_words(word: u32, octets: &[u8]) -> u32
     with_octets(total, 0, &octets[4 * (octets.len() / 4)..])
 }
 
-// A sum with octets in a row, the first of which has a place in its word, one by one.
+// Adds consecutive octets one by one, the first of which is at `place` in its word.
 fn with_octets(word: u32, place: usize, octets: &[u8]) -> u32
     requires { place < 4 }
     ensures { result ≡ sum_with word place octets.now }
@@ -41,7 +41,7 @@ fn with_octets(word: u32, place: usize, octets: &[u8]) -> u32
     total
 }
 
-// The big-endian word of four octets.
+// The big-endian word of the four octets from `start`.
 fn word_at(octets: &[u8], start: usize) -> u32
     requires { start + 4 ≤ length octets.now }
     ensures { result ≡ slice_index octets.now start * 256 ^ 3
@@ -57,7 +57,7 @@ fn word_at(octets: &[u8], start: usize) -> u32
     ])
 }
 
-// What the octet at an offset adds to the checksum.
+// What an octet at an offset adds to the checksum.
 #[tactic(auto, using(crate::proofs::SumLemmas::shifted_octet))]
 fn term_of(offset: usize, octet: u8) -> u32
     ensures { result ≡ octet * weight_of offset }

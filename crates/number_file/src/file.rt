@@ -1,4 +1,4 @@
-//! The file itself.
+//! The number file on disk.
 ghost use Rattle.std.specs.Prelude.{◌≡◌, ◌≤◌, IfOk, OnErr, OnOk};
 ghost use Rattle.number_file.specs.Rounds.{cover_of, given, number_at};
 ghost use Rattle.number_file.specs.declared.rounds.Cover.TheVariants as cover;
@@ -10,35 +10,36 @@ use std::io::{ErrorKind, Read, Write};
 use std::rt::Files;
 use std::{fs, io};
 
-// How many octets the file may have: a number, a line feed, and some more, so that a longer text is seen as none.
+// How many octets are read: a number, a line feed, and some more, so that a longer text is recognized as invalid.
 const MOST_OCTETS: u64 = 32;
 
-/// Why numbers can't be had from a file.
+/// Why the file yields no numbers.
 #[derive(Clone, Copy, Debug, PartialEq, Eq)]
 pub enum NumbersFault {
-    /// The file can't be read, or what it says is no number.
+    /// The file can't be read, or doesn't contain a number.
     Unreadable,
-    /// It can't be written.
+    /// The file can't be written.
     Unwritable,
     /// No number is left.
     Over,
 }
 
-/// A file that says a number above all that were given: a decimal number in a line.
+/// A file with a number above all that were given: a decimal number in a line.
 #[derive(Drop)]
 pub struct NumberFile {
     alloc: Global,
     path: String,
-    /// Which rounds it covers.
+    /// The rounds that the file covers.
     pub rounds: Rounds,
-    /// What it says.
+    /// The number in the file.
     pub says: u64,
 }
 
 impl NumberFile {
-    /// Opens the file of a run, which begins at the round `first`, or where all numbers are above what the file says. A round has
-    /// `width` numbers, and `block` rounds are covered at once. A file that isn't there is made. It is written at once, so that
-    /// a file which can't be is found before anything is put. A file that says no number stays as it is.
+    /// Opens the file for a run, which begins at the round `first`, or at the first round that has no number below the
+    /// one in the file, if that is higher. A round has `width` numbers, and `block` rounds are covered at once. The
+    /// file is created if it is missing, and written at once, so that an error shows before any Put. A file that
+    /// doesn't contain a number is left as it is.
     pub fn open<R: Files>(
         rt: &R,
         alloc: Global,
@@ -65,8 +66,8 @@ impl NumberFile {
         })
     }
 
-    /// Sees that the round of the next Put is covered, and writes the file where it isn't. The file is on the disk before
-    /// this answers.
+    /// Ensures that the round of the next Put is covered, writing the file if necessary. The file is on disk when this
+    /// returns.
     pub fn cover<R: Files>(&mut self, rt: &R) -> Result<(), NumbersFault>
         ensures covered { OnOk result (cover_of self.new.rounds ≡ cover.Covered) }
         ensures says { self.old.says ≡ number_at self.old.rounds.covered self.old.rounds
@@ -88,7 +89,7 @@ impl NumberFile {
         }
     }
 
-    /// A lane gave that round to a Put.
+    /// Notes that a lane gave this round to a Put.
     pub fn note_given(&mut self, round: u64)
         ensures rounds { self.new.rounds ≡ given round self.old.rounds }
         ensures says { self.new.says ≡ self.old.says }
@@ -97,7 +98,7 @@ impl NumberFile {
     }
 }
 
-// The number that the file says; 0 where there is none.
+// The number in the file, 0 where there is no file.
 fn read_number<R: Files>(rt: &R, alloc: Global, path: &str) -> Result<u64, NumbersFault> {
     match octets_of(rt, alloc, path) {
         Ok(octets) => number_in(octets.as_slice()).ok_or(NumbersFault::Unreadable),
@@ -106,7 +107,7 @@ fn read_number<R: Files>(rt: &R, alloc: Global, path: &str) -> Result<u64, Numbe
     }
 }
 
-// The octets of a file, the first of them where there are too many.
+// The octets of a file, at most the first `MOST_OCTETS`.
 fn octets_of<R: Files>(rt: &R, alloc: Global, path: &str) -> io::Result<Vec<u8>> {
     let mut octets = Vec::new(alloc);
     let file = File::open(rt, path)?;
@@ -114,7 +115,7 @@ fn octets_of<R: Files>(rt: &R, alloc: Global, path: &str) -> io::Result<Vec<u8>>
     Ok(octets)
 }
 
-// The number that a text says: decimal digits, and a line feed behind them or none.
+// The number in a text: decimal digits, with or without a line feed after them.
 fn number_in(octets: &[u8]) -> Option<u64> {
     let digits = octets.strip_suffix(b"\n").unwrap_or(octets);
     let is_whole = octets.len() as u64 != MOST_OCTETS;
@@ -129,7 +130,7 @@ fn number_in(octets: &[u8]) -> Option<u64> {
     }
 }
 
-// Writes the file anew; what it says then.
+// Replaces the file, and returns the number in it.
 fn write_number<R: Files>(
     rt: &R,
     alloc: Global,
@@ -144,8 +145,8 @@ fn write_number<R: Files>(
     }
 }
 
-// Writes beside the file, flushes that, renames it, and flushes the folder: at each moment the file has the number before or
-// this one.
+// Writes a new file next to the old one, flushes it, renames it and flushes the folder: at each moment the file has
+// either the number before or this one.
 fn write_beside<R: Files>(rt: &R, alloc: Global, path: &str, number: u64) -> io::Result<()> {
     let beside = format!(in alloc; "{path}.new")?;
     let text = format!(in alloc; "{number}\n")?;
@@ -156,7 +157,7 @@ fn write_beside<R: Files>(rt: &R, alloc: Global, path: &str, number: u64) -> io:
     File::open(rt, folder_of(path))?.sync_all()
 }
 
-// The folder in which a path lies.
+// The folder of a path.
 fn folder_of(path: &str) -> &str {
     match path.rsplit_once('/') {
         None => ".",

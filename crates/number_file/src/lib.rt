@@ -1,4 +1,4 @@
-//! A file that says where the numbers of the next run begin, so that none comes twice, wherever the machine stops.
+//! A file that says where the numbers of the next run begin, so that none is given twice, wherever the machine stops.
 #![tactic(auto)]
 
 mod file;

@@ -5,23 +5,23 @@ ghost use Rattle.number_file.specs.Rounds.{begun, cover_of, given, last_number, 
 /// The greatest number that a file may hold.
 pub const LAST_NUMBER: u64 = 9_223_372_036_854_775_807;
 
-/// What has to be covered before the next Put.
+/// What must be covered before the next Put.
 #[derive(Clone, Copy, Debug, PartialEq, Eq)]
 pub enum Cover {
-    /// Nothing more: its round is covered.
+    /// Nothing more: the Put's round is covered.
     Covered,
-    /// All rounds below this one.
+    /// All rounds below this one: the file must be written.
     Write(u64),
-    /// Nothing can be: there is no such round any more.
+    /// Nothing can be covered: no round is left.
     Over,
 }
 
-/// Which rounds a file covers. Each Put of a sending lane takes the lane's next round, and all lanes begin at the same.
+/// The rounds that a file covers. Each Put of a sending lane takes the lane's next round; all lanes begin at the same.
 #[derive(Clone, Copy, Debug, PartialEq, Eq)]
 pub struct Rounds {
-    /// No lane's next round is above it.
+    /// No lane's next round is above this one.
     pub next: u64,
-    /// All rounds below it are covered.
+    /// All rounds below this one are covered.
     pub covered: u64,
     /// How many numbers a round has, at least one.
     pub width: u64,
@@ -30,7 +30,8 @@ pub struct Rounds {
 }
 
 impl Rounds {
-    /// Those of a run that begins at its first round, or where all numbers are above what a file says, whichever is higher.
+    /// The rounds of a run, which begins at `first`, or at the first round that has no number below the one in the
+    /// file, if that is higher.
     pub fn begin(first: u64, number: u64, width: u64, block: u64) -> Rounds
         ensures { result ≡ begun first number width block }
     {
@@ -43,7 +44,7 @@ impl Rounds {
         }
     }
 
-    /// The number that a file says where all rounds below one are covered, unless it is greater than a file may hold.
+    /// The number in a file that covers all rounds below `round`; None if it is greater than a file may hold.
     pub fn number_at(&self, round: u64) -> Option<u64>
         ensures number { IfSome result (λ number. number ≡ number_at round self.now) }
         ensures held { IfSome result (λ number. number ≤ last_number) }
@@ -55,7 +56,7 @@ impl Rounds {
         }
     }
 
-    /// What has to be covered before the next Put.
+    /// What must be covered before the next Put.
     pub fn cover(&self) -> Cover
         ensures { result ≡ cover_of self.now }
     {
@@ -74,14 +75,14 @@ impl Rounds {
         }
     }
 
-    /// All rounds below that one are covered now.
+    /// Notes that the file now covers all rounds below `round`.
     pub fn note_written(&mut self, round: u64)
         ensures { self.new ≡ written round self.old }
     {
         self.covered = round;
     }
 
-    /// A lane gave that round to a Put.
+    /// Notes that a lane gave this round to a Put.
     pub fn note_given(&mut self, round: u64)
         ensures { self.new ≡ given round self.old }
     {

@@ -1,4 +1,4 @@
--- Of the code. What parts that are borrowed from a datagram stand for.
+-- Of the code. What parts borrowed from a datagram stand for.
 use Rattle.std.specs.Prelude.{ℕ, zero, suc, ◌/◌, ◌%◌, ◌==◌, List, [], ◌∷◌, length, Option, Some, None}
 use Rattle.pdu_values.specs.declared.pdu.Body.{Body}
 use Rattle.pdu_values.specs.declared.pdu.Body.TheVariants as bodies
@@ -13,12 +13,12 @@ use Rattle.pdu_codec.specs.declared.parts.Parts.TheVariants as parts
 abbrev pub tlv_of_parts : TlvParts → Tlv
 tlv_of_parts t = record { kind = t.kind; value = t.value.now }
 
--- the first item, if there is one, and the others behind it
+-- the first item, if there is one, and the others after it
 abbrev pub first_and_others : {A : Type 0} → Option (A × List ℕ) → (List ℕ → List A) → List A
 first_and_others None others = []
 first_and_others (Some first) others = first.0 ∷ others first.1
 
--- at most so many items, one behind the other, as far as they can be read
+-- a list of at most so many items, as far as they can be read
 unfoldable pub items_among : {A : Type 0} → (List ℕ → Option (A × List ℕ)) → ℕ → List ℕ → List A
 items_among item zero octets = []
 items_among item (suc most) octets = first_and_others (item octets) (λ rest. items_among item most rest)
@@ -27,7 +27,7 @@ items_among item (suc most) octets = first_and_others (item octets) (λ rest. it
 abbrev pub messages_at : List ℕ → List (List ℕ)
 messages_at octets = messages_in (items_among tlv_at (length octets) octets)
 
--- the segment requests in octets
+-- the segment requests in the octets
 abbrev pub requests_at : ℕ → List ℕ → List SegmentRequest
 requests_at width octets = items_among (request_at width) (length octets) octets
 

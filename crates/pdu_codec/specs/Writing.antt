@@ -1,4 +1,4 @@
--- Of the code. Writing octets into room that is there, and what is written for a body.
+-- Of the code. Writing octets into memory reserved beforehand, and what is written for a body.
 use Rattle.std.specs.Prelude.{◌≡◌, ℕ, ◌+◌, ◌-◌, ◌*◌, ◌^◌, ◌<◌, ◌≤◌, List, ◌++◌, length, map, vec_len, vec_capacity, Vec}
 use Rattle.pdu_values.specs.declared.pdu.Header.{Header}
 use Rattle.pdu_values.specs.declared.pdu.Body.{Body}
@@ -7,17 +7,17 @@ use Rattle.pdu_values.specs.Numbers.{digits}
 use Rattle.pdu_values.specs.Tlvs.{message_tlv, location_tlvs}
 use Rattle.pdu_values.specs.Spelling as spelling
 
--- there is room for more octets behind those that stand there
+-- the vector has room for more octets
 abbrev pub HasRoom : {Z : Type 0} → Vec ℕ Z → List ℕ → Type 0
 HasRoom v text = vec_len v + length text ≤ vec_capacity v
 
--- octets were written behind those that stood there
+-- octets were appended
 pub record Writes {Z : Type 0} (old new : Vec ℕ Z) (text : List ℕ) : Type 0 where
   pub items : new.items ≡ old.items ++ text
   pub len : vec_len new ≡ vec_len old + length text
   pub capacity : vec_capacity old ≤ vec_capacity new
 
--- of a whole text all is written but the rest, for which there is room
+-- the whole text was appended but for the rest, for which there is room
 pub record WritesWith {Z : Type 0} (old now : Vec ℕ Z) (whole rest : List ℕ) : Type 0 where
   pub items : now.items ++ rest ≡ old.items ++ whole
   pub len : vec_len now + length rest ≡ vec_len old + length whole
@@ -27,8 +27,8 @@ pub record WritesWith {Z : Type 0} (old now : Vec ℕ Z) (whole rest : List ℕ)
 abbrev pub behind_code : ℕ → List ℕ → List ℕ
 behind_code code fields = digits 1 code ++ fields
 
--- the data field of a body, where the header's IDs have so many octets: no spare bit, and no optional field
--- beyond those that hold what the body has
+-- the data field that is written for a body, where the header's IDs have so many octets: no spare bit is set, and
+-- there are only the optional fields that the body needs
 abbrev pub field_of : ℕ → ℕ → Body → List ℕ
 field_of width entity_octets (bodies.Eof e) =
     behind_code 4 (spelling.eof width 0 (location_tlvs entity_octets e.location) e)
@@ -42,13 +42,13 @@ field_of width entity_octets (bodies.Prompt p) = behind_code 9 (spelling.prompt 
 field_of width entity_octets (bodies.KeepAlive k) = behind_code 12 (spelling.keep_alive width k)
 field_of width entity_octets (bodies.FileData d) = spelling.file_data width d
 
--- a body whose data field can be written behind a header whose IDs have so many octets
+-- a body whose data field can be written after a header whose IDs have so many octets
 pub record FieldFits (width entity_octets : ℕ) (body : Body) : Type 0 where
   pub entity_octets_fit : spelling.IsIdLength entity_octets
   pub body_fits : spelling.BodyFits width body
   pub short : length (field_of width entity_octets body) < 2 ^ 16
 
--- the fixed header of a PDU of a type, before a data field of so many octets
+-- the fixed header of a PDU of a type, before a data field of `size` octets
 abbrev pub header_of : ℕ → ℕ → Header → List ℕ
 header_of type_bit size header =
     digits 1 (32 + 16 * type_bit + 8 * spelling.direction_bit header.direction + 4 * spelling.mode_bit header.class + spelling.bit header.large)

@@ -1,4 +1,4 @@
-//! From the octets of a datagram to a PDU.
+//! Decoding: from the octets of a datagram to a PDU.
 
 ghost use Rattle.std.specs.Prelude.{◌≡◌, ◌⊎◌, IsOk, IfOk, IfErr};
 ghost use Rattle.std.specs.Option.{option_map};
@@ -16,7 +16,7 @@ use pdu_reading::{DecodeFault, FixedHeader};
 use pdu_values::{Acknowledged, Directive, Header, Pdu};
 use std::alloc::Global;
 
-// The fields that were found, if any.
+// The body, or its fault where the fields could not be read or a file name is empty.
 fn whole_body(found: Option<Parts<'_>>) -> Result<Parts<'_>, DecodeFault>
     ensures { Answers body_of_parts result (whole_body (option_map body_of_parts found.entry)) }
 {
@@ -39,7 +39,7 @@ fn acknowledged_with_code(code: u8) -> Option<Acknowledged>
     }
 }
 
-// The fields of an ACK.
+// The body of an ACK, from the octets after the directive code.
 fn acknowledgement(octets: &[u8]) -> Result<Parts<'_>, DecodeFault>
     ensures { Answers body_of_parts result (ack_of (number_at 1 octets.now)) }
 {
@@ -48,7 +48,7 @@ fn acknowledgement(octets: &[u8]) -> Result<Parts<'_>, DecodeFault>
     whole_body(parts::ack_at(of, rest))
 }
 
-// The fields of a directive.
+// The body of a directive, from the octets after its code.
 fn fields(large: bool, directive: Directive, octets: &[u8]) -> Result<Parts<'_>, DecodeFault>
     ensures { Answers body_of_parts result (fields_of (size_octets large) (Some directive) octets.now) }
 {
@@ -63,7 +63,7 @@ fn fields(large: bool, directive: Directive, octets: &[u8]) -> Result<Parts<'_>,
     }
 }
 
-// A directive's code and its fields.
+// The body of a directive, from its code and the octets after it.
 fn directive(large: bool, octets: &[u8]) -> Result<Parts<'_>, DecodeFault>
     ensures { Answers body_of_parts result (directive_of (size_octets large) (number_at 1 octets.now)) }
 {
@@ -72,7 +72,7 @@ fn directive(large: bool, octets: &[u8]) -> Result<Parts<'_>, DecodeFault>
     fields(large, directive, rest)
 }
 
-// The data field.
+// The body in a data field.
 #[tactic(auto, unfolding(pdu_reading::specs::Reading::body_of))]
 fn body<'a>(fixed_header: &FixedHeader, field: &'a [u8]) -> Result<Parts<'a>, DecodeFault>
     ensures { Answers body_of_parts result (body_of fixed_header.now field.now) }
@@ -85,7 +85,7 @@ fn body<'a>(fixed_header: &FixedHeader, field: &'a [u8]) -> Result<Parts<'a>, De
     }
 }
 
-// The whole PDU, its lists borrowed from the datagram.
+// The whole PDU, with lists still borrowed from the datagram.
 #[tactic(auto, unfolding(pdu_reading::specs::Reading::reading))]
 fn pdu_parts(octets: &[u8]) -> Result<(Header, Parts<'_>), DecodeFault>
     ensures { Answers (λ x. record { header = x.0; body = body_of_parts x.1 }) result (reading octets.now) }
@@ -98,7 +98,7 @@ fn pdu_parts(octets: &[u8]) -> Result<(Header, Parts<'_>), DecodeFault>
     Ok((fixed_header::header_of(&fixed_header), parts))
 }
 
-// As `decode`, by the reading of the octets alone.
+// As `decode`, with the contract stated by `reading` alone.
 fn read(alloc: Global, octets: &[u8]) -> Result<Pdu, DecodeFault>
     ensures { IsUnlessMemory result (reading octets.now) }
 {
@@ -107,16 +107,16 @@ fn read(alloc: Global, octets: &[u8]) -> Result<Pdu, DecodeFault>
     Ok(Pdu::new(header, body))
 }
 
-/// The PDU that the octets of a datagram spell.
+/// Decodes the octets of a datagram; an error is the first fault.
 pub fn decode(alloc: Global, octets: &[u8]) -> Result<Pdu, DecodeFault>
-    // What is found is spelled so.
+    // The octets spell the PDU that is returned.
     ensures found { IfOk result (λ pdu. Spells octets.now pdu) }
 
-    // What is spelled so is found, unless memory runs out.
+    // A PDU that the octets spell is returned, unless memory runs out.
     ensures only { (pdu : PduValue) → Spells octets.now pdu → IsFound result pdu }
 
-    // What is answered is what the octets read as; and a fault is the first, by the places of the
-    // octets, unless memory runs out, which it can only where nothing else is wrong.
+    // The result is what the octets read as, and the fault is the first by the places of the octets. Memory can run
+    // out only where nothing else is wrong.
     ensures exact { IsUnlessMemory result (reading octets.now) }
     ensures first { IfErr result (λ fault. (fault ≡ DecodeFault.NoMemory) ⊎ IsFirstFault octets.now fault) }
     ensures memory { result ≡ Err DecodeFault.NoMemory → IsOk (reading octets.now) }

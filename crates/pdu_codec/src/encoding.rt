@@ -1,4 +1,4 @@
-//! From a PDU to the octets of a datagram.
+//! Encoding: from a PDU to the octets of a datagram.
 
 ghost use Rattle.std.specs.Prelude.{◌≡◌, ◌<◌, ◌≤◌, ◌^◌, ◌+◌, ◌++◌, ◌*◌, length, map, OnOk, OnErr};
 ghost use Rattle.std.specs.List.{flat_map};
@@ -17,9 +17,9 @@ use pdu_values::{
 };
 use std::alloc::AllocError;
 
-// ---- how long the data field is
+// ---- the length of the data field
 
-// Octets of the optional field of a fault location.
+// Length of the optional field for a fault location, in octets.
 fn location_size(entity_octets: u8, location: Option<EntityId>) -> usize
     requires length { spelling.IsIdLength entity_octets }
     requires fits { spelling.IsLocation location }
@@ -32,7 +32,7 @@ fn location_size(entity_octets: u8, location: Option<EntityId>) -> usize
     }
 }
 
-// Octets of the optional fields of messages to the user.
+// Length of the optional fields for messages to the user, in octets.
 #[tactic(auto, unfolding(pdu_values::specs::Numbers::digits))]
 fn messages_size(messages: &Messages) -> usize
     requires { length (flat_map spelling.tlv (map message_tlv messages.now)) < 2 ^ 16 }
@@ -45,7 +45,7 @@ fn messages_size(messages: &Messages) -> usize
     size
 }
 
-// Octets of the data field.
+// Length of the data field, in octets.
 #[tactic(auto, unfolding(pdu_values::specs::Numbers::digits))]
 fn field_size(width: u8, entity_octets: u8, body: &Body) -> usize
     requires fits { FieldFits width entity_octets body.now }
@@ -72,7 +72,7 @@ fn field_size(width: u8, entity_octets: u8, body: &Body) -> usize
 
 // ---- the fixed header
 
-// Octets of the fixed header.
+// Length of the fixed header, in octets.
 fn header_size(header: &Header) -> usize
     requires { spelling.HeaderFits header.now }
     ensures value { result ≡ 4 + length (spelling.ids header.now) }
@@ -270,7 +270,7 @@ fn put_file_data(out: &mut Vec<u8>, width: u8, segment: &FileData)
     put_octets(out, segment.octets.as_slice());
 }
 
-// The data field: a directive's code and its fields, or a file segment.
+// Writes the data field: a directive's code and its fields, or a file segment.
 fn put_field(out: &mut Vec<u8>, width: u8, entity_octets: u8, body: &Body)
     requires short { width ≤ 8 }
     requires fits { FieldFits width entity_octets body.now }
@@ -310,7 +310,7 @@ fn put_field(out: &mut Vec<u8>, width: u8, entity_octets: u8, body: &Body)
     }
 }
 
-// The fixed header, before a data field of so many octets.
+// Writes the fixed header before a data field of `size` octets.
 fn put_header(out: &mut Vec<u8>, header: &Header, type_bit: u8, size: u16)
     requires fits { spelling.HeaderFits header.now }
     requires kind { type_bit < 2 }
@@ -331,7 +331,7 @@ fn put_header(out: &mut Vec<u8>, header: &Header, type_bit: u8, size: u16)
     put_ids(out, header);
 }
 
-// A PDU, into room that is there.
+// Writes a PDU without allocating.
 fn put_pdu(out: &mut Vec<u8>, header: &Header, body: &Body, size: u16)
     requires header_fits { spelling.HeaderFits header.now }
     requires body_fits { FieldFits (spelling.size_octets header.now.large) header.now.entity_octets body.now }
@@ -342,8 +342,8 @@ fn put_pdu(out: &mut Vec<u8>, header: &Header, body: &Body, size: u16)
     put_field(out, size_octets(header.large), header.entity_octets, body);
 }
 
-/// Writes a PDU behind what `out` holds, as the octets of a datagram: with all spare bits zero, and
-/// no optional field beyond those that hold what the PDU has. Makes room once.
+/// Appends the octets of a PDU to `out`: all spare bits zero, and only the optional fields that the PDU needs.
+/// Allocates at most once.
 pub fn encode(pdu: &Pdu, out: &mut Vec<u8>) -> Result<(), AllocError>
     ensures ok { OnOk result (out.new.items ≡ out.old.items ++ spelling.written pdu.now) }
     ensures err { OnErr result (out.new.items ≡ out.old.items) }

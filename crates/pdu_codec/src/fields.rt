@@ -1,11 +1,11 @@
-//! Readers of fields: the value, and the octets behind it.
+//! Readers of fields: each gives the value and the octets after it, None where there are too few.
 
 ghost use Rattle.std.specs.Prelude.{◌≡◌, ◌<◌, ◌≤◌, ◌+◌, ◌^◌, length, IfSome};
 ghost use Rattle.pdu_values.specs.Numbers.{number_of};
 ghost use Rattle.pdu_values.specs.Requests.{size_octets};
 ghost use Rattle.pdu_reading.specs.Reading.{Gives, octets_at, number_at, lv_at};
 
-/// The octets in which sizes and offsets are written, with the large file flag or without it.
+/// How many octets sizes and offsets have, with the large file flag or without it.
 pub fn size_octets(large: bool) -> u8
     ensures value { result ≡ size_octets large }
     ensures least { 1 ≤ result }
@@ -14,7 +14,7 @@ pub fn size_octets(large: bool) -> u8
     if large { 8 } else { 4 }
 }
 
-/// The number that at most eight octets stand for.
+/// The number that at most eight octets stand for, the most significant first.
 pub fn number_of(octets: &[u8]) -> u64
     requires { length octets.now ≤ 8 }
     ensures value { result ≡ number_of octets.now }
@@ -27,7 +27,7 @@ pub fn number_of(octets: &[u8]) -> u64
     number
 }
 
-/// This many octets.
+/// The first `count` octets.
 pub fn octets_at(count: usize, octets: &[u8]) -> Option<(&[u8], &[u8])>
     ensures value { Gives (λ x. (x.0.now, x.1.now)) result (octets_at count octets.now) }
     ensures left { IfSome result (λ x. count + length x.1.now ≡ length octets.now) }
@@ -38,7 +38,7 @@ pub fn octets_at(count: usize, octets: &[u8]) -> Option<(&[u8], &[u8])>
     Some(octets.split_at(count))
 }
 
-/// A number of this many octets.
+/// A number of `width` octets.
 #[tactic(auto, unfolding(pdu_reading::specs::Reading::number_at))]
 pub fn number_at(width: usize, octets: &[u8]) -> Option<(u64, &[u8])>
     requires { width ≤ 8 }

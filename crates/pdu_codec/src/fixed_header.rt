@@ -1,4 +1,4 @@
-//! The fixed header: its numbers as they stand in the octets, and what they mean.
+//! The fixed header: its numbers as they are in the octets, and what they mean.
 
 ghost use Rattle.std.specs.Prelude.{◌≡◌};
 ghost use Rattle.pdu_reading.specs.FixedHeader.{header_of, direction_of, class_of};
@@ -9,7 +9,7 @@ use cfdp_types::{Class, EntityId};
 use pdu_reading::{DecodeFault, FixedHeader};
 use pdu_values::{Direction, Header};
 
-/// The header's numbers, and the octets behind them.
+/// The header's numbers, and the octets after them.
 #[tactic(auto, unfolding(pdu_reading::specs::Reading::fixed_header_at))]
 pub fn fixed_header_at(octets: &[u8]) -> Option<(FixedHeader, &[u8])>
     ensures { Gives (λ x. (x.0, x.1.now)) result (fixed_header_at octets.now) }
@@ -33,7 +33,7 @@ pub fn fixed_header_at(octets: &[u8]) -> Option<(FixedHeader, &[u8])>
     Some((fixed_header, rest))
 }
 
-/// What is wrong with the header, or with the number of octets behind it.
+/// What is wrong with the header, or with the number of octets after it.
 #[tactic(auto, unfolding(pdu_reading::specs::Reading::fixed_header_fault))]
 pub fn fixed_header_fault(fixed_header: &FixedHeader, field: &[u8]) -> Option<DecodeFault>
     ensures { result ≡ fixed_header_fault fixed_header.now field.now }
@@ -49,7 +49,7 @@ pub fn fixed_header_fault(fixed_header: &FixedHeader, field: &[u8]) -> Option<De
     }
 }
 
-/// The header that the numbers stand for.
+/// The header that these numbers stand for.
 #[tactic(auto, unfolding(pdu_reading::specs::FixedHeader::header_of))]
 pub fn header_of(fixed_header: &FixedHeader) -> Header
     ensures { result ≡ header_of fixed_header.now }

@@ -1,9 +1,8 @@
-//! What holds of octets and PDUs.
+//! Laws of encoding and decoding.
 
 ghost use Rattle.pdu_codec.specs.Laws.{ReadsWhatIsWritten};
 
-/// What is written for a PDU spells it and is read as that PDU again, for every PDU that fits its
-/// fields.
+/// For every PDU that fits its fields, the written octets spell it and are read as that PDU.
 pub fn round_trip()
     ensures { ReadsWhatIsWritten }
 {}

@@ -1,4 +1,4 @@
-//! Protocol data units from octets and to octets.
+//! Encoding and decoding protocol data units.
 #![tactic(auto)]
 
 mod decoding;

@@ -14,10 +14,10 @@ use cfdp_types::{EntityId, Messages, Octets};
 use pdu_values::{SegmentRequest, SegmentRequests};
 use std::alloc::{AllocError, Global};
 
-/// The type of a message to the user.
+/// The TLV type of a message to the user.
 pub const MESSAGE: u8 = 2;
 
-/// The type of an entity ID.
+/// The TLV type of an entity ID.
 pub const ENTITY_ID: u8 = 6;
 
 /// An optional field, borrowed from the datagram.
@@ -27,7 +27,7 @@ pub struct TlvParts<'a> {
     pub value: &'a [u8],
 }
 
-/// An optional field, and the octets behind it.
+/// An optional field, and the octets after it.
 #[tactic(auto, unfolding(pdu_reading::specs::Reading::tlv_at))]
 pub fn tlv_at(octets: &[u8]) -> Option<(TlvParts<'_>, &[u8])>
     ensures value { Gives (λ x. (tlv_of_parts x.0, x.1.now)) result (tlv_at octets.now) }
@@ -38,14 +38,14 @@ pub fn tlv_at(octets: &[u8]) -> Option<(TlvParts<'_>, &[u8])>
     Some((TlvParts { kind, value }, rest))
 }
 
-// Whether a fault location may stand in this field: an entity ID has 1 to 8 octets.
+// Whether the field may stand among those of EOF or Finished: an entity ID must have 1 to 8 octets.
 fn may_locate(tlv: TlvParts<'_>) -> bool
     ensures { result ≡ may_locate (tlv_of_parts tlv.entry) }
 {
     tlv.kind != ENTITY_ID || (!tlv.value.is_empty() && tlv.value.len() <= 8)
 }
 
-/// An optional field of EOF or Finished, and the octets behind it.
+/// An optional field of EOF or Finished, and the octets after it.
 #[tactic(auto, unfolding(pdu_reading::specs::Reading::location_tlv_at))]
 pub fn location_tlv_at(octets: &[u8]) -> Option<(TlvParts<'_>, &[u8])>
     ensures value { Gives (λ x. (tlv_of_parts x.0, x.1.now)) result (location_tlv_at octets.now) }
@@ -60,7 +60,7 @@ pub fn location_tlv_at(octets: &[u8]) -> Option<(TlvParts<'_>, &[u8])>
     }
 }
 
-// The fault location, where one optional field more was read.
+// The fault location after one more optional field was read: the first entity ID counts.
 #[tactic(auto, unfolding(pdu_values::specs::Tlvs::location_in))]
 fn with_field(location: Option<EntityId>, tlv: TlvParts<'_>) -> Option<EntityId>
     requires { IsTrue (may_locate (tlv_of_parts tlv)) }
@@ -87,7 +87,7 @@ pub fn location_at(octets: &[u8]) -> Option<Option<EntityId>>
     Some(location)
 }
 
-/// Whether octets are optional fields up to their end.
+/// Whether octets are optional fields and nothing else.
 pub fn are_options(octets: &[u8]) -> bool
     ensures { result ≡ is_some (items_to_end tlv_at octets.now) }
 {
@@ -101,7 +101,7 @@ pub fn are_options(octets: &[u8]) -> bool
     true
 }
 
-// Adds the message that an optional field may hold.
+// Adds the message that an optional field holds, if it holds one.
 #[tactic(auto, unfolding(pdu_values::specs::Tlvs::messages_in))]
 fn add_message(alloc: Global, messages: &mut Messages, tlv: TlvParts<'_>) -> Result<(), AllocError>
     ensures { OnOk result (messages.new ≡ messages.old ++ messages_in (tlv_of_parts tlv.entry ∷ [])) }
@@ -112,7 +112,7 @@ fn add_message(alloc: Global, messages: &mut Messages, tlv: TlvParts<'_>) -> Res
     Ok(())
 }
 
-// How many messages to the user an optional field holds: one or none.
+// How many messages to the user an optional field holds: 1 or 0.
 #[tactic(auto, unfolding(pdu_values::specs::Tlvs::messages_in))]
 fn messages_held(tlv: TlvParts<'_>) -> usize
     ensures value { result ≡ length (messages_in (tlv_of_parts tlv.entry ∷ [])) }
@@ -121,7 +121,7 @@ fn messages_held(tlv: TlvParts<'_>) -> usize
     if tlv.kind == MESSAGE { 1 } else { 0 }
 }
 
-// How many messages to the user there are, so that their list is made at once.
+// The number of messages to the user among optional fields; their list is then allocated once.
 fn message_count(octets: &[u8]) -> usize
     ensures { result ≡ length (messages_at octets.now) }
 {
@@ -147,7 +147,7 @@ pub fn messages_at(alloc: Global, octets: &[u8]) -> Result<Messages, AllocError>
     Ok(messages)
 }
 
-/// A segment request, and the octets behind it.
+/// A segment request, and the octets after it.
 #[tactic(auto, unfolding(pdu_reading::specs::Reading::request_at))]
 pub fn request_at(width: u8, octets: &[u8]) -> Option<(SegmentRequest, &[u8])>
     requires least { 1 ≤ width }
@@ -160,7 +160,7 @@ pub fn request_at(width: u8, octets: &[u8]) -> Option<(SegmentRequest, &[u8])>
     Some((SegmentRequest { start, end }, rest))
 }
 
-/// Whether octets are segment requests up to their end.
+/// Whether octets are segment requests and nothing else.
 pub fn are_requests(width: u8, octets: &[u8]) -> bool
     requires least { 1 ≤ width }
     requires most { width ≤ 8 }
@@ -176,7 +176,7 @@ pub fn are_requests(width: u8, octets: &[u8]) -> bool
     true
 }
 
-/// The segment requests in octets.
+/// The segment requests in the octets.
 pub fn requests_at(alloc: Global, width: u8, octets: &[u8]) -> Result<SegmentRequests, AllocError>
     requires least { 1 ≤ width }
     requires most { width ≤ 8 }

@@ -1,4 +1,4 @@
-//! Bodies whose lists still lie in the datagram.
+//! Bodies whose lists are still in the datagram.
 
 ghost use Rattle.std.specs.Prelude.{◌≡◌, IfOk};
 ghost use Rattle.pdu_codec.specs.declared.parts.Parts.TheVariants as borrowed;
@@ -15,7 +15,7 @@ use pdu_values::{
 };
 use std::alloc::{AllocError, Global};
 
-/// A body's fields, their lists borrowed from the datagram.
+/// The fields of a body, with lists borrowed from the datagram.
 #[derive(Clone, Copy)]
 pub enum Parts<'a> {
     Eof(EofParts),
@@ -31,7 +31,7 @@ pub enum Parts<'a> {
 /// The fields of EOF.
 #[derive(Clone, Copy)]
 pub struct EofParts {
-    /// Condition and spare bits.
+    /// Condition code and spare bits.
     pub flags: u8,
     pub checksum: u32,
     pub size: u64,
@@ -41,7 +41,7 @@ pub struct EofParts {
 /// The fields of Finished.
 #[derive(Clone, Copy)]
 pub struct FinishedParts {
-    /// Condition, spare bit, delivery and file status.
+    /// Condition code, spare bit, delivery code and file status.
     pub flags: u8,
     pub location: Option<EntityId>,
 }
@@ -50,7 +50,7 @@ pub struct FinishedParts {
 #[derive(Clone, Copy)]
 pub struct AckParts {
     pub of: Acknowledged,
-    /// Condition, spare bits and transaction status.
+    /// Condition code, spare bits and transaction status.
     pub flags: u8,
 }
 
@@ -62,18 +62,18 @@ pub struct MetadataParts<'a> {
     pub size: u64,
     pub source_name: &'a [u8],
     pub destination_name: &'a [u8],
-    /// Optional fields up to the end.
+    /// The octets of the optional fields.
     pub options: &'a [u8],
 }
 
 /// The fields of a NAK, borrowed from the datagram.
 #[derive(Clone, Copy)]
 pub struct NakParts<'a> {
-    /// Whether offsets have eight octets, and not four.
+    /// Whether offsets have eight octets instead of four.
     pub large: bool,
     pub start: u64,
     pub end: u64,
-    /// Segment requests up to the end.
+    /// The octets of the segment requests.
     pub requests: &'a [u8],
 }
 
@@ -84,7 +84,7 @@ pub struct FileDataParts<'a> {
     pub octets: &'a [u8],
 }
 
-/// EOF.
+/// Reads the fields of EOF.
 #[tactic(auto, unfolding(pdu_reading::specs::Reading::eof_at))]
 pub fn eof_at(large: bool, octets: &[u8]) -> Option<Parts<'_>>
     ensures { Gives body_of_parts result (eof_at (size_octets large) octets.now) }
@@ -102,7 +102,7 @@ pub fn eof_at(large: bool, octets: &[u8]) -> Option<Parts<'_>>
     }))
 }
 
-/// Finished.
+/// Reads the fields of Finished.
 #[tactic(auto, unfolding(pdu_reading::specs::Reading::finished_at))]
 pub fn finished_at(octets: &[u8]) -> Option<Parts<'_>>
     ensures { Gives body_of_parts result (finished_at octets.now) }
@@ -112,7 +112,7 @@ pub fn finished_at(octets: &[u8]) -> Option<Parts<'_>>
     Some(Parts::Finished(FinishedParts { flags, location }))
 }
 
-/// The fields of an ACK behind its first octet, which tells what it acknowledges.
+/// Reads the fields of an ACK after its first octet, which says what it acknowledges.
 #[tactic(auto, unfolding(pdu_reading::specs::Reading::ack_at))]
 pub fn ack_at(of: Acknowledged, octets: &[u8]) -> Option<Parts<'_>>
     ensures { Gives body_of_parts result (ack_at of octets.now) }
@@ -124,7 +124,7 @@ pub fn ack_at(of: Acknowledged, octets: &[u8]) -> Option<Parts<'_>>
     Some(Parts::Ack(AckParts { of, flags }))
 }
 
-/// Metadata.
+/// Reads the fields of Metadata.
 #[tactic(auto, unfolding(pdu_reading::specs::Reading::metadata_at))]
 pub fn metadata_at(large: bool, octets: &[u8]) -> Option<Parts<'_>>
     ensures { Gives body_of_parts result (metadata_at (size_octets large) octets.now) }
@@ -146,7 +146,7 @@ pub fn metadata_at(large: bool, octets: &[u8]) -> Option<Parts<'_>>
     }))
 }
 
-/// A NAK.
+/// Reads the fields of a NAK.
 #[tactic(auto, unfolding(pdu_reading::specs::Reading::nak_at))]
 pub fn nak_at(large: bool, octets: &[u8]) -> Option<Parts<'_>>
     ensures { Gives body_of_parts result (nak_at (size_octets large) octets.now) }
@@ -175,7 +175,7 @@ fn prompt_of(bit: u8) -> Prompt
     }
 }
 
-/// A Prompt.
+/// Reads the field of a Prompt.
 #[tactic(auto, unfolding(pdu_reading::specs::Reading::prompt_at))]
 pub fn prompt_at(octets: &[u8]) -> Option<Parts<'_>>
     ensures { Gives body_of_parts result (prompt_at octets.now) }
@@ -187,7 +187,7 @@ pub fn prompt_at(octets: &[u8]) -> Option<Parts<'_>>
     Some(Parts::Prompt(prompt_of(flags / 128)))
 }
 
-/// A Keep Alive.
+/// Reads the field of a Keep Alive.
 #[tactic(auto, unfolding(pdu_reading::specs::Reading::keep_alive_at))]
 pub fn keep_alive_at(large: bool, octets: &[u8]) -> Option<Parts<'_>>
     ensures { Gives body_of_parts result (keep_alive_at (size_octets large) octets.now) }
@@ -200,7 +200,7 @@ pub fn keep_alive_at(large: bool, octets: &[u8]) -> Option<Parts<'_>>
     Some(Parts::KeepAlive(KeepAlive { progress }))
 }
 
-// The octets behind the segment metadata, where there is any.
+// The octets after the segment metadata, if there is any.
 #[tactic(auto, unfolding(pdu_reading::specs::Reading::behind_segment_metadata))]
 fn behind_segment_metadata(has_it: bool, octets: &[u8]) -> Option<&[u8]>
     ensures { Gives (λ rest. rest.now) result (behind_segment_metadata has_it octets.now) }
@@ -213,7 +213,7 @@ fn behind_segment_metadata(has_it: bool, octets: &[u8]) -> Option<&[u8]>
     Some(fields)
 }
 
-/// File Data: all octets behind the offset are the file's.
+/// Reads the fields of File Data: all octets after the offset are the file's.
 #[tactic(auto, unfolding(pdu_reading::specs::Reading::file_data_at))]
 pub fn file_data_at(large: bool, has_segment_metadata: bool, octets: &[u8]) -> Option<Parts<'_>>
     ensures { Gives body_of_parts result (file_data_at (size_octets large) has_segment_metadata octets.now) }
@@ -224,7 +224,7 @@ pub fn file_data_at(large: bool, has_segment_metadata: bool, octets: &[u8]) -> O
     Some(Parts::FileData(FileDataParts { offset, octets }))
 }
 
-/// Whether a name of Metadata is empty.
+/// Whether a file name in Metadata is empty.
 pub fn lacks_name(parts: &Parts<'_>) -> bool
     ensures { result ≡ lacks_name (body_of_parts parts.now) }
 {
@@ -281,7 +281,7 @@ fn metadata_of_parts(alloc: Global, parts: MetadataParts<'_>) -> Result<Body, Al
     }))
 }
 
-/// The body, its lists copied out of the datagram.
+/// The body, with lists copied out of the datagram.
 pub fn body_of_parts(alloc: Global, parts: Parts<'_>) -> Result<Body, AllocError>
     ensures { IfOk result (λ body. body ≡ body_of_parts parts.entry) }
 {

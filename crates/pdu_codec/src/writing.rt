@@ -1,4 +1,4 @@
-//! Writers of fields, into room that is there.
+//! Writers of fields, which append without allocating.
 
 ghost use Rattle.std.specs.Prelude.{◌≡◌, ◌<◌, ◌≤◌, ◌+◌, ◌^◌, [], ◌∷◌, map, length};
 ghost use Rattle.std.specs.List.{flat_map, AllByRecursion};
@@ -11,7 +11,7 @@ use crate::options::{ENTITY_ID, MESSAGE};
 use cfdp_types::{EntityId, Messages};
 use pdu_values::{SegmentRequest, SegmentRequests, octets_for};
 
-/// A number of one octet.
+/// Writes a number of one octet.
 #[tactic(auto, unfolding(pdu_values::specs::Numbers::digits))]
 pub fn put_octet(out: &mut Vec<u8>, number: u8)
     requires { HasRoom out.old (digits 1 number) }
@@ -21,7 +21,7 @@ pub fn put_octet(out: &mut Vec<u8>, number: u8)
     pushed.unwrap()
 }
 
-/// Octets as they are.
+/// Writes octets as they are.
 pub fn put_octets(out: &mut Vec<u8>, octets: &[u8])
     requires { HasRoom out.old octets.now }
     ensures { Writes out.old out.new octets.now }
@@ -30,7 +30,7 @@ pub fn put_octets(out: &mut Vec<u8>, octets: &[u8])
     added.unwrap()
 }
 
-/// A number of so many octets, the most significant first.
+/// Writes a number of `width` octets, the most significant first.
 pub fn put_number(out: &mut Vec<u8>, width: u8, number: u64)
     requires fits { number < 256 ^ width }
     requires short { width ≤ 8 }
@@ -41,7 +41,7 @@ pub fn put_number(out: &mut Vec<u8>, width: u8, number: u64)
     put_octets(out, &octets[8 - usize::from(width)..]);
 }
 
-/// A length in one octet, and the value.
+/// Writes a length in one octet, and the value.
 pub fn put_lv(out: &mut Vec<u8>, value: &[u8])
     requires fits { length value.now < 256 }
     requires room { HasRoom out.old (lv value.now) }
@@ -51,7 +51,7 @@ pub fn put_lv(out: &mut Vec<u8>, value: &[u8])
     put_octets(out, value);
 }
 
-/// A type, a length and a value.
+/// Writes a type, a length and a value.
 pub fn put_tlv(out: &mut Vec<u8>, kind: u8, value: &[u8])
     requires fits { length value.now < 256 }
     requires room { HasRoom out.old (tlv (record { kind = kind; value = value.now })) }
@@ -61,7 +61,7 @@ pub fn put_tlv(out: &mut Vec<u8>, kind: u8, value: &[u8])
     put_lv(out, value);
 }
 
-/// The optional field of a fault location, where there is one.
+/// Writes the optional field of a fault location, if there is one.
 pub fn put_location(out: &mut Vec<u8>, entity_octets: u8, location: Option<EntityId>)
     requires length { IsIdLength entity_octets }
     requires fits { IsLocation location }
@@ -76,7 +76,7 @@ pub fn put_location(out: &mut Vec<u8>, entity_octets: u8, location: Option<Entit
     }
 }
 
-/// The optional fields of messages to the user.
+/// Writes the optional fields of messages to the user.
 pub fn put_messages(out: &mut Vec<u8>, messages: &Messages)
     requires fits { AllByRecursion IsMessage messages.now }
     requires room { HasRoom out.old (flat_map tlv (map message_tlv messages.now)) }
@@ -87,7 +87,7 @@ pub fn put_messages(out: &mut Vec<u8>, messages: &Messages)
     }
 }
 
-// A segment request.
+// Writes a segment request.
 fn put_request(out: &mut Vec<u8>, width: u8, asked: SegmentRequest)
     requires short { width ≤ 8 }
     requires fits { RequestFits width asked }
@@ -98,7 +98,7 @@ fn put_request(out: &mut Vec<u8>, width: u8, asked: SegmentRequest)
     put_number(out, width, asked.end);
 }
 
-/// Segment requests.
+/// Writes segment requests.
 pub fn put_requests(out: &mut Vec<u8>, width: u8, requests: &SegmentRequests)
     requires short { width ≤ 8 }
     requires fits { AllByRecursion (RequestFits width) requests.now }

@@ -1,3 +1,3 @@
-//! The laws that tie how PDUs are spelled to how octets are read: what is spelled is read, what is read is
-//! spelled, and the fault that is read is the first. There is no code here: they are lemmas in `proofs/`.
+//! The laws that connect the spelling of PDUs with the reading of octets: what is spelled is read, what is read is
+//! spelled, and the fault that is reported is the first. There is no code here: the laws are lemmas in `proofs/`.
 #![tactic(auto)]

@@ -1,9 +1,9 @@
--- Meaning. The numbers of the faults of decoding.
+-- Meaning. The numbers of the decoding faults.
 use Rattle.std.specs.Prelude.{ℕ}
 use Rattle.pdu_reading.specs.declared.fault.DecodeFault.{DecodeFault}
 use Rattle.pdu_reading.specs.declared.fault.DecodeFault.TheVariants.{TooShort, BadVersion, CrcPresent, LengthMismatch, UnknownDirective, FieldCut, NoFileName, NoMemory}
 
--- the number that is printed for a fault
+-- the number of a fault, as it is printed
 abbrev pub fault_number : DecodeFault → ℕ
 fault_number TooShort = 1
 fault_number BadVersion = 2

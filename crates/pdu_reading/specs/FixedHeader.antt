@@ -15,15 +15,15 @@ entity_octets lengths = lengths / 16 % 8 + 1
 abbrev pub sequence_octets : ℕ → ℕ
 sequence_octets lengths = lengths % 8 + 1
 
--- whether segment metadata stands before file data
+-- whether segment metadata precedes the file data
 abbrev pub has_segment_metadata : ℕ → Bool
 has_segment_metadata lengths = lengths / 8 % 2 == 1
 
--- the version, in the first octet
+-- the version
 abbrev pub version : ℕ → ℕ
 version first = first / 32
 
--- whether the PDU is file data, and no directive
+-- whether the PDU is File Data rather than a directive
 abbrev pub is_file_data : ℕ → Bool
 is_file_data first = first / 16 % 2 == 1
 
@@ -31,11 +31,11 @@ is_file_data first = first / 16 % 2 == 1
 abbrev pub direction_of : ℕ → Direction
 direction_of first = if first / 8 % 2 == 0 then TowardReceiver else TowardSender
 
--- the class that the transmission mode stands for
+-- the class, from the transmission mode
 abbrev pub class_of : ℕ → Class
 class_of first = if first / 4 % 2 == 0 then Two else One
 
--- whether a CRC stands at the end
+-- whether there is a CRC at the end
 abbrev pub has_crc : ℕ → Bool
 has_crc first = first / 2 % 2 == 1
 
@@ -43,7 +43,7 @@ has_crc first = first / 2 % 2 == 1
 abbrev pub is_large : ℕ → Bool
 is_large first = first % 2 == 1
 
--- the header that the numbers stand for
+-- the header that these numbers stand for
 unfoldable pub header_of : FixedHeader → Header
 header_of o = record {
   direction = direction_of o.first;

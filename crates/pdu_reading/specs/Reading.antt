@@ -1,5 +1,5 @@
--- Meaning. Reading octets from left to right. A reader of fields answers the value and the octets behind it,
--- or none; which fault it is comes where a whole list of fields was read.
+-- Meaning. Reading octets from left to right. A reader of fields gives the value and the octets after it, or
+-- nothing; which fault that is, is decided once a whole list of fields was read.
 use Rattle.std.specs.Prelude.{◌≡◌, ℕ, ◌/◌, ◌%◌, Bool, true, false, ◌||◌, not, List, length, take, drop, Option, Some, None, Result, Ok, Err, IsOk, ◌⊎◌, nat_lt, ◌==◌, if◌then◌else◌}
 use Rattle.cfdp_types.specs.declared.names.Delivery.{Delivery}
 use Rattle.cfdp_types.specs.declared.names.Delivery.TheVariants.{Complete, Incomplete}
@@ -52,13 +52,13 @@ tlv_at octets = do
   value ← lv_at kind.1
   Some (record { kind = kind.0; value = value.0 }, value.1)
 
--- a TLV where a fault location may stand
+-- an optional field of EOF or Finished
 unfoldable pub location_tlv_at : List ℕ → Option (Tlv × List ℕ)
 location_tlv_at octets = do
   found ← tlv_at octets
   if may_locate found.0 then Some found else None
 
--- a segment request, for offsets of a width in octets
+-- a segment request, whose offsets have this width in octets
 unfoldable pub request_at : ℕ → List ℕ → Option (SegmentRequest × List ℕ)
 request_at width octets = do
   start ← number_at width octets
@@ -67,7 +67,7 @@ request_at width octets = do
 
 -- ---- the fixed header
 
--- the fixed header's numbers as they stand there
+-- the numbers of the fixed header, not yet interpreted
 unfoldable pub fixed_header_at : List ℕ → Option (FixedHeader × List ℕ)
 fixed_header_at octets = do
   first ← number_at 1 octets
@@ -88,7 +88,7 @@ fixed_header_at octets = do
     destination.1,
   )
 
--- what is wrong with the fixed header, or with the length of the data field behind it
+-- what is wrong with the fixed header, or with the length of the data field after it
 unfoldable pub fixed_header_fault : FixedHeader → List ℕ → Option DecodeFault
 fixed_header_fault o field =
     if not (version o.first == 1) then Some BadVersion else
@@ -97,30 +97,30 @@ fixed_header_fault o field =
 
 -- ---- bits
 
--- whether the receiver has the whole file
+-- the delivery code, from its bit
 abbrev pub delivery_of : ℕ → Delivery
 delivery_of bit = if bit == 0 then Complete else Incomplete
 
--- a file's status by its two bits
+-- the file status, from its two bits
 abbrev pub file_status_of : ℕ → FileStatus
 file_status_of bits =
     if bits == 0 then Discarded else (if bits == 1 then Rejected else (if bits == 2 then Retained else Unreported))
 
--- a transaction's status by its two bits
+-- the transaction status, from its two bits
 abbrev pub transaction_status_of : ℕ → TransactionStatus
 transaction_status_of bits =
     if bits == 0 then Undefined else (if bits == 1 then Active else (if bits == 2 then Terminated else Unrecognized))
 
--- the kind of PDU that an ACK acknowledges, by its directive code
+-- the kind of PDU that an ACK acknowledges, from its directive code
 abbrev pub acknowledged_with_code : ℕ → Option Acknowledged
 acknowledged_with_code code =
     if code == 4 then Some acknowledged.Eof else (if code == 5 then Some acknowledged.Finished else None)
 
--- what a Prompt asks for
+-- what a Prompt asks for, from its bit
 abbrev pub prompt_of : ℕ → Prompt
 prompt_of bit = if bit == 0 then prompts.Nak else prompts.KeepAlive
 
--- ---- the fields of a data field, up to its end, for sizes and offsets of a width in octets
+-- ---- the fields of a data field, up to its end; `width` is that of sizes and offsets in octets
 
 -- EOF
 unfoldable pub eof_at : ℕ → List ℕ → Option Body
@@ -143,7 +143,7 @@ finished_at octets = do
     location = location_in tlvs;
   }))
 
--- ACK of a kind of PDU, behind the code that it acknowledges
+-- ACK of a kind of PDU, after the code that it acknowledges
 unfoldable pub ack_at : Acknowledged → List ℕ → Option Body
 ack_at of octets = do
   flags ← number_at 1 octets
@@ -186,7 +186,7 @@ keep_alive_at width octets = do
   progress ← number_at width octets
   closed progress.1 (bodies.KeepAlive (record { progress = progress.0 }))
 
--- the octets behind the segment metadata, where the flag is set
+-- the octets after the segment metadata, which is present where the flag is set
 unfoldable pub behind_segment_metadata : Bool → List ℕ → Option (List ℕ)
 behind_segment_metadata false octets = Some octets
 behind_segment_metadata true octets = do
@@ -194,7 +194,7 @@ behind_segment_metadata true octets = do
   dropped ← octets_at (count.0 % 64) count.1
   Some dropped.1
 
--- File Data: all octets behind the offset are the file's
+-- File Data: all octets after the offset are the file's
 unfoldable pub file_data_at : ℕ → Bool → List ℕ → Option Body
 file_data_at width flag octets = do
   fields ← behind_segment_metadata flag octets
@@ -203,7 +203,7 @@ file_data_at width flag octets = do
 
 -- ---- the data field
 
--- whether Metadata leaves a name out
+-- whether a file name in Metadata is empty
 abbrev pub lacks_name : Body → Bool
 lacks_name (bodies.Eof e) = false
 lacks_name (bodies.Finished f) = false
@@ -214,22 +214,22 @@ lacks_name (bodies.Prompt p) = false
 lacks_name (bodies.KeepAlive k) = false
 lacks_name (bodies.FileData f) = false
 
--- the body whose fields were read, if any
+-- the body, or FieldCut where its fields could not be read, or NoFileName
 abbrev pub whole_body : Option Body → Result Body DecodeFault
 whole_body None = Err FieldCut
 whole_body (Some body) = if lacks_name body then Err NoFileName else Ok body
 
--- the fields of an ACK of a kind of PDU, if it is one that is acknowledged
+-- the fields of an ACK, or UnknownDirective where it acknowledges neither EOF nor Finished
 abbrev pub ack_of_kind : Option Acknowledged → List ℕ → Result Body DecodeFault
 ack_of_kind None octets = Err UnknownDirective
 ack_of_kind (Some of) octets = whole_body (ack_at of octets)
 
--- the fields of an ACK, behind its first octet, whose upper half is the code that it acknowledges
+-- the fields of an ACK, after its first octet, whose upper half is the code that it acknowledges
 abbrev pub ack_of : Option (ℕ × List ℕ) → Result Body DecodeFault
 ack_of None = Err FieldCut
 ack_of (Some x) = ack_of_kind (acknowledged_with_code (x.0 / 16)) x.1
 
--- the body of a directive, by what stands behind its code, for sizes and offsets of a width in octets
+-- the body of a directive, from the octets after its code; `width` is that of sizes and offsets in octets
 abbrev pub fields_of : ℕ → Option Directive → List ℕ → Result Body DecodeFault
 fields_of width None octets = Err UnknownDirective
 fields_of width (Some directives.Eof) octets = whole_body (eof_at width octets)
@@ -240,12 +240,12 @@ fields_of width (Some directives.Nak) octets = whole_body (nak_at width octets)
 fields_of width (Some directives.Prompt) octets = whole_body (prompt_at octets)
 fields_of width (Some directives.KeepAlive) octets = whole_body (keep_alive_at width octets)
 
--- the body of a directive, behind its code
+-- the body of a directive, from its code and the octets after it
 abbrev pub directive_of : ℕ → Option (ℕ × List ℕ) → Result Body DecodeFault
 directive_of width None = Err FieldCut
 directive_of width (Some x) = fields_of width (directive_with_code x.0) x.1
 
--- the body that a data field holds
+-- the body in a data field
 unfoldable pub body_of : FixedHeader → List ℕ → Result Body DecodeFault
 body_of o field =
     if is_file_data o.first then whole_body (file_data_at (size_octets (is_large o.first)) (has_segment_metadata o.lengths) field)
@@ -253,41 +253,41 @@ body_of o field =
 
 -- ---- the whole
 
--- the PDU of a fixed header and a body
+-- the PDU with a fixed header and a body, or the body's fault
 abbrev pub pdu_with_body : FixedHeader → Result Body DecodeFault → Result PduValue DecodeFault
 pdu_with_body o (Ok body) = Ok (record { header = header_of o; body = body })
 pdu_with_body o (Err fault) = Err fault
 
--- the PDU of a fixed header and a data field, unless something is wrong with them
+-- the PDU in a fixed header and a data field, unless the header has a fault
 abbrev pub pdu_from_field : FixedHeader → List ℕ → Option DecodeFault → Result PduValue DecodeFault
 pdu_from_field o field None = pdu_with_body o (body_of o field)
 pdu_from_field o field (Some fault) = Err fault
 
--- the PDU of a fixed header, if there is one, and the octets behind it
+-- the PDU, from the fixed header, if it could be read, and the octets after it
 abbrev pub pdu_from_fixed_header : Option (FixedHeader × List ℕ) → Result PduValue DecodeFault
 pdu_from_fixed_header None = Err TooShort
 pdu_from_fixed_header (Some x) = pdu_from_field x.0 x.1 (fixed_header_fault x.0 x.1)
 
--- the PDU that octets spell, or the first fault
+-- the PDU that octets spell, or their first fault
 unfoldable pub reading : List ℕ → Result PduValue DecodeFault
 reading octets = pdu_from_fixed_header (fixed_header_at octets)
 
--- ---- what the code's functions answer
+-- ---- what the code's functions return
 
--- the reader's answer, seen by view
+-- the code's result shows what the reader gives
 abbrev pub Gives : {X Y : Type 0} → (X → Y) → Option X → Option Y → Type 0
 Gives view (Some x) read = read ≡ Some (view x)
 Gives view None read = read ≡ None
 
--- the reader's answer or its fault, seen by view
+-- the code's result shows what the reader gives, or the same fault
 abbrev pub Answers : {X Y : Type 0} → (X → Y) → Result X DecodeFault → Result Y DecodeFault → Type 0
 Answers view (Ok x) read = read ≡ Ok (view x)
 Answers view (Err fault) read = read ≡ Err fault
 
--- what is read is answered, but for memory that ran out
+-- the result is what is read, or NoMemory where a PDU is read
 abbrev pub IsUnlessMemory : Result PduValue DecodeFault → Result PduValue DecodeFault → Type 0
 IsUnlessMemory result read = (result ≡ read) ⊎ ((result ≡ Err NoMemory) × IsOk read)
 
--- the PDU is found, but for memory that ran out
+-- the result is this PDU, or NoMemory
 abbrev pub IsFound : Result PduValue DecodeFault → PduValue → Type 0
 IsFound result pdu = (result ≡ Ok pdu) ⊎ (result ≡ Err NoMemory)

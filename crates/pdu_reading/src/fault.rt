@@ -4,22 +4,22 @@ ghost use Rattle.pdu_reading.specs.Fault.{fault_number};
 
 use std::alloc::AllocError;
 
-/// Why octets are no PDU that the entity takes: the first that applies.
+/// Why a datagram is not a PDU that the entity accepts. Where several faults apply, the first is reported.
 #[derive(Clone, Copy, Debug, PartialEq, Eq)]
 pub enum DecodeFault {
-    /// Fewer octets than the fixed header, or than the header's own length.
+    /// The datagram has fewer than four octets, or fewer than its fixed header needs.
     TooShort = 1,
     /// The version is not 001.
     BadVersion = 2,
     /// The CRC flag is set: a CRC is neither written nor checked here.
     CrcPresent = 3,
-    /// The datagram is not exactly the header and the data field.
+    /// The datagram's length is not that of the header and the data field together.
     LengthMismatch = 5,
-    /// The directive code is not one of those that the entity takes, or an ACK is of another
-    /// directive than EOF and Finished.
+    /// The directive code is not one that the entity accepts, or an ACK acknowledges a directive other than EOF and
+    /// Finished.
     UnknownDirective = 6,
-    /// The data field ends within a field or goes on behind the last one, a directive has no code, or
-    /// an entity ID in an option of EOF or Finished has no octet or more than eight.
+    /// The data field ends within a field or goes on after the last one, a directive has no code, or an entity ID in
+    /// an option of EOF or Finished has no octet or more than eight.
     FieldCut = 7,
     /// A file name is empty.
     NoFileName = 8,
@@ -28,7 +28,7 @@ pub enum DecodeFault {
 }
 
 impl DecodeFault {
-    /// The number that is printed for the fault.
+    /// The fault's number, as it is printed.
     pub fn number(self) -> u8
         ensures { result ≡ fault_number self }
     {

@@ -1,13 +1,13 @@
-//! The fixed header's numbers as they stand in the octets (CCSDS 727.0-B-5, 5.1).
+//! The numbers of the fixed header as they are in the octets (CCSDS 727.0-B-5, 5.1).
 
-/// The numbers of the fixed header.
+/// The fixed header as read: its numbers before they are interpreted.
 #[derive(Clone, Copy, Debug)]
 pub struct FixedHeader {
-    /// Version, PDU type, direction, mode, CRC flag and large file flag.
+    /// The first octet: version, PDU type, direction, mode, CRC flag and large file flag.
     pub first: u8,
-    /// Octets of the data field.
+    /// Octets in the data field.
     pub size: u16,
-    /// Segmentation control, segment metadata flag, and the lengths of IDs and sequence number.
+    /// The fourth octet: segmentation control, segment metadata flag, and the lengths of IDs and sequence number.
     pub lengths: u8,
     pub source: u64,
     pub sequence: u64,
@@ -32,21 +32,21 @@ impl FixedHeader {
         self.lengths % 8 + 1
     }
 
-    /// Whether segment metadata stands before file data.
+    /// Whether segment metadata precedes the file data.
     pub fn has_segment_metadata(&self) -> bool
         ensures { result ≡ has_segment_metadata self.now.lengths }
     {
         self.lengths / 8 % 2 == 1
     }
 
-    /// Whether sizes and offsets have eight octets, and not four.
+    /// Whether sizes and offsets have eight octets instead of four.
     pub fn is_large(&self) -> bool
         ensures { result ≡ is_large self.now.first }
     {
         self.first % 2 == 1
     }
 
-    /// Whether the PDU is File Data, and no directive.
+    /// Whether the PDU is File Data rather than a directive.
     pub fn is_file_data(&self) -> bool
         ensures { result ≡ is_file_data self.now.first }
     {

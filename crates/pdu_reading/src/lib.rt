@@ -1,4 +1,4 @@
-//! How octets read as protocol data units, and which fault comes first: the definitions.
+//! The definitions of how octets are read as protocol data units, and of which fault is reported first.
 #![tactic(auto)]
 
 mod fault;

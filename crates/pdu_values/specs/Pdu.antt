@@ -15,7 +15,7 @@ abbrev pub ack_is_toward_sender : Acknowledged → Bool
 ack_is_toward_sender acknowledged.Eof = true
 ack_is_toward_sender acknowledged.Finished = false
 
--- whether the kind of the body is one that goes toward the sender of the file
+-- whether this kind of body goes toward the sender of the file
 abbrev pub is_toward_sender : Body → Bool
 is_toward_sender (bodies.Eof e) = false
 is_toward_sender (bodies.Finished f) = true

@@ -1,6 +1,6 @@
--- Meaning. How a protocol data unit is spelled in octets (CCSDS 727.0-B-5, 5). What the standard leaves to
--- the writer, as spare bits and optional fields without a meaning here, is a choice: there is one
--- spelling for each.
+-- Meaning. How a protocol data unit is spelled in octets (CCSDS 727.0-B-5, 5). What the standard leaves open,
+-- such as spare bits and optional fields without a meaning here, is a choice: each choice gives one
+-- spelling.
 use Rattle.std.specs.Prelude.{◌≡◌, ℕ, ◌+◌, ◌-◌, ◌*◌, ◌^◌, ◌<◌, ◌≤◌, Bool, true, false, List, [], ◌++◌, length, map, Option, Some, None, IsTrue}
 use Rattle.std.specs.List.{flat_map, AllByRecursion}
 pub use Rattle.cfdp_types.specs.Params.{IsIdLength}
@@ -36,7 +36,7 @@ use Rattle.pdu_values.specs.Pdu.{PduValue}
 use Rattle.pdu_values.specs.Numbers.{digits}
 use Rattle.pdu_values.specs.Tlvs.{Tlv, messages_in, location_in, may_locate, message_tlv, location_tlvs}
 
--- what a writer is free in
+-- what a writer may choose
 pub record Choice : Type 0 where
   -- the segmentation control bit of the header
   pub control : ℕ
@@ -101,7 +101,7 @@ lv value = digits 1 (length value) ++ value
 abbrev pub tlv : Tlv → List ℕ
 tlv t = digits 1 t.kind ++ lv t.value
 
--- ---- data fields, for sizes and offsets of a width in octets, behind the directive code
+-- ---- the fields of a directive after its code, and file data; `width` is that of sizes and offsets in octets
 
 -- EOF (5.2.2)
 abbrev pub eof : ℕ → ℕ → List Tlv → eof_type.Eof → List ℕ
@@ -137,7 +137,7 @@ prompt spare p = digits 1 (128 * prompt_bit p + spare)
 abbrev pub keep_alive : ℕ → keep_alive_type.KeepAlive → List ℕ
 keep_alive width k = digits width k.progress
 
--- the segment metadata before File Data, where the flag is set
+-- the segment metadata before File Data, present where the flag is set
 abbrev pub segment : Bool → ℕ → List ℕ → List ℕ
 segment false state segment_metadata = []
 segment true state segment_metadata = digits 1 (64 * state + length segment_metadata) ++ segment_metadata
@@ -185,12 +185,12 @@ abbrev pub mode_bit : Class → ℕ
 mode_bit Two = 0
 mode_bit One = 1
 
--- the version 001, type, direction, mode, no CRC, and the large file flag
+-- the first octet: version 001, type, direction, mode, no CRC, and the large file flag
 abbrev pub first_octet : PduValue → ℕ
 first_octet pdu =
     32 + 16 * type_bit pdu.body + 8 * direction_bit pdu.header.direction + 4 * mode_bit pdu.header.class + bit pdu.header.large
 
--- segmentation control, segment metadata flag, and the two lengths, less one each
+-- the octet of lengths: segmentation control, segment metadata flag, and the two lengths, each minus one
 abbrev pub lengths_octet : Choice → Header → ℕ
 lengths_octet choice header =
     128 * choice.control + 16 * (header.entity_octets - 1) + 8 * bit choice.flag + (header.sequence_octets - 1)
@@ -201,7 +201,7 @@ ids header =
     digits header.entity_octets header.source.0
     ++ (digits header.sequence_octets header.sequence ++ digits header.entity_octets header.destination.0)
 
--- a PDU in octets, under a choice
+-- a PDU in octets, with a choice
 unfoldable pub spelling : Choice → PduValue → List ℕ
 spelling choice pdu =
     let field = data_field (size_octets pdu.header.large) choice pdu.body in
@@ -211,7 +211,7 @@ spelling choice pdu =
 
 -- ---- what is written
 
--- the subtype code that is written: 1 for Finished, else 0
+-- the subtype code that is written: 1 for Finished, otherwise 0
 abbrev pub acknowledged_subtype : Acknowledged → ℕ
 acknowledged_subtype acknowledged.Eof = 0
 acknowledged_subtype acknowledged.Finished = 1
@@ -226,7 +226,7 @@ plain_subtype (bodies.Prompt p) = 0
 plain_subtype (bodies.KeepAlive k) = 0
 plain_subtype (bodies.FileData f) = 0
 
--- the optional fields that hold what the body has of them, for IDs of so many octets in the header
+-- the optional fields that the body needs, where IDs have so many octets in the header
 abbrev pub plain_tlvs : ℕ → Body → List Tlv
 plain_tlvs entity_octets (bodies.Eof e) = location_tlvs entity_octets e.location
 plain_tlvs entity_octets (bodies.Finished f) = location_tlvs entity_octets f.location
@@ -237,7 +237,7 @@ plain_tlvs entity_octets (bodies.Prompt p) = []
 plain_tlvs entity_octets (bodies.KeepAlive k) = []
 plain_tlvs entity_octets (bodies.FileData f) = []
 
--- all spare bits zero, and no optional field beyond those that hold what the PDU has
+-- the choice that is written: all spare bits zero, and only the optional fields that the PDU needs
 abbrev pub plain_choice : PduValue → Choice
 plain_choice pdu = record {
   control = 0;
@@ -250,11 +250,11 @@ plain_choice pdu = record {
   tlvs = plain_tlvs pdu.header.entity_octets pdu.body;
 }
 
--- the one spelling under that choice
+-- the octets that are written: the spelling with that choice
 unfoldable pub written : PduValue → List ℕ
 written pdu = spelling (plain_choice pdu) pdu
 
--- ---- what has a spelling
+-- ---- what can be spelled
 
 -- a file name
 pub record IsName (name : List ℕ) : Type 0 where
@@ -343,7 +343,7 @@ file_data_limit = 65527
 abbrev pub requests_limit : ℕ
 requests_limit = 4094
 
--- every number fits its field, and the written data field its length
+-- the PDU can be written: every number fits its field, and so does the length of the written data field
 pub record Fits (pdu : PduValue) : Type 0 where
   pub header : HeaderFits pdu.header
   pub body : BodyFits (size_octets pdu.header.large) pdu.body
@@ -351,7 +351,7 @@ pub record Fits (pdu : PduValue) : Type 0 where
 
 -- ---- choices
 
--- the numbers that the spare bits of a kind of body can hold are those below this one
+-- the spare bits of a body hold numbers below this one
 abbrev pub spare_limit : Body → ℕ
 spare_limit (bodies.Eof e) = 16
 spare_limit (bodies.Finished f) = 2
@@ -367,22 +367,22 @@ pub record IsTlv (t : Tlv) : Type 0 where
   pub kind : t.kind < 256
   pub value : length t.value < 256
 
--- a TLV that may stand where a fault location may
+-- a TLV that may stand among the optional fields of EOF and Finished
 pub record IsLocationTlv (t : Tlv) : Type 0 where
   pub is_tlv : IsTlv t
   pub may_locate : IsTrue (may_locate t)
 
--- optional fields of which this fault location is kept
+-- optional fields of EOF or Finished that give this fault location
 pub record Locates (tlvs : List Tlv) (location : Option EntityId) : Type 0 where
   pub each : AllByRecursion IsLocationTlv tlvs
   pub kept : location_in tlvs ≡ location
 
--- optional fields of which these messages are kept
+-- optional fields of Metadata that give these messages
 pub record Tells (tlvs : List Tlv) (messages : List (List ℕ)) : Type 0 where
   pub each : AllByRecursion IsTlv tlvs
   pub kept : messages_in tlvs ≡ messages
 
--- optional fields of which the body's values are kept
+-- optional fields that give the values in the body
 abbrev pub Keeps : List Tlv → Body → Type 0
 Keeps tlvs (bodies.Eof e) = Locates tlvs e.location
 Keeps tlvs (bodies.Finished f) = Locates tlvs f.location
@@ -393,7 +393,7 @@ Keeps tlvs (bodies.Prompt p) = Unit {0}
 Keeps tlvs (bodies.KeepAlive k) = Unit {0}
 Keeps tlvs (bodies.FileData f) = Unit {0}
 
--- a choice for a body, apart from the header
+-- a choice that is possible for a body, apart from the header
 pub record IsBodyChoice (choice : Choice) (body : Body) : Type 0 where
   pub state : choice.state < 4
   pub segment_metadata : length choice.segment_metadata < 64
@@ -402,13 +402,13 @@ pub record IsBodyChoice (choice : Choice) (body : Body) : Type 0 where
   pub subtype : choice.subtype < 16
   pub tlvs : Keeps choice.tlvs body
 
--- a choice that a writer of the PDU has
+-- a choice that is possible for the PDU
 pub record IsChoice (choice : Choice) (pdu : PduValue) : Type 0 where
   pub control : choice.control < 2
   pub body : IsBodyChoice choice pdu.body
   pub data_field : length (data_field (size_octets pdu.header.large) choice pdu.body) < 2 ^ 16
 
--- the octets spell the PDU, under some choice
+-- the octets spell the PDU, with some choice
 pub record Spells (octets : List ℕ) (pdu : PduValue) : Type 0 where
   pub choice : Choice
   pub is_choice : IsChoice choice pdu

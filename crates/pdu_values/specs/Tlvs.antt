@@ -1,5 +1,5 @@
--- Meaning. Type, length and value: the optional fields behind the fixed ones of a directive (CCSDS 727.0-B-5, 5.4),
--- and what is kept of them.
+-- Meaning. Type, length and value: the optional fields after the fixed ones of a directive (CCSDS 727.0-B-5, 5.4),
+-- and what is read from them.
 use Rattle.std.specs.Prelude.{ℕ, ◌+◌, ◌-◌, ◌^◌, zero, suc, List, [], ◌∷◌, length, Option, Some, None, Bool, true, ◌&&◌, nat_lt, ◌==◌, if◌then◌else◌}
 use Rattle.cfdp_types.specs.declared.key.EntityId.{EntityId}
 use Rattle.pdu_values.specs.Numbers.{number_of, digits}
@@ -17,7 +17,7 @@ message_kind = 2
 abbrev pub entity_id_kind : ℕ
 entity_id_kind = 6
 
--- ---- what is kept
+-- ---- what is read from them
 
 -- the messages to the user, in order
 unfoldable pub messages_in : List Tlv → List (List ℕ)
@@ -29,7 +29,7 @@ unfoldable pub location_in : List Tlv → Option EntityId
 location_in [] = None
 location_in (t ∷ ts) = if t.kind == entity_id_kind then Some (record { 0 = number_of t.value }) else location_in ts
 
--- whether a TLV may stand where a fault location does: an entity ID has 1 to 8 octets
+-- whether a TLV may stand among the optional fields of EOF and Finished: an entity ID must have 1 to 8 octets
 abbrev pub may_locate : Tlv → Bool
 may_locate t = if t.kind == entity_id_kind then nat_lt 0 (length t.value) && nat_lt (length t.value) 9 else true
 
@@ -39,16 +39,16 @@ may_locate t = if t.kind == entity_id_kind then nat_lt 0 (length t.value) && nat
 abbrev pub message_tlv : List ℕ → Tlv
 message_tlv message = record { kind = message_kind; value = message }
 
--- the least width, from this one on and at most so many octets longer, that holds a number
+-- the least width, from `width` to so many octets more, that holds a number
 unfoldable pub width_from : ℕ → ℕ → ℕ → ℕ
 width_from zero width n = width
 width_from (suc more) width n = if nat_lt n (256 ^ width) then width else width_from more (width + 1) n
 
--- as many octets as these, or the fewest that hold a number where that is more, at most 8
+-- the width in which an ID is written: `octets`, or the fewest that hold it where that is more, at most 8
 abbrev pub octets_for : ℕ → ℕ → ℕ
 octets_for octets n = width_from (8 - octets) octets n
 
--- the TLV of a fault location, where there is one
+-- the TLV of a fault location, if there is one
 abbrev pub location_tlvs : ℕ → Option EntityId → List Tlv
 location_tlvs entity_octets None = []
 location_tlvs entity_octets (Some id) =

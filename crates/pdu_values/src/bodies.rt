@@ -1,20 +1,20 @@
-//! What the kinds of PDU say (CCSDS 727.0-B-5, 5.2 and 5.3).
+//! The bodies of the kinds of PDU (CCSDS 727.0-B-5, 5.2 and 5.3).
 
 use crate::requests::SegmentRequests;
 use cfdp_types::{ChecksumType, Condition, Delivery, EntityId, FileStatus, Messages, Octets};
 
-/// The end of a file, or of the transaction where the condition is an error (5.2.2).
+/// EOF: the end of the file or, where the condition is an error, of the transaction (5.2.2).
 #[derive(Clone, Copy, Debug, PartialEq, Eq)]
 pub struct Eof {
     pub condition: Condition,
     pub checksum: u32,
-    /// Octets of the file.
+    /// Octets in the file.
     pub size: u64,
     /// The fault location: the entity that ended the transaction.
     pub location: Option<EntityId>,
 }
 
-/// How a transaction went at the receiver (5.2.3).
+/// Finished: how the transaction ended at the receiver (5.2.3).
 #[derive(Clone, Copy, Debug, PartialEq, Eq)]
 pub struct Finished {
     pub condition: Condition,
@@ -31,68 +31,68 @@ pub enum Acknowledged {
     Finished,
 }
 
-/// What the entity that acknowledges knows of the transaction.
+/// The transaction status in an ACK: what the acknowledging entity knows of the transaction.
 #[derive(Clone, Copy, Debug, PartialEq, Eq)]
 pub enum TransactionStatus {
-    /// It has ended or was never open: the entity keeps no history to tell which.
+    /// The transaction has ended or was never open: the entity keeps no history to tell which.
     Undefined,
     Active,
     Terminated,
-    /// It was never open there.
+    /// The transaction was never open at that entity.
     Unrecognized,
 }
 
-/// That a PDU came (5.2.4).
+/// ACK: a PDU was received (5.2.4).
 #[derive(Clone, Copy, Debug, PartialEq, Eq)]
 pub struct Ack {
-    /// The kind of the PDU that came.
+    /// The kind of the acknowledged PDU.
     pub of: Acknowledged,
-    /// That PDU's condition.
+    /// The condition code of the acknowledged PDU.
     pub condition: Condition,
     pub status: TransactionStatus,
 }
 
-/// What a file is and where it goes (5.2.5).
+/// Metadata: what the file is and where it goes (5.2.5).
 #[derive(Clone, Debug, Drop, PartialEq, Eq)]
 pub struct Metadata {
-    /// Whether the sender asks for a Finished PDU in class 1.
+    /// Whether the sender requests transaction closure: a Finished PDU in class 1.
     pub closure: bool,
     pub checksum_type: ChecksumType,
-    /// Octets of the file.
+    /// Octets in the file.
     pub size: u64,
     pub source_name: Octets,
     pub destination_name: Octets,
     pub messages: Messages,
 }
 
-/// What the receiver misses (5.2.6).
+/// NAK: what the receiver is missing (5.2.6).
 #[derive(Clone, Debug, Drop, PartialEq, Eq)]
 pub struct Nak {
-    /// The start of the scope, an offset in the file.
+    /// Start of scope, an offset in the file.
     pub start: u64,
-    /// The end of the scope: the offset behind it.
+    /// End of scope: the offset after its last octet.
     pub end: u64,
     pub requests: SegmentRequests,
 }
 
-/// What the sender asks the receiver for (5.2.7).
+/// Prompt: the PDU that the sender asks the receiver for (5.2.7).
 #[derive(Clone, Copy, Debug, PartialEq, Eq)]
 pub enum Prompt {
     Nak,
     KeepAlive,
 }
 
-/// How far the receiver is (5.2.8).
+/// Keep Alive: how much the receiver has (5.2.8).
 #[derive(Clone, Copy, Debug, PartialEq, Eq)]
 pub struct KeepAlive {
-    /// The greatest offset that came, plus one; 0 if none did.
+    /// One more than the greatest offset received; 0 if there is none.
     pub progress: u64,
 }
 
-/// A part of a file (5.3).
+/// File Data: a segment of the file (5.3).
 #[derive(Clone, Debug, Drop, PartialEq, Eq)]
 pub struct FileData {
-    /// The place of the first octet in the file.
+    /// The offset in the file of the first octet.
     pub offset: u64,
     pub octets: Octets,
 }

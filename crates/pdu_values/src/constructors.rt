@@ -1,5 +1,5 @@
-//! The PDUs that the two ends of a transaction write. Sizes and offsets below 2^32 fit their fields with the large
-//! file flag and without it.
+//! Constructors for the PDUs that the two ends of a transaction send. Sizes and offsets below 2^32 fit their fields
+//! with the large file flag and without it.
 
 use crate::bodies::{Ack, Eof, FileData, Finished, KeepAlive, Metadata, Nak};
 use crate::pdu::{Body, Header, Pdu};
@@ -11,7 +11,7 @@ impl Pdu {
     ghost use Rattle.pdu_values.specs.declared.pdu.Body.TheVariants as body;
     ghost use Rattle.pdu_values.specs.Spelling.{HeaderFits, NakFits, file_data_limit, requests_limit};
 
-    /// An EOF.
+    /// An EOF PDU.
     pub fn eof(header: Header, eof: Eof) -> Pdu
         requires header { HeaderFits header }
         requires size { eof.size < 2 ^ 32 }
@@ -23,7 +23,7 @@ impl Pdu {
         Pdu::new(header, Body::Eof(eof))
     }
 
-    /// That a transaction is over at the receiver.
+    /// A Finished PDU.
     pub fn finished(header: Header, finished: Finished) -> Pdu
         requires { HeaderFits header }
         ensures { result ≡ record { header = header; body = body.Finished finished } }
@@ -33,7 +33,7 @@ impl Pdu {
         Pdu::new(header, Body::Finished(finished))
     }
 
-    /// An acknowledgement.
+    /// An ACK PDU.
     pub fn ack(header: Header, ack: Ack) -> Pdu
         requires { HeaderFits header }
         ensures { result ≡ record { header = header; body = body.Ack ack } }
@@ -42,7 +42,7 @@ impl Pdu {
         Pdu::new(header, Body::Ack(ack))
     }
 
-    /// What the file is and where it goes.
+    /// A Metadata PDU.
     pub fn metadata(header: Header, metadata: Metadata) -> Pdu
         requires header { HeaderFits header }
         requires size { metadata.size < 2 ^ 32 }
@@ -55,7 +55,7 @@ impl Pdu {
         Pdu::new(header, Body::Metadata(metadata))
     }
 
-    /// What the receiver misses.
+    /// A NAK PDU.
     pub fn nak(header: Header, nak: Nak) -> Pdu
         requires header { HeaderFits header }
         requires fits { NakFits 4 nak }
@@ -65,7 +65,7 @@ impl Pdu {
         Pdu::new(header, Body::Nak(nak))
     }
 
-    /// How far the receiver is.
+    /// A Keep Alive PDU.
     pub fn keep_alive(header: Header, keep_alive: KeepAlive) -> Pdu
         requires header { HeaderFits header }
         requires progress { keep_alive.progress < 2 ^ 32 }
@@ -74,7 +74,7 @@ impl Pdu {
         Pdu::new(header, Body::KeepAlive(keep_alive))
     }
 
-    /// A part of the file.
+    /// A File Data PDU.
     pub fn file_data(header: Header, file_data: FileData) -> Pdu
         requires header { HeaderFits header }
         requires offset { file_data.offset < 2 ^ 32 }

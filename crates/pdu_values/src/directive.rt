@@ -1,7 +1,7 @@
 ghost use Rattle.std.specs.Prelude.{◌≡◌};
 ghost use Rattle.pdu_values.specs.Directive.{directive_code, directive_with_code};
 
-/// The kinds of PDU that are file directives, by their codes (CCSDS 727.0-B-5, 5.2.1).
+/// The kinds of file directive (CCSDS 727.0-B-5, 5.2.1).
 #[derive(Clone, Copy, Debug, PartialEq, Eq)]
 pub enum Directive {
     Eof = 4,
@@ -21,7 +21,7 @@ impl Directive {
         self as u8
     }
 
-    /// The directive with a code.
+    /// The directive with this code, None for an unknown code.
     pub fn with_code(code: u8) -> Option<Directive>
         ensures { result ≡ directive_with_code code }
     {

@@ -1,5 +1,4 @@
-//! Protocol data units as values: what each kind says, how it is spelled in octets, and what fits
-//! the fields that it is written in.
+//! Protocol data units as values: what each kind holds, how it is spelled in octets, and what fits the fields.
 #![tactic(auto)]
 
 mod bodies;

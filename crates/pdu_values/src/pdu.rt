@@ -5,21 +5,21 @@ use cfdp_types::{Class, EntityId};
 use std::alloc::AllocError;
 use std::marker::Model;
 
-/// The end of a transaction that a PDU goes to.
+/// The end of the transaction that a PDU goes to.
 #[derive(Clone, Copy, Debug, PartialEq, Eq)]
 pub enum Direction {
     TowardReceiver,
     TowardSender,
 }
 
-/// What stands before every PDU (CCSDS 727.0-B-5, 5.1). The other fields of the fixed header follow
-/// from the PDU's body, or have one value here.
+/// The header of a PDU (CCSDS 727.0-B-5, 5.1). The other fields of the fixed header follow from the body, or have
+/// one value here.
 #[derive(Clone, Copy, Debug, PartialEq, Eq)]
 pub struct Header {
     pub direction: Direction,
-    /// The transmission mode: class 1 is unacknowledged.
+    /// The transmission mode: class 1 is unacknowledged, class 2 acknowledged.
     pub class: Class,
-    /// The large file flag: whether sizes and offsets are written in eight octets, and not in four.
+    /// The large file flag: sizes and offsets have eight octets instead of four.
     pub large: bool,
     /// Octets of an entity ID, 1 to 8.
     pub entity_octets: u8,
@@ -30,7 +30,7 @@ pub struct Header {
     pub destination: EntityId,
 }
 
-/// What a PDU says.
+/// The body of a PDU, by kind.
 #[derive(Clone, Debug, Drop, PartialEq, Eq)]
 pub enum Body {
     Eof(Eof),
@@ -43,8 +43,8 @@ pub enum Body {
     FileData(FileData),
 }
 
-/// A protocol data unit, which can be written: each number fits its field, and the data field its
-/// length. Contracts see its header and its body.
+/// A protocol data unit that can be written: each number fits its field, and so does the data field's length.
+/// Contracts see the header and the body.
 #[derive(Debug, Drop)]
 pub struct Pdu {
     header: Header,
@@ -67,7 +67,7 @@ impl Pdu {
     ghost use Rattle.pdu_values.specs.Pdu.{is_toward_sender};
     ghost use Rattle.pdu_values.specs.Spelling.{Fits};
 
-    /// A PDU of a header and a body.
+    /// The PDU with this header and body, which must fit.
     pub fn new(header: Header, body: Body) -> Pdu
         requires { Fits (record { header = header; body = body }) }
         ensures { result ≡ record { header = header; body = body } }
@@ -89,7 +89,7 @@ impl Pdu {
         &self.body
     }
 
-    /// The header and the body, which fit the fields that they are written in.
+    /// The header and the body; the contract adds that they fit their fields.
     pub fn parts(&self) -> (&Header, &Body)
         ensures header { result.0.now ≡ self.now.header }
         ensures body { result.1.now ≡ self.now.body }
@@ -98,7 +98,7 @@ impl Pdu {
         (&self.header, &self.body)
     }
 
-    /// Whether the kind of the body is one that goes toward the sender of the file.
+    /// Whether this kind of PDU goes toward the sender of the file.
     pub fn is_toward_sender(&self) -> bool
         ensures { result ≡ is_toward_sender self.now.body }
     {
@@ -109,7 +109,7 @@ impl Pdu {
         }
     }
 
-    /// The header and the body.
+    /// Takes the PDU apart into header and body.
     pub fn into_parts(self) -> (Header, Body)
         ensures { result ≡ (self.header, self.body) }
     {

@@ -8,8 +8,8 @@ use crate::sizes::long_word;
 use std::alloc::{AllocError, Global};
 use std::marker::Model;
 
-/// A run of a file that the receiver asks for: the octets from `start` to the one before `end`.
-/// `(0, 0)` asks for the Metadata (CCSDS 727.0-B-5, 5.2.6).
+/// A segment request: the receiver asks for the octets from `start` to `end` - 1. `(0, 0)` asks for the Metadata
+/// (CCSDS 727.0-B-5, 5.2.6).
 #[derive(Clone, Copy, Debug, PartialEq, Eq)]
 pub struct SegmentRequest {
     pub start: u64,
@@ -48,7 +48,7 @@ impl SegmentRequests {
         }
     }
 
-    /// No request, with room for so many.
+    /// An empty list with room for `capacity` requests.
     pub fn with_capacity(alloc: Global, capacity: usize) -> Result<SegmentRequests, AllocError>
         ensures { IfOk result (λ requests. requests ≡ []) }
     {
@@ -73,7 +73,7 @@ impl SegmentRequests {
         Ok(())
     }
 
-    /// An equal list.
+    /// A copy of the list.
     pub fn copy(&self, alloc: Global) -> Result<SegmentRequests, AllocError>
         ensures { IfOk result (λ copy. copy ≡ self.now) }
     {
@@ -83,7 +83,7 @@ impl SegmentRequests {
     }
 }
 
-// What the types of the two offsets say of them.
+// The request itself; the contract adds that its offsets fit eight octets.
 fn sized(request: SegmentRequest) -> SegmentRequest
     ensures value { result ≡ request }
     ensures fits { RequestFits 8 result }

@@ -1,10 +1,10 @@
-//! What the types of values say of their sizes.
+//! The bounds that types imply, as contracts.
 ghost use Rattle.std.specs.Prelude.{◌≡◌, ◌<◌, ◌^◌};
 ghost use Rattle.pdu_values.specs.Spelling.{IsLocation};
 
 use cfdp_types::EntityId;
 
-/// What the type of a number says of it.
+/// The number itself; the contract adds the bound that its type implies.
 pub(crate) fn word(number: u32) -> u32
     ensures value { result ≡ number }
     ensures range { number < 2 ^ 32 }
@@ -19,7 +19,7 @@ pub(crate) fn long_word(number: u64) -> u64
     number
 }
 
-/// What the type of a fault location says of it.
+/// Whether there is a fault location; the contract adds the bound that its type implies.
 pub(crate) fn has_location(location: Option<EntityId>) -> bool
     ensures { IsLocation location }
 {

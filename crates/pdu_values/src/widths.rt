@@ -3,8 +3,8 @@ ghost use Rattle.std.specs.Prelude.{◌≡◌, ◌<◌, ◌^◌};
 ghost use Rattle.cfdp_types.specs.Params.{IsIdLength};
 ghost use Rattle.pdu_values.specs.Tlvs.{octets_for};
 
-/// The octets in which an ID or a sequence number is written: this many, or the fewest that hold it
-/// where it needs more.
+/// How many octets an ID or a sequence number is written in: `least`, or the fewest that hold it where it needs
+/// more.
 #[tactic(auto, unfolding(crate::specs::Tlvs::width_from))]
 pub fn octets_for(least: u8, number: u64) -> u8
     requires { IsIdLength least }

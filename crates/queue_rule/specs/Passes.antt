@@ -1,4 +1,4 @@
--- Of the code. The passes of a queue that are an outlet's and a port's.
+-- Of the code. The passes of a queue that belong to an outlet or to the port.
 use Rattle.std.specs.Prelude.{◌≡◌}
 use Rattle.crossbeam_queue.specs.Passes.{Pass, view, IsPassOf, IsSamePass, ruled_capacity}
 use Rattle.crossbeam_queue.specs.declared.array_queue.Slotted.{Slotted}
@@ -22,12 +22,12 @@ module _ {Q A : Type 0} where
     pub port : view pass ≡ Port (port_in (view pass))
     pub room : (port_in (view pass)).room ≡ ruled_capacity queue
 
-  -- a pass that was a lane's outlet of the queue is that still
+  -- the pass still is a lane's outlet of the queue
   pub record StaysOutlet (queue : Slotted (Option Bundle) (Doing Bundle View) Q A) (old new : Pass Bundle View) : Type 0 where
     pub outlet : IsOutletOf queue new
     pub same : IsSamePass old new
 
-  -- a pass that was the port of the queue is that still
+  -- the pass still is the port of the queue
   pub record StaysPort (queue : Slotted (Option Bundle) (Doing Bundle View) Q A) (old new : Pass Bundle View) : Type 0 where
     pub port : IsPortOf queue new
     pub same : IsSamePass old new

@@ -1,4 +1,4 @@
--- Of the code. The rule of a queue that threads share: what was taken of each lane, and behind it what is held, is what the lane sent.
+-- Of the code. The rule of a shared queue: for each lane, what was taken and then what is held is what the lane sent.
 use Rattle.std.specs.Prelude.{◌≡◌, ℕ, ◌<◌, ◌≤◌, List, [], ◌++◌, length, Option, Some, None, IsSome, get_or}
 use mathlib.Core.Option.{some}
 use lib.ListN.{get_elem?}
@@ -10,8 +10,8 @@ use Rattle.queue_rule.specs.declared.view.View.{View}
 use Rattle.queue_rule.specs.declared.view.View.TheVariants.{Origin, Port, Outlet, Spent}
 use Rattle.queue_rule.specs.Views.{IsSomeLaneList}
 
--- what nobody knows whole: whose queue it is and how many bundles it has room for, which pass is the port's, how many lanes
--- ever had an outlet, which pass is the outlet's of a lane, what each lane sent, and what was taken
+-- the whole, of which each holder knows a part: whose queue it is and its room for bundles, the port's pass, how many
+-- lanes were given an outlet, the pass of each lane's outlet, what each lane sent, and what was taken
 pub record Whole : Type 0 where
   pub user : ℕ
   pub room : ℕ
@@ -21,7 +21,7 @@ pub record Whole : Type 0 where
   pub sent : ℕ → List Bundle
   pub taken : List Bundle
 
--- the one port knows what was taken, and of each lane that ever had an outlet all that it sent, or that its outlet is out
+-- the one port knows what was taken, and for each lane that was given an outlet what it sent, or that its outlet is out
 pub record PortFits (whole : Whole) (pass : ℕ) (port : PortView) : Type 0 where
   pub reads : pass ≡ whole.reader
   pub of_user : port.user ≡ whole.user
@@ -32,14 +32,14 @@ pub record PortFits (whole : Whole) (pass : ℕ) (port : PortView) : Type 0 wher
       → (whole.seat lane ≡ None) × (whole.sent lane ≡ bundles)
   pub out : (lane : ℕ) → lane < whole.lanes → get_or port.known lane None ≡ None → IsSome (whole.seat lane)
 
--- the one outlet of a lane knows what the lane sent
+-- the one outlet of a lane knows all that the lane sent
 pub record OutletFits (whole : Whole) (pass : ℕ) (outlet : OutletView) : Type 0 where
   pub sits : whole.seat outlet.lane ≡ Some pass
   pub of_user : outlet.user ≡ whole.user
   pub has_room : outlet.room ≡ whole.room
   pub all : outlet.sent ≡ whole.sent outlet.lane
 
--- what a pass knows is so
+-- what a pass knows is true
 abbrev pub Fits : Whole → ℕ → View → Type 0
 Fits whole pass Origin = (pass ≡ whole.reader) × (whole.lanes ≡ 0)
 Fits whole pass (Port port) = PortFits whole pass port
@@ -50,7 +50,7 @@ Fits whole pass Spent = Unit {0}
 abbrev pub IsSeated : List View → ℕ → ℕ → Type 0
 IsSeated views pass lane = (outlet : OutletView) × (get_elem? views pass ≡ some (Outlet outlet)) × (outlet.lane ≡ lane)
 
--- a queue that holds these bundles, and what those that share it know
+-- the queue holds these bundles, and its holders have these views
 pub record IsFairOf (whole : Whole) (items : List Bundle) (views : List View) : Type 0 where
   pub within : length items ≤ whole.room
   pub parts : (lane : ℕ) → of_lane lane (whole.taken ++ items) ≡ whole.sent lane

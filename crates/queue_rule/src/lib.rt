@@ -1,4 +1,4 @@
-//! What threads that share a user's queue know of it, and the rule that each of their steps keeps.
+//! What the threads that share a user's queue know about it, and the rule that each of their steps keeps.
 #![tactic(auto)]
 
 mod rule;

@@ -4,7 +4,7 @@ use crossbeam_queue::protocol::{Join, Lesson, Outcome, Protocol, Split};
 use indications::Bundle;
 use std::marker::{Brand, PhantomData};
 
-/// The rule of a user's queue.
+/// The rule of a user's queue: what was taken and what is held is, for each lane, what that lane sent.
 pub struct Fair;
 
 impl Protocol<Bundle, View> for Fair {
@@ -16,7 +16,7 @@ impl Protocol<Bundle, View> for Fair {
     ghost first = { Origin };
 }
 
-/// Whose queue it is, and how many bundles it has room for.
+/// The user of a queue, and how many bundles it has room for, as a type.
 pub trait QueueOfUser {
     ghost use Rattle.std.specs.Prelude.{ℕ};
 
@@ -31,7 +31,7 @@ impl QueueOfUser for Brand {
     ghost room = { 0 };
 }
 
-/// A lane sends a bundle.
+/// The step in which a lane puts a bundle into the queue.
 pub struct Sends;
 
 impl Outcome<Bundle, View> for Sends {
@@ -47,7 +47,7 @@ impl Lesson<Bundle, View> for Sends {
     ghost fact = { λ v items. ⊤ };
 }
 
-/// The user takes a bundle.
+/// The step in which the user takes a bundle.
 pub struct Takes;
 
 impl Outcome<Bundle, View> for Takes {
@@ -63,7 +63,7 @@ impl Lesson<Bundle, View> for Takes {
     ghost fact = { λ v items. IsLearned v items };
 }
 
-/// The port of a user is made of the queue's origin.
+/// The step in which the queue's first pass becomes the port of a user.
 pub struct OfUser<U> {
     user: PhantomData<U>,
 }
@@ -77,7 +77,7 @@ impl<U: QueueOfUser> Split<View> for OfUser<U> {
     ghost right = { λ v. Port (new_port U.user U.room) };
 }
 
-/// The outlet of the next lane is split off a port.
+/// The step in which the outlet of the next lane is split off the port.
 pub struct NextLane;
 
 impl Split<View> for NextLane {
@@ -88,7 +88,7 @@ impl Split<View> for NextLane {
     ghost right = { split_outlet };
 }
 
-/// The outlet of a lane is given back to the port.
+/// The step in which a lane's outlet is given back to the port.
 pub struct GivesBack;
 
 impl Join<View> for GivesBack {

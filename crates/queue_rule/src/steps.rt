@@ -1,4 +1,4 @@
-//! What those that share a queue do, each in one step.
+//! The operations on a shared queue, each in one step.
 ghost use Rattle.std.specs.Prelude.{◌≡◌, ◌<◌, ◌≤◌, [], IfErr, IfOk, OnOk, OnErr, IfSome, IfNone};
 ghost use Rattle.crossbeam_queue.specs.Fifo.{Held};
 ghost use Rattle.crossbeam_queue.specs.Passes.{view, IsPassOf, ruled_capacity};
@@ -15,14 +15,13 @@ use std::alloc::{AllocError, Global};
 use std::marker::Brand;
 use std::sync::Wait;
 
-/// A user's queue, which threads share.
+/// A user's queue, shared by threads.
 pub type SharedQueue = RuledArrayQueue<Bundle, View, Fair>;
 
-/// What one of those that share a queue knows of it. It has no bytes.
+/// A share in a queue, and what its holder knows about the queue. It occupies no memory.
 pub type QueuePass = Pass<Bundle, View>;
 
-/// Puts a bundle of an outlet's lane behind all that the queue holds, or gives it back where the
-/// queue was full.
+/// Appends a bundle of the outlet's lane to the queue, or gives it back where the queue was full.
 pub fn send<R: Wait>(
     rt: &R,
     queue: &SharedQueue,
@@ -39,7 +38,7 @@ pub fn send<R: Wait>(
     queue.push_as::<Sends, R>(rt, pass, bundle)
 }
 
-/// Takes the bundle at the front; none only where the queue was empty.
+/// Takes the bundle at the front. None only where the queue was empty.
 pub fn take<R: Wait>(rt: &R, queue: &SharedQueue, pass: &mut QueuePass) -> Option<Bundle>
     requires pass { IsPortOf queue.now pass.old }
     ensures stays { StaysPort queue.now pass.old pass.new }
@@ -51,7 +50,7 @@ pub fn take<R: Wait>(rt: &R, queue: &SharedQueue, pass: &mut QueuePass) -> Optio
     queue.pop_as::<Takes, R>(rt, pass)
 }
 
-/// How many bundles lay in the queue at one moment of the call.
+/// How many bundles were in the queue at some moment during the call.
 pub fn waiting<R: Wait>(rt: &R, queue: &SharedQueue, pass: &mut QueuePass) -> usize
     requires pass { IsPortOf queue.now pass.old }
     ensures stays { StaysPort queue.now pass.old pass.new }
@@ -62,7 +61,7 @@ pub fn waiting<R: Wait>(rt: &R, queue: &SharedQueue, pass: &mut QueuePass) -> us
     queue.len_as::<Takes, R>(rt, pass)
 }
 
-/// A queue that holds nothing, with room for so many bundles, and its first pass.
+/// An empty queue with room for `room` bundles, and its first pass.
 pub fn open(alloc: Global, room: usize) -> Result<(SharedQueue, QueuePass), AllocError>
     requires { 0 < room }
     ensures { IfOk result
@@ -71,7 +70,7 @@ pub fn open(alloc: Global, room: usize) -> Result<(SharedQueue, QueuePass), Allo
     SharedQueue::ruled(alloc, room)
 }
 
-/// Makes the port of a user of the queue's first pass.
+/// Makes the queue's first pass into the port of a user.
 pub fn open_port(queue: &SharedQueue, first: &mut QueuePass, user: usize) -> QueuePass
     requires { IsPassOf queue.now first.old × (view first.old ≡ Origin) }
     ensures port { IsPortOf queue.now result }
@@ -90,7 +89,7 @@ fn named_port<U: QueueOfUser>(queue: &SharedQueue, first: &mut QueuePass, user: 
     queue.another::<OfUser<U>>(first)
 }
 
-/// Splits the outlet of the next lane off a port.
+/// Splits the outlet of the next lane off the port.
 pub fn next_lane(queue: &SharedQueue, pass: &mut QueuePass) -> QueuePass
     requires port { IsPortOf queue.now pass.old }
     ensures stays { StaysPort queue.now pass.old pass.new }
@@ -101,7 +100,7 @@ pub fn next_lane(queue: &SharedQueue, pass: &mut QueuePass) -> QueuePass
     queue.another::<NextLane>(pass)
 }
 
-/// Takes the outlet of a lane back.
+/// Gives the outlet of a lane back to the port, which then knows all that the lane sent.
 pub fn admit(queue: &SharedQueue, pass: &mut QueuePass, outlet: QueuePass)
     requires port { IsPortOf queue.now pass.old }
     requires outlet { IsPassOf queue.now outlet × (view outlet ≡ Outlet (outlet_in (view outlet))) }

@@ -1,36 +1,36 @@
 use indications::Bundle;
 use std::collections::LinkedList;
 
-/// What the outlet of a lane knows. No value of it is made.
+/// What the outlet of a lane knows. Used in contracts only; no value is made.
 pub struct OutletView {
-    /// The number of the user.
+    /// The user's number.
     pub user: usize,
     /// How many bundles the queue has room for.
     pub room: usize,
-    /// The number of the user's lane.
+    /// The lane's number among the user's lanes.
     pub lane: usize,
-    /// All that the lane sent.
+    /// All that the lane has sent.
     pub sent: LinkedList<Bundle>,
 }
 
-/// What the end of a queue from which its user takes knows. No value of it is made.
+/// What a port, the end of a queue from which its user takes, knows. Used in contracts only; no value is made.
 pub struct PortView {
-    /// The number of the user.
+    /// The user's number.
     pub user: usize,
     /// How many bundles the queue has room for.
     pub room: usize,
-    /// All that the user took.
+    /// All that the user has taken.
     pub taken: LinkedList<Bundle>,
-    /// For each lane that ever had an outlet, all that it sent, where the outlet was given back.
+    /// For each lane that was given an outlet: all that it sent, once the outlet was given back; None until then.
     pub known: LinkedList<Option<LinkedList<Bundle>>>,
 }
 
-/// What one of those that share a queue knows of it. No value of it is made.
+/// What the holder of a pass knows about the queue. Used in contracts only; no value is made.
 pub enum View {
-    /// It is the first, and nothing was made of it yet.
+    /// The first pass, from which no port was made yet.
     Origin,
     Port(PortView),
     Outlet(OutletView),
-    /// It may do nothing any more.
+    /// A pass that permits no more steps.
     Spent,
 }

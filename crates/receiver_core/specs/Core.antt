@@ -1,4 +1,4 @@
--- Of the code. How the code keeps a reception, and what it plans.
+-- Of the code. How the code keeps a reception, and what its plans are.
 use Rattle.std.specs.Prelude.{◌≡◌, ℕ, ◌≤◌, Bool, true, false, List, [], Option, vec_len}
 use Rattle.cfdp_types.specs.declared.params.ParamsParts.{ParamsParts}
 use Rattle.cfdp_types.specs.Steps.{older_or}
@@ -23,24 +23,24 @@ use Rattle.receiver_core.specs.declared.plan.Plan.{Plan}
 use Rattle.receiver_core.specs.declared.receiver.ReceiverCore.{ReceiverCore}
 use Rattle.receiver_parts.specs.declared.control.ControlBlock.{ControlBlock}
 
--- what is settled when a PDU with this header opens a reception
+-- the reception that a PDU with this header opens
 abbrev pub reception_by : TxnKey → ParamsParts → Header → Reception
 reception_by key params header = record { key = key; params = params; header = header }
 
 abbrev pub reception_of : ReceiverCore → Reception
 reception_of core = reception_by core.key core.params core.header
 
--- a PDU opens the reception of a key
+-- the PDU may open the reception with this key
 pub record MayOpen (key : TxnKey) (pdu : PduValue) : Type 0 where
   pub body : BodyOpens pdu.body
   pub source : pdu.header.source ≡ key.source
   pub sequence : pdu.header.sequence ≡ key.seq
 
--- what a core stands at
+-- the state that a core shows
 abbrev pub shown : ReceiverCore → State
 shown core = state_from core.control core.metadata (received_of core.file)
 
--- what the core holds is what the log gives
+-- the core shows the state after this log
 abbrev pub StandsAfter : ReceiverCore → List Entry → Type 0
 StandsAfter core log = StandsAt state_of (shown core) log
 
@@ -48,17 +48,17 @@ StandsAfter core log = StandsAt state_of (shown core) log
 abbrev pub plan_answer : Plan → Answer
 plan_answer plan = plan.answer
 
--- what a core stands at with an event and the change that it brings, before it is answered
+-- the core's state with an event and its change, before the event is answered
 abbrev pub now_state : ReceiverCore → ControlBlock → FileChange → State
 now_state core now c = state_from now (metadata_after core.metadata c) (received_after core.file c)
 
--- neither a PDU nor a timer
+-- whether an event is neither a PDU nor an expiration
 abbrev pub is_request : What → Bool
 is_request (what.Pdu pdu) = false
 is_request (what.Timer kind stamp) = false
 is_request _ = true
 
--- the change that a body brings, if there is one
+-- the change that a body brings
 pub record IsChange (core : ReceiverCore) (b : Option Body) (c : FileChange) : Type 0 where
   pub metadata : metadata_after core.metadata c ≡ older_or core.metadata (metadata_of b)
   pub file_data : segment_of c ≡ file_data_of b
@@ -66,7 +66,7 @@ pub record IsChange (core : ReceiverCore) (b : Option Body) (c : FileChange) : T
   pub runs : runs_in c ≡ added_runs (shown core) (file_data_of b)
   pub more : adds c ≡ brings_more (shown core) b
 
--- a core that differs at most in its room, and in octets at offsets that did not come
+-- the cores differ at most in their room, and in octets at offsets that were not received
 pub record IsSame (old : ReceiverCore) (new : ReceiverCore) : Type 0 where
   pub reception : reception_of new ≡ reception_of old
   pub control : new.control ≡ old.control
@@ -78,7 +78,7 @@ pub record IsSame (old : ReceiverCore) (new : ReceiverCore) : Type 0 where
 
 -- ---- plans
 
--- in the core's present state the event is answered as planned, and the plan holds what follows
+-- in the core's present state the event gets the plan's answer, and the plan holds the state that follows
 pub record IsPlanOf (core : ReceiverCore) (plan : Plan) (event : What) : Type 0 where
   pub answered : IsAnswered (answer_at (reception_of core) (shown core)) (step (shown core)) event (plan_answer plan)
       (state_from plan.next (metadata_after core.metadata plan.change) (received_after core.file plan.change))
@@ -86,7 +86,7 @@ pub record IsPlanOf (core : ReceiverCore) (plan : Plan) (event : What) : Type 0 
   pub room : HasRoom core.file plan.change
   pub sound : core.control.ended ≡ false → IsSound plan.next
 
--- a PDU opened the reception of a key: nothing happened to it yet, and the PDU is planned as its first event
+-- a PDU opened the reception with this key, which is new, and the PDU is planned as its first event
 pub record IsOpenedBy (key : TxnKey) (params : ParamsParts) (pdu : PduValue) (core : ReceiverCore) (plan : Plan) : Type 0 where
   pub reception : reception_of core ≡ reception_by key params pdu.header
   pub stands : StandsAfter core []

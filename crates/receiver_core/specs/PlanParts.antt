@@ -1,4 +1,4 @@
--- Of the code. A plan that is made of a response.
+-- Of the code. A plan that is made from a response.
 use Rattle.std.specs.Prelude.{◌≡◌, if◌then◌else◌, map, Option, Some, None}
 use Rattle.std.specs.List.{list_any}
 use Rattle.cfdp_types.specs.Params.{timer_length}
@@ -20,7 +20,7 @@ use Rattle.receiver_core.specs.declared.receiver.ReceiverCore.{ReceiverCore}
 use Rattle.receiver_parts.specs.declared.response.Response as response_type
 use Rattle.receiver_parts.specs.declared.control.ControlBlock.{ControlBlock}
 
--- what a step does with the timers, by the control block that it leads to
+-- what a step does to a timer, where `next` is the control block after it
 abbrev pub effect_by : ControlBlock → What → response_type.Response → TimerKind → Effect
 effect_by next event response kind = effect_of (response_value response) (bare next) event kind
 
@@ -28,7 +28,7 @@ effect_by next event response kind = effect_of (response_value response) (bare n
 abbrev pub deposit_of : ReceiverCore → response_type.Response → Option Deposit
 deposit_of core response = if response.deposit then Some (record { key = core.key; stamp = core.control.entries }) else None
 
--- a plan made of a response and of the change that the event brings
+-- the plan is made from the response and from the change that the event brings
 pub record HoldsResponse (core : ReceiverCore) (event : What) (now : ControlBlock) (response : response_type.Response) (c : FileChange) (plan : Plan) : Type 0 where
   pub inds : plan.answer.inds ≡ response.inds
   pub pdus : plan.answer.pdus

@@ -1,4 +1,4 @@
-//! What a reception answers, event by event.
+//! A reception's answers, event by event.
 ghost use Rattle.std.specs.Prelude.{◌≡◌, ◌<◌, IfOk, All, map};
 ghost use Rattle.receiver_table.specs.Answers.{segment_told};
 
@@ -32,7 +32,7 @@ impl ReceiverCore {
     ghost use Rattle.cfdp_types.specs.declared.names.Delivery.TheVariants.{Incomplete};
     ghost use Rattle.cfdp_types.specs.declared.names.FileStatus.TheVariants.{Discarded};
 
-    // The file's type of checksum after a change, where the Metadata came.
+    // The file's checksum type after a change; None before the Metadata is received.
     fn checksum_type_after(&self, change: &FileChange) -> Option<ChecksumType>
         ensures { result ≡ option_map (λ m. m.checksum_type) (metadata_after self.now.metadata change.now) }
     {
@@ -45,7 +45,7 @@ impl ReceiverCore {
         }
     }
 
-    // The look at the file so far, once something was indicated.
+    // The completion check, which follows earlier indications of the same step.
     fn examine(
         &self,
         inds: Indications,
@@ -64,7 +64,7 @@ impl ReceiverCore {
         self.answers_finding(inds, now, finding)
     }
 
-    // What is indicated of the first Metadata.
+    // The indication of Metadata, if it is the first.
     fn metadata_told(&self, metadata: &Metadata) -> Result<Indications, AllocError>
         ensures { IfOk result (λ inds. inds ≡ (if is_some self.now.metadata then [] else told.MetadataRecv
             self.now.key.source metadata.now.size metadata.now.source_name metadata.now.destination_name
@@ -97,7 +97,7 @@ impl ReceiverCore {
         self.examine(inds, now, change)
     }
 
-    // What is indicated of the new octets of a change.
+    // The indications of the new octets in a change.
     fn part_told(&self, change: &FileChange) -> Result<Indications, AllocError>
         requires { All (λ run. run.start < run.end) (runs_in change.now) }
         ensures { IfOk result (λ inds. inds ≡ map segment_told (runs_in change.now)) }
@@ -108,7 +108,7 @@ impl ReceiverCore {
         }
     }
 
-    // Indicates each run of new octets.
+    // Indicates each run of new octets, and examines the file.
     fn on_file_data(&self, now: &ControlBlock, change: &FileChange) -> Result<Response, AllocError>
         requires ready { IsReady self.now.file now.now change.now }
         requires filled { All (λ run. run.start < run.end) (runs_in change.now) }
@@ -129,7 +129,7 @@ impl ReceiverCore {
         }
     }
 
-    // What is indicated of the first EOF without an error.
+    // The indication of an EOF without an error, if it is the first.
     fn eof_told(&self) -> Result<Indications, AllocError>
         ensures { IfOk result (λ inds. inds ≡ (if is_some self.now.control.eof then [] else told.EofRecv ∷ [])) }
     {
@@ -140,7 +140,7 @@ impl ReceiverCore {
         Ok(inds)
     }
 
-    // An EOF without an error, outside the closing phase.
+    // Answers an EOF without an error, outside the closing phase.
     fn on_good_eof(&self, now: &ControlBlock, change: &FileChange) -> Result<Response, AllocError>
         requires { IsReady self.now.file now.now change.now }
         ensures { IfOk result (λ response. IsResponse response (tells
@@ -156,7 +156,7 @@ impl ReceiverCore {
         Ok(response)
     }
 
-    // An EOF with an error ends the reception.
+    // Answers an EOF with an error, which ends the reception.
     fn on_bad_eof(&self, condition: Condition) -> Result<Response, AllocError>
         ensures { IfOk result (λ response. IsResponse response (tells (told.TransactionFinished condition Incomplete
             Discarded ∷ []) and_then table.acknowledges (reception_of self.now) condition)) }
@@ -192,7 +192,7 @@ impl ReceiverCore {
         }
     }
 
-    // A NAK, unless suspended, or a Keep Alive.
+    // Answers a Prompt: a NAK, unless the reception is suspended, or a Keep Alive.
     fn on_prompt(&self, prompt: Prompt, now: &ControlBlock) -> Response
         ensures { (m : Option Metadata) (octets : ℕ → Option ℕ) → IsResponse result
             (table.on_prompt (state_from now.now m octets) prompt) }
@@ -205,7 +205,7 @@ impl ReceiverCore {
         response
     }
 
-    // Indicates the values of the Finished PDU.
+    // Ends the transaction with the values of the Finished PDU.
     fn ends_as_finished(&self) -> Result<Response, AllocError>
         ensures { IfOk result (λ response. IsResponse response (table.ends_as_finished (shown self.now))) }
     {
@@ -246,7 +246,7 @@ impl ReceiverCore {
         }
     }
 
-    // Nak: the NAK once more, and at the limit a fault.
+    // Nak expired: another NAK, and at the limit a fault.
     fn on_nak_timer(&self, now: &ControlBlock) -> Result<Response, AllocError>
         ensures { (m : Option Metadata) (octets : ℕ → Option ℕ) → IfOk result (λ response. IsResponse response
             (table.on_nak_timer (reception_of self.now) (shown self.now) (state_from now.now m octets))) }
@@ -262,7 +262,7 @@ impl ReceiverCore {
         }
     }
 
-    // Check: at the limit a fault.
+    // Check expired: nothing is sent, and at the limit a fault.
     fn on_check_timer(&self, now: &ControlBlock) -> Result<Response, AllocError>
         ensures { (m : Option Metadata) (octets : ℕ → Option ℕ) → IfOk result (λ response. IsResponse response
             (table.on_check_timer (reception_of self.now) (shown self.now) (state_from now.now m octets))) }
@@ -277,7 +277,7 @@ impl ReceiverCore {
         }
     }
 
-    // Ack: the Finished PDU once more, and at the limit the end.
+    // Ack expired: the Finished PDU again, and at the limit the end.
     fn on_ack_timer(&self) -> Result<Response, AllocError>
         ensures { IfOk result
             (λ response. IsResponse response (table.on_ack_timer (reception_of self.now) (shown self.now))) }
@@ -309,7 +309,7 @@ impl ReceiverCore {
         }
     }
 
-    // The file store keeps the file, or not.
+    // The file store keeps the file, or rejects it.
     fn on_stored(&self, now: &ControlBlock, kept: bool) -> Result<Response, AllocError>
         ensures { (m : Option Metadata) (octets : ℕ → Option ℕ) → IfOk result (λ response. IsResponse response
             (table.on_stored (reception_of self.now) (state_from now.now m octets) kept)) }
@@ -328,7 +328,7 @@ impl ReceiverCore {
         }
     }
 
-    // The reception goes on, and looks at what came meanwhile.
+    // The reception is resumed, and examines what it received meanwhile.
     fn on_resume(&self, now: &ControlBlock, change: &FileChange) -> Result<Response, AllocError>
         requires { IsReady self.now.file now.now change.now }
         ensures { IfOk result (λ response. IsResponse response
@@ -347,7 +347,7 @@ impl ReceiverCore {
         Ok(response)
     }
 
-    // What is answered to the user and to what is neither a PDU nor a timer.
+    // Answers the user and the file store: events that are neither a PDU nor an expiration.
     fn on_request(
         &self,
         event: &What,
@@ -384,8 +384,8 @@ impl ReceiverCore {
         }
     }
 
-    /// The response of an event and the change that it brings, in the present state; `now` is the control block
-    /// with the event.
+    /// The response to an event, which brings `change`, in the present state; `now` is the control block with the
+    /// event.
     pub(crate) fn response_to(
         &self,
         event: &What,
@@ -406,7 +406,7 @@ impl ReceiverCore {
     }
 }
 
-// What is indicated of runs of new octets.
+// The indications of these runs of new octets.
 fn segments_told(alloc: Global, runs: &[Run]) -> Result<Indications, AllocError>
     requires { All (λ run. run.start < run.end) runs.now }
     ensures { IfOk result (λ inds. inds ≡ map segment_told runs.now) }

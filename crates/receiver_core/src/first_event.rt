@@ -1,4 +1,4 @@
-//! How a reception is opened.
+//! Opening a reception.
 use crate::plan::Plan;
 use crate::receiver::ReceiverCore;
 use cfdp_types::{Params, TxnKey};
@@ -17,8 +17,7 @@ impl ReceiverCore {
     ghost use Rattle.receiver_laws.specs.LegalReceptions.{Opens};
     ghost use Rattle.receiver_core.specs.Core.{shown, reception_of, reception_by, MayOpen, IsOpenedBy, IsWhy};
 
-    /// Whether a PDU opens the reception of a key: its own key is that one, and it is Metadata, File
-    /// Data or an EOF.
+    /// Whether a PDU may open the reception with a key: it has that key, and is Metadata, File Data or an EOF.
     pub fn may_open(key: TxnKey, pdu: &Pdu) -> bool
         ensures { IsTrue result ↔ MayOpen key pdu.now }
     {
@@ -26,7 +25,7 @@ impl ReceiverCore {
         body_opens(pdu.body()) && header.source == key.source && header.sequence == key.seq
     }
 
-    // Before the first event.
+    // A reception before its first event.
     fn empty(alloc: Global, key: TxnKey, header: Header, params: Params) -> ReceiverCore
         requires { HeaderFits header }
         ensures reception { reception_of result ≡ reception_by key params header }
@@ -43,7 +42,7 @@ impl ReceiverCore {
         }
     }
 
-    /// The reception that a PDU opens, with the plan of this PDU as its first event.
+    /// Opens a reception with a PDU, which is also planned as its first event.
     pub fn open(
         alloc: Global,
         key: TxnKey,

@@ -1,4 +1,4 @@
-//! The file that is handed out.
+//! The file that is handed to the file store.
 use crate::receiver::ReceiverCore;
 use cfdp_types::{Image, Octets};
 use pdu_values::Metadata;
@@ -13,7 +13,7 @@ impl ReceiverCore {
     ghost use Rattle.receiver_parts.specs.ReceivedFile.{received_of};
     ghost use Rattle.receiver_core.specs.Core.{shown, StandsAfter, IsWhy};
 
-    // The file that Metadata names, with the octets below a size.
+    // The file with the names in the Metadata and the octets below `size`.
     fn file(&self, metadata: &Metadata, size: u32) -> Result<Image, AllocError>
         ensures { IfOk result (λ image. image ≡ record {
           source_name = metadata.now.source_name;
@@ -28,7 +28,7 @@ impl ReceiverCore {
         })
     }
 
-    // The file of the deposit with this stamp, in the present state.
+    // The file of the deposit with this stamp, in terms of the present state.
     fn image_now(&self, stamp: u32) -> Result<Image, Refusal>
         ensures image { IfOk result (λ image. image_at (shown self.now) stamp ≡ Ok image) }
         ensures refused { IfErr result (λ why. IsWhy (image_at (shown self.now) stamp) why) }
@@ -46,7 +46,7 @@ impl ReceiverCore {
         Ok(image)
     }
 
-    /// The file of the deposit that waits, by its stamp.
+    /// The file of the waiting deposit, for the file store. `StaleStored` if no deposit with this stamp is waiting.
     pub fn image(&self, stamp: u32) -> Result<Image, Refusal>
         ensures image { (log : List Entry) → StandsAfter self.now log → IfOk result
             (λ image. image_at (state_of log) stamp ≡ Ok image) }

@@ -1,5 +1,4 @@
-//! The receiving end of a transaction, in both classes: what it answers, what holds of every reception,
-//! and the code, which plans an event and then carries it out.
+//! The receiving end of a transaction, in both classes: the core, which plans an event and then carries out the plan.
 #![tactic(auto)]
 
 mod answering;

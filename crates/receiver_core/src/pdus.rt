@@ -26,7 +26,7 @@ impl ReceiverCore {
     ghost use Rattle.receiver_parts.specs.ControlBlock.{IsSmall};
     ghost use Rattle.receiver_core.specs.Core.{reception_of, now_state};
 
-    // The header of every PDU toward the sender.
+    // The header of the PDUs that the reception sends.
     fn reply_header(&self) -> Header
         ensures value { (b : Body) → pdu_to_sender (reception_of self.now) b ≡ record { header = result; body = b } }
         ensures fits { HeaderFits result }
@@ -37,7 +37,7 @@ impl ReceiverCore {
         }
     }
 
-    // An EOF is acknowledged.
+    // The ACK of an EOF.
     fn ack(&self, condition: Condition, ended: bool) -> Pdu
         ensures { result ≡ pdu_to_sender (reception_of self.now) (ack_of ended condition) }
     {
@@ -64,21 +64,21 @@ impl ReceiverCore {
         Pdu::finished(self.reply_header(), finished)
     }
 
-    // Whether Metadata came, with that of a change.
+    // Whether the Metadata is there after a change.
     fn has_metadata_after(&self, change: &FileChange) -> bool
         ensures { result ≡ is_some (metadata_after self.now.metadata change.now) }
     {
         self.metadata.is_some() || matches!(change, FileChange::Metadata(_))
     }
 
-    // What is missing of the file.
+    // The NAK for what is missing of the file.
     fn nak(&self, now: &ControlBlock, change: &FileChange) -> Result<Pdu, AllocError>
         requires { IsSmall now.now }
         ensures { IfOk result
             (λ pdu. pdu ≡ pdu_to_sender (reception_of self.now) (nak_of (now_state self.now now.now change.now))) }
     {
         let scope = now.scope();
-        // one run more than it may hold tells that some are left out
+        // One run more than a NAK may hold shows that some are left out.
         let runs = self.file.missing_after(change, scope, NAK_REQUESTS + 1)?;
         let nak = nak(
             self.alloc,
@@ -143,8 +143,8 @@ impl ReceiverCore {
         }
     }
 
-    /// The PDUs of a response, where `now` is the control block with the event; an ACK says whether the
-    /// transaction has ended.
+    /// The PDUs to send for a response; `now` is the control block with the event, and `ended` gives the transaction
+    /// status in an ACK.
     pub(crate) fn pdus_of(
         &self,
         response: &Response,
@@ -165,7 +165,7 @@ impl ReceiverCore {
     }
 }
 
-// What an ACK says of the transaction.
+// The transaction status in an ACK.
 fn status_of(ended: bool) -> TransactionStatus
     ensures { result ≡ (if ended then status.Terminated else status.Active) }
 {

@@ -2,8 +2,8 @@ use receiver_parts::control::ControlBlock;
 use receiver_parts::file_change::FileChange;
 use txn_events::Answer;
 
-/// An event that is accepted, with its answer and all memory that it takes. It can be carried out
-/// in the state that it was made in.
+/// An event that is accepted, with its answer and all the memory that it needs. A plan can be carried out in the
+/// state that it was made in.
 #[derive(Drop)]
 pub struct Plan {
     pub(crate) next: ControlBlock,
@@ -15,7 +15,7 @@ impl Plan {
     ghost use Rattle.std.specs.Prelude.{◌≡◌};
     ghost use Rattle.receiver_core.specs.Core.{plan_answer};
 
-    /// What the event will be answered.
+    /// The answer that the event will get.
     pub fn answer(&self) -> &Answer
         ensures { result.now ≡ plan_answer self.now }
     {

@@ -1,4 +1,4 @@
-//! How an event is planned.
+//! Planning an event.
 use crate::plan::Plan;
 use crate::receiver::ReceiverCore;
 use cfdp_types::Deposit;
@@ -26,7 +26,7 @@ impl ReceiverCore {
     ghost use Rattle.receiver_parts.specs.ControlBlock.{IsSmall};
     ghost use Rattle.receiver_core.specs.Core.{shown, reception_of, plan_answer, StandsAfter, IsChange, IsSame, IsPlanOf, IsWhy};
 
-    // The change that Metadata brings: the first is kept.
+    // The change that Metadata brings: none unless it is the first.
     fn change_by_metadata(&self, metadata: &Metadata) -> Result<FileChange, AllocError>
         ensures { IfOk result (λ change. IsChange self.now (Some (body.Metadata metadata.now)) change) }
     {
@@ -36,7 +36,7 @@ impl ReceiverCore {
         Ok(FileChange::Metadata(metadata.clone()?))
     }
 
-    // The change that a segment of the file brings.
+    // The change that file data brings.
     fn change_by_file_data(&self, file_data: &FileData) -> Result<FileChange, AllocError>
         requires { is_body_too_large (body.FileData file_data.now) ≡ false }
         ensures { IfOk result (λ change. IsChange self.now (Some (body.FileData file_data.now)) change) }
@@ -45,7 +45,7 @@ impl ReceiverCore {
         Ok(FileChange::NewSegment(self.file.segment(file_data, end)?))
     }
 
-    // The change that a PDU brings; what it needs of the PDU is copied.
+    // The change that a PDU brings; it holds copies of what it needs from the PDU.
     fn change_by(&self, body: &Body) -> Result<FileChange, AllocError>
         requires { is_body_too_large body.now ≡ false }
         ensures { IfOk result (λ change. IsChange self.now (Some body.now) change) }
@@ -68,7 +68,7 @@ impl ReceiverCore {
         }
     }
 
-    // Makes room for a change.
+    // Makes room for a change, so that it can be carried out without allocating.
     fn prepare(&mut self, change: &FileChange) -> Result<(), AllocError>
         requires { FitsFile self.old.file change.now }
         ensures same { IsSame self.old self.new }
@@ -81,7 +81,7 @@ impl ReceiverCore {
         }
     }
 
-    // The deposit of a response.
+    // The deposit, if the response hands the file over.
     fn deposit_of(&self, response: &Response) -> Option<Deposit>
         ensures { result ≡ deposit_of self.now response.now }
     {
@@ -95,8 +95,7 @@ impl ReceiverCore {
         }
     }
 
-    // The plan of an event that is answered by a response, and brings a change; `now` is the control block with
-    // the event.
+    // The plan of an event with its response and its change; `now` is the control block with the event.
     fn plan_response(
         &self,
         event: &What,
@@ -126,7 +125,7 @@ impl ReceiverCore {
         })
     }
 
-    // The plan of an event that is accepted, and of the change that it brings, in room that is there.
+    // The plan of an accepted event and its change, for which there is room already.
     fn plan_change(&self, event: &What, change: FileChange) -> Result<Plan, AllocError>
         requires taken { refusal_at (reception_of self.now) (shown self.now) event.now ≡ None }
         requires change { IsChange self.now (body_of_event event.now) change }
@@ -153,8 +152,8 @@ impl ReceiverCore {
         Ok(plan)
     }
 
-    /// Plans an event in the present state, which stays as it is: the plan holds all memory that the
-    /// event takes, and room is made for the octets that it brings.
+    /// Plans an event without changing the state. The plan holds all memory that the event needs, and room is made for
+    /// the octets that it brings. An error is the table's refusal, or NoMemory.
     pub fn plan(&mut self, event: &What) -> Result<Plan, Refusal>
         ensures same { shown self.new ≡ shown self.old }
         ensures reception { reception_of self.new ≡ reception_of self.old }

@@ -18,7 +18,7 @@ pub struct ReceiverCore {
     pub(crate) alloc: Global,
     pub(crate) key: TxnKey,
     pub(crate) params: Params,
-    // of the PDU that opened the reception
+    // The header of the PDU that opened the reception.
     pub(crate) header: Header,
     pub(crate) file: ReceivedFile,
     pub(crate) metadata: Option<Metadata>,
@@ -34,14 +34,14 @@ impl ReceiverCore {
     ghost use Rattle.receiver_table.specs.Reception.{Entry};
     ghost use Rattle.receiver_core.specs.Core.{shown, reception_of, IsPlanOf, StandsAfter, plan_answer};
 
-    /// Whether the end of the transaction was indicated: no event follows.
+    /// Whether an end was issued. After it no event may follow.
     pub fn has_ended(&self) -> bool
         ensures { result ≡ (shown self.now).ended }
     {
         self.control.ended
     }
 
-    /// Carries out a plan that was made in the present state, and hands out its answer.
+    /// Carries out a plan that was made in the present state, and returns its answer. Can't fail.
     pub fn commit(&mut self, plan: Plan) -> Answer
         requires planned { (event : What) × IsPlanOf self.old plan event }
         requires runs { (shown self.old).ended ≡ false }

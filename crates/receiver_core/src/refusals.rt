@@ -1,4 +1,4 @@
-//! Which events a reception refuses, and why.
+//! The events that a reception refuses, and why.
 ghost use Rattle.std.specs.Prelude.{◌≡◌};
 ghost use Rattle.receiver_table.specs.Refusals.{waits_for_store};
 
@@ -14,7 +14,7 @@ impl ReceiverCore {
     ghost use Rattle.receiver_table.specs.Refusals.{is_stale_store, is_pdu_misplaced, is_misplaced, is_full, refusal_at};
     ghost use Rattle.txn_events.specs.Events.{needs_room};
 
-    // Whether the file store answers another deposit than the one that waits.
+    // Whether the file store answers another deposit than the one that is waiting, or none is waiting.
     fn is_stale_store(&self, event: &What) -> bool
         ensures { result ≡ is_stale_store (shown self.now) event.now }
     {
@@ -68,7 +68,7 @@ impl ReceiverCore {
         self.is_full() && needs_room(event)
     }
 
-    /// Why an event is refused in the present state, if it is.
+    /// Why an event is refused in the present state; None where it is accepted.
     pub(crate) fn refusal_of(&self, event: &What) -> Option<Refusal>
         ensures { result ≡ refusal_at (reception_of self.now) (shown self.now) event.now }
     {
@@ -92,7 +92,7 @@ impl ReceiverCore {
     }
 }
 
-// While the file store is asked, only its answer and Report are taken.
+// Whether an event is refused until the file store answers: all are but its answer and Report.
 fn waits_for_store(event: &What) -> bool
     ensures { result ≡ waits_for_store event.now }
 {

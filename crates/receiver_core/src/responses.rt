@@ -1,4 +1,4 @@
-//! What a reception answers, response by response.
+//! The responses that the answers to several events share.
 ghost use Rattle.std.specs.Prelude.{◌≡◌};
 ghost use Rattle.receiver_table.specs.Answers as table;
 
@@ -22,7 +22,7 @@ impl ReceiverCore {
     ghost use Rattle.receiver_parts.specs.Finding.{found_response};
     ghost use Rattle.receiver_core.specs.Core.{reception_of};
 
-    // The fault location of a Finished PDU: this entity, where there was a fault.
+    // The fault location of a Finished PDU: this entity, for every fault but an unsupported checksum type.
     fn location_of(&self, condition: Condition) -> Option<EntityId>
         ensures { result ≡ table.location_of (reception_of self.now) condition }
     {
@@ -33,7 +33,7 @@ impl ReceiverCore {
         }
     }
 
-    /// The end of the file's delivery, once something was indicated.
+    /// The end of the delivery, after earlier indications of the same step.
     pub(crate) fn finish_response(
         &self,
         inds: Indications,
@@ -73,7 +73,7 @@ impl ReceiverCore {
         Ok(response)
     }
 
-    /// A fault with handler Cancel.
+    /// A fault whose handler is Cancel.
     pub(crate) fn cancel_response(
         &self,
         inds: Indications,
@@ -103,7 +103,7 @@ impl ReceiverCore {
             .action(condition)
     }
 
-    /// A fault, by its handler, once something was indicated.
+    /// A fault, answered by its handler, after earlier indications of the same step.
     pub(crate) fn fault_response(
         &self,
         inds: Indications,
@@ -139,7 +139,7 @@ impl ReceiverCore {
         }
     }
 
-    // The rest of the file is waited for, by the timer of the class.
+    // Waits for the rest of the file, with the timer of the class.
     fn waits_for_rest(&self, inds: Indications, now: &ControlBlock) -> Response
         ensures response { (m : Option Metadata) (octets : ℕ → Option ℕ) → IsResponse result
             (tells inds and_then table.waits_for_rest (reception_of self.now) (state_from now.now m octets)) }
@@ -162,7 +162,7 @@ impl ReceiverCore {
         response
     }
 
-    /// What a look at the file finds, once something was indicated.
+    /// The response to a finding, after earlier indications of the same step.
     pub(crate) fn answers_finding(
         &self,
         inds: Indications,
@@ -187,7 +187,7 @@ impl ReceiverCore {
     }
 }
 
-// The role whose handlers count.
+// The role whose fault table is used.
 fn role_of(class: Class) -> Role
     ensures { result ≡ table.role_of class }
 {
@@ -197,7 +197,7 @@ fn role_of(class: Class) -> Role
     }
 }
 
-// What became of the file where a fault ends the reception.
+// The file status where a fault ends the reception.
 fn status_of(condition: Condition) -> FileStatus
     ensures { result ≡ table.status_of condition }
 {

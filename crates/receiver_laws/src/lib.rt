@@ -1,35 +1,34 @@
-//! What holds of every reception, over its definitions alone.
+//! Laws that hold for every reception, stated over the definitions alone.
 #![tactic(auto)]
 
 ghost use Rattle.receiver_laws.specs.ReceptionLaws.{AsksAsMetadata, CompletesGood, DepositsGood, FitsJournal, TellsWords};
 
-/// What a reception tells its user is a beginning of a receiver's word, and a word once the reception has
-/// ended: with any parameters, also where it is suspended and resumed, where timers expire, where the
-/// user asks and where faults have handlers.
+/// The indications of a reception are the beginning of a receiver's word, and a whole word once the reception has
+/// ended. This holds for all parameters, with suspensions, timer expirations, user requests and fault handlers.
 pub fn words()
     ensures { TellsWords }
 {}
 
-/// A complete delivery is indicated only where Metadata and EOF came, every octet below the EOF's
-/// size was received and none at or above it, and the modular checksum agrees, unless the file has none.
+/// A complete delivery is indicated only where Metadata and EOF were received, with every octet below the EOF's size
+/// and none at or above it, and the modular checksum agrees, unless the file has no checksum.
 pub fn complete()
     ensures { CompletesGood }
 {}
 
-/// While a deposit waits, the file is good as in [`complete`], and its image has the names of its
-/// Metadata and, at each offset below the EOF's size, the octet that was received there.
+/// While a deposit waits, the file is good as in [`complete`]. Its image has the names of its Metadata and, at each
+/// offset below the EOF's size, the octet that was received there first.
 pub fn deposits()
     ensures { DepositsGood }
 {}
 
-/// What a reception knows of closure is what its first Metadata says: nothing before it came, and nothing
-/// that comes later changes it.
+/// Whether closure is requested follows from the first Metadata alone: nothing is known before it is received, and
+/// nothing received later changes it.
 pub fn closure()
     ensures { AsksAsMetadata }
 {}
 
-/// A reception has at most as many entries as a journal may have, whatever its parameters are. The last but one is
-/// kept for the answer of the file store, and the last for Abandon, which ends it.
+/// A reception has at most as many entries as a journal may have, for all parameters. The last place but one is
+/// reserved for the file store's answer, and the last for Abandon, which ends the reception.
 pub fn lengths()
     ensures { FitsJournal }
 {}

@@ -1,4 +1,4 @@
--- Of the code. How the code keeps where a reception stands.
+-- Of the code. How the code keeps the state of a reception.
 use Rattle.std.specs.Prelude.{◌≡◌, ℕ, ◌≤◌, ◌-◌, ◌+◌, false, is_some, Option, None, Some, true}
 use Rattle.cfdp_types.specs.declared.limits.TheConstants.{FILE_OCTETS, JOURNAL_ENTRIES, JOURNAL_ENTRIES_KEPT}
 use Rattle.txn_events.specs.Timers.{stamp_of, tries_of, AreFew}
@@ -7,7 +7,7 @@ use Rattle.pdu_values.specs.declared.bodies.Metadata.{Metadata}
 use Rattle.receiver_table.specs.Reception.{State}
 use Rattle.receiver_parts.specs.declared.control.ControlBlock.{ControlBlock}
 
--- what a reception stands at that has this Metadata and these octets
+-- the state of a reception with a control block, this Metadata and these octets
 abbrev pub state_from : ControlBlock → Option Metadata → (ℕ → Option ℕ) → State
 state_from control metadata received = record {
   entries = control.entries;
@@ -28,11 +28,11 @@ state_from control metadata received = record {
 abbrev pub nowhere : ℕ → Option ℕ
 nowhere i = None
 
--- the state that a control block stands for, without Metadata and octets
+-- the state of a control block, without Metadata and octets
 abbrev pub bare : ControlBlock → State
 bare control = state_from control None nowhere
 
--- nothing happened
+-- the control block before the first event
 abbrev pub first : ControlBlock
 first = record {
   entries = 0;
@@ -47,16 +47,17 @@ first = record {
   tries = record { ack = 0; nak = 0; check = 0; inactivity = 0 };
 }
 
--- the size that an EOF has, 0 if there is none
+-- the size in an EOF, 0 if there is none
 abbrev pub eof_size : Option Eof → ℕ
 eof_size None = 0
 eof_size (Some e) = e.size
 
--- the size of the EOF is one of a file that is taken
+-- the size in the EOF is not beyond the largest file
 abbrev pub IsSmall : ControlBlock → Type 0
 IsSmall control = eof_size control.eof ≤ FILE_OCTETS
 
--- numbers can be counted up, the journal has room where the reception goes on, and one entry more where the file store is asked
+-- numbers can be incremented; the journal has room until an end is issued, and one more place while the file
+-- store is asked
 pub record IsSound (control : ControlBlock) : Type 0 where
   pub few : AreFew control.entries control.tries
   pub small : IsSmall control

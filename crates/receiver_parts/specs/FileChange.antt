@@ -1,4 +1,4 @@
--- Of the code. What an event changes in what is kept of a file, and the file after it.
+-- Of the code. What an event changes in the received file, and the file after it.
 use Rattle.std.specs.Prelude.{◌≡◌, ℕ, ◌<◌, ◌≤◌, Bool, true, false, not, ◌==◌, List, [], length, Option, Some, None, vec_len}
 use Rattle.gap_list.specs.Covered.{covered}
 use Rattle.gap_list.specs.Runs.{with_range}
@@ -18,26 +18,26 @@ abbrev pub metadata_after : Option Metadata → change_type.FileChange → Optio
 metadata_after metadata (change.Metadata m) = Some m
 metadata_after metadata _ = metadata
 
--- the segment of the file that a change adds
+-- the segment that a change adds
 abbrev pub segment_of : change_type.FileChange → Option FileData
 segment_of (change.NewSegment segment) = Some segment.file_data
 segment_of _ = None
 
--- the octets that came, after a change
+-- the received octets, after a change
 abbrev pub received_after : ReceivedFile → change_type.FileChange → ℕ → Option ℕ
 received_after file c = with_segment (received_of file) (segment_of c)
 
--- the offsets that came, after a change
+-- the received offsets, after a change
 abbrev pub covered_after : ReceivedFile → change_type.FileChange → ℕ → Bool
 covered_after file (change.NewSegment segment) = with_range (covered file.gaps) segment.file_data.offset (end_of segment)
 covered_after file _ = covered file.gaps
 
--- the checksum of the octets that came, after a change
+-- the checksum of the received octets, after a change
 abbrev pub word_after : ReceivedFile → change_type.FileChange → ℕ
 word_after file (change.NewSegment segment) = segment.sum
 word_after file _ = file.sum
 
--- a segment is one of what is kept
+-- the change was made for this file
 abbrev pub FitsFile : ReceivedFile → change_type.FileChange → Type 0
 FitsFile file (change.NewSegment segment) = IsSegmentOf file segment
 FitsFile file _ = Unit {0}
@@ -47,18 +47,18 @@ abbrev pub HasRoom : ReceivedFile → change_type.FileChange → Type 0
 HasRoom file (change.NewSegment segment) = (end_of segment ≤ vec_len file.octets) × (0 < file.gaps.room)
 HasRoom file _ = Unit {0}
 
--- the new runs of a change
+-- the new runs in a change
 abbrev pub runs_in : change_type.FileChange → List Run
 runs_in (change.NewSegment segment) = segment.runs.items
 runs_in _ = []
 
--- a change adds to the file, or is the first Metadata
+-- whether a change is the first Metadata, or file data with new octets
 abbrev pub adds : change_type.FileChange → Bool
 adds (change.Metadata m) = true
 adds (change.NewSegment segment) = not (length segment.runs.items == 0)
 adds change.Nothing = false
 
--- the checksum after a change is that of the octets that came, and these lie below the progress
+-- the checksum after a change is that of the received octets, which all lie below the progress
 pub record IsReady (file : ReceivedFile) (now : ControlBlock) (c : change_type.FileChange) : Type 0 where
   pub summed : IsSumOf (received_after file c) (word_after file c)
   pub reached : (i : ℕ) → now.progress ≤ i → received_after file c i ≡ None

@@ -10,11 +10,11 @@ use Rattle.receiver_parts.specs.Offsets.{octets_in}
 use Rattle.receiver_parts.specs.declared.received_file.ReceivedFile.{ReceivedFile}
 use Rattle.receiver_parts.specs.declared.received_file.NewSegment.{NewSegment}
 
--- the octets that came
+-- the received octets
 abbrev pub received_of : ReceivedFile → ℕ → Option ℕ
 received_of file = octets_in file.octets.items (covered file.gaps)
 
--- the octets that came, and of a segment of the file those that did not
+-- the received octets, and those of a segment that were not received before
 abbrev pub with_segment : (ℕ → Option ℕ) → Option FileData → ℕ → Option ℕ
 with_segment received segment i = older_or (received i) (octet_at segment i)
 
@@ -22,7 +22,7 @@ with_segment received segment i = older_or (received i) (octet_at segment i)
 abbrev pub end_of : NewSegment → ℕ
 end_of segment = segment.file_data.offset + length segment.file_data.octets
 
--- what of a segment is new to a file, and the checksum with it
+-- the runs of a segment that are new to a file, and the checksum once they are added
 pub record IsSegmentOf (file : ReceivedFile) (segment : NewSegment) : Type 0 where
   pub runs : segment.runs.items ≡ new_runs (covered file.gaps) segment.file_data.offset (end_of segment)
   pub sum : IsSumOf (with_segment (received_of file) (Some segment.file_data)) segment.sum

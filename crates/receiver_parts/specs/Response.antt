@@ -1,4 +1,4 @@
--- Of the code. How the code keeps a response of the table.
+-- Of the code. How the code keeps a response of the state table.
 use Rattle.std.specs.Prelude.{◌≡◌, false, if◌then◌else◌, List, [], ◌∷◌, ◌++◌, None}
 use Rattle.std.specs.Option.{option_to_list}
 use Rattle.cfdp_types.specs.declared.names.TimerKind.{TimerKind}
@@ -7,7 +7,7 @@ use Rattle.indications.specs.declared.indication.Indication.{Indication}
 use Rattle.receiver_table.specs.Answers as table
 use Rattle.receiver_parts.specs.declared.response.Response as response_type
 
--- the user gets these indications, and nothing else
+-- a response with only these indications
 abbrev pub only : List Indication → response_type.Response
 only inds = record {
   inds = inds;
@@ -24,7 +24,7 @@ only inds = record {
 abbrev pub arms_of : response_type.Response → List TimerKind
 arms_of response = (if response.resumes then Inactivity ∷ [] else []) ++ option_to_list response.arms
 
--- a response is the one that the table wants
+-- the code's response is the table's
 pub record IsResponse (response : response_type.Response) (wanted : table.Response) : Type 0 where
   pub inds : response.inds ≡ wanted.inds
   pub ack : response.ack ≡ wanted.ack
@@ -34,7 +34,7 @@ pub record IsResponse (response : response_type.Response) (wanted : table.Respon
   pub deposit : response.deposit ≡ wanted.deposit
   pub arms : arms_of response ≡ wanted.arms
 
--- a response, as the table has it
+-- the code's response, as the table has it
 abbrev pub response_value : response_type.Response → table.Response
 response_value response = record {
   inds = response.inds;

@@ -1,4 +1,4 @@
--- Of the code. What follows an event that is answered by a response, as the code computes it.
+-- Of the code. How the code computes what follows an event and its response.
 use Rattle.std.specs.Prelude.{◌≡◌, ◌+◌, max, ◌||◌, Bool, [], false, Option, None}
 use Rattle.std.specs.List.{list_any}
 use Rattle.cfdp_types.specs.Steps.{newer_or, older_or}
@@ -14,12 +14,12 @@ use Rattle.receiver_parts.specs.ControlBlock.{bare}
 use Rattle.receiver_parts.specs.declared.response.Response as response_type
 use Rattle.receiver_parts.specs.declared.control.ControlBlock.{ControlBlock}
 
--- no timer runs from here on, or none until the user or the file store says more
+-- all timers are stopped: the transaction has ended, waits for the file store, or is suspended
 abbrev pub is_quiet : ControlBlock → Bool
 is_quiet next = next.ended || is_storing (bare next) || is_suspended (bare next)
 
--- a control block is another with an event, before it is answered; `more` says whether the event brings more of
--- the file
+-- `now` is the control block with the event, before it is answered; `more` says whether the event brings more of the
+-- file
 pub record IsWithEvent (control : ControlBlock) (event : What) (more : Bool) (now : ControlBlock) : Type 0 where
   pub entries : now.entries ≡ control.entries + 1
   pub progress : now.progress ≡ max control.progress (extent_of (file_data_of (body_of_event event)))
@@ -32,7 +32,7 @@ pub record IsWithEvent (control : ControlBlock) (event : What) (more : Bool) (no
   pub armed : now.armed ≡ control.armed
   pub tries : (kind : TimerKind) → tries_of now.tries kind ≡ tries_by event [] (record { ack = false; nak = more }) kind (tries_of control.tries kind)
 
--- a control block follows another by an event, its response and its deposit, but for the timers that run
+-- `next` is the control block after an event, its response and its deposit, but for the timers that run
 pub record IsNext (control : ControlBlock) (now : ControlBlock) (event : What) (response : response_type.Response) (deposit : Option Deposit) (more : Bool) (next : ControlBlock) : Type 0 where
   pub entries : next.entries ≡ now.entries
   pub progress : next.progress ≡ now.progress

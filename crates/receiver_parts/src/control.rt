@@ -4,24 +4,24 @@ use indications::Phase;
 use pdu_values::{Eof, Finished};
 use txn_events::{Stamps, Tries};
 
-/// Where a reception stands, but for the Metadata and the octets that came.
+/// The transaction control block: the state of a reception without the Metadata and the received octets.
 #[derive(Clone, Copy)]
 pub struct ControlBlock {
     /// The number of events so far.
     pub entries: u32,
-    /// One more than the greatest offset that came, 0 if none did.
+    /// One more than the greatest offset received, 0 if there is none.
     pub progress: u32,
-    /// Whether the first Metadata asks the receiver to report at the end what became of the file.
+    /// Whether the first Metadata requests transaction closure.
     pub closure: Option<bool>,
     /// The first EOF without an error.
     pub eof: Option<Eof>,
-    /// The stamp of the deposit that waits for the file store's answer.
+    /// The stamp of the deposit that is waiting for the file store's answer.
     pub waiting: Option<u32>,
     /// The last Finished PDU that was sent.
     pub finished: Option<Finished>,
-    /// Whether a suspension was indicated, and no resumption since.
+    /// Whether Suspended was issued, and no Resumed since.
     pub paused: bool,
-    /// Whether an end was indicated.
+    /// Whether an end was issued.
     pub ended: bool,
     pub armed: Stamps,
     pub tries: Tries,
@@ -34,7 +34,7 @@ impl ControlBlock {
     ghost use Rattle.receiver_table.specs.Answers.{asks_closure, phase_of, scope_of};
     ghost use Rattle.receiver_parts.specs.ControlBlock.{bare, first, IsSmall};
 
-    /// Before the first event.
+    /// The control block before the first event.
     pub fn first() -> ControlBlock
         ensures { result ≡ first }
     {
@@ -52,28 +52,28 @@ impl ControlBlock {
         }
     }
 
-    /// Whether the receiver is to report at the end what became of the file.
+    /// Whether transaction closure is requested.
     pub fn asks_closure(&self) -> bool
         ensures { result ≡ asks_closure (bare self.now) }
     {
         self.closure.unwrap_or(false)
     }
 
-    /// Whether a Finished PDU was sent, and the end was not indicated.
+    /// Whether a Finished PDU was sent, and no end was issued yet.
     pub fn is_closing(&self) -> bool
         ensures { result ≡ is_closing (bare self.now) }
     {
         self.finished.is_some() && !self.ended
     }
 
-    /// Whether the file store is asked.
+    /// Whether the file store was asked and has not answered.
     pub fn is_storing(&self) -> bool
         ensures { result ≡ is_storing (bare self.now) }
     {
         self.waiting.is_some()
     }
 
-    /// Whether the file store is asked for the deposit with this stamp.
+    /// Whether the deposit with this stamp is waiting for the file store's answer.
     pub fn waits_for(&self, stamp: u32) -> bool
         ensures { result ≡ is_stamp self.now.waiting stamp }
     {
@@ -83,15 +83,14 @@ impl ControlBlock {
         }
     }
 
-    /// Whether the reception waits for the user to have it go on.
+    /// Whether the reception is suspended.
     pub fn is_suspended(&self) -> bool
         ensures { result ≡ is_suspended (bare self.now) }
     {
         self.paused && self.finished.is_none() && !self.ended
     }
 
-    /// The offsets up to which the rest of the file is asked for: the size, or what came before there
-    /// is an EOF.
+    /// The end of the scope of a NAK: the EOF's size, or the progress before an EOF was received.
     pub fn scope(&self) -> u32
         requires { IsSmall self.now }
         ensures { result ≡ scope_of (bare self.now) }
@@ -102,7 +101,7 @@ impl ControlBlock {
         }
     }
 
-    /// What the transaction does.
+    /// The phase that a report gives.
     pub fn phase(&self) -> Phase
         ensures { result ≡ phase_of (bare self.now) }
     {

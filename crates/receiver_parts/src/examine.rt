@@ -1,4 +1,4 @@
-//! The look at the file so far.
+//! The completion check: examining the file so far.
 ghost use Rattle.std.specs.Prelude.{◌≡◌};
 ghost use Rattle.receiver_parts.specs.FileChange.{covered_after, word_after};
 ghost use Rattle.receiver_parts.specs.Finding.{finding_of, is_unsupported_type, is_null_type};
@@ -9,21 +9,21 @@ use crate::file_change::FileChange;
 use crate::received_file::ReceivedFile;
 use cfdp_types::{ChecksumType, Condition};
 
-/// What a look at the file so far finds.
+/// The result of examining the file so far.
 #[derive(Clone, Copy, PartialEq, Eq)]
 pub enum Finding {
-    /// There is no EOF, and no fault.
+    /// No EOF was received, and there is no fault.
     Nothing,
-    /// A fault with this condition.
+    /// There is a fault with this condition.
     Faulty(Condition),
-    /// The file is whole, and its checksum agrees.
+    /// The file is complete, and its checksum agrees.
     Whole,
-    /// There is an EOF, and the file is not whole.
+    /// An EOF was received, but the file is not complete.
     Waits,
 }
 
-/// Looks at the file with a change: its type of checksum, where the Metadata came, whether all of it
-/// is there, and the checksum of what is.
+/// Examines the file with a change: whether its checksum type is supported, its size, whether all of it was received,
+/// and its checksum. The type is None before the Metadata is received.
 pub fn look(
     checksum_type: Option<ChecksumType>,
     now: &ControlBlock,

@@ -1,4 +1,4 @@
-//! The file as it will be, once a change is carried out.
+//! The file as it will be once a change is carried out.
 use crate::file_change::FileChange;
 use crate::received_file::ReceivedFile;
 use gap_list::Run;
@@ -10,7 +10,7 @@ impl ReceivedFile {
     ghost use Rattle.receiver_parts.specs.Finding.{is_full};
     ghost use Rattle.receiver_parts.specs.FileChange.{covered_after, word_after};
 
-    /// Whether nothing is missing below a size.
+    /// Whether no octet is missing below a size.
     pub fn is_full_after(&self, change: &FileChange, size: u32) -> bool
         ensures { result ≡ is_full (covered_after self.now change.now) size }
     {
@@ -22,7 +22,7 @@ impl ReceivedFile {
         }
     }
 
-    /// The first so many of the runs below a limit that are missing.
+    /// The first `count` runs of missing offsets below a limit.
     pub fn missing_after(
         &self,
         change: &FileChange,
@@ -40,7 +40,7 @@ impl ReceivedFile {
         }
     }
 
-    /// The checksum of the octets that came.
+    /// The checksum of the received octets.
     pub fn checksum_after(&self, change: &FileChange) -> u32
         ensures { result ≡ word_after self.now change.now }
     {

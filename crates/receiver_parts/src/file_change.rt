@@ -1,7 +1,7 @@
 use crate::received_file::{NewSegment, ReceivedFile};
 use pdu_values::Metadata;
 
-/// What an event changes in what is kept of the file.
+/// What an event changes in the received file or its Metadata.
 #[derive(Drop)]
 pub enum FileChange {
     Nothing,
@@ -15,7 +15,7 @@ impl FileChange {
     ghost use Rattle.receiver_parts.specs.ReceivedFile.{received_of};
     ghost use Rattle.receiver_parts.specs.FileChange.{adds, FitsFile, HasRoom, metadata_after, received_after};
 
-    /// Whether it adds to the file, or is the first Metadata.
+    /// Whether it is the first Metadata, or file data with new octets.
     pub fn adds(&self) -> bool
         ensures { result ≡ adds self.now }
     {
@@ -26,7 +26,7 @@ impl FileChange {
         }
     }
 
-    /// Carries it out, in room that is there.
+    /// Carries out the change, without allocating.
     pub fn apply(self, file: &mut ReceivedFile, metadata: &mut Option<Metadata>)
         requires fits { FitsFile file.old self }
         requires room { HasRoom file.old self }

@@ -1,5 +1,5 @@
-//! What the receiving end's code is made of, over plain values: the received file and the look at it, what a
-//! NAK asks for, the control block, the responses, and what follows an event.
+//! The parts of the receiving end's code, over plain values: the received file and how it is examined, the contents of
+//! a NAK, the control block, the responses, and what follows an event.
 #![tactic(auto)]
 
 pub mod control;

@@ -1,4 +1,4 @@
-//! What a NAK asks for.
+//! The contents of a NAK.
 ghost use Rattle.std.specs.Prelude.{◌≡◌, ◌≤◌, ◌++◌, IfOk, OnOk, map, take, length};
 ghost use Rattle.cfdp_types.specs.declared.limits.TheConstants.{NAK_REQUESTS};
 ghost use Rattle.receiver_table.specs.Answers.{request_of, last_end};
@@ -11,7 +11,7 @@ use gap_list::Run;
 use pdu_values::{Nak, SegmentRequest, SegmentRequests};
 use std::alloc::{AllocError, Global};
 
-// The request for a run.
+// The segment request for a run.
 fn request_of(run: Run) -> SegmentRequest
     ensures request { result ≡ request_of run }
     ensures fits { RequestFits 4 result }
@@ -22,7 +22,7 @@ fn request_of(run: Run) -> SegmentRequest
     }
 }
 
-// Asks for each of the runs.
+// Appends a request for each run.
 #[tactic(auto, using(crate::proofs::NakLemmas::fits_more))]
 fn put_requests(requests: &mut SegmentRequests, runs: &[Run]) -> Result<(), AllocError>
     requires { AllByRecursion (RequestFits 4) requests.old }
@@ -35,14 +35,14 @@ fn put_requests(requests: &mut SegmentRequests, runs: &[Run]) -> Result<(), Allo
     Ok(())
 }
 
-// The first of the runs, so many at the most.
+// The first runs, at most `most`.
 fn front(runs: &[Run], most: usize) -> &[Run]
     ensures { result.now ≡ take most runs.now }
 {
     &runs[..runs.len().min(most)]
 }
 
-// The requests for what is missing, as many as a NAK may hold.
+// The requests for what is missing, at most as many as a NAK may hold.
 #[tactic(auto, using(crate::proofs::NakLemmas::fits_more))]
 fn requests_for(
     alloc: Global,
@@ -72,9 +72,8 @@ fn last_end(requests: &[SegmentRequest]) -> u64
     }
 }
 
-/// The NAK that asks for the Metadata, where it is not there, and for the runs, as many as it may
-/// hold. Its scope ends where the rest of the file does, or with the last request where some are left
-/// out.
+/// The NAK that requests the Metadata, if it is missing, and the runs, at most as many as it may hold. Its scope ends
+/// at `scope`, or with the last request where some are left out.
 #[tactic(auto, using(crate::proofs::NakLemmas::last_end_fits))]
 pub fn nak(alloc: Global, has_metadata: bool, scope: u32, runs: &[Run]) -> Result<Nak, AllocError>
     ensures value { IfOk result (λ nak. nak ≡ nak_with has_metadata scope runs.now) }

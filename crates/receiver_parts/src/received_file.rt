@@ -1,4 +1,4 @@
-//! The octets of a file that came so far.
+//! The received octets of a file.
 ghost use Rattle.std.specs.Prelude.{◌≡◌, ℕ, ◌+◌, ◌-◌, ◌<◌, ◌≤◌, if◌then◌else◌, All, IfOk, OnOk, length, slice_get, slice_index, vec_len, map, take, drop};
 ghost use Rattle.gap_list.specs.Covered.{covered};
 ghost use Rattle.gap_list.specs.Runs.{in_runs, is_within};
@@ -10,30 +10,30 @@ use modular_sum::Running;
 use pdu_values::FileData;
 use std::alloc::{AllocError, Global};
 
-/// The octets of a file that came so far, each as it came first.
+/// The received octets of a file, of each offset the one received first.
 #[derive(Drop)]
 pub struct ReceivedFile {
-    /// At an offset that did not come stands any octet.
+    /// The octets by offset; at an offset that was not received, any octet.
     pub octets: Vec<u8>,
-    /// Which offsets came.
+    /// Which offsets were received.
     pub gaps: Gaps,
-    /// The checksum of the octets that came, each at its offset.
+    /// The checksum of the received octets, each at its offset.
     pub sum: Running,
     ghost inside: { IsInside (length octets.items) (covered gaps) },
     ghost summed: { IsSumOf (octets_in octets.items (covered gaps)) sum },
 }
 
-/// A segment of a file, and what it adds to what came before.
+/// A segment of a file, and what it adds to the octets received before.
 #[derive(Drop)]
 pub struct NewSegment {
     pub file_data: FileData,
-    /// Its first offset.
+    /// The segment's first offset.
     pub start: u32,
-    /// One more than its last offset.
+    /// One more than the segment's last offset.
     pub end: u32,
-    /// The offsets of the segment that did not come before.
+    /// The offsets of the segment that were not received before.
     pub runs: Vec<Run>,
-    /// The checksum with the octets at these offsets.
+    /// The checksum once the octets at these offsets are added.
     pub sum: Running,
     ghost starts: { start ≡ file_data.offset },
     ghost ends: { end ≡ file_data.offset + length file_data.octets },
@@ -49,7 +49,7 @@ impl ReceivedFile {
     ghost use Rattle.receiver_parts.specs.Offsets.{octets_in};
     ghost use Rattle.receiver_parts.specs.ReceivedFile.{received_of, with_segment, end_of, IsSegmentOf};
 
-    /// Nothing came.
+    /// A file of which nothing was received.
     pub fn new(alloc: Global) -> ReceivedFile
         ensures received { (i : ℕ) → received_of result i ≡ None }
         ensures gaps { (i : ℕ) → covered result.gaps i ≡ false }
@@ -61,7 +61,7 @@ impl ReceivedFile {
         }
     }
 
-    // The checksum with the octets of a segment at the runs of its offsets that did not come.
+    // The checksum once the octets of a segment are added at these runs, which are those not received before.
     fn sum_with(&self, file_data: &FileData, start: u32, runs: &[Run]) -> Running
         requires starts { start ≡ file_data.now.offset }
         requires runs { runs.now ≡ new_runs (covered self.now.gaps) file_data.now.offset
@@ -71,7 +71,7 @@ impl ReceivedFile {
         sum_with_runs(self.sum, runs, start, file_data.octets.as_slice())
     }
 
-    /// What a segment of the file adds.
+    /// What a segment adds to the file. `end` is one more than its last offset.
     pub fn segment(&self, file_data: &FileData, end: u32) -> Result<NewSegment, AllocError>
         requires { end ≡ file_data.now.offset + length file_data.now.octets }
         ensures whole { IfOk result (λ segment. segment.file_data ≡ file_data.now) }
@@ -90,7 +90,7 @@ impl ReceivedFile {
         })
     }
 
-    // So many octets: those that are kept, and behind them 0.
+    // A vector of `size` octets: those that are kept, then zeros.
     fn lengthened(&self, size: u32) -> Result<Vec<u8>, AllocError>
         ensures items { IfOk result (λ octets. (i : ℕ) → i < size → i < vec_len self.now.octets
             → slice_index octets.items i ≡ slice_index self.now.octets.items i) }
@@ -113,7 +113,7 @@ impl ReceivedFile {
         Ok(octets)
     }
 
-    // The octets below a size, where none of them is missing.
+    // The octets below a size, none of which is missing.
     fn front(&self, size: u32) -> &[u8]
         requires { (i : ℕ) → i < size → IsTrue (covered self.now.gaps i) }
         ensures { result.now ≡ octets_from (received_of self.now) 0 size }
@@ -132,7 +132,7 @@ impl ReceivedFile {
         }
     }
 
-    // Makes room for the octets below an end.
+    // Makes room for the octets below `end`.
     fn lengthen(&mut self, end: u32) -> Result<(), AllocError>
         ensures received { (i : ℕ) → received_of self.new i ≡ received_of self.old i }
         ensures gaps { self.new.gaps ≡ self.old.gaps }
@@ -153,7 +153,7 @@ impl ReceivedFile {
         self.gaps.reserve(1)
     }
 
-    /// Makes room for the offsets below an end, and for one more run of them.
+    /// Makes room for the octets below `end`, and for one more run of offsets.
     pub fn make_room(&mut self, end: u32) -> Result<(), AllocError>
         ensures received { (i : ℕ) → received_of self.new i ≡ received_of self.old i }
         ensures gaps { (i : ℕ) → covered self.new.gaps i ≡ covered self.old.gaps i }
@@ -166,7 +166,7 @@ impl ReceivedFile {
         self.reserve_run()
     }
 
-    // Lays the octets of a segment where none came.
+    // Writes the octets of a segment at the offsets that were not received before.
     fn lay(&mut self, segment: &NewSegment)
         requires segment { IsSegmentOf self.old segment.now }
         requires room { end_of segment.now ≤ vec_len self.old.octets }
@@ -184,7 +184,7 @@ impl ReceivedFile {
         );
     }
 
-    /// Takes a segment, in room that is there.
+    /// Adds a segment to the file, without allocating.
     pub fn take(&mut self, segment: NewSegment)
         requires segment { IsSegmentOf self.old segment }
         requires octets { end_of segment ≤ vec_len self.old.octets }
@@ -198,7 +198,7 @@ impl ReceivedFile {
     }
 }
 
-// A copy of a segment as it came.
+// A copy of a segment, which shares its octets.
 fn copy_of(file_data: &FileData) -> Result<FileData, AllocError>
     ensures { IfOk result (λ copy. copy ≡ file_data.now) }
 {
@@ -208,7 +208,7 @@ fn copy_of(file_data: &FileData) -> Result<FileData, AllocError>
     })
 }
 
-// Puts 0 at the offsets of a run.
+// Writes 0 at the offsets of a run.
 fn blank_run(kept: &mut [u8], run: Run)
     requires ordered { run.start ≤ run.end }
     requires room { run.end ≤ length kept.old }
@@ -218,7 +218,7 @@ fn blank_run(kept: &mut [u8], run: Run)
     kept[run.start as usize..run.end as usize].fill(0);
 }
 
-// Puts 0 at the offsets of the runs.
+// Writes 0 at the offsets of the runs.
 fn blank_runs(kept: &mut [u8], runs: &[Run])
     requires inside { All (λ run. (run.start ≤ run.end) × (run.end ≤ length kept.old)) runs.now }
     ensures items { (i : ℕ) → slice_index kept.new i ≡ (if in_runs runs.now i then 0 else slice_index kept.old i) }
@@ -229,7 +229,7 @@ fn blank_runs(kept: &mut [u8], runs: &[Run])
     }
 }
 
-// Puts 0 at the offsets of the runs, in a vector that has them.
+// Writes 0 at the offsets of the runs, in a vector that reaches that far.
 fn blank(kept: &mut Vec<u8>, runs: &[Run])
     requires inside { All (λ run. (run.start ≤ run.end) × (run.end ≤ vec_len kept.old)) runs.now }
     ensures items { (i : ℕ) → slice_index kept.new.items i
@@ -239,7 +239,7 @@ fn blank(kept: &mut Vec<u8>, runs: &[Run])
     blank_runs(kept, runs);
 }
 
-// At least so many octets, of which the first are the same.
+// Lengthens a vector to at least `wanted` octets, keeping those it has.
 fn lengthen(octets: &mut Vec<u8>, wanted: usize) -> Result<(), AllocError>
     ensures same { (i : ℕ) → i < vec_len octets.old → slice_get octets.new.items i ≡ slice_get octets.old.items i }
     ensures longer { vec_len octets.old ≤ vec_len octets.new }
@@ -253,7 +253,7 @@ fn lengthen(octets: &mut Vec<u8>, wanted: usize) -> Result<(), AllocError>
     Ok(())
 }
 
-// Those octets of a segment that a run has.
+// The octets of a segment at the offsets of a run.
 fn part_of(octets: &[u8], offset: u32, run: Run) -> &[u8]
     requires begins { offset ≤ run.start }
     requires ordered { run.start ≤ run.end }
@@ -263,7 +263,7 @@ fn part_of(octets: &[u8], offset: u32, run: Run) -> &[u8]
     &octets[(run.start - offset) as usize..(run.end - offset) as usize]
 }
 
-// The checksum with those octets of a segment that the runs have.
+// The checksum once the octets of a segment at the offsets of the runs are added.
 fn sum_with_runs(sum: Running, runs: &[Run], offset: u32, octets: &[u8]) -> Running
     requires inside { All
         (λ run. (offset ≤ run.start) × (run.start ≤ run.end) × (run.end ≤ offset + length octets.now)) runs.now }
@@ -276,7 +276,7 @@ fn sum_with_runs(sum: Running, runs: &[Run], offset: u32, octets: &[u8]) -> Runn
     sum
 }
 
-// Puts those octets of a segment that a run has at their offsets.
+// Copies the octets of a segment at the offsets of a run.
 fn put_run(kept: &mut [u8], run: Run, offset: u32, octets: &[u8])
     requires begins { offset ≤ run.start }
     requires ordered { run.start ≤ run.end }
@@ -289,7 +289,7 @@ fn put_run(kept: &mut [u8], run: Run, offset: u32, octets: &[u8])
     kept[run.start as usize..run.end as usize].copy_from_slice(part_of(octets, offset, run));
 }
 
-// Puts those octets of a segment that the runs have at their offsets.
+// Copies the octets of a segment at the offsets of the runs.
 fn put_runs(kept: &mut [u8], runs: &[Run], offset: u32, octets: &[u8])
     requires inside { All
         (λ run. (offset ≤ run.start) × (run.start ≤ run.end) × (run.end ≤ offset + length octets.now)) runs.now }
@@ -303,7 +303,7 @@ fn put_runs(kept: &mut [u8], runs: &[Run], offset: u32, octets: &[u8])
     }
 }
 
-// Puts those octets of a segment that the runs have at their offsets, in a vector that has room for them.
+// Copies the octets of a segment at the offsets of the runs, into a vector that reaches that far.
 fn put(kept: &mut Vec<u8>, runs: &[Run], offset: u32, octets: &[u8])
     requires inside { All
         (λ run. (offset ≤ run.start) × (run.start ≤ run.end) × (run.end ≤ offset + length octets.now)) runs.now }

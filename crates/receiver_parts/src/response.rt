@@ -5,21 +5,21 @@ use indications::{Indication, Indications};
 use pdu_values::Finished;
 use std::alloc::{AllocError, Global};
 
-/// What a response of the table gives.
+/// A response of the state table.
 #[derive(Drop)]
 pub struct Response {
-    /// The user's indications.
+    /// The indications to the user.
     pub inds: Indications,
-    /// The condition of an EOF that is acknowledged.
+    /// The condition code of the EOF, if one is acknowledged.
     pub ack: Option<Condition>,
     /// Whether a NAK is sent.
     pub nak: bool,
     /// Whether a Keep Alive is sent.
     pub keep_alive: bool,
     pub finished: Option<Finished>,
-    /// Whether the file is handed out to be stored.
+    /// Whether the file is handed to the file store.
     pub deposit: bool,
-    /// Whether Inactivity is armed, before the other timer.
+    /// Whether Inactivity is armed, before the timer in `arms`.
     pub resumes: bool,
     pub arms: Option<TimerKind>,
 }
@@ -28,7 +28,7 @@ impl Response {
     ghost use Rattle.std.specs.Prelude.{◌≡◌, ◌∷◌, ◌++◌, [], IfOk};
     ghost use Rattle.receiver_parts.specs.Response.{only};
 
-    /// The user gets these indications, and nothing else is done.
+    /// A response with only these indications.
     pub fn of(inds: Indications) -> Response
         ensures { result ≡ only inds }
     {
@@ -44,7 +44,7 @@ impl Response {
         }
     }
 
-    /// The user gets one indication more, and nothing else is done.
+    /// A response with only these indications and one more.
     pub fn telling_more(
         mut inds: Indications,
         indication: Indication,
@@ -55,7 +55,7 @@ impl Response {
         Ok(Response::of(inds))
     }
 
-    /// The user gets one indication.
+    /// A response with only one indication.
     pub fn telling(alloc: Global, indication: Indication) -> Result<Response, AllocError>
         ensures { IfOk result (λ response. response ≡ only (indication ∷ [])) }
     {

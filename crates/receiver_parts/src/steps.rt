@@ -1,4 +1,4 @@
-//! What follows an event.
+//! The state after an event.
 ghost use Rattle.std.specs.Prelude.{◌≡◌, false};
 ghost use Rattle.cfdp_types.specs.declared.names.TimerKind.{TimerKind};
 ghost use Rattle.cfdp_types.specs.Steps.{has_kind};
@@ -17,7 +17,7 @@ use cfdp_types::{Condition, Deposit, TimerKind};
 use pdu_values::{Body, Eof, Prompt};
 use txn_events::{CountResets, TimerChange, TimerChanges, What, paused_after};
 
-// What the Metadata that an event brings says of closure.
+// The closure bit of the Metadata that an event carries.
 fn closure_in(event: &What) -> Option<bool>
     ensures { result ≡ closure_of (body_of_event event.now) }
 {
@@ -30,7 +30,7 @@ fn closure_in(event: &What) -> Option<bool>
     }
 }
 
-// The EOF without an error that an event brings.
+// The EOF that an event carries, if it has no error.
 fn eof_in(event: &What) -> Option<Eof>
     ensures { result ≡ eof_of (body_of_event event.now) }
 {
@@ -49,7 +49,7 @@ fn eof_in(event: &What) -> Option<Eof>
     }
 }
 
-// One more than the greatest offset that an event brings, 0 if it brings none.
+// One more than the greatest offset of the file data that an event carries, 0 if there is none.
 fn extent_of(event: &What) -> u32
     requires { is_too_large event.now ≡ false }
     ensures { result ≡ extent_of (file_data_of (body_of_event event.now)) }
@@ -70,7 +70,7 @@ fn extent_of(event: &What) -> u32
     }
 }
 
-// The stamp of the deposit that waits after an event that hands out a deposit, or not.
+// The stamp of the deposit that is waiting after an event, which may hand over a deposit.
 fn waiting_after(waiting: Option<u32>, event: &What, deposit: Option<Deposit>) -> Option<u32>
     ensures { result ≡ waiting_after waiting event.now deposit }
 {
@@ -83,7 +83,7 @@ fn waiting_after(waiting: Option<u32>, event: &What, deposit: Option<Deposit>) -
     }
 }
 
-// Of which timers the count begins again where more of the file comes, or not.
+// Which counts begin again, where more of the file was received or not.
 fn resets(more: bool) -> CountResets
     ensures { result ≡ record { ack = false; nak = more } }
 {
@@ -93,8 +93,8 @@ fn resets(more: bool) -> CountResets
     }
 }
 
-/// Where a reception stands with an event, before it is answered; `more` says whether the event
-/// brings more of the file.
+/// The control block with an event, before the event is answered; `more` says whether the event brings more of the
+/// file.
 pub fn with_event(control: &ControlBlock, event: &What, more: bool) -> ControlBlock
     requires few { AreFew control.now.entries control.now.tries }
     requires small { is_too_large event.now ≡ false }
@@ -117,8 +117,8 @@ pub fn with_event(control: &ControlBlock, event: &What, more: bool) -> ControlBl
     }
 }
 
-/// Where a reception stands after an event that is answered by a response and a deposit, but for its
-/// timers, which stay as they were; `now` is the control block with the event, before it is answered.
+/// The control block after an event is answered with a response and a deposit; the timers stay as they were. `now` is
+/// the control block with the event, before it is answered.
 pub fn next(
     control: &ControlBlock,
     now: ControlBlock,
@@ -144,7 +144,7 @@ pub fn next(
     }
 }
 
-// Whether no timer runs from here on, or none until the user or the file store says more.
+// Whether all timers are stopped: the transaction has ended, waits for the file store, or is suspended.
 fn is_quiet(next: &ControlBlock) -> bool
     ensures { result ≡ is_quiet next.now }
 {
@@ -162,7 +162,7 @@ fn arms(response: &Response, kind: TimerKind) -> bool
     }
 }
 
-// Whether an event shows that the sender is active: a Prompt for a NAK does not.
+// Whether an event shows that the sender is active: an accepted PDU does, but a Prompt for a NAK does not.
 fn is_sign_of_life(event: &What) -> bool
     ensures { result ≡ is_sign_of_life event.now }
 {
@@ -172,7 +172,7 @@ fn is_sign_of_life(event: &What) -> bool
     }
 }
 
-// What a step does with the timer of a kind, where it leads to a control block.
+// What a step does to the timer of a kind, where `next` is the control block after it.
 fn change_of(next: &ControlBlock, event: &What, response: &Response, kind: TimerKind) -> TimerChange
     ensures { effect_of_change result ≡ effect_of (response_value response.now) (bare next.now) event.now kind }
 {
@@ -185,7 +185,7 @@ fn change_of(next: &ControlBlock, event: &What, response: &Response, kind: Timer
     }
 }
 
-/// What a step does with each timer, where it leads to a control block.
+/// What a step does to each timer, where `next` is the control block after it.
 pub fn changes(next: &ControlBlock, event: &What, response: &Response) -> TimerChanges
     ensures { (kind : TimerKind) → effects result kind ≡ effect_of (response_value response.now) (bare next.now)
         event.now kind }

@@ -1,4 +1,4 @@
--- Rows. Rows on a class 1 reception whose sender asks the receiver to report at the end what became of the file.
+-- Rows. Rows on a class 1 reception whose sender requests transaction closure.
 use Rattle.std.specs.Prelude.{◌≡◌, true, List, [], ◌∷◌, Some, refl}
 use Rattle.cfdp_types.specs.declared.names.Class.TheVariants.{One, Two}
 use Rattle.cfdp_types.specs.declared.names.Delivery.TheVariants.{Complete, Incomplete}
@@ -19,7 +19,7 @@ use Rattle.receiver_table.specs.Answers.{answer_at}
 use Rattle.receiver_laws.specs.LegalReceptions.{IsLegal}
 use Rattle.receiver_rows.specs.ReceptionRows.{class_one, class_two, one_with, pdu, metadata, part, eof, eof_of, after, last, tells, sends, hands_out}
 
--- Metadata that asks for closure
+-- Metadata that requests closure
 abbrev pub closing_metadata : What
 closing_metadata = pdu One (body.Metadata (record (metadata_value 0 3) { closure = true }))
 
@@ -39,7 +39,7 @@ pub closed_one_legal : IsLegal class_one (after class_one closed_one)
 unfolding initial step state_of answer_at runs_of runs_from
 closed_one_legal = (refl, tt, refl, (refl, tt, refl, (refl, tt, refl, (refl, (refl, refl, refl, refl), refl, tt))))
 
--- a checksum that differs
+-- a wrong checksum
 pub fault_sends_finished : sends (last class_one (closing_metadata ∷ part One ∷ []) (eof_of One 0 0x6162_6301 3)) ≡ Some (digits 12 0x2c0005000105020554060102 ∷ [])
 unfolding initial step state_of answer_at runs_of runs_from written spelling digits width_from
 fault_sends_finished = refl
@@ -52,12 +52,12 @@ pub fault_hands_nothing : hands_out (last class_one (closing_metadata ∷ part O
 unfolding initial step state_of answer_at runs_of runs_from
 fault_hands_nothing = refl
 
--- the event's own Metadata counts: of a type of checksum that is not computed
+-- the event's own Metadata counts: here its checksum type is not supported
 pub own_metadata_counts : sends (last class_one [] (pdu One (body.Metadata (record (metadata_value 1 3) { closure = true })))) ≡ Some (digits 9 0x2c00020001050205b4 ∷ [])
 unfolding initial step state_of answer_at runs_of runs_from written spelling digits width_from
 own_metadata_counts = refl
 
--- the user cancels; an EOF that cancels and Abandon send nothing
+-- the user cancels; an EOF that cancels, and Abandon, send nothing
 pub cancel_sends_finished : sends (last class_one (closing_metadata ∷ []) what.Cancel) ≡ Some (digits 12 0x2c00050001050205f4060102 ∷ [])
 unfolding initial step state_of answer_at runs_of runs_from written spelling digits width_from
 cancel_sends_finished = refl
@@ -70,7 +70,7 @@ pub abandoned_silently : sends (last class_one (closing_metadata ∷ []) what.Ab
 unfolding initial step state_of answer_at runs_of runs_from written spelling digits width_from
 abandoned_silently = refl
 
--- Metadata may come behind octets of the file, and last of all
+-- Metadata may be received after octets of the file, or last of all
 pub data_first_sends : sends (last class_one (part One ∷ closing_metadata ∷ eof One ∷ []) (what.Stored 2 true)) ≡ Some (digits 9 0x2c0002000105020502 ∷ [])
 unfolding initial step state_of answer_at runs_of runs_from written spelling digits width_from
 data_first_sends = refl
@@ -83,7 +83,7 @@ pub metadata_last_sends : sends (last class_one (part One ∷ eof One ∷ closin
 unfolding initial step state_of answer_at runs_of runs_from written spelling digits width_from
 metadata_last_sends = refl
 
--- later Metadata with the other bit changes nothing
+-- later Metadata with the other closure bit changes nothing
 pub first_asks : sends (last class_one (closing_metadata ∷ metadata One ∷ part One ∷ eof One ∷ []) (what.Stored 3 true)) ≡ Some (digits 9 0x2c0002000105020502 ∷ [])
 unfolding initial step state_of answer_at runs_of runs_from written spelling digits width_from
 first_asks = refl
@@ -92,12 +92,12 @@ pub later_asks_in_vain : sends (last class_one (metadata One ∷ closing_metadat
 unfolding initial step state_of answer_at runs_of runs_from written spelling digits width_from
 later_asks_in_vain = refl
 
--- no Metadata came: nothing says that closure is asked for
+-- without Metadata, no closure is requested
 pub cancelled_without_metadata : sends (last class_one (part One ∷ []) what.Cancel) ≡ Some []
 unfolding initial step state_of answer_at runs_of runs_from written spelling digits width_from
 cancelled_without_metadata = refl
 
--- ---- every end by a handler that cancels
+-- ---- each end by a handler that cancels
 
 pub size_fault_sends : sends (last class_one (closing_metadata ∷ part One ∷ []) (eof_of One 0 0x6162_6300 2)) ≡ Some (digits 12 0x2c0005000105020564060102 ∷ [])
 unfolding initial step state_of answer_at runs_of runs_from written spelling digits width_from
@@ -111,12 +111,12 @@ pub check_limit_sends : sends (last class_one (closing_metadata ∷ eof One ∷ 
 unfolding initial step state_of answer_at runs_of runs_from written spelling digits width_from
 check_limit_sends = refl
 
--- one whose handler abandons sends nothing
+-- a handler that abandons sends nothing
 pub abandoned_by_handler : sends (last (one_with 8 Abandon) (closing_metadata ∷ []) (what.Timer Inactivity 0)) ≡ Some []
 unfolding initial step state_of answer_at runs_of runs_from written spelling digits width_from
 abandoned_by_handler = refl
 
--- in class 2 the bit changes nothing
+-- in class 2 the closure bit changes nothing
 abbrev pub closing_in_two : What
 closing_in_two = pdu Two (body.Metadata (record (metadata_value 0 3) { closure = true }))
 

@@ -1,4 +1,4 @@
--- Rows. Rows on faults: what is declared, and what each handler answers.
+-- Rows. Rows on faults: which one is declared, and what each handler does.
 use Rattle.std.specs.Prelude.{◌≡◌, true, false, [], ◌∷◌, Some, refl}
 use Rattle.cfdp_types.specs.declared.names.Class.TheVariants.{One, Two}
 use Rattle.cfdp_types.specs.declared.names.Delivery.TheVariants.{Incomplete}
@@ -18,7 +18,7 @@ use Rattle.receiver_rows.specs.ReceptionRows.{metadata_of, file_data, eof_of, me
 
 -- ---- faults of the file, with handler Cancel
 
--- more octets than the EOF says
+-- more octets than the EOF's size
 pub beyond_the_size : tells (last class_one (file_data One 0 (some_octets 5) ∷ []) (eof One))
     ≡ Some (told.EofRecv ∷ told.TransactionFinished 6 Incomplete Discarded ∷ [])
 unfolding initial step state_of answer_at runs_of runs_from digits
@@ -34,13 +34,13 @@ pub beyond_by_a_later_part : tells (last class_one (metadata One ∷ eof One ∷
 unfolding initial step state_of answer_at runs_of runs_from digits
 beyond_by_a_later_part = refl
 
--- also where the checksum differs too
+-- also where the checksum is wrong too
 pub beyond_before_checksum : tells (last class_one (metadata One ∷ file_data One 0 (some_octets 5) ∷ []) (eof One))
     ≡ Some (told.EofRecv ∷ told.TransactionFinished 6 Incomplete Discarded ∷ [])
 unfolding initial step state_of answer_at runs_of runs_from digits
 beyond_before_checksum = refl
 
--- a checksum that differs
+-- a wrong checksum
 pub other_checksum : tells (last class_one (metadata One ∷ part One ∷ []) (eof_of One 0 0x6162_6301 3))
     ≡ Some (told.EofRecv ∷ told.TransactionFinished 5 Incomplete Discarded ∷ [])
 unfolding initial step state_of answer_at runs_of runs_from digits
@@ -51,7 +51,7 @@ pub other_checksum_finished : sends (last class_two (metadata Two ∷ part Two �
 unfolding initial step state_of answer_at runs_of runs_from written spelling digits width_from
 other_checksum_finished = refl
 
--- a type of checksum that is not computed here: the Finished PDU names no entity
+-- a checksum type that is not supported: the Finished PDU names no entity
 pub other_type : tells (last class_one [] (metadata_of One 1 3))
     ≡ Some (told.MetadataRecv (record { 0 = 1 }) 3 (97 ∷ []) (98 ∷ []) [] ∷ told.TransactionFinished 11 Incomplete Discarded ∷ [])
 unfolding initial step state_of answer_at runs_of runs_from digits
@@ -61,7 +61,7 @@ pub other_type_finished : sends (last class_two [] (metadata_of Two 14 3)) ≡ S
 unfolding initial step state_of answer_at runs_of runs_from written spelling digits width_from
 other_type_finished = refl
 
--- of several faults it is the first
+-- of several faults the first is declared
 pub other_type_first : tells (last class_two (part Two ∷ what.Suspend ∷ metadata_of Two 1 3 ∷ eof_of Two 0 0 2 ∷ []) what.Resume)
     ≡ Some (told.Resumed 3 ∷ [])
 unfolding initial step state_of answer_at runs_of runs_from digits
@@ -72,7 +72,7 @@ pub other_type_first_finished : sends (last class_two (part Two ∷ what.Suspend
 unfolding initial step state_of answer_at runs_of runs_from written spelling digits width_from
 other_type_first_finished = refl
 
--- the file store does not keep the file
+-- the file store rejects the file
 pub rejected : tells (last class_one (metadata One ∷ part One ∷ eof One ∷ []) (what.Stored 2 false))
     ≡ Some (told.TransactionFinished 4 Incomplete Rejected ∷ [])
 unfolding initial step state_of answer_at runs_of runs_from digits
@@ -88,7 +88,7 @@ pub rejected_acknowledged : tells (last class_two (metadata Two ∷ part Two ∷
 unfolding initial step state_of answer_at runs_of runs_from digits
 rejected_acknowledged = refl
 
--- it goes by its handler too
+-- a rejection is handled by its handler too
 pub rejection_abandons : tells (last (one_with 4 Abandon) (metadata One ∷ part One ∷ eof One ∷ []) (what.Stored 2 false)) ≡ Some (told.Abandoned 4 3 ∷ [])
 unfolding initial step state_of answer_at runs_of runs_from digits
 rejection_abandons = refl
@@ -106,7 +106,7 @@ pub inactive_finished : sends (last class_two (metadata Two ∷ []) (what.Timer 
 unfolding initial step state_of answer_at runs_of runs_from written spelling digits width_from
 inactive_finished = refl
 
--- the Finished PDU names this entity by its own ID, whatever the header has as its destination
+-- the Finished PDU names this entity by its configured ID, not by the header's destination
 pub location_is_this_entity : sends (last (two_at 7) (metadata Two ∷ []) (what.Timer Inactivity 0))
     ≡ Some (digits 12 0x280005000105020584060107 ∷ [])
 unfolding initial step state_of answer_at runs_of runs_from written spelling digits width_from
@@ -126,7 +126,7 @@ pub no_location_without_a_fault : sends (last (two_at 7) (metadata Two ∷ part 
 unfolding initial step state_of answer_at runs_of runs_from written spelling digits width_from
 no_location_without_a_fault = refl
 
--- the rest of the file does not come in class 1, and in class 2
+-- the rest of the file is never received, in class 1 and in class 2
 pub check_limit_reached : tells (last class_one (eof One ∷ what.Timer Check 0 ∷ []) (what.Timer Check 1))
     ≡ Some (told.TransactionFinished 10 Incomplete Discarded ∷ [])
 unfolding initial step state_of answer_at runs_of runs_from digits
@@ -137,7 +137,7 @@ pub check_counted_on_with_more : tells (last class_one (metadata One ∷ eof_of 
 unfolding initial step state_of answer_at runs_of runs_from digits
 check_counted_on_with_more = refl
 
--- neither Metadata nor an EOF begins its count anew
+-- neither Metadata nor an EOF begins the count of Check again
 pub check_counted_on_with_metadata : tells (last class_one (eof One ∷ what.Timer Check 0 ∷ metadata One ∷ []) (what.Timer Check 1))
     ≡ Some (told.TransactionFinished 10 Incomplete Discarded ∷ [])
 unfolding initial step state_of answer_at runs_of runs_from digits
@@ -148,7 +148,7 @@ pub check_counted_on_with_eof : tells (last class_one (eof One ∷ what.Timer Ch
 unfolding initial step state_of answer_at runs_of runs_from digits
 check_counted_on_with_eof = refl
 
--- its expirations send nothing
+-- expirations of Check send nothing
 pub check_sends_nothing : sends (last class_one (eof One ∷ []) (what.Timer Check 0)) ≡ Some []
 unfolding initial step state_of answer_at runs_of runs_from written spelling digits width_from
 check_sends_nothing = refl
@@ -158,9 +158,9 @@ pub nak_limit_reached : sends (last class_two (part Two ∷ eof Two ∷ what.Tim
 unfolding initial step state_of answer_at runs_of runs_from written spelling digits width_from
 nak_limit_reached = refl
 
--- ---- handler Ignore: the fault is indicated with the progress
+-- ---- handler Ignore: the fault is indicated, with the progress
 
--- at the limit, and its count begins again
+-- the fault comes at the limit, and then the count begins again
 pub below_the_check_limit : tells (last (one_with 10 Ignore) (eof One ∷ []) (what.Timer Check 0)) ≡ Some []
 unfolding initial step state_of answer_at runs_of runs_from digits
 below_the_check_limit = refl
@@ -180,13 +180,13 @@ pub inactivity_ignored : tells (last (two_with 8 Ignore) (metadata Two ∷ part 
 unfolding initial step state_of answer_at runs_of runs_from digits
 inactivity_ignored = refl
 
--- its timer runs again
+-- the ignored fault's timer is armed again
 pub inactivity_ignored_arms : operates (last (two_with 8 Ignore) (metadata Two ∷ part Two ∷ []) (what.Timer Inactivity 1))
     ≡ Some (op.Arm class_two.key Inactivity 2 1000 ∷ [])
 unfolding initial step state_of answer_at runs_of runs_from digits
 inactivity_ignored_arms = refl
 
--- and that of Nak sends no NAK
+-- an ignored fault of Nak sends no NAK
 pub nak_ignored_sends_nothing : sends (last (two_with 7 Ignore) (part Two ∷ eof Two ∷ what.Timer Nak 1 ∷ []) (what.Timer Nak 2)) ≡ Some []
 unfolding initial step state_of answer_at runs_of runs_from written spelling digits width_from
 nak_ignored_sends_nothing = refl
@@ -201,7 +201,7 @@ pub check_ignored_arms : operates (last (one_with 10 Ignore) (eof One ∷ what.T
 unfolding initial step state_of answer_at runs_of runs_from digits
 check_ignored_arms = refl
 
--- ---- handler Abandon: it is over at once, and nothing is sent
+-- ---- handler Abandon: the transaction is over at once, and nothing is sent
 
 pub inactivity_abandons : tells (last (one_with 8 Abandon) (metadata One ∷ []) (what.Timer Inactivity 0)) ≡ Some (told.Abandoned 8 0 ∷ [])
 unfolding initial step state_of answer_at runs_of runs_from digits
@@ -216,7 +216,7 @@ pub abandoned_sends_nothing : sends (last (two_with 8 Abandon) (metadata Two ∷
 unfolding initial step state_of answer_at runs_of runs_from written spelling digits width_from
 abandoned_sends_nothing = refl
 
--- a fault of the file too, whose EOF is acknowledged as of a transaction that is over
+-- also for a fault of the file: its EOF is acknowledged as that of a terminated transaction
 pub checksum_abandons : tells (last (two_with 5 Abandon) (metadata Two ∷ part Two ∷ []) (eof_of Two 0 0x6162_6301 3))
     ≡ Some (told.EofRecv ∷ told.Abandoned 5 3 ∷ [])
 unfolding initial step state_of answer_at runs_of runs_from digits
@@ -229,7 +229,7 @@ checksum_abandoned_acknowledged = refl
 
 -- ---- handler Suspend
 
--- it is suspended instead, and nothing is sent
+-- the reception is suspended, and nothing is sent
 pub nak_limit_suspends : tells (last (two_with 7 Suspend) (part Two ∷ eof Two ∷ what.Timer Nak 1 ∷ []) (what.Timer Nak 2))
     ≡ Some (told.Suspended 7 ∷ [])
 unfolding initial step state_of answer_at runs_of runs_from digits
@@ -239,13 +239,13 @@ pub nothing_sent_suspending : sends (last (two_with 7 Suspend) (part Two ∷ eof
 unfolding initial step state_of answer_at runs_of runs_from written spelling digits width_from
 nothing_sent_suspending = refl
 
--- nothing runs then
+-- no timer runs while it is suspended
 pub nak_limit_suspended_disarms : operates (last (two_with 7 Suspend) (part Two ∷ eof Two ∷ what.Timer Nak 1 ∷ []) (what.Timer Nak 2))
     ≡ Some (op.Disarm class_two.key Nak 3 ∷ op.Disarm class_two.key Inactivity 3 ∷ [])
 unfolding initial step state_of answer_at runs_of runs_from digits
 nak_limit_suspended_disarms = refl
 
--- what comes while it is suspended leaves the count of Inactivity, and Resume begins it anew
+-- PDUs received while it is suspended leave the count of Inactivity, and Resume begins it again
 pub inactivity_counted_on_with_metadata : (state_of (after (two_with 8 Suspend) (part Two ∷ what.Timer Inactivity 0 ∷ metadata Two ∷ []))).tries Inactivity
     ≡ 1
 unfolding initial step state_of runs_of runs_from
@@ -265,9 +265,9 @@ pub inactivity_counted_anew : (state_of (after (two_with 8 Suspend) (metadata Tw
 unfolding initial step state_of runs_of runs_from
 inactivity_counted_anew = refl
 
--- ---- which table counts
+-- ---- which table is used
 
--- class 2 goes by its own table, and class 1 by its own
+-- class 2 uses its own table, and class 1 its own
 pub table_of_class_two : tells (last (two_with 8 Abandon) (metadata Two ∷ []) (what.Timer Inactivity 0)) ≡ Some (told.Abandoned 8 0 ∷ [])
 unfolding initial step state_of answer_at runs_of runs_from digits
 table_of_class_two = refl

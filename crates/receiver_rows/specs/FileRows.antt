@@ -1,4 +1,4 @@
--- Rows. Rows on the file: what of it is indicated, when it is handed out, and what is kept of what comes twice.
+-- Rows. Rows on the file: what is indicated, when the file is handed to the file store, and what is kept of duplicates.
 use Rattle.std.specs.Prelude.{◌≡◌, true, List, [], ◌∷◌, ◌++◌, Some, Ok, Err, refl}
 use Rattle.cfdp_types.specs.declared.names.Class.{Class}
 use Rattle.cfdp_types.specs.declared.names.Class.TheVariants.{One, Two}
@@ -19,9 +19,9 @@ use Rattle.receiver_table.specs.Answers.{answer_at}
 use Rattle.receiver_table.specs.Images.{image_at}
 use Rattle.receiver_rows.specs.ReceptionRows.{pdu, metadata_value, metadata_of, file_data, eof_of, abc, metadata, part, eof, some_octets, after, last, tells, sends, hands_out, deposits, class_one, class_two}
 
--- ---- handed out to be stored
+-- ---- handing the file to the file store
 
--- the EOF hands the file out, with its own place as the stamp
+-- the EOF hands the file over, with its own entry number as the stamp
 pub handed_out : hands_out (last class_one (metadata One ∷ part One ∷ []) (eof One)) ≡ Some (2 ∷ [])
 unfolding initial step state_of answer_at runs_of runs_from digits
 handed_out = refl
@@ -37,7 +37,7 @@ pub deposit_on_resume : deposits (last class_two (metadata Two ∷ eof Two ∷ w
 unfolding initial step state_of answer_at runs_of runs_from digits
 deposit_on_resume = refl
 
--- so does the last part, and Metadata that comes last: then nothing is sent
+-- so does the last segment, and so does Metadata that is received last: then nothing is sent
 pub handed_out_by_part : hands_out (last class_two (metadata Two ∷ eof Two ∷ []) (part Two)) ≡ Some (2 ∷ [])
 unfolding initial step state_of answer_at runs_of runs_from digits
 handed_out_by_part = refl
@@ -50,7 +50,7 @@ pub nothing_sent_then : sends (last class_two (part Two ∷ eof Two ∷ []) (met
 unfolding initial step state_of answer_at runs_of runs_from written spelling digits width_from
 nothing_sent_then = refl
 
--- an empty file is handed out at once
+-- an empty file is handed over at once
 pub empty_handed_out : hands_out (last class_one (metadata_of One 0 0 ∷ []) (eof_of One 0 0 0)) ≡ Some (1 ∷ [])
 unfolding initial step state_of answer_at runs_of runs_from digits
 empty_handed_out = refl
@@ -59,12 +59,12 @@ pub empty_eof_told : tells (last class_one (metadata_of One 0 0 ∷ []) (eof_of 
 unfolding initial step state_of answer_at runs_of runs_from digits
 empty_eof_told = refl
 
--- not with a checksum that differs
+-- not with a wrong checksum
 pub nothing_handed_out : hands_out (last class_one (metadata One ∷ part One ∷ []) (eof_of One 0 0x6162_6301 3)) ≡ Some []
 unfolding initial step state_of answer_at runs_of runs_from digits
 nothing_handed_out = refl
 
--- nor before its Metadata came, or while an octet is missing
+-- nor before its Metadata was received, or while an octet is missing
 pub not_handed_out_without_metadata : hands_out (last class_one (part One ∷ []) (eof One)) ≡ Some []
 unfolding initial step state_of answer_at runs_of runs_from digits
 not_handed_out_without_metadata = refl
@@ -74,7 +74,7 @@ pub not_handed_out_with_a_gap : hands_out (last class_one (metadata One ∷ file
 unfolding initial step state_of answer_at runs_of runs_from digits
 not_handed_out_with_a_gap = refl
 
--- nor while the last octet alone is missing
+-- nor while only the last octet is missing
 pub not_handed_out_without_the_last_octet : hands_out (last class_one (metadata One ∷ file_data One 0 (97 ∷ 98 ∷ []) ∷ []) (eof_of One 0 0x6162_0000 3))
     ≡ Some []
 unfolding initial step state_of answer_at runs_of runs_from digits
@@ -87,7 +87,7 @@ not_handed_out_without_the_last_octet_in_class_two = refl
 
 -- ---- indications
 
--- new octets alone are indicated: those of the gap between two parts, and those of what lies on both sides of one
+-- only new octets are indicated: those in the gap between two segments, and those on both sides of one
 pub gap_told : tells (last class_one (file_data One 0 (some_octets 4) ∷ file_data One 8 (some_octets 4) ∷ []) (file_data One 2 (some_octets 8)))
     ≡ Some (told.FileSegmentRecv 4 4 ∷ [])
 unfolding initial step state_of answer_at runs_of runs_from digits
@@ -98,7 +98,7 @@ pub two_gaps_told : tells (last class_one (file_data One 0 (some_octets 2) ∷ f
 unfolding initial step state_of answer_at runs_of runs_from digits
 two_gaps_told = refl
 
--- nor of what came before, and File Data without octets tells nothing
+-- octets received before are not, and File Data without octets gives no indication
 pub nothing_new_told : tells (last class_one (part One ∷ []) (part One)) ≡ Some []
 unfolding initial step state_of answer_at runs_of runs_from digits
 nothing_new_told = refl
@@ -115,7 +115,7 @@ messages_told = refl
 
 -- ---- progress
 
--- one more than the greatest offset received, whatever came last
+-- one more than the greatest offset received, in whatever order
 pub reported : tells (last class_one (metadata One ∷ part One ∷ []) what.Report) ≡ Some (told.Report phase.Active 3 ∷ [])
 unfolding initial step state_of answer_at runs_of runs_from digits
 reported = refl
@@ -129,15 +129,15 @@ pub reported_after_no_octets : tells (last class_one (file_data One 8 [] ∷ [])
 unfolding initial step state_of answer_at runs_of runs_from digits
 reported_after_no_octets = refl
 
--- ---- what comes twice
+-- ---- duplicates
 
--- Metadata and EOF are indicated once, whatever comes later
+-- Metadata and EOF are each indicated only once
 pub told_once : issued (after class_two (metadata Two ∷ metadata_of Two 1 9 ∷ eof Two ∷ eof Two ∷ []))
     ≡ told.MetadataRecv (record { 0 = 1 }) 3 (97 ∷ []) (98 ∷ []) [] ∷ told.EofRecv ∷ []
 unfolding initial step state_of runs_of runs_from
 told_once = refl
 
--- the first Metadata counts, the first EOF and of each offset the first octet
+-- the first Metadata, the first EOF and the first octet of each offset count
 pub first_metadata_counts : hands_out (last class_two (metadata Two ∷ metadata_of Two 1 9 ∷ part Two ∷ []) (eof Two)) ≡ Some (3 ∷ [])
 unfolding initial step state_of answer_at runs_of runs_from digits
 first_metadata_counts = refl
@@ -151,11 +151,11 @@ pub first_octets_count : hands_out (last class_two (metadata Two ∷ part Two �
 unfolding initial step state_of answer_at runs_of runs_from digits
 first_octets_count = refl
 
--- the octet in the middle, and then all three with another one there
+-- the octet in the middle first, and then all three with another octet in the middle
 abbrev pub middle_first : Class → List What
 middle_first class = file_data class 1 (98 ∷ []) ∷ file_data class 0 (97 ∷ 1 ∷ 99 ∷ []) ∷ []
 
--- the first octets count in the checksum, and the later ones do not
+-- the checksum is that of the first octets, not of the later ones
 pub first_octets_count_in_the_sum : hands_out (last class_two (metadata Two ∷ middle_first Two) (eof Two))
     ≡ Some (3 ∷ [])
 unfolding initial step state_of answer_at runs_of runs_from digits
@@ -166,21 +166,21 @@ pub later_octets_do_not_count : tells (last class_one (metadata One ∷ middle_f
 unfolding initial step state_of answer_at runs_of runs_from digits
 later_octets_do_not_count = refl
 
--- a later EOF is acknowledged all the same
+-- a later EOF is acknowledged too
 pub later_eof_acknowledged : sends (last class_two (metadata Two ∷ eof Two ∷ []) (eof_of Two 0 1 2))
     ≡ Some (digits 10 0x28000300010502064001 ∷ [])
 unfolding initial step state_of answer_at runs_of runs_from written spelling digits width_from
 later_eof_acknowledged = refl
 
--- ---- what the file store is given
+-- ---- the image
 
--- the names and the octets, for the stamp of the deposit that waits
+-- the names and the octets, for the stamp of the waiting deposit
 pub image_given : image_at (state_of (after class_one (metadata One ∷ part One ∷ eof One ∷ []))) 2
     ≡ Ok (record { source_name = 97 ∷ []; destination_name = 98 ∷ []; octets = abc })
 unfolding initial step state_of runs_of runs_from
 image_given = refl
 
--- up to the size of the EOF, where Metadata gave a greater one or a lower one
+-- up to the EOF's size, whether Metadata gave a greater or a lower one
 pub image_of_the_eof_size : image_at (state_of (after class_one (metadata_of One 0 9 ∷ part One ∷ eof One ∷ []))) 2
     ≡ Ok (record { source_name = 97 ∷ []; destination_name = 98 ∷ []; octets = abc })
 unfolding initial step state_of runs_of runs_from
@@ -195,23 +195,23 @@ image_past_the_metadata_size = refl
 abbrev pub other_names : What
 other_names = pdu Two (body.Metadata (record (metadata_value 0 3) { source_name = 120 ∷ []; destination_name = 121 ∷ [] }))
 
--- with the names and the octets that came first
+-- with the names and the octets received first
 pub image_of_first_octets : image_at (state_of (after class_two (metadata Two ∷ other_names ∷ (middle_first Two ++ eof Two ∷ [])))) 4
     ≡ Ok (record { source_name = 97 ∷ []; destination_name = 98 ∷ []; octets = abc })
 unfolding initial step state_of runs_of runs_from
 image_of_first_octets = refl
 
--- and only for that stamp
+-- only for that stamp
 pub image_of_another_stamp : image_at (state_of (after class_one (metadata One ∷ part One ∷ eof One ∷ []))) 1 ≡ Err refusal.StaleStored
 unfolding initial step state_of runs_of runs_from
 image_of_another_stamp = refl
 
--- and no longer once the file store has answered
+-- no longer once the file store has answered
 pub image_gone : image_at (state_of (after class_two (metadata Two ∷ part Two ∷ eof Two ∷ what.Stored 2 true ∷ []))) 2 ≡ Err refusal.StaleStored
 unfolding initial step state_of runs_of runs_from
 image_gone = refl
 
--- nor before it was asked, also where Metadata and EOF came
+-- not before the file store was asked, even if Metadata and EOF were received
 pub image_unasked : image_at (state_of (after class_one (metadata One ∷ part One ∷ []))) 2 ≡ Err refusal.StaleStored
 unfolding initial step state_of runs_of runs_from
 image_unasked = refl
@@ -220,7 +220,7 @@ pub image_unasked_after_eof : image_at (state_of (after class_one (metadata One 
 unfolding initial step state_of runs_of runs_from
 image_unasked_after_eof = refl
 
--- nor for a stamp above the own one
+-- not for a later stamp
 pub image_of_a_later_stamp : image_at (state_of (after class_one (metadata One ∷ part One ∷ eof One ∷ []))) 3 ≡ Err refusal.StaleStored
 unfolding initial step state_of runs_of runs_from
 image_of_a_later_stamp = refl

@@ -21,7 +21,7 @@ use Rattle.receiver_table.specs.Reception.{Reception, initial, step, state_of, i
 use Rattle.receiver_table.specs.Answers.{answer_at}
 use Rattle.receiver_rows.specs.ReceptionRows.{class_one, class_two, header, metadata_of, part, eof_of, after, last, tells, sends, hands_out, echoes}
 
--- with the large file flag
+-- a header with the large file flag
 abbrev pub large_header : Header
 large_header = record (header Two) { large = true }
 
@@ -37,23 +37,23 @@ large_part = large (body.FileData (record { offset = 0; octets = abc }))
 abbrev pub large_eof : What
 large_eof = large (body.Eof (eof_value 0 0x6162_6300 3))
 
--- what is written has the flag of the PDU that opened the reception
+-- PDUs are sent with the flag of the PDU that opened the reception
 pub large_nak : sends (last large_two (large_part ∷ []) large_eof)
     ≡ Some (digits 10 0x29000300010502064001 ∷ digits 40 0x2900210001050208_0000000000000000_0000000000000003_0000000000000000_0000000000000000 ∷ [])
 unfolding initial step state_of answer_at runs_of runs_from written spelling digits width_from
 large_nak = refl
 
--- a later PDU with the other flag is taken
+-- a later PDU with the other flag is accepted
 pub other_flag_taken : hands_out (last large_two (large_part ∷ large_eof ∷ []) (metadata_of Two 0 3)) ≡ Some (2 ∷ [])
 unfolding initial step state_of answer_at runs_of runs_from
 other_flag_taken = refl
 
--- and an echo has the flag of its PDU
+-- an echo has the flag of the PDU that it answers
 pub large_echo : echoes large_eof ≡ Some (digits 10 0x29000300010502064002 ∷ [])
 unfolding written spelling digits width_from
 large_echo = refl
 
--- sizes and ends of more than four octets
+-- sizes and ends that need more than four octets
 pub huge_metadata : last large_two [] (large (body.Metadata (metadata_value 0 0x1_0000_0000))) ≡ Err refusal.TooLarge
 unfolding initial step state_of answer_at runs_of runs_from
 huge_metadata = refl
@@ -62,12 +62,12 @@ pub huge_part : last large_two [] (large (body.FileData (record { offset = 0xfff
 unfolding initial step state_of answer_at runs_of runs_from
 huge_part = refl
 
--- without a checksum whatever the EOF has agrees
+-- without a checksum any value in the EOF agrees
 pub no_sum_agrees : hands_out (last class_one (metadata_of One 15 3 ∷ part One ∷ []) (eof_of One 0 0x0102_0304 3)) ≡ Some (2 ∷ [])
 unfolding initial step state_of answer_at runs_of runs_from
 no_sum_agrees = refl
 
--- the last octets of a file as large as may be are indicated, and none behind them
+-- the last octets of a file of the largest size may be indicated, and none after them
 pub last_octets_told : IsNext [] (told.FileSegmentRecv 16777212 4)
 last_octets_told = (omega (arith), omega (arith), λ i from below. refl)
 

@@ -1,4 +1,4 @@
--- Rows. Rows on what is sent while the file comes: ACK, NAK and Keep Alive, and how NAKs are counted.
+-- Rows. Rows on what is sent while the file is received: ACK, NAK and Keep Alive, and how NAKs are counted.
 use Rattle.std.specs.Prelude.{◌≡◌, ℕ, zero, suc, ◌+◌, true, List, [], ◌∷◌, ◌++◌, Some, refl}
 use Rattle.cfdp_types.specs.declared.names.Class.TheVariants.{One, Two}
 use Rattle.cfdp_types.specs.declared.names.Delivery.TheVariants.{Complete, Incomplete}
@@ -19,7 +19,7 @@ use Rattle.receiver_rows.specs.ReceptionRows.{metadata_value, metadata_of, file_
 
 -- ---- the EOF
 
--- it is acknowledged, and then the rest is asked for: the Metadata, the file, or both, the Metadata first
+-- it is acknowledged, and then the rest is requested: the Metadata, the file, or both, the Metadata first
 pub eof_acknowledged : sends (last class_two (metadata Two ∷ part Two ∷ []) (eof Two)) ≡ Some (digits 10 0x28000300010502064001 ∷ [])
 unfolding initial step state_of answer_at runs_of runs_from written spelling digits width_from
 eof_acknowledged = refl
@@ -44,12 +44,12 @@ pub nothing_sent_in_class_one : sends (last class_one (metadata One ∷ []) (eof
 unfolding initial step state_of answer_at runs_of runs_from written spelling digits width_from
 nothing_sent_in_class_one = refl
 
--- the ACK of an EOF with an error says that the transaction is over
+-- the ACK of an EOF with an error says that the transaction is terminated
 pub cancelling_eof_acknowledged : sends (last class_two [] (eof_of Two 15 0 0)) ≡ Some (digits 10 0x280003000105020640f2 ∷ [])
 unfolding initial step state_of answer_at runs_of runs_from written spelling digits width_from
 cancelling_eof_acknowledged = refl
 
--- an EOF with another code than that of Cancel: its ACK has that code, and the indication too
+-- an EOF with an error code other than Cancel's: the ACK and the indication have that code
 pub eof_of_inactivity_acknowledged : sends (last class_two (metadata Two ∷ []) (eof_of Two 8 0 0)) ≡ Some (digits 10 0x28000300010502064082 ∷ [])
 unfolding initial step state_of answer_at runs_of runs_from written spelling digits width_from
 eof_of_inactivity_acknowledged = refl
@@ -59,7 +59,7 @@ pub eof_of_inactivity_told : tells (last class_two (metadata Two ∷ []) (eof_of
 unfolding initial step state_of answer_at runs_of runs_from digits
 eof_of_inactivity_told = refl
 
--- class 1 sends nothing, and the indication is the same
+-- class 1 sends nothing and issues the same indication
 pub eof_of_inactivity_in_class_one : sends (last class_one (metadata One ∷ []) (eof_of One 8 0 0)) ≡ Some []
 unfolding initial step state_of answer_at runs_of runs_from written spelling digits width_from
 eof_of_inactivity_in_class_one = refl
@@ -69,7 +69,7 @@ pub eof_of_inactivity_in_class_one_told : tells (last class_one (metadata One �
 unfolding initial step state_of answer_at runs_of runs_from digits
 eof_of_inactivity_in_class_one_told = refl
 
--- whatever the code, the file is indicated as discarded
+-- for every code, the file is indicated as discarded
 pub eof_of_rejection_told : tells (last class_two (metadata Two ∷ []) (eof_of Two 4 0 0))
     ≡ Some (told.TransactionFinished 4 Incomplete Discarded ∷ [])
 unfolding initial step state_of answer_at runs_of runs_from digits
@@ -80,13 +80,13 @@ pub eof_of_rejection_in_class_one_told : tells (last class_one (metadata One ∷
 unfolding initial step state_of answer_at runs_of runs_from digits
 eof_of_rejection_in_class_one_told = refl
 
--- of a file that is whole but for its last octet, that octet is asked for
+-- where only the last octet is missing, that octet is requested
 pub last_octet_asked_for : sends (last class_two (metadata Two ∷ file_data Two 0 (97 ∷ 98 ∷ []) ∷ []) (eof_of Two 0 0x6162_0000 3))
     ≡ Some (digits 10 0x28000300010502064001 ∷ digits 24 0x280011000105020800000000000000030000000200000003 ∷ [])
 unfolding initial step state_of answer_at runs_of runs_from written spelling digits width_from
 last_octet_asked_for = refl
 
--- while Nak runs the rest is not asked for again
+-- while Nak runs the rest is not requested again
 pub later_part_asks_nothing : sends (last class_two (metadata Two ∷ eof Two ∷ []) (file_data Two 0 (97 ∷ []))) ≡ Some []
 unfolding initial step state_of answer_at runs_of runs_from written spelling digits width_from
 later_part_asks_nothing = refl
@@ -97,7 +97,7 @@ later_eof_asks_nothing = refl
 
 -- ---- Prompts
 
--- a NAK up to the progress, where there is no EOF
+-- a NAK up to the progress, where no EOF was received
 pub nak_prompted : sends (last class_two (metadata Two ∷ part Two ∷ []) (prompted prompt.Nak))
     ≡ Some (digits 16 0x28000900010502080000000000000003 ∷ [])
 unfolding initial step state_of answer_at runs_of runs_from written spelling digits width_from
@@ -118,7 +118,7 @@ pub nak_prompted_while_suspended : sends (last class_two (metadata Two ∷ part 
 unfolding initial step state_of answer_at runs_of runs_from written spelling digits width_from
 nak_prompted_while_suspended = refl
 
--- a Keep Alive, suspended or not
+-- a Keep Alive, whether suspended or not
 pub keep_alive_prompted : sends (last class_two (metadata Two ∷ part Two ∷ []) (prompted prompt.KeepAlive))
     ≡ Some (digits 12 0x280005000105020c00000003 ∷ [])
 unfolding initial step state_of answer_at runs_of runs_from written spelling digits width_from
@@ -129,7 +129,7 @@ pub keep_alive_prompted_while_suspended : sends (last class_two (metadata Two �
 unfolding initial step state_of answer_at runs_of runs_from written spelling digits width_from
 keep_alive_prompted_while_suspended = refl
 
--- with the progress, also where an EOF gave the size
+-- a Keep Alive gives the progress, even where an EOF gave the size
 pub keep_alive_prompted_after_eof : sends (last class_two (part Two ∷ eof_of Two 0 0 9 ∷ []) (prompted prompt.KeepAlive))
     ≡ Some (digits 12 0x280005000105020c00000003 ∷ [])
 unfolding initial step state_of answer_at runs_of runs_from written spelling digits width_from
@@ -137,7 +137,7 @@ keep_alive_prompted_after_eof = refl
 
 -- ---- while it is suspended
 
--- what comes is not looked at before the reception is resumed
+-- what is received is not examined until the reception is resumed
 pub quiet_while_suspended : sends (last class_two (metadata Two ∷ eof Two ∷ what.Suspend ∷ []) (part Two)) ≡ Some []
 unfolding initial step state_of answer_at runs_of runs_from written spelling digits width_from
 quiet_while_suspended = refl
@@ -155,13 +155,13 @@ pub asked_again_on_resume : sends (last class_two (metadata Two ∷ eof Two ∷ 
 unfolding initial step state_of answer_at runs_of runs_from written spelling digits width_from
 asked_again_on_resume = refl
 
--- an EOF is acknowledged all the same, and asks for nothing
+-- an EOF is still acknowledged, but nothing is requested
 pub eof_acknowledged_while_suspended : sends (last class_two (metadata Two ∷ what.Suspend ∷ []) (eof Two))
     ≡ Some (digits 10 0x28000300010502064001 ∷ [])
 unfolding initial step state_of answer_at runs_of runs_from written spelling digits width_from
 eof_acknowledged_while_suspended = refl
 
--- one with an error ends the reception there too
+-- an EOF with an error ends the reception even then
 pub cancelling_eof_while_suspended : sends (last class_two (metadata Two ∷ what.Suspend ∷ []) (eof_of Two 15 0 0))
     ≡ Some (digits 10 0x280003000105020640f2 ∷ [])
 unfolding initial step state_of answer_at runs_of runs_from written spelling digits width_from
@@ -172,7 +172,7 @@ pub cancelling_eof_while_suspended_told : tells (last class_two (metadata Two �
 unfolding initial step state_of answer_at runs_of runs_from digits
 cancelling_eof_while_suspended_told = refl
 
--- ---- again and again
+-- ---- repeated NAKs
 
 -- the NAK is sent again until the limit
 pub nak_again : sends (last class_two (part Two ∷ eof Two ∷ []) (what.Timer Nak 1))
@@ -180,7 +180,7 @@ pub nak_again : sends (last class_two (part Two ∷ eof Two ∷ []) (what.Timer 
 unfolding initial step state_of answer_at runs_of runs_from written spelling digits width_from
 nak_again = refl
 
--- the count begins again with new octets and with the first Metadata
+-- the count begins again with new octets, and with the first Metadata
 pub counted_on_with_nothing_new : sends (last class_two (metadata Two ∷ eof Two ∷ what.Timer Nak 1 ∷ file_data Two 0 [] ∷ []) (what.Timer Nak 2))
     ≡ Some (digits 12 0x280005000105020574060102 ∷ [])
 unfolding initial step state_of answer_at runs_of runs_from written spelling digits width_from
@@ -215,13 +215,13 @@ pub counted_on_with_later_eof : sends (last class_two (metadata Two ∷ eof Two 
 unfolding initial step state_of answer_at runs_of runs_from written spelling digits width_from
 counted_on_with_later_eof = refl
 
--- and with Resume
+-- it begins again with Resume
 pub counted_anew_after_resume : sends (last class_two (metadata Two ∷ eof Two ∷ what.Timer Nak 1 ∷ what.Suspend ∷ what.Resume ∷ []) (what.Timer Nak 4))
     ≡ Some (digits 24 0x280011000105020800000000000000030000000000000003 ∷ [])
 unfolding initial step state_of answer_at runs_of runs_from written spelling digits width_from
 counted_anew_after_resume = refl
 
--- and with a fault that is ignored, of this timer alone
+-- it begins again with an ignored fault of this timer, but of no other
 pub counted_anew_after_ignored : sends (last (two_with 7 Ignore) (part Two ∷ eof Two ∷ what.Timer Nak 1 ∷ what.Timer Nak 2 ∷ []) (what.Timer Nak 3))
     ≡ Some (digits 24 0x280011000105020800000000000000030000000000000000 ∷ [])
 unfolding initial step state_of answer_at runs_of runs_from written spelling digits width_from
@@ -232,20 +232,20 @@ pub counted_on_after_another_ignored : sends (last (two_with 8 Ignore) (part Two
 unfolding initial step state_of answer_at runs_of runs_from written spelling digits width_from
 counted_on_after_another_ignored = refl
 
--- ---- a NAK of the first requests
+-- ---- a NAK with only the first requests
 
--- so many requests of one octet, at every second offset from one on
+-- this many requests of one octet, at every second offset
 abbrev pub requested : ℕ → ℕ → List ℕ
 requested zero offset = []
 requested (suc count) offset = digits 4 offset ++ digits 4 (offset + 1) ++ requested count (offset + 2)
 
--- of 65 gaps the first 64 are asked for, and the scope ends with the last of them
+-- of 65 gaps the first 64 are requested, and the scope ends with the last of them
 pub nak_is_cut : sends (last class_two (metadata_of Two 0 130 ∷ every_second 65 1) (eof_of Two 0 0 130))
     ≡ Some (digits 10 0x28000300010502064001 ∷ (digits 7 0x28020900010502 ++ digits 9 0x08000000000000007f ++ requested 64 0) ∷ [])
 unfolding initial step state_of answer_at runs_of runs_from written spelling digits width_from
 nak_is_cut = refl
 
--- 64 are asked for in one NAK
+-- 64 gaps are requested in one NAK
 pub nak_is_whole : sends (last class_two (metadata_of Two 0 128 ∷ every_second 64 1) (eof_of Two 0 0 128))
     ≡ Some (digits 10 0x28000300010502064001 ∷ (digits 7 0x28020900010502 ++ digits 9 0x080000000000000080 ++ requested 64 0) ∷ [])
 unfolding initial step state_of answer_at runs_of runs_from written spelling digits width_from
@@ -269,13 +269,13 @@ pub finished_at_the_limit : sends (last class_two (metadata Two ∷ part Two ∷
 unfolding initial step state_of answer_at runs_of runs_from written spelling digits width_from
 finished_at_the_limit = refl
 
--- an EOF that comes again does not begin the count anew
+-- an EOF that is received again does not begin the count again
 pub ack_counted_on_with_eof : tells (last class_two (metadata Two ∷ part Two ∷ eof Two ∷ what.Stored 2 true ∷ what.Timer Ack 3 ∷ eof Two ∷ []) (what.Timer Ack 4))
     ≡ Some (told.TransactionFinished 0 Complete Retained ∷ [])
 unfolding initial step state_of answer_at runs_of runs_from digits
 ack_counted_on_with_eof = refl
 
--- the indication says what the Finished PDU said, also where the ACK says otherwise
+-- the indication has the values of the Finished PDU, even where the ACK says otherwise
 pub finished_acknowledged_told : tells (last class_two (metadata Two ∷ part Two ∷ eof Two ∷ what.Stored 2 true ∷ []) (finished_acknowledged 0))
     ≡ Some (told.TransactionFinished 0 Complete Retained ∷ [])
 unfolding initial step state_of answer_at runs_of runs_from digits
@@ -291,7 +291,7 @@ pub cancel_acknowledged_told : tells (last class_two (metadata Two ∷ what.Canc
 unfolding initial step state_of answer_at runs_of runs_from digits
 cancel_acknowledged_told = refl
 
--- while it is waited for, an EOF is acknowledged and nothing else
+-- while its ACK is waited for, an EOF is only acknowledged
 pub first_eof_while_closing : sends (last class_two (metadata Two ∷ what.Cancel ∷ []) (eof Two))
     ≡ Some (digits 10 0x28000300010502064001 ∷ [])
 unfolding initial step state_of answer_at runs_of runs_from written spelling digits width_from
@@ -317,7 +317,7 @@ cancelling_eof_while_closing_told = refl
 
 -- ---- the lengths of the header
 
--- ACK, NAK and Keep Alive have the lengths of the PDU that opened the reception
+-- ACK, NAK and Keep Alive use the lengths of the PDU that opened the reception
 pub wide_eof_answered : sends (last wide_two [] (wide (body.Eof (eof_value 0 0x6162_6300 3))))
     ≡ Some (digits 14 0x2800031200010000050002064001 ∷ digits 36 0x280019120001000005000208000000000000000300000000000000000000000000000003 ∷ [])
 unfolding initial step state_of answer_at runs_of runs_from written spelling digits width_from
@@ -328,7 +328,7 @@ pub wide_keep_alive : sends (last wide_two (wide (body.Metadata (metadata_value 
 unfolding initial step state_of answer_at runs_of runs_from written spelling digits width_from
 wide_keep_alive = refl
 
--- so have the Finished PDU and the location in it
+-- so do the Finished PDU and its fault location
 pub wide_finished : sends (last wide_two (wide (body.Metadata (metadata_value 0 0)) ∷ wide (body.Eof (eof_value 0 0 0)) ∷ []) (what.Stored 1 true))
     ≡ Some (digits 13 0x28000212000100000500020502 ∷ [])
 unfolding initial step state_of answer_at runs_of runs_from written spelling digits width_from
@@ -339,7 +339,7 @@ pub wide_cancelled : sends (last wide_two (wide (body.Metadata (metadata_value 0
 unfolding initial step state_of answer_at runs_of runs_from written spelling digits width_from
 wide_cancelled = refl
 
--- and not those of a later PDU
+-- the lengths of a later PDU are not used
 pub lengths_of_the_opening : sends (last wide_two (wide (body.Metadata (metadata_value 0 0)) ∷ []) (eof_of Two 0 0 0))
     ≡ Some (digits 14 0x2800031200010000050002064001 ∷ [])
 unfolding initial step state_of answer_at runs_of runs_from written spelling digits width_from
@@ -350,7 +350,7 @@ pub lengths_of_the_opening_kept : sends (last class_two (metadata_of Two 0 0 ∷
 unfolding initial step state_of answer_at runs_of runs_from written spelling digits width_from
 lengths_of_the_opening_kept = refl
 
--- ---- after the end, an EOF is acknowledged by its echo alone, and nothing in class 1
+-- ---- after the end an EOF gets only its echo, and in class 1 nothing
 
 pub eof_echoed : echoes (eof Two) ≡ Some (digits 10 0x28000300010502064002 ∷ [])
 unfolding written spelling digits

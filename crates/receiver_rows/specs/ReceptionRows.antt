@@ -1,5 +1,5 @@
--- Rows. Worked receptions of both classes, computed: whole transactions, with what makes their logs legal, and the
--- words that the rows of the other files share.
+-- Rows. Worked receptions of both classes: whole transactions, with proof that their logs are legal, and the
+-- definitions that the other files of rows share.
 use Rattle.std.specs.Prelude.{◌≡◌, ℕ, zero, suc, ◌+◌, ◌-◌, ◌<◌, ◌≤◌, nat_le, Bool, true, false, if◌then◌else◌, is_some, List, [], ◌∷◌, map, Option, Some, None, IsSome, Result, Ok, Err, refl, ◌++◌}
 use Rattle.std.specs.List.{slice_get}
 use Rattle.std.proofs.Common.{ap, sym, ◌∙◌, arith, inl}
@@ -60,7 +60,7 @@ abbrev pub one_with : ℕ → Handler → Reception
 one_with code handler =
     record class_one { params = record reference { tables = record (reference.tables) { receive_one = with_handler (all_cancel RecvOne) code handler } } }
 
--- the reference with another handler of a class 2 receiver for a condition
+-- the same for a class 2 receiver
 abbrev pub two_with : ℕ → Handler → Reception
 two_with code handler =
     record class_two { params = record reference { tables = record (reference.tables) { receive_two = with_handler (all_cancel RecvTwo) code handler } } }
@@ -72,23 +72,23 @@ unequal = record reference {
   limits = record { ack = 2; nak = 3; check = 4 };
 }
 
--- with these in class 1
+-- the class 1 reception with these parameters
 abbrev pub unequal_one : Reception
 unequal_one = record class_one { params = unequal }
 
--- with these in class 2
+-- the class 2 reception with these parameters
 abbrev pub unequal_two : Reception
 unequal_two = record class_two { params = unequal }
 
--- with another ID of this entity
+-- the class 2 reception at an entity with another ID
 abbrev pub two_at : ℕ → Reception
 two_at local = record class_two { params = record reference { local = record { 0 = local } } }
 
--- its header with entity IDs of two octets and sequence numbers of three
+-- a header with entity IDs of two octets and a sequence number of three
 abbrev pub wide_header : Header
 wide_header = record (header Two) { entity_octets = 2; sequence_octets = 3 }
 
--- opened with such a header
+-- the class 2 reception opened with such a header
 abbrev pub wide_two : Reception
 wide_two = record class_two { header = wide_header }
 
@@ -98,31 +98,31 @@ wide_two = record class_two { header = wide_header }
 abbrev pub pdu : Class → Body → What
 pdu class b = what.Pdu (record { header = header class; body = b })
 
--- a PDU with such a header
+-- a PDU with the wide header
 abbrev pub wide : Body → What
 wide b = what.Pdu (record { header = wide_header; body = b })
 
--- such Metadata that came
+-- Metadata with a checksum type and a size
 abbrev pub metadata_of : Class → ℕ → ℕ → What
 metadata_of class kind size = pdu class (body.Metadata (metadata_value kind size))
 
--- octets of the file from an offset on
+-- File Data with octets at an offset
 abbrev pub file_data : Class → ℕ → List ℕ → What
 file_data class offset octets = pdu class (body.FileData (record { offset = offset; octets = octets }))
 
--- such an EOF that came
+-- an EOF with a condition, a checksum and a size
 abbrev pub eof_of : Class → ℕ → ℕ → ℕ → What
 eof_of class condition checksum size = pdu class (body.Eof (eof_value condition checksum size))
 
--- its Metadata
+-- the Metadata of "abc"
 abbrev pub metadata : Class → What
 metadata class = metadata_of class 0 3
 
--- its octets, in one part
+-- the octets of "abc", in one segment
 abbrev pub part : Class → What
 part class = file_data class 0 abc
 
--- its EOF
+-- the EOF of "abc"
 abbrev pub eof : Class → What
 eof class = eof_of class 0 0x6162_6300 3
 
@@ -130,28 +130,28 @@ eof class = eof_of class 0 0x6162_6300 3
 abbrev pub prompted : Prompt → What
 prompted p = pdu Two (body.Prompt p)
 
--- so many octets of no meaning
+-- this many arbitrary octets
 abbrev pub some_octets : ℕ → List ℕ
 some_octets n = digits n 0
 
--- so many parts of one octet, at every second offset from one on
+-- this many segments of one octet, at every second offset
 abbrev pub every_second : ℕ → ℕ → List What
 every_second zero offset = []
 every_second (suc count) offset = file_data Two offset (0 ∷ []) ∷ every_second count (offset + 2)
 
 -- ---- logs
 
--- the log of these events in turn, each answered by the table
+-- the log of these events in order, each answered by the table
 abbrev pub after : Reception → List What → List Entry
 after r events = log_of r events
 
--- what the last event is answered
+-- the answer to the last event
 abbrev pub last : Reception → List What → What → Result Answer Refusal
 last r events event = answer_at r (state_of (after r events)) event
 
 -- ---- what an answer shows: None where the event is refused
 
--- the user's indications
+-- the indications to the user
 abbrev pub tells : Result Answer Refusal → Option (List Indication)
 tells (Ok answer) = Some answer.inds
 tells (Err why) = None
@@ -161,7 +161,7 @@ abbrev pub sends : Result Answer Refusal → Option (List (List ℕ))
 sends (Ok answer) = Some (map written answer.pdus)
 sends (Err why) = None
 
--- the stamp of the file that is handed out
+-- the stamp of the file that is handed to the file store
 abbrev pub hands_out : Result Answer Refusal → Option (List ℕ)
 hands_out (Ok answer) = Some (stamp_of answer.deposit)
   where
@@ -175,12 +175,12 @@ abbrev pub deposits : Result Answer Refusal → Option (Option Deposit)
 deposits (Ok answer) = Some answer.deposit
 deposits (Err why) = None
 
--- what is said to the timers
+-- the timer operations
 abbrev pub operates : Result Answer Refusal → Option (List TimerOp)
 operates (Ok answer) = Some answer.timers
 operates (Err why) = None
 
--- the echo of a PDU of a transaction that is over; None where the event is no PDU
+-- the echo of a PDU of a terminated transaction; None where the event is not a PDU
 abbrev pub echoes : What → Option (List (List ℕ))
 echoes (what.Pdu pdu) = Some (spelled (echo_of pdu))
   where
@@ -191,7 +191,7 @@ echoes _ = None
 
 -- ---- class 1: whole transactions, with all indications
 
--- the file comes and is kept
+-- the file is received and kept
 abbrev pub complete_one : List What
 complete_one = metadata One ∷ part One ∷ eof One ∷ what.Stored 2 true ∷ []
 
@@ -204,7 +204,7 @@ pub complete_one_legal : IsLegal class_one (after class_one complete_one)
 unfolding initial step state_of answer_at runs_of runs_from
 complete_one_legal = (refl, tt, refl, (refl, tt, refl, (refl, tt, refl, (refl, (refl, refl, refl, refl), refl, tt))))
 
--- an empty file: nothing of it is indicated, and it is kept
+-- an empty file: no octets are indicated, and it is kept
 abbrev pub empty_one : List What
 empty_one = metadata_of One 0 0 ∷ eof_of One 0 0 0 ∷ what.Stored 1 true ∷ []
 
@@ -217,7 +217,7 @@ pub empty_one_legal : IsLegal class_one (after class_one empty_one)
 unfolding initial step state_of answer_at runs_of runs_from
 empty_one_legal = (refl, tt, refl, (refl, tt, refl, (refl, (refl, refl, refl, refl), refl, tt)))
 
--- the file store does not keep the file
+-- the file store rejects the file
 abbrev pub rejected_one : List What
 rejected_one = metadata One ∷ part One ∷ eof One ∷ what.Stored 2 false ∷ []
 
@@ -234,7 +234,7 @@ rejected_one_legal = (refl, tt, refl, (refl, tt, refl, (refl, tt, refl, (refl, (
 abbrev pub check_ignored : Reception
 check_ignored = one_with 10 Ignore
 
--- the file does not come: each second expiration is the fault
+-- the file is never received: each second expiration is a fault
 abbrev pub checked_in_vain : List What
 checked_in_vain = eof One ∷ what.Timer Check 0 ∷ what.Timer Check 1 ∷ what.Timer Check 2 ∷ what.Timer Check 3 ∷ []
 
@@ -248,7 +248,7 @@ checked_in_vain_legal = (refl, tt, refl, (refl, tt, refl, (refl, tt, refl, (refl
 
 -- ---- class 2: whole transactions
 
--- the file comes and is kept, and the Finished PDU is acknowledged
+-- the file is received and kept, and the Finished PDU is acknowledged
 abbrev pub complete_two : List What
 complete_two = metadata Two ∷ part Two ∷ eof Two ∷ what.Stored 2 true ∷ finished_acknowledged 0 ∷ []
 
@@ -261,7 +261,7 @@ pub complete_two_legal : IsLegal class_two (after class_two complete_two)
 unfolding initial step state_of answer_at runs_of runs_from
 complete_two_legal = (refl, tt, refl, (refl, tt, refl, (refl, tt, refl, (refl, tt, refl, (refl, (refl, refl, refl, refl), refl, tt)))))
 
--- the Metadata comes last
+-- the Metadata is received last
 abbrev pub metadata_last_two : List What
 metadata_last_two = part Two ∷ eof Two ∷ metadata Two ∷ what.Stored 2 true ∷ finished_acknowledged 0 ∷ []
 
@@ -274,7 +274,7 @@ pub metadata_last_two_legal : IsLegal class_two (after class_two metadata_last_t
 unfolding initial step state_of answer_at runs_of runs_from
 metadata_last_two_legal = (refl, tt, refl, (refl, tt, refl, (refl, tt, refl, (refl, tt, refl, (refl, (refl, refl, refl, refl), refl, tt)))))
 
--- no ACK of the Finished PDU comes
+-- the Finished PDU is never acknowledged
 abbrev pub finished_in_vain : List What
 finished_in_vain = metadata Two ∷ part Two ∷ eof Two ∷ what.Stored 2 true ∷ what.Timer Ack 3 ∷ what.Timer Ack 4 ∷ []
 
@@ -287,7 +287,7 @@ pub finished_in_vain_legal : IsLegal class_two (after class_two finished_in_vain
 unfolding initial step state_of answer_at runs_of runs_from
 finished_in_vain_legal = (refl, tt, refl, (refl, tt, refl, (refl, tt, refl, (refl, tt, refl, (refl, tt, refl, (refl, (refl, refl, refl, refl), refl, tt))))))
 
--- then it is over
+-- the transaction has then ended
 pub over_in_the_end : (state_of (after class_two finished_in_vain)).ended ≡ true
 unfolding initial step state_of runs_of runs_from
 over_in_the_end = refl
@@ -296,7 +296,7 @@ pub not_closing_in_the_end : is_closing (state_of (after class_two finished_in_v
 unfolding initial step state_of runs_of runs_from
 not_closing_in_the_end = refl
 
--- no Metadata comes: at the limit of NAKs the reception ends
+-- the Metadata is never received: at the limit of NAKs the reception ends
 abbrev pub asked_in_vain : List What
 asked_in_vain = part Two ∷ eof Two ∷ what.Timer Nak 1 ∷ what.Timer Nak 2 ∷ what.Timer Ack 3 ∷ what.Timer Ack 4 ∷ []
 
@@ -309,7 +309,7 @@ pub asked_in_vain_legal : IsLegal class_two (after class_two asked_in_vain)
 unfolding initial step state_of answer_at runs_of runs_from
 asked_in_vain_legal = (refl, tt, refl, (refl, tt, refl, (refl, tt, refl, (refl, tt, refl, (refl, tt, refl, (refl, (refl, refl, refl, refl), refl, tt))))))
 
--- the file comes while the reception is suspended
+-- the file is received while the reception is suspended
 abbrev pub suspended_and_resumed : List What
 suspended_and_resumed = metadata Two ∷ eof Two ∷ what.Suspend ∷ part Two ∷ what.Resume ∷ what.Stored 4 true ∷ finished_acknowledged 0 ∷ []
 
@@ -323,7 +323,7 @@ pub suspended_and_resumed_legal : IsLegal class_two (after class_two suspended_a
 unfolding initial step state_of answer_at runs_of runs_from
 suspended_and_resumed_legal = (refl, tt, refl, (refl, tt, refl, (refl, tt, refl, (refl, tt, refl, (refl, tt, refl, (refl, tt, refl, (refl, (refl, refl, refl, refl), refl, tt)))))))
 
--- an EOF with an error comes first and ends it
+-- an EOF with an error is received first and ends the reception
 abbrev pub cancelled_by_sender : List What
 cancelled_by_sender = eof_of Two 15 0 0 ∷ []
 
@@ -335,7 +335,7 @@ pub cancelled_by_sender_legal : IsLegal class_two (after class_two cancelled_by_
 unfolding initial step state_of answer_at runs_of runs_from
 cancelled_by_sender_legal = (refl, (refl, refl, refl, refl), refl, tt)
 
--- the user cancels: an EOF is still acknowledged, and the ACK ends it
+-- the user cancels: an EOF is still acknowledged, and the ACK ends the reception
 abbrev pub cancelled_by_user : List What
 cancelled_by_user = metadata Two ∷ what.Cancel ∷ eof Two ∷ finished_acknowledged 15 ∷ []
 
@@ -348,12 +348,12 @@ pub cancelled_by_user_legal : IsLegal class_two (after class_two cancelled_by_us
 unfolding initial step state_of answer_at runs_of runs_from
 cancelled_by_user_legal = (refl, tt, refl, (refl, tt, refl, (refl, tt, refl, (refl, (refl, refl, refl, refl), refl, tt))))
 
--- while it closes, an EOF with an error is not kept
+-- in the closing phase an EOF with an error is not kept
 pub cancelling_eof_not_kept : (state_of (after class_two (metadata Two ∷ what.Cancel ∷ eof_of Two 15 0 0 ∷ []))).eof ≡ None
 unfolding initial step state_of runs_of runs_from
 cancelling_eof_not_kept = refl
 
--- abandoned while it was suspended, it is suspended no more
+-- a reception that is abandoned while suspended is no longer suspended
 pub not_suspended_in_the_end : is_suspended (state_of (after class_two (metadata Two ∷ what.Suspend ∷ what.Abandon ∷ []))) ≡ false
 unfolding initial step state_of runs_of runs_from
 not_suspended_in_the_end = refl
@@ -382,7 +382,7 @@ pub not_opened_by_another : IsLegal class_two (after class_two (of_another ∷ [
 unfolding initial step state_of answer_at runs_of runs_from
 not_opened_by_another legal = let e : suc 5 ≡ 5 = legal.1.3 in absurd cc
 
--- Metadata with a number in another length
+-- Metadata whose sequence number has another length
 abbrev pub of_another_length : What
 of_another_length = what.Pdu (record { header = record (header Two) { sequence_octets = 2 }; body = body.Metadata (metadata_value 0 3) })
 
@@ -402,11 +402,11 @@ not_another_answer legal = let e : tells (last class_one [] (metadata One)) ≡ 
 
 -- ---- when the file is good
 
--- a reception's state once the EOF of "abc" came behind these events, and was answered
+-- the state after these events and the EOF of "abc"
 abbrev pub with_eof : List What → State
 with_eof events = state_of (after class_one (events ++ eof One ∷ []))
 
--- the file is good once it is whole
+-- the file is good once all of it was received
 pub all_below : (i : ℕ) → i < 3 → IsSome ((with_eof (metadata One ∷ part One ∷ [])).received i)
 unfolding initial step state_of
 all_below zero below = refl
@@ -450,7 +450,7 @@ abbrev pub size_of : Option Eof → ℕ
 size_of None = 0
 size_of (Some e) = e.size
 
--- it is not with an octet missing, nor with one beyond the size
+-- the file is not good with an octet missing, or with one beyond the size
 pub one_missing_is_not_good : IsGood (with_eof (metadata One ∷ file_data One 0 (97 ∷ 98 ∷ []) ∷ [])) → ⊥
 unfolding initial step state_of
 one_missing_is_not_good good =

@@ -1,4 +1,4 @@
--- Rows. Rows on events that are refused, and on those next to them that are taken.
+-- Rows. Rows on events that are refused, and on similar ones that are accepted.
 use Rattle.std.specs.Prelude.{◌≡◌, ℕ, true, List, [], ◌∷◌, Some, None, Err, refl}
 use Rattle.cfdp_types.specs.declared.names.Class.TheVariants.{One, Two}
 use Rattle.cfdp_types.specs.declared.names.Delivery.TheVariants.{Complete, Incomplete}
@@ -19,7 +19,7 @@ use Rattle.receiver_table.specs.Reception.{State, initial, step, state_of}
 use Rattle.receiver_table.specs.Answers.{answer_at}
 use Rattle.receiver_rows.specs.ReceptionRows.{pdu, metadata_of, file_data, eof_of, abc, metadata, part, eof, prompted, finished_acknowledged, after, last, tells, hands_out, class_one, class_two}
 
--- the user cancelled
+-- a reception that the user cancelled
 abbrev pub closing : List What
 closing = metadata Two ∷ what.Cancel ∷ []
 
@@ -47,7 +47,7 @@ pub timer_disarmed : last class_two (metadata Two ∷ eof Two ∷ what.Suspend �
 unfolding initial step state_of answer_at runs_of runs_from digits
 timer_disarmed = refl
 
--- an answer to another deposit, or to none
+-- an answer to another deposit, or where no deposit is waiting
 pub stamp_of_another_deposit : last class_one (metadata One ∷ part One ∷ eof One ∷ []) (what.Stored 1 true) ≡ Err refusal.StaleStored
 unfolding initial step state_of answer_at runs_of runs_from digits
 stamp_of_another_deposit = refl
@@ -56,9 +56,9 @@ pub stored_unasked : last class_one (metadata One ∷ part One ∷ []) (what.Sto
 unfolding initial step state_of answer_at runs_of runs_from digits
 stored_unasked = refl
 
--- ---- while the file store is asked
+-- ---- until the file store answers
 
--- only its own answer and Report are taken
+-- only its answer and Report are accepted
 pub pdu_while_storing : last class_one (metadata One ∷ part One ∷ eof One ∷ []) (metadata One) ≡ Err refusal.Storing
 unfolding initial step state_of answer_at runs_of runs_from digits
 pdu_while_storing = refl
@@ -80,7 +80,7 @@ pub report_while_storing : tells (last class_two (metadata Two ∷ part Two ∷ 
 unfolding initial step state_of answer_at runs_of runs_from digits
 report_while_storing = refl
 
--- Report leaves the deposit waiting
+-- after Report the deposit is still waiting
 pub stored_after_report : tells (last class_one (metadata One ∷ part One ∷ eof One ∷ what.Report ∷ []) (what.Stored 2 true))
     ≡ Some (told.TransactionFinished 0 Complete Retained ∷ [])
 unfolding initial step state_of answer_at runs_of runs_from digits
@@ -90,7 +90,7 @@ pub pdu_after_report : last class_one (metadata One ∷ part One ∷ eof One ∷
 unfolding initial step state_of answer_at runs_of runs_from digits
 pdu_after_report = refl
 
--- of several reasons the first: Storing before WrongState, and behind a stale timer and another mode
+-- of several reasons the first: Storing comes before WrongState, and after a stale timer and another mode
 pub misplaced_while_storing : last class_one (metadata One ∷ part One ∷ eof One ∷ []) what.Suspend ≡ Err refusal.Storing
 unfolding initial step state_of answer_at runs_of runs_from digits
 misplaced_while_storing = refl
@@ -105,7 +105,7 @@ other_mode_while_storing = refl
 
 -- ---- in the closing phase
 
--- all but EOF, ACK (Finished), Report and Abandon
+-- everything is refused but EOF, ACK (Finished), Report and Abandon
 pub cancel_while_closing : last class_two (metadata Two ∷ what.Cancel ∷ []) what.Cancel ≡ Err refusal.WrongState
 unfolding initial step state_of answer_at runs_of runs_from digits
 cancel_while_closing = refl
@@ -138,7 +138,7 @@ pub abandon_while_closing : tells (last class_two (metadata Two ∷ what.Cancel 
 unfolding initial step state_of answer_at runs_of runs_from digits
 abandon_while_closing = refl
 
--- what has no place there is not asked for its size, and an EOF is
+-- WrongState comes before TooLarge; an EOF, which is possible there, may be too large
 pub misplaced_before_too_large : last class_two (metadata Two ∷ what.Cancel ∷ []) (metadata_of Two 0 16777217) ≡ Err refusal.WrongState
 unfolding initial step state_of answer_at runs_of runs_from digits
 misplaced_before_too_large = refl
@@ -147,9 +147,9 @@ pub large_eof_while_closing : last class_two (metadata Two ∷ what.Cancel ∷ [
 unfolding initial step state_of answer_at runs_of runs_from digits
 large_eof_while_closing = refl
 
--- ---- where there is no place for it
+-- ---- events that are not possible
 
--- class 1 is not suspended, and takes no Prompt and no ACK
+-- class 1 refuses Suspend, Prompt and ACK
 pub suspend_in_class_one : last class_one (metadata One ∷ part One ∷ []) what.Suspend ≡ Err refusal.WrongState
 unfolding initial step state_of answer_at runs_of runs_from digits
 suspend_in_class_one = refl
@@ -163,7 +163,7 @@ pub ack_in_class_one : last class_one (metadata One ∷ []) (pdu One (body.Ack (
 unfolding initial step state_of answer_at runs_of runs_from digits
 ack_in_class_one = refl
 
--- Suspend once, and Resume only then
+-- Suspend is refused while suspended, and Resume is possible only then
 pub suspend_twice : last class_two (metadata Two ∷ what.Suspend ∷ []) what.Suspend ≡ Err refusal.WrongState
 unfolding initial step state_of answer_at runs_of runs_from digits
 suspend_twice = refl
@@ -172,7 +172,7 @@ pub resume_unsuspended : last class_two (metadata Two ∷ []) what.Resume ≡ Er
 unfolding initial step state_of answer_at runs_of runs_from digits
 resume_unsuspended = refl
 
--- an ACK of a Finished PDU that was not sent, and one of an EOF
+-- an ACK of a Finished PDU that was not sent, and an ACK of an EOF
 pub ack_before_finished : last class_two (metadata Two ∷ []) (finished_acknowledged 0) ≡ Err refusal.WrongState
 unfolding initial step state_of answer_at runs_of runs_from digits
 ack_before_finished = refl
@@ -204,7 +204,7 @@ pump_at_a_receiver = refl
 
 -- ---- too large
 
--- a file past the limit, and the largest
+-- a file beyond the limit is refused, and the largest is accepted
 pub large_metadata : last class_one [] (metadata_of One 0 16777217) ≡ Err refusal.TooLarge
 unfolding initial step state_of answer_at runs_of runs_from digits
 large_metadata = refl
@@ -214,12 +214,12 @@ pub largest_metadata : tells (last class_one [] (metadata_of One 0 16777216))
 unfolding initial step state_of answer_at runs_of runs_from digits
 largest_metadata = refl
 
--- the end of a part counts
+-- the end of the file data counts
 pub large_part : last class_one (metadata One ∷ []) (file_data One 16777214 abc) ≡ Err refusal.TooLarge
 unfolding initial step state_of answer_at runs_of runs_from digits
 large_part = refl
 
--- it may end at the limit: then it is taken
+-- file data may end at the limit
 pub largest_part : hands_out (last class_one [] (file_data One 16777213 abc)) ≡ Some []
 unfolding initial step state_of answer_at runs_of runs_from digits
 largest_part = refl
@@ -228,7 +228,7 @@ pub largest_part_and_one_octet : last class_one [] (file_data One 16777213 (97 �
 unfolding initial step state_of answer_at runs_of runs_from digits
 largest_part_and_one_octet = refl
 
--- one without octets ends at its offset
+-- file data without octets ends at its offset
 pub empty_part_at_the_limit : hands_out (last class_one [] (file_data One 16777216 [])) ≡ Some []
 unfolding initial step state_of answer_at runs_of runs_from digits
 empty_part_at_the_limit = refl
@@ -237,7 +237,7 @@ pub empty_part_above_the_limit : last class_one [] (file_data One 16777217 []) �
 unfolding initial step state_of answer_at runs_of runs_from digits
 empty_part_above_the_limit = refl
 
--- the size of an EOF counts where it has no error
+-- the size in an EOF counts if it has no error
 pub large_eof : last class_one (metadata One ∷ []) (eof_of One 0 0 16777217) ≡ Err refusal.TooLarge
 unfolding initial step state_of answer_at runs_of runs_from digits
 large_eof = refl
@@ -255,13 +255,13 @@ pub large_eof_with_an_error : tells (last class_two (metadata Two ∷ []) (eof_o
 unfolding initial step state_of answer_at runs_of runs_from digits
 large_eof_with_an_error = refl
 
--- ---- a journal that is full but for its last entries
+-- ---- a journal that is full but for its last places
 
--- the state after "abc" came, as if behind so many entries
+-- the state after "abc" was received, as if there were this many entries
 abbrev pub with_entries : ℕ → State
 with_entries n = record (state_of (after class_two (metadata Two ∷ part Two ∷ []))) { entries = n }
 
--- the last two entries are kept for the file store's answer and for Abandon
+-- the last two places are reserved for the file store's answer and for Abandon
 pub full_for_report : answer_at class_two (with_entries 262142) what.Report ≡ Err refusal.JournalFull
 unfolding initial step state_of answer_at runs_of runs_from digits
 full_for_report = refl
@@ -270,7 +270,7 @@ pub full_for_eof : answer_at class_two (with_entries 262142) (eof Two) ≡ Err r
 unfolding initial step state_of answer_at runs_of runs_from digits
 full_for_eof = refl
 
--- every other reason comes before this one
+-- all other reasons come before JournalFull
 pub large_when_full : answer_at class_two (with_entries 262142) (metadata_of Two 0 16777217) ≡ Err refusal.TooLarge
 unfolding initial step state_of answer_at runs_of runs_from digits
 large_when_full = refl
@@ -291,11 +291,11 @@ pub room_for_abandon : tells (answer_at class_two (with_entries 262143) what.Aba
 unfolding initial step state_of answer_at runs_of runs_from digits
 room_for_abandon = refl
 
--- the state after the same and a Suspend, as if behind so many entries
+-- the state after "abc" was received and then Suspend, as if there were this many entries
 abbrev pub suspended_with_entries : ℕ → State
 suspended_with_entries n = record (state_of (after class_two (metadata Two ∷ part Two ∷ what.Suspend ∷ []))) { entries = n }
 
--- suspended, it is full at the same place
+-- while suspended the journal is full at the same number of entries
 pub full_for_report_while_suspended : answer_at class_two (suspended_with_entries 262142) what.Report ≡ Err refusal.JournalFull
 unfolding initial step state_of answer_at runs_of runs_from digits
 full_for_report_while_suspended = refl
@@ -308,7 +308,7 @@ pub full_for_part_while_suspended : answer_at class_two (suspended_with_entries 
 unfolding initial step state_of answer_at runs_of runs_from digits
 full_for_part_while_suspended = refl
 
--- and not before
+-- and not before that number
 pub room_for_report_while_suspended : tells (answer_at class_two (suspended_with_entries 262141) what.Report)
     ≡ Some (told.Report phase.Suspended 3 ∷ [])
 unfolding initial step state_of answer_at runs_of runs_from digits
@@ -327,7 +327,7 @@ pub room_for_abandon_while_suspended : tells (answer_at class_two (suspended_wit
 unfolding initial step state_of answer_at runs_of runs_from digits
 room_for_abandon_while_suspended = refl
 
--- the state while the file store is asked, as if behind so many entries
+-- the state while the file store is asked, as if there were this many entries
 abbrev pub storing_with_entries : ℕ → State
 storing_with_entries n = record (state_of (after class_one (metadata One ∷ part One ∷ eof One ∷ []))) { entries = n }
 

@@ -1,4 +1,4 @@
--- Rows. Rows on timers, kind by kind, with the place of the step as the stamp.
+-- Rows. Rows on timers, kind by kind; the stamp is the number of the step's entry.
 use Rattle.std.specs.Prelude.{◌≡◌, true, [], ◌∷◌, Some, refl}
 use Rattle.cfdp_types.specs.declared.names.Class.TheVariants.{One, Two}
 use Rattle.cfdp_types.specs.declared.names.Delivery.TheVariants.{Complete, Incomplete}
@@ -16,9 +16,9 @@ use Rattle.receiver_table.specs.Reception.{initial, step, state_of}
 use Rattle.receiver_table.specs.Answers.{answer_at}
 use Rattle.receiver_rows.specs.ReceptionRows.{metadata, part, eof, prompted, finished_acknowledged, last, tells, sends, operates, class_one, class_two, unequal_one, unequal_two, metadata_of, file_data, eof_of}
 
--- ---- what arms them
+-- ---- what arms timers
 
--- a PDU arms Inactivity, and what is awaited its own timer
+-- a PDU arms Inactivity, and whatever is awaited arms its own timer
 pub metadata_arms : operates (last class_two [] (metadata Two)) ≡ Some (op.Arm class_two.key Inactivity 0 1000 ∷ [])
 unfolding initial step state_of answer_at runs_of runs_from digits
 metadata_arms = refl
@@ -33,13 +33,13 @@ pub check_arms : operates (last class_one (metadata One ∷ []) (eof One))
 unfolding initial step state_of answer_at runs_of runs_from digits
 check_arms = refl
 
--- also where the last octet alone is missing
+-- also where only the last octet is missing
 pub check_arms_for_the_last_octet : operates (last class_one (metadata One ∷ file_data One 0 (97 ∷ 98 ∷ []) ∷ []) (eof_of One 0 0x6162_0000 3))
     ≡ Some (op.Arm class_one.key Check 2 1000 ∷ op.Arm class_one.key Inactivity 2 1000 ∷ [])
 unfolding initial step state_of answer_at runs_of runs_from digits
 check_arms_for_the_last_octet = refl
 
--- a timer that goes on as it was is not armed again
+-- a timer that keeps running is not armed again
 pub nak_goes_on : operates (last class_two (metadata Two ∷ eof Two ∷ []) (eof Two)) ≡ Some (op.Arm class_two.key Inactivity 2 1000 ∷ [])
 unfolding initial step state_of answer_at runs_of runs_from digits
 nak_goes_on = refl
@@ -64,7 +64,7 @@ pub ack_arms_again : operates (last class_two (metadata Two ∷ part Two ∷ eof
 unfolding initial step state_of answer_at runs_of runs_from digits
 ack_arms_again = refl
 
--- a Prompt for a NAK leaves all timers as they are, one for a Keep Alive is a sign of life
+-- a Prompt for a NAK leaves all timers as they are; one for a Keep Alive arms Inactivity
 pub prompt_for_nak_arms_nothing : operates (last class_two (metadata Two ∷ eof Two ∷ []) (prompted prompt.Nak)) ≡ Some []
 unfolding initial step state_of answer_at runs_of runs_from digits
 prompt_for_nak_arms_nothing = refl
@@ -78,9 +78,9 @@ pub report_arms_nothing : operates (last class_two (metadata Two ∷ []) what.Re
 unfolding initial step state_of answer_at runs_of runs_from digits
 report_arms_nothing = refl
 
--- ---- what stops them
+-- ---- what stops timers
 
--- suspended, nothing runs
+-- no timer runs while suspended
 pub suspended_disarms : operates (last class_two (metadata Two ∷ eof Two ∷ []) what.Suspend)
     ≡ Some (op.Disarm class_two.key Nak 2 ∷ op.Disarm class_two.key Inactivity 2 ∷ [])
 unfolding initial step state_of answer_at runs_of runs_from digits
@@ -90,13 +90,13 @@ pub suspended_arms_nothing : operates (last class_two (metadata Two ∷ eof Two 
 unfolding initial step state_of answer_at runs_of runs_from digits
 suspended_arms_nothing = refl
 
--- resumed, it asks again and waits again
+-- when resumed it sends a NAK again and arms the timers again
 pub resumed_arms : operates (last class_two (metadata Two ∷ eof Two ∷ what.Suspend ∷ []) what.Resume)
     ≡ Some (op.Arm class_two.key Nak 3 1000 ∷ op.Arm class_two.key Inactivity 3 1000 ∷ [])
 unfolding initial step state_of answer_at runs_of runs_from digits
 resumed_arms = refl
 
--- but not where it asks the file store then, or closes
+-- but not where it then waits for the file store, or is in the closing phase
 pub resumed_storing_arms_nothing : operates (last class_two (metadata Two ∷ eof Two ∷ what.Suspend ∷ part Two ∷ []) what.Resume) ≡ Some []
 unfolding initial step state_of answer_at runs_of runs_from digits
 resumed_storing_arms_nothing = refl
@@ -105,13 +105,13 @@ pub resumed_closing_arms_ack : operates (last class_two (part Two ∷ what.Suspe
 unfolding initial step state_of answer_at runs_of runs_from digits
 resumed_closing_arms_ack = refl
 
--- nothing runs while the file store is asked
+-- no timer runs while it waits for the file store
 pub storing_disarms : operates (last class_two (metadata Two ∷ eof Two ∷ []) (part Two))
     ≡ Some (op.Disarm class_two.key Nak 2 ∷ op.Disarm class_two.key Inactivity 2 ∷ [])
 unfolding initial step state_of answer_at runs_of runs_from digits
 storing_disarms = refl
 
--- closing, Ack alone runs
+-- in the closing phase only Ack runs
 pub closing_arms : operates (last class_two (metadata Two ∷ part Two ∷ eof Two ∷ []) (what.Stored 2 true))
     ≡ Some (op.Arm class_two.key Ack 3 1000 ∷ [])
 unfolding initial step state_of answer_at runs_of runs_from digits
@@ -132,12 +132,12 @@ pub nak_limit_arms : operates (last class_two (part Two ∷ eof Two ∷ what.Tim
 unfolding initial step state_of answer_at runs_of runs_from digits
 nak_limit_arms = refl
 
--- there an EOF is no sign of life
+-- in the closing phase an EOF does not arm Inactivity
 pub closing_eof_arms_nothing : operates (last class_two (metadata Two ∷ what.Cancel ∷ []) (eof Two)) ≡ Some []
 unfolding initial step state_of answer_at runs_of runs_from digits
 closing_eof_arms_nothing = refl
 
--- after the end nothing runs
+-- after the end no timer runs
 pub end_disarms : operates (last class_two (metadata Two ∷ part Two ∷ eof Two ∷ what.Stored 2 true ∷ what.Timer Ack 3 ∷ []) (what.Timer Ack 4))
     ≡ Some (op.Disarm class_two.key Ack 5 ∷ [])
 unfolding initial step state_of answer_at runs_of runs_from digits
@@ -163,7 +163,7 @@ pub cancel_in_class_one_disarms : operates (last class_one (metadata One ∷ eof
 unfolding initial step state_of answer_at runs_of runs_from digits
 cancel_in_class_one_disarms = refl
 
--- ---- the limit and the length of each kind, where all differ
+-- ---- the limit and the length of each timer, where all differ
 
 -- how long each runs
 pub inactivity_length : operates (last unequal_two [] (metadata Two)) ≡ Some (op.Arm class_two.key Inactivity 0 1003 ∷ [])
@@ -185,7 +185,7 @@ pub ack_length : operates (last unequal_two (metadata Two ∷ part Two ∷ eof T
 unfolding initial step state_of answer_at runs_of runs_from digits
 ack_length = refl
 
--- Ack ends it at the second expiration, Nak at the third, and Check at the fourth
+-- Ack ends the reception at the second expiration, Nak at the third, and Check at the fourth
 pub ack_below_two : tells (last unequal_two (metadata Two ∷ part Two ∷ eof Two ∷ what.Stored 2 true ∷ []) (what.Timer Ack 3)) ≡ Some []
 unfolding initial step state_of answer_at runs_of runs_from digits
 ack_below_two = refl

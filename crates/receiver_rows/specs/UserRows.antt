@@ -1,4 +1,4 @@
--- Rows. Rows on what the user asks for: Cancel, Suspend, Resume, Report and Abandon.
+-- Rows. Rows on the user's requests: Cancel, Suspend, Resume, Report and Abandon.
 use Rattle.std.specs.Prelude.{◌≡◌, [], ◌∷◌, Some, refl}
 use Rattle.cfdp_types.specs.declared.names.Class.TheVariants.{One, Two}
 use Rattle.cfdp_types.specs.declared.names.Delivery.TheVariants.{Incomplete}
@@ -35,7 +35,7 @@ pub cancelled_while_suspended : sends (last class_two (metadata Two ∷ what.Sus
 unfolding initial step state_of answer_at runs_of runs_from written spelling digits width_from
 cancelled_while_suspended = refl
 
--- Suspend and Resume are indicated, the latter with the progress
+-- Suspend and Resume are indicated, Resume with the progress
 pub suspended : tells (last class_two (metadata Two ∷ []) what.Suspend) ≡ Some (told.Suspended 14 ∷ [])
 unfolding initial step state_of answer_at runs_of runs_from digits
 suspended = refl
@@ -44,7 +44,7 @@ pub resumed : tells (last class_two (part Two ∷ what.Suspend ∷ []) what.Resu
 unfolding initial step state_of answer_at runs_of runs_from digits
 resumed = refl
 
--- a report tells what the transaction does
+-- a report gives the phase of the transaction
 pub reported_while_suspended : tells (last class_two (metadata Two ∷ what.Suspend ∷ []) what.Report)
     ≡ Some (told.Report phase.Suspended 0 ∷ [])
 unfolding initial step state_of answer_at runs_of runs_from digits
@@ -65,7 +65,7 @@ pub reported_closing_from_suspension : tells (last class_two (metadata Two ∷ w
 unfolding initial step state_of answer_at runs_of runs_from digits
 reported_closing_from_suspension = refl
 
--- Abandon ends the reception, and nothing is sent
+-- Abandon ends the reception and sends nothing
 pub abandoned : tells (last class_two (metadata Two ∷ part Two ∷ []) what.Abandon) ≡ Some (told.Abandoned 15 3 ∷ [])
 unfolding initial step state_of answer_at runs_of runs_from digits
 abandoned = refl

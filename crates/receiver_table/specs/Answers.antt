@@ -1,4 +1,4 @@
--- Meaning. What a reception answers to the events that it takes, in both classes.
+-- Meaning. The answers of a reception to the events that it accepts, in both classes.
 use Rattle.std.specs.Prelude.{ℕ, zero, suc, ◌+◌, ◌-◌, Bool, true, false, not, ◌||◌, ◌&&◌, nat_lt, ◌==◌, is_some, unwrap_or, if◌then◌else◌, List, [], ◌∷◌, ◌++◌, length, map, take, Option, Some, None, Result}
 use Rattle.std.specs.List.{list_any}
 use Rattle.cfdp_types.specs.Condition as condition
@@ -53,28 +53,28 @@ use Rattle.receiver_table.specs.Refusals.{refusal_at}
 
 -- ---- a response of the table
 
--- what a response gives; PDUs are sent in the order of these fields
+-- what a response gives; its PDUs are sent in the order of these fields
 pub record Response : Type 0 where
   pub inds : List Indication
-  -- the code of an EOF that is acknowledged
+  -- the condition code of an EOF that is acknowledged
   pub ack : Option ℕ
   pub nak : Bool
   pub keep_alive : Bool
   pub finished : Option Finished
-  -- whether the file is handed out to be stored
+  -- whether the file is handed to the file store
   pub deposit : Bool
-  -- the timers that it arms
+  -- the timers to arm
   pub arms : List TimerKind
 
--- nothing
+-- the empty response
 abbrev pub nothing : Response
 nothing = record { inds = []; ack = None; nak = false; keep_alive = false; finished = None; deposit = false; arms = [] }
 
--- the user gets these indications
+-- only these indications
 abbrev pub tells : List Indication → Response
 tells inds = record nothing { inds = inds }
 
--- one response and then another: the first one's indications come first, and of two ACKs or Finished PDUs its own counts
+-- two responses joined: the first one's indications come first, and its ACK and Finished PDU have precedence
 infixr 10 ◌and_then◌
 abbrev pub ◌and_then◌ : Response → Response → Response
 response and_then next = record {
@@ -89,30 +89,30 @@ response and_then next = record {
 
 -- ---- the parts of answers
 
--- the role whose handlers count
+-- the role whose fault table is used
 abbrev pub role_of : Class → Role
 role_of One = RecvOne
 role_of Two = RecvTwo
 
--- the handler of a condition, by the table of the transaction's class
+-- the handler of a condition, from the table of the transaction's class
 abbrev pub handler_of : Reception → ℕ → Handler
 handler_of reception code = handler_in (table_for reception.params.tables (role_of reception.header.class)) code
 
--- what became of the file where a fault ends the reception
+-- the file status where a fault ends the reception
 abbrev pub status_of : ℕ → FileStatus
 status_of code = if code == condition.filestore_rejection then Rejected else Discarded
 
--- the fault location of a Finished PDU: this entity, where there was a fault
+-- the fault location of a Finished PDU: this entity, for every fault but an unsupported checksum type
 abbrev pub location_of : Reception → ℕ → Option EntityId
 location_of reception code =
     if code == condition.no_error || code == condition.unsupported_checksum_type then None else Some reception.params.local
 
--- the first Metadata asks the receiver to report at the end what became of the file
+-- whether the first Metadata requests transaction closure
 abbrev pub asks_closure : State → Bool
 asks_closure state = unwrap_or state.closure false
 
--- the end of the file's delivery: class 1 tells the user at once, and the sender where it asks for that; class 2 sends a
--- Finished PDU and waits for its ACK
+-- the end of the delivery: class 1 notifies the user at once, and the sender too where closure is requested; class 2
+-- sends a Finished PDU and waits for its ACK
 abbrev pub finish_response : Reception → State → ℕ → Delivery → FileStatus → Response
 finish_response reception state code delivery file_status = by_class reception.header.class
   where
@@ -129,7 +129,7 @@ finish_response reception state code delivery file_status = by_class reception.h
 abbrev pub cancel_response : Reception → State → ℕ → Response
 cancel_response reception state code = finish_response reception state code Incomplete (status_of code)
 
--- a fault, by its handler: the timer that declared it is armed again where it is ignored
+-- a fault, by its handler: where it is ignored, the timer that declared it is armed again
 abbrev pub fault_response : Reception → State → List TimerKind → ℕ → Response
 fault_response reception state kinds code = by_handler (handler_of reception code)
   where
@@ -139,18 +139,18 @@ fault_response reception state kinds code = by_handler (handler_of reception cod
     by_handler handler.Ignore = record (tells (told.Fault code state.progress ∷ [])) { arms = kinds }
     by_handler handler.Abandon = tells (told.Abandoned code state.progress ∷ [])
 
--- ---- the look at the file so far
+-- ---- examining the file so far
 
 -- the octets received at n offsets from k on, in order
 abbrev pub octets_from : (ℕ → Option ℕ) → ℕ → ℕ → List ℕ
 octets_from received k zero = []
 octets_from received k (suc n) = unwrap_or (received k) 0 ∷ octets_from received (k + 1) n
 
--- the offsets below a limit that were not received, as maximal runs, rising
+-- the maximal runs of offsets below a limit that were not received, rising
 abbrev pub missing_below : State → ℕ → List Run
 missing_below state limit = missing_runs (is_received state) limit
 
--- the type of checksum is not one that is computed here
+-- the checksum type is not supported
 abbrev pub is_unsupported : State → Bool
 is_unsupported state = by_type state.metadata
   where
@@ -162,7 +162,7 @@ is_unsupported state = by_type state.metadata
 abbrev pub is_beyond : State → Eof → Bool
 is_beyond state e = nat_lt e.size state.progress
 
--- Metadata and EOF are there, and nothing below the size is missing
+-- the Metadata was received, and nothing below the EOF's size is missing
 abbrev pub is_whole : State → Eof → Bool
 is_whole state e = is_some state.metadata && (length (missing_below state e.size) == 0)
 
@@ -174,15 +174,15 @@ has_no_sum state = by_type state.metadata
     by_type None = false
     by_type (Some m) = m.checksum_type == checksum.null
 
--- the octets below the size have the EOF's checksum, where the file has one
+-- the octets below the size have the EOF's checksum, or the file has no checksum
 abbrev pub agrees : State → Eof → Bool
 agrees state e = has_no_sum state || (sum (octets_from state.received 0 e.size) == e.checksum)
 
--- the file is whole, and handed out to be stored
+-- the file is handed to the file store
 abbrev pub stores : Response
 stores = record nothing { deposit = true }
 
--- class 1 waits for the rest of the file by Check, class 2 asks for it by NAK, each unless that timer runs
+-- class 1 waits for the rest of the file by Check, class 2 requests it by a NAK; neither while that timer runs
 abbrev pub waits_for_rest : Reception → State → Response
 waits_for_rest reception state = by_class reception.header.class
   where
@@ -190,7 +190,7 @@ waits_for_rest reception state = by_class reception.header.class
     by_class One = if is_some (state.armed Check) then nothing else record nothing { arms = Check ∷ [] }
     by_class Two = if is_some (state.armed Nak) then nothing else record nothing { nak = true; arms = Nak ∷ [] }
 
--- what an EOF finds
+-- the completion check, once an EOF was received
 abbrev pub looks_at_eof : Reception → State → Option Eof → Response
 looks_at_eof reception state None = nothing
 looks_at_eof reception state (Some e) =
@@ -199,20 +199,20 @@ looks_at_eof reception state (Some e) =
     else if is_whole state e then stores
     else waits_for_rest reception state
 
--- the first case that applies; nothing while the reception is suspended
+-- the completion check: the first case that applies; nothing while the reception is suspended
 abbrev pub examines : Reception → State → Response
 examines reception state =
     if is_suspended state then nothing
     else if is_unsupported state then fault_response reception state [] condition.unsupported_checksum_type
     else looks_at_eof reception state state.eof
 
--- ---- what is answered to PDUs; `front` is the state before the event, `now` the state with it
+-- ---- answers to PDUs; `front` is the state before the event, `now` the state with the event
 
--- what is indicated of a run of new octets
+-- the indication of a run of new octets
 abbrev pub segment_told : Run → Indication
 segment_told run = told.FileSegmentRecv run.start (run.end - run.start)
 
--- Metadata: the first is indicated
+-- Metadata: only the first is indicated
 abbrev pub on_metadata : Reception → State → State → Metadata → Response
 on_metadata reception front now m =
     (if is_some front.metadata then nothing
@@ -227,8 +227,8 @@ on_file_data reception front now d = tells (map segment_told (added_runs front (
 abbrev pub acknowledges : Reception → ℕ → Response
 acknowledges reception code = if is_two reception.header.class then record nothing { ack = Some code } else nothing
 
--- EOF: the first without an error is indicated; one with an error ends the reception; in the
--- closing phase it is acknowledged and nothing else
+-- EOF: the first one without an error is indicated; one with an error ends the reception; in the closing phase
+-- every EOF is only acknowledged
 abbrev pub on_eof : Reception → State → State → Eof → Response
 on_eof reception front now e =
     if is_closing front then acknowledges reception e.condition
@@ -236,12 +236,12 @@ on_eof reception front now e =
     (if is_some front.eof then nothing else tells (told.EofRecv ∷ [])) and_then acknowledges reception e.condition and_then examines reception now
     else tells (told.TransactionFinished e.condition Incomplete Discarded ∷ []) and_then acknowledges reception e.condition
 
--- Prompt: a NAK, unless suspended, or a Keep Alive
+-- Prompt: a NAK, unless the reception is suspended, or a Keep Alive
 abbrev pub on_prompt : State → Prompt → Response
 on_prompt now prompt.Nak = if is_suspended now then nothing else record nothing { nak = true }
 on_prompt now prompt.KeepAlive = record nothing { keep_alive = true }
 
--- the Finished PDU is acknowledged, or is no longer waited for: its values are indicated
+-- the Finished PDU was acknowledged, or its ACK is no longer waited for: the values in the Finished are indicated
 abbrev pub ends_as_finished : State → Response
 ends_as_finished state = by_finished state.finished
   where
@@ -249,7 +249,7 @@ ends_as_finished state = by_finished state.finished
     by_finished None = nothing
     by_finished (Some f) = tells (told.TransactionFinished f.condition f.delivery f.status ∷ [])
 
--- what is answered to a PDU, by its kind
+-- the answer to a PDU, by its kind
 abbrev pub on_body : Reception → State → State → Body → Response
 on_body reception front now (body.Metadata m) = on_metadata reception front now m
 on_body reception front now (body.FileData d) = on_file_data reception front now d
@@ -260,45 +260,45 @@ on_body reception front now (body.Finished f) = nothing
 on_body reception front now (body.Nak n) = nothing
 on_body reception front now (body.KeepAlive k) = nothing
 
--- ---- what is answered to timers
+-- ---- answers to timers
 
--- the expirations so far and this one are fewer than the limit
+-- the expirations so far, with this one, are below the limit
 abbrev pub is_below : State → TimerKind → ℕ → Bool
 is_below front kind limit = nat_lt (front.tries kind + 1) limit
 
--- Nak: the NAK once more, and at the limit a fault
+-- Nak: another NAK, and at the limit a fault
 abbrev pub on_nak_timer : Reception → State → State → Response
 on_nak_timer reception front now =
     if is_below front Nak reception.params.limits.nak then record nothing { nak = true; arms = Nak ∷ [] }
     else fault_response reception now (Nak ∷ []) condition.nak_limit
 
--- Check: at the limit a fault
+-- Check: nothing is sent, and at the limit a fault
 abbrev pub on_check_timer : Reception → State → State → Response
 on_check_timer reception front now =
     if is_below front Check reception.params.limits.check then record nothing { arms = Check ∷ [] }
     else fault_response reception now (Check ∷ []) condition.check_limit
 
--- Ack, in the closing phase: the Finished PDU once more, and at the limit the end
+-- Ack, in the closing phase: the Finished PDU again, and at the limit the end
 abbrev pub on_ack_timer : Reception → State → Response
 on_ack_timer reception front =
     if is_below front Ack reception.params.limits.ack then record nothing { finished = front.finished; arms = Ack ∷ [] }
     else ends_as_finished front
 
--- what is answered to an expiration, by its timer
+-- the answer to an expiration, by its timer
 abbrev pub on_timer : Reception → State → State → TimerKind → Response
 on_timer reception front now Nak = on_nak_timer reception front now
 on_timer reception front now Check = on_check_timer reception front now
 on_timer reception front now Ack = on_ack_timer reception front
 on_timer reception front now Inactivity = fault_response reception now (Inactivity ∷ []) condition.inactivity
 
--- ---- what is answered to the user and to the file store
+-- ---- answers to the user and to the file store
 
--- the file store keeps the file, or not
+-- the file store keeps the file, or rejects it
 abbrev pub on_stored : Reception → State → Bool → Response
 on_stored reception now true = finish_response reception now condition.no_error Complete Retained
 on_stored reception now false = fault_response reception now [] condition.filestore_rejection
 
--- what the transaction does
+-- the phase that a report gives
 abbrev pub phase_of : State → Phase
 phase_of state =
     if is_storing state then phase.Storing
@@ -306,12 +306,12 @@ phase_of state =
     else if is_suspended state then phase.Suspended
     else phase.Active
 
--- Resume: the reception goes on, and looks at what came meanwhile
+-- Resume: the reception continues, and examines what it received meanwhile
 abbrev pub on_resume : Reception → State → Response
 on_resume reception now =
     record (tells (told.Resumed now.progress ∷ [])) { arms = Inactivity ∷ [] } and_then examines reception (record now { paused = false })
 
--- what is answered to an event, by its kind
+-- the answer to an event, by its kind
 abbrev pub response_to : Reception → State → State → What → Response
 response_to reception front now (what.Pdu pdu) = on_body reception front now pdu.body
 response_to reception front now (what.Timer kind stamp) = on_timer reception front now kind
@@ -329,7 +329,7 @@ response_to reception front now what.Pump = nothing
 abbrev pub pdu_to_sender : Reception → Body → PduValue
 pdu_to_sender reception body = record { header = record reception.header { direction = TowardSender }; body = body }
 
--- the ACK of an EOF says whether the transaction has ended
+-- the ACK of an EOF; its transaction status says whether the transaction has ended
 abbrev pub ack_of : Bool → ℕ → Body
 ack_of ended code = body.Ack (record { of = acknowledged.Eof; condition = code; status = if ended then status.Terminated else status.Active })
 
@@ -337,7 +337,7 @@ ack_of ended code = body.Ack (record { of = acknowledged.Eof; condition = code; 
 abbrev pub request_of : Run → SegmentRequest
 request_of run = record { start = run.start; end = run.end }
 
--- the offsets up to which the rest of the file is asked for: the size, or the progress before there is an EOF
+-- the end of the scope of a NAK: the EOF's size, or the progress before an EOF was received
 abbrev pub scope_of : State → ℕ
 scope_of state = by_eof state.eof
   where
@@ -345,7 +345,7 @@ scope_of state = by_eof state.eof
     by_eof None = state.progress
     by_eof (Some e) = e.size
 
--- all that is missing: the Metadata first, then the runs, rising
+-- all that is missing: first the Metadata, then the runs, rising
 abbrev pub requests_of : State → List SegmentRequest
 requests_of state =
     (if is_some state.metadata then [] else record { start = 0; end = 0 } ∷ []) ++ map request_of (missing_below state (scope_of state))
@@ -356,24 +356,24 @@ last_end [] = 0
 last_end (r ∷ []) = r.end
 last_end (r ∷ rest) = last_end rest
 
--- a NAK holds the first requests; where some are left out its scope ends with the last that stands there
+-- a NAK holds the first requests; where some are left out, its scope ends with the last request in it
 abbrev pub nak_of : State → Body
 nak_of state =
     if nat_lt NAK_REQUESTS (length (requests_of state)) then
     body.Nak (record { start = 0; end = last_end (take NAK_REQUESTS (requests_of state)); requests = take NAK_REQUESTS (requests_of state) })
     else body.Nak (record { start = 0; end = scope_of state; requests = requests_of state })
 
--- the body that is made of a value, where there is one
+-- the body with a value, if there is a value
 abbrev pub if_there : {A : Type 0} → (A → Body) → Option A → List Body
 if_there make None = []
 if_there make (Some x) = make x ∷ []
 
--- the body, where it is to be sent
+-- the body, if it is to be sent
 abbrev pub if_so : Bool → Body → List Body
 if_so true body = body ∷ []
 if_so false body = []
 
--- in this order
+-- the bodies to send, in this order
 abbrev pub bodies_of : State → Bool → Response → List Body
 bodies_of now ended response =
     if_there (ack_of ended) response.ack
@@ -383,7 +383,8 @@ bodies_of now ended response =
 
 -- ---- the timers of a response
 
--- an accepted PDU shows that the sender is active; a Prompt for a NAK leaves all timers as they are
+-- whether an event shows that the sender is active: an accepted PDU does; a Prompt for a NAK does not, and leaves
+-- all timers as they are
 abbrev pub is_sign_of_life : What → Bool
 is_sign_of_life (what.Pdu pdu) = not (asks_for_nak pdu.body)
   where
@@ -392,8 +393,8 @@ is_sign_of_life (what.Pdu pdu) = not (asks_for_nak pdu.body)
     asks_for_nak _ = false
 is_sign_of_life _ = false
 
--- after the step: none runs where the transaction has ended, is suspended or asks the file store; only Ack
--- in the closing phase
+-- what a step does to a timer: all are stopped where the transaction has ended, is suspended or waits for the file
+-- store, and all but Ack in the closing phase
 abbrev pub effect_of : Response → State → What → TimerKind → Effect
 effect_of response after event kind =
     if after.ended || is_storing after || is_suspended after then stops
@@ -404,11 +405,11 @@ effect_of response after event kind =
 
 -- ---- the whole answer
 
--- the state with the event, before it is answered
+-- the state with the event added, before its answer
 abbrev pub with_event : State → What → State
 with_event state event = step state (record { event = event; answer = empty_answer })
 
--- what a response answers, but for the timers
+-- the answer of a response, without the timers
 abbrev pub without_timers : Reception → State → State → Response → Answer
 without_timers reception front now response = record {
   inds = response.inds;
@@ -417,7 +418,7 @@ without_timers reception front now response = record {
   deposit = if response.deposit then Some (record { key = reception.key; stamp = front.entries }) else None;
 }
 
--- with them
+-- the answer of a response, with the timers
 abbrev pub with_timers : Reception → State → What → Response → Answer → Answer
 with_timers reception front event response answer = record answer {
   timers = operations reception.key (timer_length reception.params.timers) front.entries
@@ -431,6 +432,6 @@ accepted_at reception front event =
     let response = response_to reception front (with_event front event) event in
     with_timers reception front event response (without_timers reception front (with_event front event) response)
 
--- the answer to an event, or why it is refused
+-- the answer to an event, or the refusal
 unfoldable pub answer_at : Reception → State → What → Result Answer Refusal
 answer_at reception front event = unless_refused (refusal_at reception front event) (accepted_at reception front event)

@@ -1,4 +1,4 @@
--- Meaning. What the file store is given.
+-- Meaning. The file that is handed to the file store.
 use Rattle.std.specs.Prelude.{ℕ, if◌then◌else◌, Option, Some, None, Result, Ok, Err}
 use Rattle.cfdp_types.specs.Steps.{is_stamp}
 use Rattle.cfdp_types.specs.declared.image.Image.{Image}
@@ -9,7 +9,7 @@ use Rattle.pdu_values.specs.declared.bodies.Eof.{Eof}
 use Rattle.receiver_table.specs.Reception.{State}
 use Rattle.receiver_table.specs.Answers.{octets_from}
 
--- a file as its Metadata names it, with the octets below its EOF's size, each as it came first
+-- the file with the names in its Metadata and the octets below its EOF's size, of each offset the one received first
 abbrev pub image_of : (ℕ → Option ℕ) → Option Metadata → Option Eof → Option Image
 image_of received (Some m) (Some e) = Some (record {
   source_name = m.source_name;
@@ -22,6 +22,6 @@ abbrev pub or_stale : Option Image → Result Image Refusal
 or_stale (Some image) = Ok image
 or_stale None = Err StaleStored
 
--- the file of the deposit that waits, by its stamp
+-- the file of the waiting deposit, which has this stamp
 abbrev pub image_at : State → ℕ → Result Image Refusal
 image_at state stamp = if is_stamp state.waiting stamp then or_stale (image_of state.received state.metadata state.eof) else Err StaleStored

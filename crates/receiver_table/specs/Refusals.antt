@@ -13,19 +13,19 @@ use Rattle.txn_events.specs.Events.{is_two, is_of_other_class, is_stale_timer, n
 use Rattle.cfdp_types.specs.Steps.{is_stamp}
 use Rattle.receiver_table.specs.Reception.{Reception, State, is_closing, is_storing, is_suspended}
 
--- StaleStored: no deposit waits, or another one
+-- StaleStored: no deposit with this stamp is waiting
 abbrev pub is_stale_store : State → What → Bool
 is_stale_store state (what.Stored stamp kept) = not (is_stamp state.waiting stamp)
 is_stale_store state _ = false
 
--- Storing: while the file store is asked, only its answer and Report are taken
+-- Storing: until the file store answers, only its answer and Report are accepted
 abbrev pub waits_for_store : What → Bool
 waits_for_store (what.Stored stamp kept) = false
 waits_for_store what.Report = false
 waits_for_store _ = true
 
--- WrongState, for PDUs: what goes toward the sender; Prompt and ACK in class 1; an ACK (Finished) before
--- there was a Finished; and in the closing phase all but EOF and ACK (Finished)
+-- WrongState, for PDUs: those that go toward the sender; in class 1 also Prompt and ACK; an ACK (Finished)
+-- before a Finished was sent; and in the closing phase all but EOF and ACK (Finished)
 abbrev pub is_pdu_misplaced : Reception → State → Body → Bool
 is_pdu_misplaced reception state (body.Metadata m) = is_closing state
 is_pdu_misplaced reception state (body.FileData d) = is_closing state
@@ -36,8 +36,8 @@ is_pdu_misplaced reception state (body.Finished f) = true
 is_pdu_misplaced reception state (body.Nak n) = true
 is_pdu_misplaced reception state (body.KeepAlive k) = true
 
--- WrongState: Pump is the sender's; Resume only where the reception is suspended; Suspend not in class 1,
--- where it is suspended, or in the closing phase; Cancel not in the closing phase
+-- WrongState, for other events: Pump always; Resume unless suspended; Suspend in class 1, while suspended, and in the
+-- closing phase; Cancel in the closing phase
 abbrev pub is_misplaced : Reception → State → What → Bool
 is_misplaced reception state (what.Pdu pdu) = is_pdu_misplaced reception state pdu.body
 is_misplaced reception state what.Pump = true
@@ -46,11 +46,11 @@ is_misplaced reception state what.Suspend = not (is_two reception.header.class) 
 is_misplaced reception state what.Cancel = is_closing state
 is_misplaced reception state _ = false
 
--- JournalFull: the last entries are kept for the file store's answer and for Abandon
+-- JournalFull: the last places are reserved for the file store's answer and for Abandon
 abbrev pub is_full : State → Bool
 is_full state = nat_le (JOURNAL_ENTRIES - JOURNAL_ENTRIES_KEPT) state.entries
 
--- why an event is refused, if it is
+-- why an event is refused, None where it is accepted
 abbrev pub refusal_at : Reception → State → What → Option Refusal
 refusal_at reception state event =
     if is_of_other_class reception.header.class event then Some refusal.ModeMismatch

@@ -1,3 +1,3 @@
-//! Worked routes, computed by the checker from the definitions of `entity_routing`. There is no code here: each row is
-//! a lemma in `proofs/`.
+//! Worked routes, which the checker computes from the definitions of `entity_routing`. There is no code here: each
+//! row is a lemma in `proofs/`.
 #![tactic(auto)]

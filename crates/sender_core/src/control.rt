@@ -5,22 +5,22 @@ use indications::Phase;
 use pdu_values::Eof;
 use txn_events::{Stamps, Tries};
 
-/// Where a sender stands, but for the octets that are still to be sent.
+/// The transaction control block: the state of a sender without the offsets that remain to be sent.
 #[derive(Clone, Copy)]
 pub(crate) struct ControlBlock {
     /// The number of events so far.
     pub(crate) entries: u32,
-    /// Whether Metadata is to be sent.
+    /// Whether Metadata remains to be sent.
     pub(crate) metadata_remains: bool,
-    /// One more than the greatest offset that was sent, 0 if none was.
+    /// One more than the greatest offset sent, 0 if there is none.
     pub(crate) progress: u32,
     /// The last EOF that was sent.
     pub(crate) eof: Option<Eof>,
     /// Whether the EOF without an error was acknowledged.
     pub(crate) acknowledged: bool,
-    /// Whether a suspension was indicated, and no resumption since.
+    /// Whether Suspended was issued, and no Resumed since.
     pub(crate) paused: bool,
-    /// Whether an end was indicated.
+    /// Whether an end was issued.
     pub(crate) ended: bool,
     pub(crate) armed: Stamps,
     pub(crate) tries: Tries,
@@ -32,7 +32,7 @@ impl ControlBlock {
     ghost use Rattle.sender_table.specs.Answers.{phase_of, condition_of};
     ghost use Rattle.sender_core.specs.ControlBlock.{state_from, nowhere, first};
 
-    /// Before the Put.
+    /// The control block before the Put.
     pub(crate) fn first() -> ControlBlock
         ensures { result ≡ first 0 }
     {
@@ -59,21 +59,21 @@ impl ControlBlock {
         }
     }
 
-    /// Whether an EOF with an error was sent, and the end was not indicated.
+    /// Whether an EOF with an error was sent, and no end was issued yet.
     pub(crate) fn is_closing(&self) -> bool
         ensures { result ≡ is_closing (state_from self.now nowhere) }
     {
         self.is_cancelled() && !self.ended
     }
 
-    /// Whether the transaction waits for the user to have it go on.
+    /// Whether the transaction is suspended.
     pub(crate) fn is_suspended(&self) -> bool
         ensures { result ≡ is_suspended (state_from self.now nowhere) }
     {
         self.paused && !self.is_cancelled() && !self.ended
     }
 
-    /// The condition of the last EOF that was sent.
+    /// The condition code of the last EOF, no error where none was sent.
     pub(crate) fn condition(&self) -> Condition
         ensures { result ≡ condition_of self.now.eof }
     {
@@ -83,7 +83,7 @@ impl ControlBlock {
         }
     }
 
-    /// What the transaction does.
+    /// The phase that a report gives.
     pub(crate) fn phase(&self) -> Phase
         ensures { result ≡ phase_of (state_from self.now nowhere) }
     {

@@ -1,4 +1,4 @@
-//! How a sender is opened.
+//! Opening a sender.
 use crate::control::ControlBlock;
 use crate::pdus::header_of;
 use crate::plan::{Plan, Remainder};
@@ -16,7 +16,7 @@ impl SenderCore {
     ghost use Rattle.sender_table.specs.Answers.{answer_at};
     ghost use Rattle.sender_core.specs.Core.{shown, sending_of, sending_by, StandsAfter, IsPlanOf, IsWhy};
 
-    /// The sender of a file, with the plan of the Put as its first event.
+    /// Opens a sender for a Put, which is also planned as its first event. `TooLarge` if the file is too large.
     pub fn open(
         alloc: Global,
         key: TxnKey,

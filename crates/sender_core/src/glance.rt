@@ -1,4 +1,4 @@
-//! What a look at a sender shows, without an event.
+//! The state of a sender, read without an event.
 use crate::sender::SenderCore;
 use cfdp_types::{PutRequest, TxnKey};
 use indications::Phase;
@@ -8,35 +8,35 @@ impl SenderCore {
     ghost use Rattle.sender_table.specs.Answers.{phase_of};
     ghost use Rattle.sender_core.specs.Core.{shown, sending_of};
 
-    /// Its key.
+    /// The transaction's key.
     pub fn key(&self) -> TxnKey
         ensures { result ≡ (sending_of self.now).key }
     {
         self.key
     }
 
-    /// What was put.
+    /// The request that opened the transaction.
     pub fn request(&self) -> &PutRequest
         ensures { result.now ≡ (sending_of self.now).request }
     {
         &self.request
     }
 
-    /// What it does.
+    /// The phase that a report gives.
     pub fn phase(&self) -> Phase
         ensures { result ≡ phase_of (shown self.now) }
     {
         self.control.phase()
     }
 
-    /// One more than the greatest offset that was sent, 0 if none was.
+    /// One more than the greatest offset sent, 0 if there is none.
     pub fn progress(&self) -> u32
         ensures { result ≡ (shown self.now).progress }
     {
         self.control.progress
     }
 
-    /// The number of events that it took.
+    /// The number of events that the sender has accepted.
     pub fn entries(&self) -> u32
         ensures { result ≡ (shown self.now).entries }
     {

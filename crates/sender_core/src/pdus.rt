@@ -14,7 +14,7 @@ use pdu_values::{
 };
 use std::alloc::{AllocError, Global};
 
-/// The header of every PDU of a transaction.
+/// The header of every PDU that the sender sends.
 pub(crate) fn header_of(key: TxnKey, params: &Params, request: &PutRequest) -> Header
     ensures value { result ≡ header_of (record { key = key; params = params.now; request = request.now }) }
     ensures fits { HeaderFits result }
@@ -33,7 +33,7 @@ pub(crate) fn header_of(key: TxnKey, params: &Params, request: &PutRequest) -> H
     }
 }
 
-/// The PDU that tells what file it is.
+/// The Metadata PDU.
 pub(crate) fn metadata(
     header: Header,
     request: &PutRequest,
@@ -64,7 +64,7 @@ pub(crate) fn metadata(
     Ok(Pdu::metadata(header, metadata))
 }
 
-/// The PDU with so many of the octets of a file, from one on.
+/// The File Data PDU with `count` octets of the file from `start`.
 pub(crate) fn file_data(
     header: Header,
     file: &Octets,
@@ -86,7 +86,7 @@ pub(crate) fn file_data(
     Ok(Pdu::file_data(header, FileData { offset, octets }))
 }
 
-/// The ACK of a Finished with a condition.
+/// The ACK of a Finished PDU.
 pub(crate) fn ack(header: Header, condition: Condition) -> Pdu
     requires { HeaderFits header }
     ensures { result ≡ record {

@@ -2,19 +2,19 @@ use crate::control::ControlBlock;
 use crate::remaining::NakRequests;
 use txn_events::Answer;
 
-/// What an event makes of the offsets that are still to be sent.
+/// What a plan does to the offsets that remain to be sent.
 #[derive(Drop)]
 pub(crate) enum Remainder {
-    /// They are the same.
+    /// They stay the same.
     Same,
-    /// All below this one are sent.
+    /// All below this offset are sent.
     SentTo(u32),
-    /// More are asked for.
+    /// More are requested.
     Requested(NakRequests),
 }
 
-/// An event that is accepted, with its answer and all memory that it takes. It can be carried out
-/// in the state that it was made in.
+/// An event that is accepted, with its answer and all the memory that it needs. A plan can be carried out in the
+/// state that it was made in.
 #[derive(Drop)]
 pub struct Plan {
     pub(crate) next: ControlBlock,
@@ -26,7 +26,7 @@ impl Plan {
     ghost use Rattle.std.specs.Prelude.{◌≡◌};
     ghost use Rattle.sender_core.specs.Core.{plan_answer};
 
-    /// What the event will be answered.
+    /// The answer that the event will get.
     pub fn answer(&self) -> &Answer
         ensures { result.now ≡ plan_answer self.now }
     {

@@ -1,4 +1,4 @@
-//! How an event is planned.
+//! Planning an event.
 ghost use Rattle.std.specs.Prelude.{◌≡◌, IfOk};
 ghost use Rattle.std.specs.Option.{option_to_list};
 
@@ -22,7 +22,7 @@ impl SenderCore {
     ghost use Rattle.txn_events.specs.Timers.{effects, stamp_of};
     ghost use Rattle.sender_core.specs.Core.{shown, sending_of, plan_answer, StandsAfter, HoldsResponse, IsPlanOf, IsWhy};
 
-    // The plan of an event that is answered by a response, and leaves so much to be sent.
+    // The plan of an event with its response, and with what then remains to be sent.
     fn plan_response(
         &self,
         event: &What,
@@ -65,8 +65,8 @@ impl SenderCore {
         Ok(plan)
     }
 
-    /// Plans an event in the present state, which stays as it is: the plan holds all memory that the
-    /// event takes.
+    /// Plans an event without changing the state. The plan holds all memory that the event needs. An error is the
+    /// table's refusal, or NoMemory.
     pub fn plan(&self, event: &What) -> Result<Plan, Refusal>
         ensures planned { IfOk result (λ plan. IsPlanOf self.now plan (happens event.now)) }
         ensures accepted { (log : List Entry) → StandsAfter self.now log
@@ -80,7 +80,7 @@ impl SenderCore {
     }
 }
 
-// The PDU, if there is one.
+// The PDU as a list, if there is one.
 fn listed(alloc: Global, pdu: Option<Pdu>) -> Result<Pdus, AllocError>
     ensures { IfOk result (λ pdus. pdus ≡ option_to_list pdu) }
 {

@@ -1,4 +1,4 @@
-//! Which events a sender refuses, and why.
+//! The events that a sender refuses, and why.
 ghost use Rattle.std.specs.Prelude.{◌≡◌};
 ghost use Rattle.sender_table.specs.Refusals.{is_last_eof};
 
@@ -13,21 +13,21 @@ impl SenderCore {
     ghost use Rattle.sender_core.specs.Core.{shown, sending_of};
     ghost use Rattle.sender_table.specs.Refusals.{runs_to_send, has_more_to_send, has_no_place, has_kind_of, is_pdu_misplaced, is_misplaced, is_full, refusal_of};
 
-    // Whether octets of the file are to be sent.
+    // Whether octets of the file remain to be sent.
     fn has_octets(&self) -> bool
         ensures { result ≡ nat_lt 0 (length (runs_to_send (sending_of self.now) (shown self.now))) }
     {
         self.first_run().is_some()
     }
 
-    // Metadata, octets of the file, or the EOF.
+    // Whether Metadata, octets of the file, or the EOF remain to be sent.
     fn has_more_to_send(&self) -> bool
         ensures { result ≡ has_more_to_send (sending_of self.now) (shown self.now) }
     {
         self.control.metadata_remains || self.has_octets() || self.control.eof.is_none()
     }
 
-    // An ACK of another EOF than the last that was sent; NAK and Keep Alive in the closing phase.
+    // Whether it is an ACK of an EOF that is not the last one sent, or NAK or Keep Alive in the closing phase.
     fn has_no_place(&self, body: &Body) -> bool
         ensures { result ≡ has_no_place (shown self.now) body.now }
     {
@@ -73,7 +73,7 @@ impl SenderCore {
         self.control.entries >= JOURNAL_ENTRIES - JOURNAL_ENTRIES_KEPT
     }
 
-    /// Why an event is refused in the present state, if it is.
+    /// Why an event is refused in the present state; None where it is accepted.
     pub(crate) fn refusal_of(&self, event: &What) -> Option<Refusal>
         ensures { result ≡ refusal_of (sending_of self.now) (shown self.now) event.now }
     {
@@ -93,7 +93,7 @@ impl SenderCore {
     }
 }
 
-// Whether the last EOF that was sent has this condition.
+// Whether the last EOF that was sent has this condition code.
 fn is_last_eof(last: Option<Eof>, condition: Condition) -> bool
     ensures { result ≡ is_last_eof last condition }
 {

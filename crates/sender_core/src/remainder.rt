@@ -1,4 +1,4 @@
-//! What is left to send after an event.
+//! What remains to be sent after an event.
 use crate::plan::Remainder;
 use crate::remaining::Remaining;
 use crate::sender::SenderCore;
@@ -11,7 +11,7 @@ impl SenderCore {
     ghost use Rattle.txn_events.specs.declared.event.What.TheVariants as what;
     ghost use Rattle.sender_core.specs.Core.{shown, sending_of, remainder_of, remains_after, HasRoomFor};
 
-    // What is left once the next PDU is sent.
+    // What remains once the next PDU is sent.
     fn remainder_by_pump(&self) -> Remainder
         ensures after { (i : ℕ) → remainder_of self.now.remaining result i ≡ remains_after (sending_of self.now)
             (shown self.now) what.Pump i }
@@ -26,7 +26,7 @@ impl SenderCore {
         }
     }
 
-    /// What is left after an event that is accepted in the present state.
+    /// What remains after an event that is accepted in the present state.
     pub(crate) fn remainder(&self, event: &What) -> Result<Remainder, AllocError>
         ensures after { IfOk result (λ remainder. (i : ℕ) → remainder_of self.now.remaining remainder i ≡ remains_after
             (sending_of self.now) (shown self.now) event.now i) }
@@ -51,7 +51,7 @@ ghost use Rattle.gap_list.specs.Runs.{SameSet};
 ghost use Rattle.sender_core.specs.Remaining.{to_send};
 ghost use Rattle.sender_core.specs.Core.{remainder_of, HasRoomFor};
 
-/// Carries out what a plan makes of the offsets that are still to be sent.
+/// Carries out what a plan does to the offsets that remain to be sent, without allocating.
 pub(crate) fn apply_remainder(remaining: &mut Remaining, remainder: Remainder)
     requires { HasRoomFor remaining.old remainder }
     ensures { SameSet (to_send remaining.new) (remainder_of remaining.old remainder) }

@@ -7,15 +7,15 @@ use gap_list::{Gaps, Run};
 use pdu_values::SegmentRequest;
 use std::alloc::{AllocError, Global};
 
-/// The offsets of a file that are still to be sent.
+/// The offsets of a file that remain to be sent.
 #[derive(Drop)]
 pub(crate) struct Remaining {
     offsets: Gaps,
-    // what lies below it is not to be sent
+    // Offsets below it don't remain to be sent.
     start: u32,
 }
 
-/// What a NAK asks for below a limit, with room to add it.
+/// The offsets below a limit that a NAK requests, with room to add them.
 #[derive(Drop)]
 pub(crate) struct NakRequests {
     requests: Vec<SegmentRequest>,
@@ -28,7 +28,7 @@ impl Remaining {
     ghost use Rattle.gap_list.specs.Runs.{SameSet, without_range, first_run};
     ghost use Rattle.sender_core.specs.Remaining.{to_send, with_requests, with_nak, HasRoom};
 
-    /// Every offset of a file of this size.
+    /// All offsets of a file of this size.
     pub(crate) fn whole(alloc: Global, size: u32) -> Result<Remaining, AllocError>
         ensures { IfOk result (λ remaining. (i : ℕ) → to_send remaining i ≡ nat_lt i size) }
     {
@@ -44,14 +44,14 @@ impl Remaining {
         self.offsets.first_from(self.start, limit)
     }
 
-    /// Takes away what lies below the end.
+    /// Removes the offsets below `end`.
     pub(crate) fn send_to(&mut self, end: u32)
         ensures { SameSet (to_send self.new) (without_range (to_send self.old) 0 end) }
     {
         self.start = self.start.max(end);
     }
 
-    /// What is asked for below the limit, with room to add it.
+    /// The requested offsets below the limit, with room to add them.
     pub(crate) fn nak_requests(
         &self,
         alloc: Global,
@@ -69,7 +69,7 @@ impl Remaining {
         })
     }
 
-    /// Adds what is asked for, in room that is there.
+    /// Adds the requested offsets, without allocating.
     pub(crate) fn add(&mut self, nak: NakRequests)
         requires { HasRoom self.old nak }
         ensures { SameSet (to_send self.new) (with_nak (to_send self.old) nak) }
@@ -81,7 +81,7 @@ impl Remaining {
     }
 }
 
-// Adds the offsets below the limit that are asked for, in room that is there.
+// Adds the requested offsets below the limit, without allocating.
 fn add_requests(offsets: &mut Gaps, requests: &[SegmentRequest], limit: u32)
     requires { length requests.now ≤ offsets.old.room }
     ensures { SameSet (covered offsets.new) (with_requests (covered offsets.old) requests.now limit) }

@@ -5,8 +5,7 @@ use indications::{Indication, Indications};
 use pdu_values::Pdu;
 use std::alloc::{AllocError, Global};
 
-/// What a response of the table gives: the user's indications, the PDU that is sent, and the timer that it
-/// arms.
+/// A response of the state table: the indications to the user, the PDU to send, and the timer to arm.
 #[derive(Drop)]
 pub(crate) struct Response {
     pub(crate) inds: Indications,
@@ -17,7 +16,7 @@ pub(crate) struct Response {
 impl Response {
     ghost use Rattle.std.specs.Prelude.{◌≡◌, [], ◌∷◌, None, Some, IfOk};
 
-    /// Nothing.
+    /// The empty response.
     pub(crate) fn nothing(alloc: Global) -> Response
         ensures { result ≡ record { inds = []; pdu = None; arms = None } }
     {
@@ -28,7 +27,7 @@ impl Response {
         }
     }
 
-    /// The user gets one indication.
+    /// A response with only one indication.
     pub(crate) fn telling(alloc: Global, indication: Indication) -> Result<Response, AllocError>
         ensures { IfOk result (λ response. response ≡ record { inds = indication ∷ []; pdu = None; arms = None }) }
     {
@@ -41,7 +40,7 @@ impl Response {
         })
     }
 
-    /// A PDU is sent.
+    /// A response with only a PDU.
     pub(crate) fn sending(alloc: Global, pdu: Pdu) -> Response
         ensures { result ≡ record { inds = []; pdu = Some pdu; arms = None } }
     {

@@ -1,4 +1,4 @@
-//! What a sender answers, response by response.
+//! The responses of a sender to its events.
 ghost use Rattle.std.specs.Prelude.{◌≡◌, IfOk};
 
 use crate::pdus;
@@ -24,14 +24,14 @@ impl SenderCore {
     ghost use Rattle.sender_core.specs.Core.{shown, sending_of, IsResponse, eof_again};
     ghost use Rattle.sender_table.specs.Answers.{cancel_eof, whole_eof, sum_by, cancel_response, fault_response, sends_eof, sends_next, on_pump, on_ack, on_body, on_ack_timer, on_check_timer, on_timer, waiting_timer, response_to, ends_unreported};
 
-    // Nothing is known of the file at the receiver.
+    // Ends the transaction without a report from the receiver on the file.
     fn ends_unreported(&self, condition: Condition) -> Result<Response, AllocError>
         ensures { IfOk result (λ response. IsResponse (sending_of self.now) response (ends_unreported condition)) }
     {
         Response::telling(self.alloc, unreported(condition))
     }
 
-    // The checksum of some octets of the file.
+    // The checksum of some octets of the file, 0 for the null checksum.
     fn checksum_of(&self, octets: &[u8]) -> u32
         ensures { result ≡ sum_by self.now.params.checksum octets.now }
     {
@@ -55,7 +55,7 @@ impl SenderCore {
         }
     }
 
-    // The EOF that cancels.
+    // The EOF that cancels: its checksum and size are those of the file up to the greatest offset sent.
     fn cancel_eof(&self, condition: Condition) -> Eof
         ensures eof { result ≡ cancel_eof (sending_of self.now) (shown self.now) condition }
         ensures size { result.size < 2 ^ 32 }
@@ -70,7 +70,7 @@ impl SenderCore {
         }
     }
 
-    // The transaction is cancelled.
+    // Cancels the transaction: class 1 ends at once, class 2 waits for the ACK of its EOF.
     fn cancel_response(&self, condition: Condition) -> Result<Response, AllocError>
         ensures { IfOk result (λ response. IsResponse (sending_of self.now) response
             (cancel_response (sending_of self.now) (shown self.now) condition)) }
@@ -94,7 +94,7 @@ impl SenderCore {
         }
     }
 
-    // A fault, by its handler.
+    // A fault, answered by its handler.
     fn fault_response(&self, kind: TimerKind, condition: Condition) -> Result<Response, AllocError>
         ensures { IfOk result (λ response. IsResponse (sending_of self.now) response
             (fault_response (sending_of self.now) (shown self.now) kind condition)) }
@@ -122,7 +122,7 @@ impl SenderCore {
         }
     }
 
-    // The EOF, where all else was sent.
+    // Sends the EOF, once all else was sent.
     fn sends_eof(&self) -> Result<Response, AllocError>
         ensures { IfOk result
             (λ response. IsResponse (sending_of self.now) response (sends_eof (sending_of self.now))) }
@@ -148,21 +148,21 @@ impl SenderCore {
         })
     }
 
-    // The size of the file.
+    // The size of the file in octets.
     pub(crate) fn size(&self) -> u32
         ensures { result ≡ length self.now.request.file }
     {
         self.request.file().as_slice().len() as u32
     }
 
-    // The lowest run that is to be sent.
+    // The lowest run that remains to be sent.
     pub(crate) fn first_run(&self) -> Option<Run>
         ensures { result ≡ slice_get (runs_to_send (sending_of self.now) (shown self.now)) 0 }
     {
         self.remaining.first(self.size())
     }
 
-    // What to send of the lowest run: as many octets as a segment may hold.
+    // How many octets of the lowest run to send: at most as many as a segment may hold.
     pub(crate) fn segment_of(&self, run: Run) -> u32
         ensures segment { result ≡ min self.now.params.segment_octets (run.end - run.start) }
         ensures most { result ≤ SEGMENT_OCTETS_MOST }
@@ -170,7 +170,7 @@ impl SenderCore {
         u32::from(self.params.segment_octets()).min(run.end.saturating_sub(run.start))
     }
 
-    // What remains of the file, and then the EOF.
+    // Sends what remains of the file, then the EOF.
     fn sends_next(&self) -> Result<Response, AllocError>
         ensures { IfOk result (λ response. IsResponse (sending_of self.now) response
             (sends_next (sending_of self.now) (runs_to_send (sending_of self.now) (shown self.now)))) }
@@ -189,7 +189,7 @@ impl SenderCore {
         }
     }
 
-    // The Metadata first.
+    // Sends the Metadata first, then the rest.
     fn on_pump(&self) -> Result<Response, AllocError>
         ensures { IfOk result
             (λ response. IsResponse (sending_of self.now) response (on_pump (sending_of self.now) (shown self.now))) }
@@ -202,7 +202,7 @@ impl SenderCore {
         }
     }
 
-    // An ACK of an EOF that cancels ends the transaction.
+    // Answers an ACK: that of an EOF that cancels ends the transaction.
     fn on_ack(&self, ack: Ack) -> Result<Response, AllocError>
         ensures { IfOk result (λ response. IsResponse (sending_of self.now) response (on_ack (shown self.now) ack)) }
     {
@@ -225,7 +225,7 @@ impl SenderCore {
         }
     }
 
-    // The receiver says how it went. In class 2 the sender acknowledges that.
+    // Answers a Finished: its values are indicated, and class 2 acknowledges it.
     fn on_finished(&self, finished: Finished) -> Result<Response, AllocError>
         ensures { IfOk result (λ response. IsResponse (sending_of self.now) response
             (on_body (sending_of self.now) (shown self.now) (body.Finished finished))) }
@@ -243,7 +243,7 @@ impl SenderCore {
         Ok(response)
     }
 
-    // Ack: the EOF once more; at the limit a fault, or in the closing phase the end.
+    // Ack expired: the EOF again; at the limit a fault, or in the closing phase the end.
     fn on_ack_timer(&self) -> Result<Response, AllocError>
         ensures { IfOk result (λ response. IsResponse (sending_of self.now) response
             (on_ack_timer (sending_of self.now) (shown self.now) (shown self.now))) }
@@ -270,7 +270,7 @@ impl SenderCore {
         }
     }
 
-    // Check: at the limit a fault.
+    // Check expired: nothing is sent, and at the limit a fault.
     fn on_check_timer(&self) -> Result<Response, AllocError>
         ensures { IfOk result (λ response. IsResponse (sending_of self.now) response
             (on_check_timer (sending_of self.now) (shown self.now) (shown self.now))) }
@@ -299,7 +299,7 @@ impl SenderCore {
         }
     }
 
-    // The timer that runs once the EOF was sent.
+    // The timer that runs after the EOF was sent.
     fn waiting_timer(&self) -> Option<TimerKind>
         ensures { option_to_list result ≡ waiting_timer (sending_of self.now) (shown self.now) }
     {
@@ -328,7 +328,7 @@ impl SenderCore {
         Ok(response)
     }
 
-    /// The response of an event, in the present state.
+    /// The response to an event, in the present state.
     pub(crate) fn response_to(&self, event: &What) -> Result<Response, AllocError>
         ensures { IfOk result (λ response. IsResponse (sending_of self.now) response
             (response_to (sending_of self.now) (shown self.now) (shown self.now) (happens event.now))) }
@@ -365,7 +365,7 @@ ghost use Rattle.indications.specs.declared.indication.Indication.TheVariants as
 ghost use Rattle.cfdp_types.specs.declared.names.Delivery.TheVariants.{Incomplete};
 ghost use Rattle.cfdp_types.specs.declared.names.FileStatus.TheVariants.{Unreported};
 
-// The end is indicated, and not what became of the file.
+// The end without a report from the receiver on the file.
 fn unreported(condition: Condition) -> Indication
     ensures { result ≡ told.TransactionFinished condition Incomplete Unreported }
 {

@@ -21,7 +21,7 @@ pub struct SenderCore {
     pub(crate) key: TxnKey,
     pub(crate) params: Params,
     pub(crate) request: PutRequest,
-    // of every PDU
+    // The header of every PDU that the sender sends.
     pub(crate) header: Header,
     pub(crate) remaining: Remaining,
     pub(crate) control: ControlBlock,
@@ -39,14 +39,14 @@ impl SenderCore {
     ghost use Rattle.sender_table.specs.Sending.{Event, Entry};
     ghost use Rattle.sender_core.specs.Core.{shown, sending_of, IsPlanOf, StandsAfter, plan_answer};
 
-    /// Whether the end of the transaction was indicated: no event follows.
+    /// Whether an end was issued. After it no event may follow.
     pub fn has_ended(&self) -> bool
         ensures { result ≡ (shown self.now).ended }
     {
         self.control.ended
     }
 
-    /// Carries out a plan that was made in the present state, and hands out its answer.
+    /// Carries out a plan that was made in the present state, and returns its answer. Can't fail.
     pub fn commit(&mut self, plan: Plan) -> Answer
         requires planned { (event : Event) × IsPlanOf self.old plan event }
         requires runs { (shown self.old).ended ≡ false }

@@ -1,4 +1,4 @@
-//! What follows an event.
+//! The state after an event.
 ghost use Rattle.std.specs.Prelude.{◌≡◌, [], MatchOption, ◌≤◌, ◌||◌};
 ghost use Rattle.std.specs.Option.{option_to_list};
 ghost use Rattle.std.specs.List.{list_any};
@@ -18,7 +18,7 @@ use cfdp_types::{Condition, TimerKind};
 use pdu_values::{Acknowledged, Body, Eof, Pdu, SegmentRequest};
 use txn_events::{CountResets, TimerChange, TimerChanges, Tries, What, is_pdu, paused_after};
 
-// The EOF that is sent, if one is.
+// The EOF, if the PDU that is sent is one.
 fn eof_in(pdu: &Option<Pdu>) -> Option<Eof>
     ensures { result ≡ eof_among (option_to_list pdu.now) }
 {
@@ -31,7 +31,7 @@ fn eof_in(pdu: &Option<Pdu>) -> Option<Eof>
     }
 }
 
-// Whether Metadata is sent.
+// Whether the PDU that is sent is Metadata.
 fn is_metadata(pdu: &Option<Pdu>) -> bool
     ensures { result ≡ list_any sending_of_file.is_metadata (option_to_list pdu.now) }
 {
@@ -41,7 +41,7 @@ fn is_metadata(pdu: &Option<Pdu>) -> bool
     }
 }
 
-// One more than the greatest offset that is sent, 0 if none is.
+// One more than the greatest offset that is sent, 0 if there is none.
 fn extent_of(pdu: &Option<Pdu>) -> u32
     requires { extent_of (option_to_list pdu.now) ≤ FILE_OCTETS }
     ensures { result ≡ extent_of (option_to_list pdu.now) }
@@ -62,7 +62,7 @@ fn extent_of(pdu: &Option<Pdu>) -> u32
     }
 }
 
-// Whether an EOF is sent with another condition than the last one had.
+// Whether an EOF is sent whose condition code differs from the last one's.
 fn begins_phase(before: Option<Eof>, new: Option<Eof>) -> bool
     ensures { result ≡ begins_phase before new }
 {
@@ -89,7 +89,7 @@ pub(crate) fn requests_of(event: &What) -> Option<&[SegmentRequest]>
     }
 }
 
-// Whether Metadata is asked for.
+// Whether the Metadata is requested.
 fn asks_for_metadata(event: &What) -> bool
     ensures { result ≡ list_any asks_for_metadata (requests_of (happens event.now)) }
 {
@@ -101,7 +101,7 @@ fn asks_for_metadata(event: &What) -> bool
     }
 }
 
-// Whether the EOF without an error is acknowledged.
+// Whether the event acknowledges the EOF without an error.
 fn acknowledges(event: &What) -> bool
     ensures { result ≡ acknowledges_eof (happens event.now) }
 {
@@ -114,7 +114,7 @@ fn acknowledges(event: &What) -> bool
     }
 }
 
-// The expirations that are counted after an event that is answered by a response.
+// The counts of expirations after an event and its response.
 fn tries_after(control: &ControlBlock, event: &What, response: &Response) -> Tries
     requires { AreFew control.now.entries control.now.tries }
     ensures { (kind : TimerKind) → tries_of result kind ≡ tries_after (state_from control.now nowhere)
@@ -127,8 +127,7 @@ fn tries_after(control: &ControlBlock, event: &What, response: &Response) -> Tri
     control.tries.after(event, response.inds.as_slice(), resets)
 }
 
-/// Where a sender stands after an event that is answered by a response, but for its timers, which stay as
-/// they were.
+/// The control block after an event and its response; the timers stay as they were.
 pub(crate) fn next(control: &ControlBlock, event: &What, response: &Response) -> ControlBlock
     requires few { AreFew control.now.entries control.now.tries }
     requires inside { extent_of (option_to_list response.now.pdu) ≤ FILE_OCTETS }
@@ -151,14 +150,14 @@ pub(crate) fn next(control: &ControlBlock, event: &What, response: &Response) ->
     }
 }
 
-// Whether no timer runs from here on, or none as long as the transaction is suspended.
+// Whether all timers are stopped: the transaction has ended or is suspended.
 fn is_over(next: &ControlBlock) -> bool
     ensures { result ≡ (next.now.ended || is_suspended (state_from next.now nowhere)) }
 {
     next.ended || next.is_suspended()
 }
 
-// Whether the timer of a kind is the one that is armed.
+// Whether the timer of a kind is the one to arm.
 fn is_armed(arms: Option<TimerKind>, kind: TimerKind) -> bool
     ensures { result ≡ list_any (is_kind kind) (option_to_list arms) }
 {
@@ -168,7 +167,7 @@ fn is_armed(arms: Option<TimerKind>, kind: TimerKind) -> bool
     }
 }
 
-// What a step does with the timer of a kind, where it leads to a control block.
+// What a step does to the timer of a kind, where `next` is the control block after it.
 fn change_of(
     next: &ControlBlock,
     event: &What,
@@ -191,7 +190,7 @@ fn change_of(
     }
 }
 
-/// What a step does with each timer, where it leads to a control block.
+/// What a step does to each timer, where `next` is the control block after it.
 pub(crate) fn changes(next: &ControlBlock, event: &What, arms: Option<TimerKind>) -> TimerChanges
     ensures { (kind : TimerKind) → effects result kind ≡ effect_of (arming arms) (state_from next.now nowhere)
         (happens event.now) kind }

@@ -1,4 +1,4 @@
--- Rows. Rows on a class 1 sender that asks the receiver to report at the end what became of the file.
+-- Rows. Rows on a class 1 sender that requests transaction closure.
 use Rattle.std.specs.Prelude.{◌≡◌, true, ℕ, List, [], ◌∷◌, ◌++◌, Some, None, Err, refl}
 use Rattle.cfdp_types.specs.Handlers.{with_handler}
 use Rattle.cfdp_types.specs.Reference.{all_cancel, reference}
@@ -24,11 +24,11 @@ use Rattle.sender_table.specs.Answers.{answer_at}
 use Rattle.sender_laws.specs.LegalSendings.{IsLegal}
 use Rattle.sender_rows.specs.SendingRows.{one, two, unequal_two, pump, report, pdu_in, finished, after, last, tells, sends, operates, sent_all}
 
--- the file in class 1, with closure asked for
+-- the file in class 1, with closure
 abbrev pub closed : Sending
 closed = record one { request = record (one.request) { closure = true } }
 
--- the file in class 1, with closure asked for and this handler for the check limit
+-- the file in class 1, with closure and this handler for the check limit
 abbrev pub closed_with : Handler → Sending
 closed_with handler =
     record closed { params = record reference { tables = record (reference.tables) { send = with_handler (all_cancel Send) 10 handler } } }
@@ -57,7 +57,7 @@ pub check_armed : operates (last closed (put ∷ pump ∷ pump ∷ []) pump) ≡
 unfolding initial step state_of answer_at runs_of runs_from
 check_armed = refl
 
--- one expiration, and then the Finished PDU, to which no ACK goes
+-- one expiration, and then the Finished PDU, for which no ACK is sent
 pub checked_once : operates (last closed sent_all (checked 3)) ≡ Some (op.Arm closed.key Check 4 1000 ∷ [])
 unfolding initial step state_of answer_at runs_of runs_from
 checked_once = refl
@@ -77,7 +77,7 @@ pub closed_whole_legal : IsLegal closed (after closed closed_whole)
 unfolding initial step state_of answer_at runs_of runs_from
 closed_whole_legal = (refl, tt, refl, (refl, tt, refl, (refl, tt, refl, (refl, tt, refl, (refl, tt, refl, (refl, tt, refl, tt))))))
 
--- the second expiration is the fault
+-- the second expiration is a fault
 pub checked_in_vain_sends : sends (last closed (sent_all ++ checked 3 ∷ []) (checked 4)) ≡ Some (digits 20 0x24000d0002040104a06162630000000003060102 ∷ [])
 unfolding initial step state_of answer_at runs_of runs_from written spelling digits width_from
 checked_in_vain_sends = refl
@@ -86,7 +86,7 @@ pub checked_in_vain_told : tells (last closed (sent_all ++ checked 3 ∷ []) (ch
 unfolding initial step state_of answer_at runs_of runs_from digits
 checked_in_vain_told = refl
 
--- a report of one that waits, a Pump where nothing remains, and a Finished that was not asked for
+-- a report while it waits, a Pump where nothing remains, and a Finished that was not requested
 pub waiting_report : tells (last closed sent_all report) ≡ Some (told.Report phase.Active 3 ∷ [])
 unfolding initial step state_of answer_at runs_of runs_from
 waiting_report = refl
@@ -99,12 +99,12 @@ pub no_finished_unasked : last one (put ∷ pump ∷ []) finished_in_one ≡ Err
 unfolding initial step state_of answer_at runs_of runs_from
 no_finished_unasked = refl
 
--- a Finished comes before the EOF was sent
+-- a Finished is received before the EOF was sent
 pub finished_early : tells (last closed (put ∷ pump ∷ []) finished_in_one) ≡ Some (told.TransactionFinished 0 Complete Retained ∷ [])
 unfolding initial step state_of answer_at runs_of runs_from
 finished_early = refl
 
--- suspended while it waits: it says so, no Check runs, and a Finished still ends it
+-- suspended while it waits: a report says so, Check does not run, and a Finished still ends it
 abbrev pub suspended_waiting : List Event
 suspended_waiting = sent_all ++ happens what.Suspend ∷ []
 
@@ -120,7 +120,7 @@ pub finished_while_suspended : tells (last closed suspended_waiting finished_in_
 unfolding initial step state_of answer_at runs_of runs_from
 finished_while_suspended = refl
 
--- cancelled while it waits: the receiver is notified, and nothing more is waited for
+-- cancelled while it waits: an EOF informs the receiver, and the sender waits for nothing more
 pub cancelled_waiting_sends : sends (last closed sent_all (happens what.Cancel)) ≡ Some (digits 20 0x24000d0002040104f06162630000000003060102 ∷ [])
 unfolding initial step state_of answer_at runs_of runs_from written spelling digits width_from
 cancelled_waiting_sends = refl
@@ -129,7 +129,7 @@ pub cancelled_waiting_told : tells (last closed sent_all (happens what.Cancel)) 
 unfolding initial step state_of answer_at runs_of runs_from digits
 cancelled_waiting_told = refl
 
--- one that ignores the fault of the check limit: the fault is indicated, Check runs again, and its count begins anew
+-- the check limit's fault is ignored: it is indicated, Check runs again, and its count begins again
 abbrev pub closed_ignoring : Sending
 closed_ignoring = closed_with Ignore
 
@@ -148,19 +148,19 @@ pub ignored_counts_anew : tells (last closed_ignoring checked_in_vain (checked 5
 unfolding initial step state_of answer_at runs_of runs_from
 ignored_counts_anew = refl
 
--- suspended while it waits, and resumed: Check runs again
+-- suspended while it waits, then resumed: Check runs again
 pub resumed_check : operates (last closed suspended_waiting (happens what.Resume)) ≡ Some (op.Arm closed.key Check 5 1000 ∷ [])
 unfolding initial step state_of answer_at runs_of runs_from
 resumed_check = refl
 
--- in class 2 it changes nothing
+-- in class 2 closure changes nothing
 pub unasked_in_two : sends (last (record two { request = record (two.request) { closure = true } }) (put ∷ []) pump) ≡ Some (digits 17 0x20000a0002040107000000000301610162 ∷ [])
 unfolding initial step state_of answer_at runs_of runs_from written spelling digits width_from
 unasked_in_two = refl
 
 -- ---- timers
 
--- Check stops at the Finished, where the transaction is suspended, and where it is cancelled
+-- Check stops when a Finished is received, and when the transaction is suspended or cancelled
 pub disarmed_by_finished : operates (last closed sent_all finished_in_one) ≡ Some (op.Disarm closed.key Check 4 ∷ [])
 unfolding initial step state_of answer_at runs_of runs_from
 disarmed_by_finished = refl
@@ -173,7 +173,7 @@ pub disarmed_by_cancel : operates (last closed sent_all (happens what.Cancel)) �
 unfolding initial step state_of answer_at runs_of runs_from
 disarmed_by_cancel = refl
 
--- before the EOF was sent Resume arms nothing
+-- before the EOF was sent, Resume arms nothing
 pub resumed_before_eof : operates (last closed (put ∷ happens what.Suspend ∷ []) (happens what.Resume)) ≡ Some []
 unfolding initial step state_of answer_at runs_of runs_from
 resumed_before_eof = refl
@@ -183,7 +183,7 @@ pub resumed_counts_anew : tells (last closed (sent_all ++ checked 3 ∷ happens 
 unfolding initial step state_of answer_at runs_of runs_from
 resumed_counts_anew = refl
 
--- where all limits and lengths differ, those of Check count: the fourth expiration is the fault
+-- where all limits and lengths differ, those of Check are used: the fourth expiration is the fault
 abbrev pub unequal_closed : Sending
 unequal_closed = record closed { params = unequal_two.params }
 
@@ -198,7 +198,7 @@ pub unequal_fault : tells (last unequal_closed checked_thrice (checked 6)) ≡ S
 unfolding initial step state_of answer_at runs_of runs_from digits
 unequal_fault = refl
 
--- one that suspends, or abandons, at the check limit
+-- a sender that suspends, and one that abandons, at the check limit
 pub limit_suspends : tells (last (closed_with Suspend) (sent_all ++ checked 3 ∷ []) (checked 4)) ≡ Some (told.Suspended 10 ∷ [])
 unfolding initial step state_of answer_at runs_of runs_from
 limit_suspends = refl
@@ -207,7 +207,7 @@ pub limit_abandons : tells (last (closed_with Abandon) (sent_all ++ checked 3 �
 unfolding initial step state_of answer_at runs_of runs_from
 limit_abandons = refl
 
--- a Finished of the other class
+-- a Finished in the other class
 pub other_class_refused : last closed sent_all finished ≡ Err refusal.ModeMismatch
 unfolding initial step state_of answer_at runs_of runs_from
 other_class_refused = refl

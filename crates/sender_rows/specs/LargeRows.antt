@@ -1,4 +1,4 @@
--- Rows. Rows on senders that hear of offsets of more than four octets, and on files that are sent without a checksum.
+-- Rows. Rows on senders that receive offsets of more than four octets, and on files that are sent without a checksum.
 use Rattle.std.specs.Prelude.{◌≡◌, true, List, [], ◌∷◌, ◌++◌, Some, Err, refl}
 use Rattle.cfdp_types.specs.Reference.{reference}
 use Rattle.cfdp_types.specs.declared.names.Checksum.TheVariants.{Null}
@@ -24,24 +24,24 @@ plain_one = record one { params = record reference { checksum = Null } }
 abbrev pub plain_two : Sending
 plain_two = record two { params = record reference { checksum = Null } }
 
--- the Metadata names type 15
+-- the Metadata names checksum type 15
 pub type_in_metadata : sends (last plain_one (put ∷ []) pump) ≡ Some (digits 17 0x24000a00020401070f0000000301610162 ∷ [])
 unfolding initial step state_of answer_at runs_of runs_from written spelling digits width_from
 type_in_metadata = refl
 
--- and the EOF has 0
+-- the EOF has checksum 0
 pub no_sum_in_eof : sends (last plain_one (put ∷ pump ∷ pump ∷ []) pump) ≡ Some (digits 17 0x24000a0002040104000000000000000003 ∷ [])
 unfolding initial step state_of answer_at runs_of runs_from written spelling digits width_from
 no_sum_in_eof = refl
 
--- also the one that cancels
+-- so has the EOF that cancels
 pub no_sum_in_cancel : sends (last plain_two (put ∷ pump ∷ pump ∷ []) (happens what.Cancel)) ≡ Some (digits 20 0x20000d0002040104f00000000000000003060102 ∷ [])
 unfolding initial step state_of answer_at runs_of runs_from written spelling digits width_from
 no_sum_in_cancel = refl
 
 -- ---- requests with the large file flag
 
--- a NAK with the flag
+-- a NAK with the large file flag
 abbrev pub large_asks : List SegmentRequest → Event
 large_asks requests = happens (what.Pdu (record {
   header = record {
@@ -57,13 +57,13 @@ large_asks requests = happens (what.Pdu (record {
   body = body.Nak (record { start = 0; end = 0xffff_ffff_ffff_ffff; requests = requests });
 }))
 
--- what is asked for of the file is sent, and its header has no flag
+-- what is requested of the file is sent, with a header without the flag
 pub asked_to_the_end : sends (last two (sent_all ++ large_asks (record { start = 2; end = 0xffff_ffff_ffff_ffff } ∷ []) ∷ []) pump)
     ≡ Some (digits 12 0x300005000204010000000263 ∷ [])
 unfolding initial step state_of answer_at runs_of runs_from written spelling digits width_from
 asked_to_the_end = refl
 
--- what lies behind the file asks for nothing, though its low four octets lie inside
+-- offsets after the end of the file request nothing, even if their low four octets are inside it
 pub asked_behind_the_file : last two (sent_all ++ large_asks (record { start = 0x1_0000_0000; end = 0x1_0000_0002 } ∷ []) ∷ []) pump ≡ Err refusal.WrongState
 unfolding initial step state_of answer_at runs_of runs_from
 asked_behind_the_file = refl

@@ -1,4 +1,4 @@
--- Rows. Rows on what a sender sends, and on what it tells with it.
+-- Rows. Rows on what a sender sends, and on what it indicates.
 use Rattle.std.specs.Prelude.{◌≡◌, [], ◌∷◌, ◌++◌, Some, None, Err, refl}
 use Rattle.cfdp_types.specs.Reference.{reference}
 use Rattle.cfdp_types.specs.declared.names.Class.TheVariants.{One}
@@ -20,7 +20,7 @@ use Rattle.sender_rows.specs.SendingRows.{sending, one, two, small_parts, pump, 
 
 -- ---- class 1
 
--- Metadata, the file, and the EOF
+-- Metadata, then the file, then the EOF
 pub metadata_first : sends (last one (put ∷ []) pump) ≡ Some (digits 17 0x24000a000204010700000000030161_0162 ∷ [])
 unfolding initial step state_of answer_at runs_of runs_from written spelling digits width_from
 metadata_first = refl
@@ -33,7 +33,7 @@ pub eof_last : sends (last one (put ∷ pump ∷ pump ∷ []) pump) ≡ Some (di
 unfolding initial step state_of answer_at runs_of runs_from written spelling digits width_from
 eof_last = refl
 
--- the Put is indicated, and nothing sent
+-- the Put is indicated, and nothing is sent
 pub put_told : tells (last one [] put) ≡ Some (told.Transaction ∷ [])
 unfolding initial step state_of answer_at runs_of runs_from digits
 put_told = refl
@@ -53,14 +53,14 @@ pub cancelled_told : tells (last (sending One 252 []) (put ∷ []) (happens what
 unfolding initial step state_of answer_at runs_of runs_from digits
 cancelled_told = refl
 
--- an empty file is sent without a part
+-- an empty file is sent without File Data
 pub empty_eof : sends (last (sending One 4 []) (put ∷ pump ∷ []) pump) ≡ Some (digits 17 0x24000a0002040104000000000000000000 ∷ [])
 unfolding initial step state_of answer_at runs_of runs_from written spelling digits width_from
 empty_eof = refl
 
 -- ---- class 2
 
--- the Metadata, the octets and the EOF are sent in turn, and the EOF does not end it
+-- the Metadata, the octets and the EOF are sent in turn, and the EOF does not end the transaction
 pub metadata_of_two : sends (last two (put ∷ []) pump) ≡ Some (digits 17 0x20000a0002040107000000000301610162 ∷ [])
 unfolding initial step state_of answer_at runs_of runs_from written spelling digits width_from
 metadata_of_two = refl
@@ -77,7 +77,7 @@ pub eof_of_two_told : tells (last two (put ∷ pump ∷ pump ∷ []) pump) ≡ S
 unfolding initial step state_of answer_at runs_of runs_from digits
 eof_of_two_told = refl
 
--- an ACK, a NAK and a Keep Alive are answered nothing
+-- an ACK, a NAK and a Keep Alive are answered with nothing
 pub ack_is_quiet : sends (last two sent_all (eof_acknowledged 0)) ≡ Some []
 unfolding initial step state_of answer_at runs_of runs_from written spelling digits width_from
 ack_is_quiet = refl
@@ -94,7 +94,7 @@ pub keep_alive_is_quiet : sends (last two (put ∷ pump ∷ []) (pdu (body.KeepA
 unfolding initial step state_of answer_at runs_of runs_from written spelling digits width_from
 keep_alive_is_quiet = refl
 
--- the Finished PDU is acknowledged with its condition, and its values are indicated
+-- the Finished PDU is acknowledged with its condition code, and its values are indicated
 pub finished_acknowledged : sends (last two (sent_all ++ nak ∷ pump ∷ eof_acknowledged 0 ∷ []) finished)
     ≡ Some (digits 10 0x20000300020401065102 ∷ [])
 unfolding initial step state_of answer_at runs_of runs_from written spelling digits width_from
@@ -109,7 +109,7 @@ pub finished_told : tells (last two sent_all finished) ≡ Some (told.Transactio
 unfolding initial step state_of answer_at runs_of runs_from digits
 finished_told = refl
 
--- also where the sender is suspended
+-- also while the sender is suspended
 pub finished_while_suspended : sends (last two (sent_all ++ happens what.Suspend ∷ []) finished)
     ≡ Some (digits 10 0x20000300020401065102 ∷ [])
 unfolding initial step state_of answer_at runs_of runs_from written spelling digits width_from
@@ -120,15 +120,15 @@ pub finished_while_suspended_told : tells (last two (sent_all ++ happens what.Su
 unfolding initial step state_of answer_at runs_of runs_from digits
 finished_while_suspended_told = refl
 
--- resumed, it sends what remains
+-- once resumed, it sends what remains
 pub metadata_after_all : sends (last two (put ∷ happens what.Suspend ∷ happens what.Resume ∷ []) pump)
     ≡ Some (digits 17 0x20000a0002040107000000000301610162 ∷ [])
 unfolding initial step state_of answer_at runs_of runs_from written spelling digits width_from
 metadata_after_all = refl
 
--- ---- parts of a file
+-- ---- segments of a file
 
--- each as long as a part may be, the last as long as the rest
+-- each is as long as a segment may be, the last as long as the rest
 pub first_part : sends (last small_parts (put ∷ pump ∷ []) pump) ≡ Some (digits 13 0x30000600020401000000006162 ∷ [])
 unfolding initial step state_of answer_at runs_of runs_from written spelling digits width_from
 first_part = refl
@@ -141,7 +141,7 @@ pub last_part : sends (last small_parts sent_all pump) ≡ Some (digits 12 0x300
 unfolding initial step state_of answer_at runs_of runs_from written spelling digits width_from
 last_part = refl
 
--- the EOF that cancels is of what was sent
+-- the EOF that cancels describes what was sent
 pub part_cancelled : sends (last small_parts (put ∷ pump ∷ pump ∷ []) (happens what.Cancel))
     ≡ Some (digits 20 0x20000d0002040104f06162000000000002060102 ∷ [])
 unfolding initial step state_of answer_at runs_of runs_from written spelling digits width_from
@@ -151,19 +151,19 @@ pub part_reported : tells (last small_parts (put ∷ pump ∷ pump ∷ []) repor
 unfolding initial step state_of answer_at runs_of runs_from digits
 part_reported = refl
 
--- ---- asked for again
+-- ---- retransmission
 
--- the octet that is asked for
+-- the requested octet is sent again
 pub sent_again : sends (last two (sent_all ++ nak ∷ []) pump) ≡ Some (digits 12 0x300005000204010000000162 ∷ [])
 unfolding initial step state_of answer_at runs_of runs_from written spelling digits width_from
 sent_again = refl
 
--- the progress stays what it was
+-- the progress stays as it was
 pub progress_kept : tells (last two (sent_all ++ nak ∷ pump ∷ []) report) ≡ Some (told.Report phase.Active 3 ∷ [])
 unfolding initial step state_of answer_at runs_of runs_from digits
 progress_kept = refl
 
--- of two gaps the first
+-- of two gaps the first is sent
 pub two_gaps_sent_again : sends (last two (sent_all ++ asks (record { start = 0; end = 1 } ∷ record { start = 2; end = 3 } ∷ []) ∷ []) pump)
     ≡ Some (digits 12 0x300005000204010000000061 ∷ [])
 unfolding initial step state_of answer_at runs_of runs_from written spelling digits width_from
@@ -174,7 +174,7 @@ pub second_gap_sent_again : sends (last two (sent_all ++ asks (record { start = 
 unfolding initial step state_of answer_at runs_of runs_from written spelling digits width_from
 second_gap_sent_again = refl
 
--- Metadata first, and then no octet beyond the size
+-- the Metadata is sent first, and no octet beyond the size
 pub metadata_again : sends (last two (put ∷ pump ∷ pump ∷ asks (record { start = 0; end = 0 } ∷ record { start = 2; end = 9 } ∷ []) ∷ []) pump)
     ≡ Some (digits 17 0x20000a0002040107000000000301610162 ∷ [])
 unfolding initial step state_of answer_at runs_of runs_from written spelling digits width_from
@@ -190,14 +190,14 @@ pub eof_then : sends (last two (put ∷ pump ∷ pump ∷ asks (record { start =
 unfolding initial step state_of answer_at runs_of runs_from written spelling digits width_from
 eof_then = refl
 
--- the EOF is not sent again then
+-- the EOF is not sent again after that
 pub eof_not_again : last two (sent_all ++ nak ∷ pump ∷ []) pump ≡ Err refusal.WrongState
 unfolding initial step state_of answer_at runs_of runs_from digits
 eof_not_again = refl
 
 -- ---- cancelled in class 2
 
--- the EOF of what was sent, again until it is acknowledged or the limit is reached
+-- the EOF describes what was sent, and is sent again until it is acknowledged or the limit is reached
 pub cancel_sent : sends (last two (put ∷ pump ∷ pump ∷ []) (happens what.Cancel))
     ≡ Some (digits 20 0x20000d0002040104f06162630000000003060102 ∷ [])
 unfolding initial step state_of answer_at runs_of runs_from written spelling digits width_from
@@ -222,7 +222,7 @@ pub cancel_in_vain_sends_nothing : sends (last two (put ∷ pump ∷ pump ∷ ha
 unfolding initial step state_of answer_at runs_of runs_from written spelling digits width_from
 cancel_in_vain_sends_nothing = refl
 
--- its ACK ends it, and so does a Finished PDU, by its own values
+-- its ACK ends the transaction; so does a Finished PDU, with its own values
 pub cancel_acknowledged_told : tells (last two (put ∷ pump ∷ happens what.Cancel ∷ []) (eof_acknowledged 15))
     ≡ Some (told.TransactionFinished 15 Incomplete Unreported ∷ [])
 unfolding initial step state_of answer_at runs_of runs_from digits
@@ -242,9 +242,9 @@ pub cancel_finished_acknowledged : sends (last two (put ∷ pump ∷ happens wha
 unfolding initial step state_of answer_at runs_of runs_from written spelling digits width_from
 cancel_finished_acknowledged = refl
 
--- ---- what the user asks for
+-- ---- the user's requests
 
--- Suspend and Resume, the latter with the progress
+-- Suspend and Resume are indicated, Resume with the progress
 pub suspended : tells (last two (put ∷ []) (happens what.Suspend)) ≡ Some (told.Suspended 14 ∷ [])
 unfolding initial step state_of answer_at runs_of runs_from digits
 suspended = refl
@@ -262,7 +262,7 @@ pub resumed_with_progress : tells (last two (put ∷ pump ∷ pump ∷ happens w
 unfolding initial step state_of answer_at runs_of runs_from digits
 resumed_with_progress = refl
 
--- a report tells what the transaction does, and the progress
+-- a report gives the phase of the transaction, and the progress
 pub reported : tells (last two (put ∷ pump ∷ pump ∷ []) report) ≡ Some (told.Report phase.Active 3 ∷ [])
 unfolding initial step state_of answer_at runs_of runs_from digits
 reported = refl
@@ -276,7 +276,7 @@ pub reported_while_closing : tells (last two (put ∷ happens what.Suspend ∷ h
 unfolding initial step state_of answer_at runs_of runs_from digits
 reported_while_closing = refl
 
--- Abandon ends it, and nothing is sent
+-- Abandon ends the transaction and sends nothing
 pub abandoned : tells (last two (put ∷ pump ∷ pump ∷ []) (happens what.Abandon)) ≡ Some (told.Abandoned 15 3 ∷ [])
 unfolding initial step state_of answer_at runs_of runs_from digits
 abandoned = refl
@@ -292,7 +292,7 @@ abbrev pub large_numbers : Sending
 large_numbers =
     record two { request = record (two.request) { destination = record { 0 = 300 } }; key = record { source = record { 0 = 2 }; seq = 70000 } }
 
--- as many octets as the largest number takes
+-- each has as many octets as the largest number needs
 pub numbers_of_two_and_three_octets : sends (last large_numbers (put ∷ []) pump)
     ≡ Some (digits 21 0x20000a1200020111_70012c07000000000301610162 ∷ [])
 unfolding initial step state_of answer_at runs_of runs_from written spelling digits width_from
@@ -304,7 +304,7 @@ pub numbers_of_a_large_source : sends (last (record two { key = record { source 
 unfolding initial step state_of answer_at runs_of runs_from written spelling digits width_from
 numbers_of_a_large_source = refl
 
--- and no fewer than is set
+-- and no fewer than configured
 pub numbers_as_long_as_is_set : sends (last (record two { params = record reference { lengths = record { entity_octets = 2; sequence_octets = 3 } } }) (put ∷ []) pump)
     ≡ Some (digits 21 0x20000a120002000004_000107000000000301610162 ∷ [])
 unfolding initial step state_of answer_at runs_of runs_from written spelling digits width_from

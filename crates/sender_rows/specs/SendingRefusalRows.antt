@@ -1,4 +1,4 @@
--- Rows. Rows on events that a sender refuses, and on those next to them that it takes.
+-- Rows. Rows on events that a sender refuses, and on similar ones that it accepts.
 use Rattle.std.specs.Prelude.{◌≡◌, ℕ, zero, suc, ◌+◌, nat_lt, true, false, List, [], ◌∷◌, ◌++◌, length, replicate, Some, None, Err, refl}
 use Rattle.std.proofs.Common.{ap, subst, arith}
 use Rattle.cfdp_types.specs.declared.limits.TheConstants.{FILE_OCTETS}
@@ -22,7 +22,7 @@ use Rattle.txn_events.specs.Logs.{log_after}
 use Rattle.sender_laws.specs.LegalSendings.{answer_behind}
 use Rattle.sender_rows.specs.SendingRows.{sending, one, two, pump, report, pdu_in, pdu, eof_acknowledged, nak, sent_all, acknowledged_all, after, last, tells, sends}
 
--- the user cancelled
+-- a sender whose user cancelled
 abbrev pub closing : List Event
 closing = put ∷ pump ∷ happens what.Cancel ∷ []
 
@@ -55,9 +55,9 @@ pub stored_at_a_sender : last two sent_all (happens (what.Stored 0 true)) ≡ Er
 unfolding initial step state_of answer_at runs_of runs_from digits
 stored_at_a_sender = refl
 
--- ---- where there is no place for it
+-- ---- events that are not possible
 
--- Pump where nothing remains, or the sender is suspended or cancelled
+-- Pump where nothing remains, or while the sender is suspended or cancelled
 pub nothing_remains : last two sent_all pump ≡ Err refusal.WrongState
 unfolding initial step state_of answer_at runs_of runs_from digits
 nothing_remains = refl
@@ -70,12 +70,12 @@ pub pump_while_closing : last two (put ∷ pump ∷ happens what.Cancel ∷ []) 
 unfolding initial step state_of answer_at runs_of runs_from digits
 pump_while_closing = refl
 
--- class 1 takes no PDU
+-- class 1 accepts no PDU
 pub pdu_in_class_one : last one (put ∷ pump ∷ []) (pdu_in One (body.KeepAlive (record { progress = 1 }))) ≡ Err refusal.WrongState
 unfolding initial step state_of answer_at runs_of runs_from digits
 pdu_in_class_one = refl
 
--- nor is one taken that goes toward the receiver
+-- a PDU that goes toward the receiver is refused too
 pub pdu_toward_receiver : last two sent_all (pdu (body.Ack (record { of = acknowledged.Finished; condition = 0; status = Active })))
     ≡ Err refusal.WrongState
 unfolding initial step state_of answer_at runs_of runs_from digits
@@ -86,7 +86,7 @@ pub eof_toward_receiver : last two sent_all (pdu (body.Eof (record { condition =
 unfolding initial step state_of answer_at runs_of runs_from digits
 eof_toward_receiver = refl
 
--- an ACK of another EOF than the last, or of none
+-- an ACK of an EOF that is not the last one, or before any was sent
 pub ack_before_eof : last two (put ∷ pump ∷ []) (eof_acknowledged 0) ≡ Err refusal.WrongState
 unfolding initial step state_of answer_at runs_of runs_from digits
 ack_before_eof = refl
@@ -103,7 +103,7 @@ pub ack_of_the_whole_eof_while_closing : last two (sent_all ++ happens what.Canc
 unfolding initial step state_of answer_at runs_of runs_from digits
 ack_of_the_whole_eof_while_closing = refl
 
--- Suspend once, and Resume only then
+-- Suspend is refused while suspended, and Resume is possible only then
 pub suspend_twice : last two (put ∷ happens what.Suspend ∷ []) (happens what.Suspend) ≡ Err refusal.WrongState
 unfolding initial step state_of answer_at runs_of runs_from digits
 suspend_twice = refl
@@ -114,7 +114,7 @@ resume_unsuspended = refl
 
 -- ---- in the closing phase
 
--- no NAK, no Keep Alive, no Suspend, no Resume and no second Cancel
+-- NAK, Keep Alive, Suspend, Resume and a second Cancel are refused
 pub nak_while_closing : last two (put ∷ pump ∷ happens what.Cancel ∷ []) nak ≡ Err refusal.WrongState
 unfolding initial step state_of answer_at runs_of runs_from digits
 nak_while_closing = refl
@@ -137,7 +137,7 @@ pub cancel_while_closing : last two (put ∷ pump ∷ happens what.Cancel ∷ []
 unfolding initial step state_of answer_at runs_of runs_from digits
 cancel_while_closing = refl
 
--- Abandon is taken
+-- Abandon is accepted
 pub abandon_while_closing : tells (last two (put ∷ pump ∷ happens what.Cancel ∷ []) (happens what.Abandon))
     ≡ Some (told.Abandoned 15 0 ∷ [])
 unfolding initial step state_of answer_at runs_of runs_from digits
@@ -150,7 +150,7 @@ pub large_put : (file : List ℕ) (state : State) (large : nat_lt FILE_OCTETS (l
 unfolding answer_at
 large_put file state large = rw large refl
 
--- any other is taken
+-- any other Put is accepted
 pub small_put : (file : List ℕ) (state : State) (small : nat_lt FILE_OCTETS (length file) ≡ false) → refusal_at (sending One 4 file) state put
     ≡ None
 small_put file state small = rw small refl
@@ -159,9 +159,9 @@ small_put file state small = rw small refl
 pub limit_of_put : FILE_OCTETS ≡ 16777216
 limit_of_put = refl
 
--- ---- a journal that is full but for its last entries
+-- ---- a journal that is full but for its last places
 
--- so many reports leave a sender that has sent nothing as it is, but for their number
+-- this many reports change only the number of entries of a sender that has sent nothing
 record Waits (state : State) (entries : ℕ) : Type 0 where
   pub entries_are : state.entries ≡ entries
   pub metadata_remains : state.metadata_remains ≡ true
@@ -191,7 +191,7 @@ waits_on (suc count) entries front waits =
     (waits_on count (entries + 1) (record { event = report; answer = accepted_at two (state_of two front) report } ∷ front)
     (waits_longer (state_of two front) entries waits))
 
--- a Put and so many reports
+-- a Put and this many reports
 unfoldable pub reported : ℕ → State
 reported count = state_of two (after two (put ∷ replicate count report))
 
@@ -215,7 +215,7 @@ nearly_full_waits : Waits nearly_full 262141
 unfolding nearly_full reported
 nearly_full_waits = waits_on 262140 1 (after two (put ∷ [])) waits_at_first
 
--- then Pump and Report are refused, and Abandon is taken
+-- then Pump and Report are refused, and Abandon is accepted
 pump_is_refused : (state : State) → Waits state 262142 → answer_at two state pump ≡ Err refusal.JournalFull
 unfolding answer_at
 pump_is_refused state waits = rw (waits.runs_on, waits.no_eof, waits.metadata_remains, waits.entries_are) refl
@@ -230,7 +230,7 @@ report_is_refused state waits = rw waits.entries_are refl
 pub full_for_report : answer_at two full report ≡ Err refusal.JournalFull
 full_for_report = report_is_refused full full_waits
 
--- every other reason comes before this one
+-- all other reasons come before JournalFull
 resume_is_misplaced : (state : State) → Waits state 262142 → answer_at two state (happens what.Resume) ≡ Err refusal.WrongState
 unfolding answer_at
 resume_is_misplaced state waits = rw waits.runs_on refl
@@ -245,7 +245,7 @@ abandon_is_taken state waits = rw (waits.entries_are, waits.progress) refl
 pub room_for_abandon : tells (answer_at two full (happens what.Abandon)) ≡ Some (told.Abandoned 15 0 ∷ [])
 room_for_abandon = abandon_is_taken full full_waits
 
--- one entry before that, both are taken
+-- with one entry fewer both are accepted
 pump_is_taken : (state : State) → Waits state 262141 → sends (answer_at two state pump) ≡ Some (digits 17 0x20000a0002040107000000000301610162 ∷ [])
 unfolding answer_at step written spelling digits width_from
 pump_is_taken state waits = rw (waits.runs_on, waits.no_eof, waits.metadata_remains, waits.entries_are) refl

@@ -1,5 +1,5 @@
--- Rows. Worked transactions of a sender in both classes, computed: whole transactions, with what makes their logs
--- legal, and the words that the rows of the other files share.
+-- Rows. Worked transactions of a sender in both classes: whole transactions, with proof that their logs are
+-- legal, and the definitions that the other files of rows share.
 use Rattle.std.specs.Prelude.{◌≡◌, false, ℕ, List, [], ◌∷◌, ◌++◌, map, Option, Some, None, Result, Ok, Err, refl}
 use Rattle.std.proofs.Common.{ap}
 use Rattle.std.proofs.lemmas.Bool.{true≢false}
@@ -34,7 +34,7 @@ use Rattle.sender_laws.specs.LegalSendings.{log_of, IsLegal}
 
 -- ---- the transaction
 
--- "a" from entity 2, to be kept as "b" at entity 1
+-- a file "a" from entity 2, to be stored as "b" at entity 1
 abbrev pub sending : Class → ℕ → List ℕ → Sending
 sending class seq file = record {
   key = record { source = record { 0 = 2 }; seq = seq };
@@ -42,11 +42,11 @@ sending class seq file = record {
   request = put_value class file;
 }
 
--- that file in class 1
+-- the file "abc" in class 1
 abbrev pub one : Sending
 one = sending One 4 abc
 
--- that file in class 2
+-- the file "abc" in class 2
 abbrev pub two : Sending
 two = sending Two 4 abc
 
@@ -64,14 +64,14 @@ unequal_two = record two {
   };
 }
 
--- five octets, in parts of two
+-- five octets, in segments of two
 abbrev pub small_parts : Sending
 small_parts =
     record two { params = record reference { segment_octets = 2 }; request = record (two.request) { file = 97 ∷ 98 ∷ 99 ∷ 100 ∷ 101 ∷ [] } }
 
 -- ---- events
 
--- there is room to send one PDU
+-- the next PDU is due to be sent
 abbrev pub pump : Event
 pump = happens what.Pump
 
@@ -79,7 +79,7 @@ pump = happens what.Pump
 abbrev pub report : Event
 report = happens what.Report
 
--- a PDU of the receiver
+-- a PDU from the receiver, in a class
 abbrev pub pdu_in : Class → Body → Event
 pdu_in class b = happens (what.Pdu (record {
   header = record {
@@ -95,7 +95,7 @@ pdu_in class b = happens (what.Pdu (record {
   body = b;
 }))
 
--- one of class 2
+-- a PDU from the receiver, in class 2
 abbrev pub pdu : Body → Event
 pdu b = pdu_in Two b
 
@@ -103,11 +103,11 @@ pdu b = pdu_in Two b
 abbrev pub eof_acknowledged : ℕ → Event
 eof_acknowledged code = pdu (body.Ack (record { of = acknowledged.Eof; condition = code; status = Active }))
 
--- a NAK of these requests
+-- a NAK with these requests
 abbrev pub asks : List SegmentRequest → Event
 asks requests = pdu (body.Nak (record { start = 0; end = 3; requests = requests }))
 
--- a NAK of the octet in the middle
+-- a NAK for the octet in the middle
 abbrev pub nak : Event
 nak = asks (record { start = 1; end = 2 } ∷ [])
 
@@ -115,27 +115,27 @@ nak = asks (record { start = 1; end = 2 } ∷ [])
 abbrev pub finished : Event
 finished = pdu (body.Finished (record { condition = 0; delivery = Complete; status = Retained; location = None }))
 
--- the Put, with all sent
+-- the Put, and then everything is sent
 abbrev pub sent_all : List Event
 sent_all = put ∷ pump ∷ pump ∷ pump ∷ []
 
--- the Put, with all sent, and the EOF acknowledged
+-- the Put, everything is sent, and the EOF is acknowledged
 abbrev pub acknowledged_all : List Event
 acknowledged_all = sent_all ++ eof_acknowledged 0 ∷ []
 
 -- ---- logs
 
--- the log of these events in turn, each answered by the table
+-- the log of these events in order, each answered by the table
 abbrev pub after : Sending → List Event → List Entry
 after s events = log_of s events
 
--- what the last event is answered
+-- the answer to the last event
 abbrev pub last : Sending → List Event → Event → Result Answer Refusal
 last s events event = answer_at s (state_of s (after s events)) event
 
 -- ---- what an answer shows: None where the event is refused
 
--- the user's indications
+-- the indications to the user
 abbrev pub tells : Result Answer Refusal → Option (List Indication)
 tells (Ok answer) = Some answer.inds
 tells (Err why) = None
@@ -145,14 +145,14 @@ abbrev pub sends : Result Answer Refusal → Option (List (List ℕ))
 sends (Ok answer) = Some (map written answer.pdus)
 sends (Err why) = None
 
--- what is said to the timers
+-- the timer operations
 abbrev pub operates : Result Answer Refusal → Option (List TimerOp)
 operates (Ok answer) = Some answer.timers
 operates (Err why) = None
 
 -- ---- whole transactions, with all indications
 
--- class 1: Metadata, the file, and the EOF, which ends it
+-- class 1: Metadata, the file, and the EOF, which ends the transaction
 abbrev pub whole_in_one : List Event
 whole_in_one = put ∷ pump ∷ pump ∷ pump ∷ []
 
@@ -177,7 +177,7 @@ pub cancelled_in_one_legal : IsLegal one (after one cancelled_in_one)
 unfolding initial step state_of answer_at runs_of runs_from
 cancelled_in_one_legal = (refl, tt, refl, (refl, tt, refl, (refl, tt, refl, tt)))
 
--- class 2, with one octet asked for again
+-- class 2, with one octet requested again
 abbrev pub whole_in_two : List Event
 whole_in_two = put ∷ pump ∷ pump ∷ pump ∷ nak ∷ pump ∷ eof_acknowledged 0 ∷ finished ∷ []
 
@@ -190,7 +190,7 @@ pub whole_in_two_legal : IsLegal two (after two whole_in_two)
 unfolding initial step state_of answer_at runs_of runs_from
 whole_in_two_legal = (refl, tt, refl, (refl, tt, refl, (refl, tt, refl, (refl, tt, refl, (refl, tt, refl, (refl, tt, refl, (refl, tt, refl, (refl, tt, refl, tt))))))))
 
--- class 2: the user cancels, and no ACK comes
+-- class 2: the user cancels, and no ACK is received
 abbrev pub cancelled_in_vain : List Event
 cancelled_in_vain = put ∷ pump ∷ pump ∷ happens what.Cancel ∷ happens (what.Timer Ack 3) ∷ happens (what.Timer Ack 4) ∷ []
 
@@ -203,7 +203,7 @@ pub cancelled_in_vain_legal : IsLegal two (after two cancelled_in_vain)
 unfolding initial step state_of answer_at runs_of runs_from
 cancelled_in_vain_legal = (refl, tt, refl, (refl, tt, refl, (refl, tt, refl, (refl, tt, refl, (refl, tt, refl, (refl, tt, refl, tt))))))
 
--- class 2: the user cancels, and the ACK comes
+-- class 2: the user cancels, and the ACK is received
 abbrev pub cancel_acknowledged : List Event
 cancel_acknowledged = put ∷ pump ∷ happens what.Cancel ∷ eof_acknowledged 15 ∷ []
 
@@ -216,7 +216,7 @@ pub cancel_acknowledged_legal : IsLegal two (after two cancel_acknowledged)
 unfolding initial step state_of answer_at runs_of runs_from
 cancel_acknowledged_legal = (refl, tt, refl, (refl, tt, refl, (refl, tt, refl, (refl, tt, refl, tt))))
 
--- class 2: no ACK comes, neither of the EOF nor of the one that cancels
+-- class 2: no ACK is received, neither for the EOF nor for the EOF that cancels
 abbrev pub unacknowledged_in_vain : List Event
 unacknowledged_in_vain = put ∷ pump ∷ pump ∷ pump ∷ happens (what.Timer Ack 3) ∷ happens (what.Timer Ack 4) ∷ happens (what.Timer Ack 5) ∷ happens (what.Timer Ack 6) ∷ []
 
@@ -242,7 +242,8 @@ pub suspended_and_resumed_legal : IsLegal two (after two suspended_and_resumed)
 unfolding initial step state_of answer_at runs_of runs_from
 suspended_and_resumed_legal = (refl, tt, refl, (refl, tt, refl, (refl, tt, refl, (refl, tt, refl, (refl, tt, refl, (refl, tt, refl, (refl, tt, refl, (refl, tt, refl, tt))))))))
 
--- what is asked for beyond the size does not remain, and an EOF that cancels is none that was acknowledged
+-- what is requested beyond the size does not remain to be sent, and the ACK of an EOF that cancels is not one of the
+-- EOF without an error
 pub beyond_the_size_remains_not : (state_of two (after two (sent_all ++ asks (record { start = 2; end = 9 } ∷ []) ∷ []))).remains 5 ≡ false
 unfolding initial step state_of runs_of runs_from
 beyond_the_size_remains_not = refl
@@ -258,7 +259,7 @@ pub not_after_an_end : IsLegal one (after one (put ∷ happens what.Cancel ∷ r
 unfolding initial step state_of answer_at runs_of runs_from
 not_after_an_end legal = true≢false legal.0
 
--- a first event that is no Put, and a Put that is not the first
+-- a first event that is not a Put, and a Put that is not the first event
 pub not_without_put : IsLegal one (after one (report ∷ [])) → ⊥
 unfolding initial step state_of answer_at runs_of runs_from
 not_without_put legal = legal.1

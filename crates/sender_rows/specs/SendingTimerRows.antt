@@ -1,4 +1,4 @@
--- Rows. Rows on a sender's timers, with the place of the step as the stamp, and on the faults that they declare.
+-- Rows. Rows on a sender's timers, with the number of the step's entry as the stamp, and on the faults they declare.
 use Rattle.std.specs.Prelude.{◌≡◌, List, [], ◌∷◌, ◌++◌, Some, refl}
 use Rattle.cfdp_types.specs.Handlers.{with_handler}
 use Rattle.cfdp_types.specs.Reference.{all_cancel, reference}
@@ -16,9 +16,9 @@ use Rattle.sender_table.specs.Sending.{Event, put, happens, initial, step, state
 use Rattle.sender_table.specs.Answers.{answer_at}
 use Rattle.sender_rows.specs.SendingRows.{one, two, two_with, unequal_two, pump, eof_acknowledged, nak, finished, sent_all, acknowledged_all, last, tells, sends, operates, after}
 
--- ---- what arms them
+-- ---- what arms timers
 
--- the Put and Metadata arm none
+-- Put and Metadata arm no timer
 pub put_arms_nothing : operates (last two [] put) ≡ Some []
 unfolding initial step state_of answer_at runs_of runs_from digits
 put_arms_nothing = refl
@@ -27,7 +27,7 @@ pub metadata_arms_nothing : operates (last two (put ∷ []) pump) ≡ Some []
 unfolding initial step state_of answer_at runs_of runs_from digits
 metadata_arms_nothing = refl
 
--- the EOF waits for its ACK, and then the sender for the Finished PDU
+-- the EOF arms Ack, and its ACK arms Inactivity, for the Finished PDU
 pub eof_arms : operates (last two (put ∷ pump ∷ pump ∷ []) pump) ≡ Some (op.Arm two.key Ack 3 1000 ∷ [])
 unfolding initial step state_of answer_at runs_of runs_from digits
 eof_arms = refl
@@ -40,7 +40,7 @@ pub ack_disarms : operates (last two sent_all (eof_acknowledged 0)) ≡ Some (op
 unfolding initial step state_of answer_at runs_of runs_from digits
 ack_disarms = refl
 
--- a NAK before that arms nothing
+-- a NAK before the EOF's ACK arms nothing
 pub nak_arms_nothing : operates (last two sent_all nak) ≡ Some []
 unfolding initial step state_of answer_at runs_of runs_from digits
 nak_arms_nothing = refl
@@ -63,9 +63,9 @@ pub expiration_tells_nothing : tells (last two sent_all (happens (what.Timer Ack
 unfolding initial step state_of answer_at runs_of runs_from digits
 expiration_tells_nothing = refl
 
--- ---- what stops them
+-- ---- what stops timers
 
--- suspended, nothing runs; resumed, the timer that waits
+-- while suspended no timer runs; after Resume the one that is waited for
 pub suspended_disarms : operates (last two sent_all (happens what.Suspend)) ≡ Some (op.Disarm two.key Ack 4 ∷ [])
 unfolding initial step state_of answer_at runs_of runs_from digits
 suspended_disarms = refl
@@ -97,12 +97,12 @@ pub acknowledged_while_suspended : operates (last two (sent_all ++ happens what.
 unfolding initial step state_of answer_at runs_of runs_from digits
 acknowledged_while_suspended = refl
 
--- a Finished PDU arms nothing then
+-- while suspended a Finished PDU arms nothing
 pub finished_while_suspended_arms_nothing : operates (last two (sent_all ++ happens what.Suspend ∷ []) finished) ≡ Some []
 unfolding initial step state_of answer_at runs_of runs_from digits
 finished_while_suspended_arms_nothing = refl
 
--- closing, Ack alone runs
+-- in the closing phase only Ack runs
 pub cancelling_arms : operates (last two acknowledged_all (happens what.Cancel))
     ≡ Some (op.Arm two.key Ack 5 1000 ∷ op.Disarm two.key Inactivity 5 ∷ [])
 unfolding initial step state_of answer_at runs_of runs_from digits
@@ -113,7 +113,7 @@ pub cancelling_suspended_arms : operates (last two (put ∷ happens what.Suspend
 unfolding initial step state_of answer_at runs_of runs_from digits
 cancelling_suspended_arms = refl
 
--- after the end nothing runs
+-- after the end no timer runs
 pub end_disarms : operates (last two acknowledged_all finished) ≡ Some (op.Disarm two.key Inactivity 5 ∷ [])
 unfolding initial step state_of answer_at runs_of runs_from digits
 end_disarms = refl
@@ -129,7 +129,7 @@ abandon_disarms = refl
 
 -- ---- faults
 
--- no ACK of the EOF: the EOF that cancels, counted from there
+-- no ACK of the EOF: an EOF that cancels is sent, and its expirations are counted afresh
 pub ack_limit_cancels : sends (last two (sent_all ++ happens (what.Timer Ack 3) ∷ []) (happens (what.Timer Ack 4)))
     ≡ Some (digits 20 0x20000d0002040104106162630000000003060102 ∷ [])
 unfolding initial step state_of answer_at runs_of runs_from written spelling digits width_from
@@ -140,7 +140,7 @@ pub ack_limit_cancels_again : sends (last two (sent_all ++ happens (what.Timer A
 unfolding initial step state_of answer_at runs_of runs_from written spelling digits width_from
 ack_limit_cancels_again = refl
 
--- no Finished PDU
+-- no Finished PDU is received
 pub inactivity_cancels : sends (last two acknowledged_all (happens (what.Timer Inactivity 4)))
     ≡ Some (digits 20 0x20000d0002040104806162630000000003060102 ∷ [])
 unfolding initial step state_of answer_at runs_of runs_from written spelling digits width_from
@@ -151,7 +151,7 @@ pub inactivity_cancels_arms : operates (last two acknowledged_all (happens (what
 unfolding initial step state_of answer_at runs_of runs_from digits
 inactivity_cancels_arms = refl
 
--- ignored, it is indicated with the progress; the timer runs again, and its count begins again
+-- an ignored fault is indicated with the progress; its timer runs again, and the count begins again
 pub ack_limit_ignored : tells (last (two_with 1 Ignore) (sent_all ++ happens (what.Timer Ack 3) ∷ []) (happens (what.Timer Ack 4)))
     ≡ Some (told.Fault 1 3 ∷ [])
 unfolding initial step state_of answer_at runs_of runs_from digits
@@ -177,7 +177,7 @@ pub inactivity_ignored_arms : operates (last (two_with 8 Ignore) acknowledged_al
 unfolding initial step state_of answer_at runs_of runs_from digits
 inactivity_ignored_arms = refl
 
--- and with Resume
+-- it begins again with Resume
 pub counted_again_after_resume : sends (last two (sent_all ++ happens (what.Timer Ack 3) ∷ happens what.Suspend ∷ happens what.Resume ∷ []) (happens (what.Timer Ack 6)))
     ≡ Some (digits 17 0x20000a0002040104006162630000000003 ∷ [])
 unfolding initial step state_of answer_at runs_of runs_from written spelling digits width_from
@@ -202,13 +202,13 @@ pub inactivity_abandons : tells (last (two_with 8 Abandon) acknowledged_all (hap
 unfolding initial step state_of answer_at runs_of runs_from digits
 inactivity_abandons = refl
 
--- a sender goes by its own table
+-- a sender uses its own table
 pub table_of_the_sender : tells (last (record two { params = record reference { tables = record (reference.tables) { receive_two = with_handler (all_cancel RecvTwo) 8 Abandon } } })
     acknowledged_all (happens (what.Timer Inactivity 4))) ≡ Some []
 unfolding initial step state_of answer_at runs_of runs_from digits
 table_of_the_sender = refl
 
--- ---- the limit and the lengths, where all differ
+-- ---- the limit and the length of each timer, where all differ
 
 -- how long each runs
 pub ack_length : operates (last unequal_two (put ∷ pump ∷ pump ∷ []) pump) ≡ Some (op.Arm two.key Ack 3 1000 ∷ [])

@@ -1,3 +1,3 @@
-//! Worked transactions at the sending end, computed by the checker from the definitions of `sender_table`.
+//! Worked transactions at the sending end, which the checker computes from the definitions of `sender_table`.
 //! There is no code here: each row is a lemma in `specs/`.
 #![tactic(auto)]

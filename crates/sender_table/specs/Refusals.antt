@@ -14,7 +14,7 @@ use Rattle.pdu_values.specs.declared.bodies.Eof.{Eof}
 use Rattle.pdu_values.specs.Pdu.{is_toward_sender}
 use Rattle.sender_table.specs.Sending.{Sending, Event, put, happens, State, is_closing, is_suspended, asks_closure}
 
--- what remains of the file, as maximal runs, rising
+-- the maximal runs of the file that remain to be sent, rising
 abbrev pub runs_to_send : Sending → State → List Run
 runs_to_send sending state = runs_of state.remains (length sending.request.file)
 
@@ -23,16 +23,16 @@ abbrev pub is_stale_store : What → Bool
 is_stale_store (what.Stored stamp kept) = true
 is_stale_store _ = false
 
--- Metadata, octets of the file, or the EOF
+-- whether Metadata, octets of the file, or the EOF remain to be sent
 abbrev pub has_more_to_send : Sending → State → Bool
 has_more_to_send sending state = state.metadata_remains || nat_lt 0 (length (runs_to_send sending state)) || not (is_some state.eof)
 
--- the last EOF has this condition
+-- whether the last EOF has this condition code
 abbrev pub is_last_eof : Option Eof → ℕ → Bool
 is_last_eof None code = false
 is_last_eof (Some e) code = e.condition == code
 
--- an ACK of another EOF than the last that was sent; NAK and Keep Alive in the closing phase
+-- an ACK of an EOF that is not the last one sent; NAK and Keep Alive in the closing phase
 abbrev pub has_no_place : State → Body → Bool
 has_no_place state (body.Ack a) = not (is_last_eof state.eof a.condition)
 has_no_place state (body.Nak n) = is_closing state
@@ -44,17 +44,16 @@ abbrev pub is_finished : Body → Bool
 is_finished (body.Finished f) = true
 is_finished _ = false
 
--- the class has PDUs of this kind: class 1 a Finished, where it asked for one
+-- the class has PDUs of this kind: class 1 only Finished, and that only where it requested closure
 abbrev pub has_kind_of : Sending → Body → Bool
 has_kind_of sending b = is_two sending.request.class || (asks_closure sending && is_finished b)
 
--- WrongState, for PDUs: in class 1 every one but a Finished that was asked for; what goes toward the receiver; and those above
+-- WrongState, for PDUs: in class 1 all but a requested Finished; those that go toward the receiver; and those above
 abbrev pub is_pdu_misplaced : Sending → State → Body → Bool
 is_pdu_misplaced sending state b = not (has_kind_of sending b) || not (is_toward_sender b) || has_no_place state b
 
--- WrongState: Pump where the sender is suspended, in the closing phase, or where nothing remains; Resume
--- only where it is suspended; Suspend not where it is suspended, or in the closing phase; Cancel not in
--- the closing phase
+-- WrongState, for other events: Pump while suspended, in the closing phase, or where nothing remains; Resume unless
+-- suspended; Suspend while suspended, or in the closing phase; Cancel in the closing phase
 abbrev pub is_misplaced : Sending → State → What → Bool
 is_misplaced sending state (what.Pdu pdu) = is_pdu_misplaced sending state pdu.body
 is_misplaced sending state what.Pump = is_suspended state || is_closing state || not (has_more_to_send sending state)
@@ -63,11 +62,11 @@ is_misplaced sending state what.Suspend = is_suspended state || is_closing state
 is_misplaced sending state what.Cancel = is_closing state
 is_misplaced sending state _ = false
 
--- JournalFull: the last entries are kept for Abandon
+-- JournalFull: the last places are reserved, for Abandon
 abbrev pub is_full : State → Bool
 is_full state = nat_le (JOURNAL_ENTRIES - JOURNAL_ENTRIES_KEPT) state.entries
 
--- why an event behind the Put is refused, if it is
+-- why an event after the Put is refused, None where it is accepted
 abbrev pub refusal_of : Sending → State → What → Option Refusal
 refusal_of sending state event =
     if is_of_other_class sending.request.class event then Some refusal.ModeMismatch
@@ -77,7 +76,7 @@ refusal_of sending state event =
     else if is_full state && needs_room event then Some refusal.JournalFull
     else None
 
--- why an event is refused, if it is: of a Put, that the file is too large
+-- why an event is refused, None where it is accepted; a Put is refused where its file is too large
 abbrev pub refusal_at : Sending → State → Event → Option Refusal
 refusal_at sending state put = if nat_lt FILE_OCTETS (length sending.request.file) then Some refusal.TooLarge else None
 refusal_at sending state (happens event) = refusal_of sending state event

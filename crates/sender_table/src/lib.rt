@@ -1,3 +1,3 @@
-//! What the sending end of a transaction answers to each event, in both classes. There is no code here:
-//! the meaning stands in `specs/`, as definitions that compute.
+//! The state table of the sending end, in both classes: its answer to each event. There is no code here: the
+//! definitions in `specs/` compute it.
 #![tactic(auto)]

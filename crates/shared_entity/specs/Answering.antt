@@ -1,4 +1,4 @@
--- Meaning. What an entity that threads share may answer.
+-- Meaning. The possible answers of an entity that threads share.
 use Rattle.std.specs.Prelude.{◌≡◌, ◌⊎◌, ℕ, Option, Result, Ok, Err, IfOk, IfErr}
 use Rattle.atomic_table.specs.Seated.{TableId}
 use Rattle.cfdp_types.specs.declared.image.Image.{Image}
@@ -20,38 +20,38 @@ use Rattle.shared_lanes.specs.Held.{HeldValue, IsBehindLock}
 use Rattle.entity_parts.specs.declared.refusal.EntityRefusal.{EntityRefusal}
 use Rattle.entity_parts.specs.declared.refusal.EntityRefusal.TheVariants as answer
 
--- what lies behind a lock is the lane of a place
+-- the lane behind a lock is that of a place
 pub record IsAt (queue : ℕ → TableId) (place : Place) (held : HeldValue) : Type 0 where
   pub behind : IsBehindLock queue held
   pub of_user : held.lane.user ≡ place.user
   pub of_lane : held.lane.lane ≡ place.lane
 
--- a gate gives an answer to the event of a lane: for some value that lay behind its lock
+-- the gate may give this answer to a lane's event, for some value that was behind the lane's lock
 pub record MayGive {A : Type 0} (queue : ℕ → TableId) (gives : HeldValue → Event → A → HeldValue → Type 0) (routed : Routed) (answer : A) : Type 0 where
   pub before : HeldValue
   pub after : HeldValue
   pub there : IsAt queue routed.place before
   pub gave : gives before routed.event answer after
 
--- an event of a lane is answered by the gate, unless something else lies behind the lane's lock
+-- the gate answers a lane's event, unless another lane is behind the lock
 pub record MayAnswerAt {A : Type 0} (queue : ℕ → TableId) (gives : HeldValue → Event → A → HeldValue → Type 0) (routed : Routed) (result : Result A EntityRefusal) : Type 0 where
   pub given : IfOk result (MayGive queue gives routed)
   pub wrong : IfErr result (λ why. why ≡ answer.WrongLane)
 
--- an event is, by where it goes
+-- the answer to an event, by its route
 abbrev pub MayAnswer : {A : Type 0} → (ℕ → TableId) → (HeldValue → Event → A → HeldValue → Type 0) → Result Routed RouteRefusal → Result A EntityRefusal → Type 0
 MayAnswer queue gives (Err why) result = result ≡ Err (answer.Route why)
 MayAnswer queue gives (Ok routed) result = MayAnswerAt queue gives routed result
 
--- the file of a deposit that waits at the lane of a place, for what lay behind its lock; it is the good file of that lane's
--- own reception, under that very key
+-- the file of the waiting deposit at the lane of a place, for some value that was behind its lock; it is the good file
+-- of that lane's own reception with the key
 pub record MayBeImage (queue : ℕ → TableId) (place : Place) (key : TxnKey) (stamp : ℕ) (image : Image) : Type 0 where
   pub held : HeldValue
   pub there : IsAt queue place held
   pub is_given : image_of held.lane key stamp ≡ Ok image
   pub is_own : IsOwnFile held.lane key stamp image
 
--- why a lane gave no image, for what lay behind its lock
+-- why the lane of a place gave no image, for some value that was behind its lock
 pub record MayLackImage (queue : ℕ → TableId) (place : Place) (key : TxnKey) (stamp : ℕ) (why : EntityRefusal) : Type 0 where
   pub held : HeldValue
   pub there : IsAt queue place held
@@ -59,22 +59,22 @@ pub record MayLackImage (queue : ℕ → TableId) (place : Place) (key : TxnKey)
   pub is_refused : why ≡ answer.Lane (plainly refused)
   pub is_why : IsWhy (image_of held.lane key stamp) refused
 
--- what is answered where an image is asked for, by where its transaction is
+-- the result of asking for an image, by the place of its transaction
 abbrev pub MayGiveImage : (ℕ → TableId) → TxnKey → ℕ → Result Place RouteRefusal → Result Image EntityRefusal → Type 0
 MayGiveImage queue key stamp (Err why) result = result ≡ Err (answer.Route why)
 MayGiveImage queue key stamp (Ok place) result =
     IfOk result (MayBeImage queue place key stamp)
     × IfErr result (λ why. (why ≡ answer.WrongLane) ⊎ MayLackImage queue place key stamp why)
 
--- how far a transaction is at the lane of a place, for what lay behind its lock; it holds of that lane's legal log, under
--- that very key
+-- the progress of a transaction at the lane of a place, for some value that was behind its lock; it is true of that
+-- lane's legal log with the key
 pub record MayBeTraced (queue : ℕ → TableId) (place : Place) (key : TxnKey) (traced : Traced) : Type 0 where
   pub held : HeldValue
   pub there : IsAt queue place held
   pub is_given : how_far held.lane key ≡ Ok traced
   pub is_own : IsHowFar held.lane key traced
 
--- why a lane didn't tell how far a transaction is, for what lay behind its lock
+-- why the lane of a place reported no progress, for some value that was behind its lock
 pub record MayLackTrace (queue : ℕ → TableId) (place : Place) (key : TxnKey) (why : EntityRefusal) : Type 0 where
   pub held : HeldValue
   pub there : IsAt queue place held
@@ -82,20 +82,20 @@ pub record MayLackTrace (queue : ℕ → TableId) (place : Place) (key : TxnKey)
   pub is_refused : why ≡ answer.Lane (plainly refused)
   pub is_why : how_far held.lane key ≡ Err refused
 
--- what is answered where it is asked how far a transaction is, by where that is
+-- the result of asking for a transaction's progress, by the transaction's place
 abbrev pub MayTrace : (ℕ → TableId) → TxnKey → Result Place RouteRefusal → Result Traced EntityRefusal → Type 0
 MayTrace queue key (Err why) result = result ≡ Err (answer.Route why)
 MayTrace queue key (Ok place) result =
     IfOk result (MayBeTraced queue place key)
     × IfErr result (λ why. (why ≡ answer.WrongLane) ⊎ MayLackTrace queue place key why)
 
--- a look at the lane of a place, for what lay behind its lock
+-- a glance at the lane of a place, for some value that was behind its lock
 pub record MayBeGlanced (queue : ℕ → TableId) (place : Place) (glance : Option Glance) : Type 0 where
   pub held : HeldValue
   pub there : IsAt queue place held
   pub is_shown : glance ≡ glance_of held.lane
 
--- what is answered to a look at the lane of a place
+-- the result of asking for a glance at the lane of a place
 abbrev pub MayGlance : (ℕ → TableId) → Place → Result (Option Glance) EntityRefusal → Type 0
 MayGlance queue place result =
     IfOk result (MayBeGlanced queue place)

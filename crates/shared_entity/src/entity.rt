@@ -23,14 +23,14 @@ use std::sync::{Mutex, Wait};
 use txn_events::{Event, Refusal, What};
 use user_queues::{LaneOutlet, Queues, UserPort, UserQueue};
 
-/// A protocol entity that threads share. Each call says by the configuration which lane an event goes to, takes that
-/// lane's lock, and leaves the rest to a gate; nothing else is locked, so lanes run side by side. Contracts see the
+/// A protocol entity that threads share. Each call determines from the configuration which lane an event goes to, locks
+/// that lane, and leaves the rest to a gate. Nothing else is locked, so lanes run in parallel. Contracts see the
 /// configuration.
 #[derive(Drop)]
 pub struct Entity<N: Names, R: Copy> {
     alloc: Global,
     config: Config,
-    /// Where the lanes of each user begin.
+    /// For each user, the index in `lanes` of the user's first lane.
     first_of: Vec<usize>,
     /// The lanes of all users, in order.
     lanes: Vec<Mutex<Held<N, R>>>,
@@ -53,8 +53,8 @@ impl<N: Names, R: Copy> Entity<N, R> {
     ghost use Rattle.entity_parts.specs.Asking.{MayRequest};
     ghost use Rattle.shared_entity.specs.Opening.{AreQueuesFor};
 
-    /// An entity with this configuration, to which nothing has happened, over the queues that were opened for it; and the
-    /// ports of its users, in order.
+    /// Opens a new entity with this configuration, over the queues that were opened for it. Returns it with the ports
+    /// of its users, in order.
     pub fn open(
         alloc: Global,
         config: Config,
@@ -100,15 +100,15 @@ impl<N: Names, R: Copy> Entity<N, R> {
         self.config.entity().put_lanes
     }
 
-    /// Its configuration.
+    /// The entity's configuration.
     pub fn config(&self) -> &Config
         ensures { result.now ≡ self.now }
     {
         &self.config
     }
 
-    /// Whether a user may ask for this ([`Entity::request`]): the user is one of the entity's, and a Put names one of the
-    /// user's sending lanes.
+    /// Whether [`Entity::request`] may be called with this request: the user is one of the entity's, and a Put names
+    /// one of the user's sending lanes.
     pub fn may_request(&self, user: usize, request: &Request) -> bool
         ensures may { result ≡ true → MayRequest self.now user request.now }
         ensures never { result ≡ false → MayRequest self.now user request.now → ⊥ }
@@ -116,7 +116,7 @@ impl<N: Names, R: Copy> Entity<N, R> {
         may_request(&self.config, user, request)
     }
 
-    /// The outlets of all lanes, in order, for the users' ports to take back. It takes no memory.
+    /// Closes the entity, and returns the outlets of all lanes, in order, for the users' ports. Does not allocate.
     pub fn into_lanes(self) -> Vec<LaneOutlet<R>>
         ensures count { vec_len result ≡ N.lanes }
         ensures named { All (λ outlet. outlet.queue ≡ N.queue outlet.knows.user) result.items }
@@ -129,7 +129,7 @@ impl<N: Names, R: Copy> Entity<N, R> {
         outlets
     }
 
-    // The lock of a lane.
+    // The lock of the lane at a place, if there is one.
     fn lock_of(&self, place: Place) -> Option<&Mutex<Held<N, R>>> {
         let first = *self.first_of.get(place.user)?;
         self.lanes.get(first.checked_add(place.lane)?)
@@ -147,7 +147,7 @@ impl<N: Names, R: Wait + Copy> Entity<N, R> {
     ghost use Rattle.entity_parts.specs.Refusals.{IsUnreadFrom};
     ghost use Rattle.shared_entity.specs.Answering.{MayAnswer, MayAnswerAt, MayGiveImage, MayGlance, MayTrace};
 
-    /// A user asks for something.
+    /// Handles a user's request.
     pub fn request<G: Gate<N, R>>(
         &self,
         rt: &R,
@@ -168,7 +168,7 @@ impl<N: Names, R: Wait + Copy> Entity<N, R> {
         }
     }
 
-    /// A datagram comes.
+    /// Handles a datagram.
     pub fn deliver<G: Gate<N, R>>(
         &self,
         rt: &R,
@@ -182,7 +182,7 @@ impl<N: Names, R: Wait + Copy> Entity<N, R> {
         self.deliver_pdu(rt, gate, pdu)
     }
 
-    /// A PDU comes, which was read from a datagram.
+    /// Handles a PDU that was read from a datagram.
     pub fn deliver_pdu<G: Gate<N, R>>(
         &self,
         rt: &R,
@@ -196,7 +196,7 @@ impl<N: Names, R: Wait + Copy> Entity<N, R> {
         self.tell(rt, gate, place, Event::On(key, What::Pdu(pdu)))
     }
 
-    /// The next PDU of a transaction is to be sent.
+    /// Has a transaction send its next PDU.
     pub fn pump<G: Gate<N, R>>(
         &self,
         rt: &R,
@@ -208,7 +208,7 @@ impl<N: Names, R: Wait + Copy> Entity<N, R> {
         self.inside(rt, gate, key, What::Pump)
     }
 
-    /// A transaction's timer that was armed with this stamp expires.
+    /// Reports that a transaction's timer that was armed with this stamp has expired.
     pub fn timer<G: Gate<N, R>>(
         &self,
         rt: &R,
@@ -222,7 +222,7 @@ impl<N: Names, R: Wait + Copy> Entity<N, R> {
         self.inside(rt, gate, key, What::Timer(kind, stamp))
     }
 
-    /// The file store answers a transaction's deposit with this stamp: whether it keeps the file.
+    /// Reports the file store's answer to a transaction's deposit with this stamp; true if it keeps the file.
     pub fn stored<G: Gate<N, R>>(
         &self,
         rt: &R,
@@ -236,7 +236,7 @@ impl<N: Names, R: Wait + Copy> Entity<N, R> {
         self.inside(rt, gate, key, What::Stored(stamp, kept))
     }
 
-    /// The file of a deposit that waits, by its transaction and its stamp.
+    /// The file of the waiting deposit with this key and this stamp.
     pub fn image(&self, rt: &R, key: TxnKey, stamp: u32) -> Result<Image, EntityRefusal>
         ensures { MayGiveImage N.queue key stamp (key_place self.now key) result }
     {
@@ -248,7 +248,7 @@ impl<N: Names, R: Wait + Copy> Entity<N, R> {
         image_at(&held, place, key, stamp)
     }
 
-    /// How far a transaction is, by its key. The lane's lock is held for no longer than its last indication is looked at.
+    /// The progress of the transaction with this key. The lane is locked only while its last indication is read.
     pub fn trace(&self, rt: &R, key: TxnKey) -> Result<Traced, EntityRefusal>
         ensures { MayTrace N.queue key (key_place self.now key) result }
     {
@@ -260,8 +260,8 @@ impl<N: Names, R: Wait + Copy> Entity<N, R> {
         trace_at(&held, place, key)
     }
 
-    /// A look at the transaction that the lane of a place runs or ran last, if there is one. It is no event, and the
-    /// lane's lock is held for no longer than the names of its file are copied.
+    /// A glance at the transaction that the lane at a place runs or ran last, if there is one. It is not an event; the
+    /// lane is locked only while the names of its file are copied.
     pub fn glance(&self, rt: &R, place: Place) -> Result<Option<Glance>, EntityRefusal>
         ensures { MayGlance N.queue place result }
     {
@@ -272,7 +272,7 @@ impl<N: Names, R: Wait + Copy> Entity<N, R> {
         glance_at(&held, place)
     }
 
-    // Something happens to a transaction, in the entity itself.
+    // Handles an event of a transaction that arises in the entity itself.
     fn inside<G: Gate<N, R>>(
         &self,
         rt: &R,
@@ -287,7 +287,7 @@ impl<N: Names, R: Wait + Copy> Entity<N, R> {
         self.tell(rt, gate, place, Event::On(key, what))
     }
 
-    // Something happens to a transaction because a user asks for it, who has to be its own.
+    // Handles a user's request on a transaction, which must be the user's own.
     fn own<G: Gate<N, R>>(
         &self,
         rt: &R,
@@ -303,7 +303,7 @@ impl<N: Names, R: Wait + Copy> Entity<N, R> {
         self.tell(rt, gate, place, Event::On(key, what))
     }
 
-    // A user wants a file to be sent.
+    // Handles a user's Put.
     fn put<G: Gate<N, R>>(
         &self,
         rt: &R,
@@ -317,7 +317,7 @@ impl<N: Names, R: Wait + Copy> Entity<N, R> {
         self.tell(rt, gate, place, Event::Put(put, params))
     }
 
-    // Tells a lane of an event, while its lock is held.
+    // Gives a lane its event, through the gate, while the lane is locked.
     fn tell<G: Gate<N, R>>(
         &self,
         rt: &R,
@@ -337,7 +337,7 @@ impl<N: Names, R: Wait + Copy> Entity<N, R> {
     }
 }
 
-// Brings an event to what lies behind a lock, if that is the lane of the place.
+// Gives an event to the lane behind a lock, if that is the lane of the place, and else answers `WrongLane`.
 fn bring<N: Names, R: Wait + Copy, G: Gate<N, R>>(
     gate: &G,
     held: &mut Held<N, R>,
@@ -356,7 +356,7 @@ fn bring<N: Names, R: Wait + Copy, G: Gate<N, R>>(
     Ok(gate.locked(held, event))
 }
 
-// Whether what lies behind a lock is the lane of a place.
+// Whether the lane behind a lock is that of a place.
 fn is_at<N: Names, R: Copy>(held: &Held<N, R>, place: Place) -> bool
     ensures there { IsTrue result → IsAt N.queue place held.now }
     ensures exact { result ≡ is_lane_of place held.now.lane }
@@ -364,7 +364,7 @@ fn is_at<N: Names, R: Copy>(held: &Held<N, R>, place: Place) -> bool
     held.user() == place.user && held.lane() == place.lane
 }
 
-// The file of a deposit that waits at what lies behind a lock, if that is the lane of the place.
+// The file of the waiting deposit at the lane behind a lock, if that is the lane of the place.
 fn image_at<N: Names, R: Copy>(
     held: &Held<N, R>,
     place: Place,
@@ -383,7 +383,7 @@ fn image_at<N: Names, R: Copy>(
     }
 }
 
-// How far a transaction is at what lies behind a lock, if that is the lane of the place.
+// The progress of a transaction at the lane behind a lock, if that is the lane of the place.
 fn trace_at<N: Names, R: Copy>(
     held: &Held<N, R>,
     place: Place,
@@ -401,7 +401,7 @@ fn trace_at<N: Names, R: Copy>(
     }
 }
 
-// A look at the last transaction of what lies behind a lock, if that is the lane of the place.
+// A glance at the lane behind a lock, if that is the lane of the place.
 fn glance_at<N: Names, R: Copy>(
     held: &Held<N, R>,
     place: Place,

@@ -1,4 +1,4 @@
-//! The entity that threads share: each lane lies behind a lock of its own, with its outlet, and nothing else is locked.
+//! The entity that threads share: each lane is behind its own lock, with its outlet, and nothing else is locked.
 #![tactic(auto)]
 
 mod entity;

@@ -1,4 +1,4 @@
-//! How the lanes of an entity are laid behind their locks.
+//! Putting the lanes of an entity behind their locks.
 ghost use Rattle.std.specs.Prelude.{◌≡◌, ◌+◌, All, OnOk, vec_len};
 ghost use Rattle.entity_parts.specs.FirstLanes.{first_lane};
 ghost use Rattle.shared_entity.specs.Opening.{IsFresh};
@@ -10,7 +10,7 @@ use std::alloc::{AllocError, Global};
 use std::sync::Mutex;
 use user_queues::LaneOutlet;
 
-/// Lays the lanes of outlets behind locks, each with its outlet, behind those that are there.
+/// Appends the lanes of these outlets, each behind its own lock, with its outlet.
 pub(crate) fn add_lanes<N: Names, R: Copy>(
     alloc: Global,
     config: &Config,
@@ -26,7 +26,7 @@ pub(crate) fn add_lanes<N: Names, R: Copy>(
     Ok(())
 }
 
-// The lane of an outlet, to which nothing has happened, with the outlet.
+// The new lane of an outlet, with the outlet.
 fn held_for<N: Names, R: Copy>(alloc: Global, config: &Config, outlet: LaneOutlet<R>) -> Held<N, R>
     requires { IsFresh N.queue outlet }
     ensures lane { result.lane ≡ first_lane config.now outlet.knows.user outlet.knows.lane }

@@ -5,7 +5,7 @@ use std::alloc::{AllocError, Global};
 use std::marker::PhantomData;
 use user_queues::LaneOutlet;
 
-/// Room for the outlets of all lanes, which closing an entity fills.
+/// Memory for the outlets of all lanes, reserved at opening and filled when the entity is closed.
 #[derive(Drop)]
 pub(crate) struct OutletRoom<N: Names, R: Copy> {
     outlets: Vec<LaneOutlet<R>>,

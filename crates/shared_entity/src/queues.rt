@@ -1,4 +1,4 @@
-//! How the queues of an entity's users are opened, by its configuration.
+//! Opening the queues of an entity's users, as configured.
 ghost use Rattle.std.specs.Prelude.{◌≡◌, ℕ, Some, IfOk, length, slice_get, vec_len};
 ghost use Rattle.entity_routing.specs.Places.{lanes_of};
 ghost use Rattle.shared_entity.specs.Opening.{AreOpenedFor};
@@ -21,7 +21,7 @@ pub fn queues_of<R: Wait + Copy>(
     open(rt, alloc, lanes.as_slice(), config.entity().capacity)
 }
 
-// How many lanes each user has.
+// The number of lanes of each user.
 fn lane_counts(alloc: Global, config: &Config) -> Result<Vec<usize>, AllocError>
     ensures users { IfOk result (λ counts. vec_len counts ≡ length config.now.users) }
     ensures counts { IfOk result (λ counts. (user : ℕ) (count : ℕ) → slice_get counts.items user ≡ Some count

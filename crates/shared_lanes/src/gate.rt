@@ -4,39 +4,39 @@ use std::sync::Wait;
 use txn_events::Event;
 use user_queues::Names;
 
-/// Where a thread is that brings an event to a lane.
+/// How far a thread with an event for a lane has come.
 #[derive(Clone, Copy, Debug, PartialEq, Eq)]
 pub enum Point {
     /// A worker took a datagram.
     Taken,
-    /// The lock of a lane of this user is held.
+    /// The lock of one of this user's lanes is held.
     Locked(usize),
 }
 
-/// What a thread does on its way to a lane, and with the lane once it has the lock.
+/// What a thread does before it locks a lane, and with the lane while the lock is held.
 pub trait Gate<N: Names, R: Wait + Copy> {
     ghost use Rattle.std.specs.Prelude.{Result};
     ghost use Rattle.txn_events.specs.declared.event.Event.{Event as EventValue};
     ghost use Rattle.lane_table.specs.Steps.{IsKeyed};
     ghost use Rattle.shared_lanes.specs.Held.{HeldValue};
 
-    /// What is answered to an event.
+    /// The answer to an event.
     type Answer;
 
-    /// What the gate may do with a lane's event: what lies behind the lock before, the event, the answer, and what lies
-    /// there then.
+    /// What the gate may do with a lane's event: the value behind the lock before, the event, the answer, and the value
+    /// after.
     ghost gives: { Self → HeldValue → EventValue → Self.Answer → HeldValue → Type 0 };
 
-    /// A point that the thread has reached.
+    /// Called at each point that the thread reaches.
     fn at(&self, point: Point);
 
-    /// What is done with a lane and its event while the lane's lock is held.
+    /// Handles the lane's event while the lane's lock is held.
     fn locked(&self, held: &mut Held<N, R>, event: &Event) -> Self::Answer
         requires { IsKeyed event.now }
         ensures { gives self.now held.old event.now result held.new };
 }
 
-/// The lane takes its event, and nothing else happens.
+/// The gate that only has the lane handle its event.
 #[derive(Clone, Copy, Debug, Drop)]
 pub struct NoGate;
 

@@ -8,8 +8,8 @@ use txn_events::{Event, Refusal};
 use txn_lane::Lane;
 use user_queues::{LaneOutlet, Names};
 
-/// A lane with its own outlet, of the queue that `N` names for its user. Contracts see both. Its type keeps that all
-/// that was sent through the outlet fits the lane, so nothing goes into the queue there but what a step of the lane tells.
+/// A lane with its own outlet, of the queue that `N` names for its user. Contracts see both. The type ensures that all
+/// that was sent through the outlet fits the lane, so only steps of the lane put bundles into the queue there.
 #[derive(Drop)]
 pub struct Held<N: Names, R: Copy> {
     lane: Lane,
@@ -48,7 +48,7 @@ impl<N: Names, R: Copy> Held<N, R> {
         }
     }
 
-    /// The number of the user.
+    /// The user's number.
     pub fn user(&self) -> usize
         ensures user { result ≡ self.now.lane.user }
         ensures kept { IsBehindLock N.queue self.now }
@@ -56,7 +56,7 @@ impl<N: Names, R: Copy> Held<N, R> {
         self.outlet.user()
     }
 
-    /// The number of the user's lane.
+    /// The lane's number among the user's lanes.
     pub fn lane(&self) -> usize
         ensures { result ≡ self.now.lane.lane }
     {
@@ -70,7 +70,7 @@ impl<N: Names, R: Copy> Held<N, R> {
         self.lane.key()
     }
 
-    /// The events of that transaction that were taken, in order.
+    /// The events that this transaction has accepted, in order.
     pub fn journal(&self) -> &[Event]
         ensures events { result.now ≡ self.now.lane.journal }
         ensures limit { length result.now ≤ JOURNAL_ENTRIES }
@@ -78,14 +78,14 @@ impl<N: Names, R: Copy> Held<N, R> {
         self.lane.journal()
     }
 
-    /// All indications of that transaction, in order.
+    /// All indications of this transaction, in order.
     pub fn trace(&self) -> &[Indication]
         ensures { result.now ≡ issued_by self.now.lane }
     {
         self.lane.trace()
     }
 
-    /// The file of a deposit that waits at the lane, by its key and its stamp.
+    /// The file of the waiting deposit at the lane, with this key and this stamp.
     pub fn image(&self, key: TxnKey, stamp: u32) -> Result<Image, Refusal>
         ensures image { IfOk result (λ image. image_of self.now.lane key stamp ≡ Ok image) }
         ensures refused { IfErr result (λ why. IsWhy (image_of self.now.lane key stamp) why) }
@@ -93,14 +93,14 @@ impl<N: Names, R: Copy> Held<N, R> {
         self.lane.image(key, stamp)
     }
 
-    /// A look at the transaction that the lane runs or ran last, if there is one.
+    /// A glance at the transaction that the lane runs or ran last, if there is one.
     pub fn glance(&self) -> Result<Option<Glance>, AllocError>
         ensures { IfOk result (λ glance. glance ≡ glance_of self.now.lane) }
     {
         self.lane.glance()
     }
 
-    /// The outlet alone, through which nothing comes any more.
+    /// The outlet alone; nothing can be sent through it any more.
     pub fn into_outlet(self) -> LaneOutlet<R>
         ensures outlet { result ≡ self.outlet }
         ensures queue { result.queue ≡ N.queue result.knows.user }
@@ -114,8 +114,8 @@ impl<N: Names, R: Wait + Copy> Held<N, R> {
     ghost use Rattle.lane_table.specs.Steps.{IsKeyed};
     ghost use Rattle.shared_lanes.specs.Held.{HasStepped};
 
-    /// Has the lane take an event: what the step tells goes into its user's queue, as one bundle, and only then is the
-    /// step made. An event that is not taken changes nothing.
+    /// Has the lane handle an event. The step's indications go into the user's queue as one bundle, and only then
+    /// is the step made. An event that is refused changes nothing.
     pub fn step(&mut self, event: &Event) -> Result<Done, Refused>
         requires { IsKeyed event.now }
         ensures { HasStepped self.old event.now result self.new }

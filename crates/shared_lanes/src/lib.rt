@@ -1,4 +1,4 @@
-//! What lies behind the lock of a lane: the lane with its own outlet. Threads that reach it go through a gate.
+//! The value behind the lock of a lane: the lane with its own outlet. Threads that reach it go through a gate.
 #![tactic(auto)]
 
 mod gate;

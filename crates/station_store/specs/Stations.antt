@@ -1,4 +1,4 @@
--- Meaning. What a store holds ready, and what its calls do to it.
+-- Meaning. What a store has ready, and the effect of its calls.
 use Rattle.std.specs.Prelude.{◌≡◌, ◌↔◌, ℕ, Bool, ◌&&◌, ◌==◌, if◌then◌else◌, List, length, Option, Some, None, MatchOption, Result, Ok, Err, OnOk, OnErr, IfSome}
 use Rattle.std.specs.Str.{bytes_eq}
 use Rattle.file_stores.specs.declared.filestore.StoreFault.{StoreFault}
@@ -9,13 +9,13 @@ use Rattle.station_store.specs.declared.prepared.Prepared.{Prepared}
 use Rattle.station_store.specs.declared.prepared.Prepared.TheVariants.{Ready, Later}
 use Rattle.station_store.specs.Paths.{IsTaken, IsPlaceFor, path_of}
 
--- a file that was kept and not yet deposited: its name, how many octets it has, and the path under which it was kept
+-- a file that was kept and not yet deposited: its name, its number of octets, and the path under which it was kept
 pub record ReadyFile : Type 0 where
   pub name : List ℕ
   pub size : ℕ
   pub place : List ℕ
 
--- a store: its settings, the deposits tried and failed, where the last that succeeded was kept, and what is ready
+-- a store: its settings, the deposits tried and failed, the path of the last that succeeded, and the file that is ready
 pub record StationValue : Type 0 where
   pub layout : Layout
   pub clash : Clash
@@ -24,20 +24,20 @@ pub record StationValue : Type 0 where
   pub stored_as : List ℕ
   pub ready : Option ReadyFile
 
--- the file that is ready has that name and so many octets
+-- whether the file that is ready has this name and this size
 abbrev pub is_for : List ℕ → ℕ → ReadyFile → Bool
 is_for name size file = bytes_eq file.name name && file.size == size
 
--- where the file that is ready was kept, if it has that name and so many octets
+-- the path of the file that is ready, if it has this name and this size
 abbrev pub ready_place : Option ReadyFile → List ℕ → ℕ → Option (List ℕ)
 ready_place None name size = None
 ready_place (Some file) name size = if is_for name size file then Some file.place else None
 
--- the file that is ready stands where one of its name may
+-- the file that is ready is where a file with its name may be
 abbrev pub IsReadyFor : Layout → Clash → Option ReadyFile → Type 0
 IsReadyFor layout clash ready = IfSome ready (λ file. IsTaken layout file.name × IsPlaceFor clash (path_of layout file.name) file.place)
 
--- a bad name fails as such; what was kept stands under a path of its name; what was ready is answered, and used up
+-- a deposit fails with BadName exactly at a bad name; a kept file is under a path of its name; a ready file is used up
 pub record StationDeposits (before : StationValue) (name octets : List ℕ) (result : Result (Unit {0}) StoreFault) (after : StationValue) : Type 0 where
   pub bad_name : (result ≡ Err BadName) ↔ ¬ (IsTaken before.layout name)
   pub ok : OnOk result (IsTaken before.layout name × IsPlaceFor before.clash (path_of before.layout name) after.stored_as)
@@ -46,7 +46,7 @@ pub record StationDeposits (before : StationValue) (name octets : List ℕ) (res
   pub used_up : after.ready ≡ None
   pub settings : (after.layout ≡ before.layout) × (after.clash ≡ before.clash)
 
--- what stands ready after a try: nothing at a bad name, and at a name that is taken the file, if the answer is Ready
+-- the file that is ready after a try: none at a bad name; at a valid name the file, if the result is Ready
 abbrev pub Prepares : StationValue → List ℕ → List ℕ → Prepared → Option ReadyFile → Type 0
 Prepares before name octets Later ready = IsTaken before.layout name × (ready ≡ None)
 Prepares before name octets Ready ready =

@@ -1,11 +1,11 @@
-//! The folders on the way to a file.
+//! The folders on the path of a file.
 use crate::names::folder_at;
 use std::fs::OpenFile;
 use std::io::ErrorKind;
 use std::rt::Files;
 use std::{fs, io};
 
-/// Makes each folder on the way to a file that isn't there. What is there has to be a folder, and no link to one.
+/// Creates the missing folders on the path of a file. An existing one must be a folder, not a link to one.
 pub fn make_folders<R: Files + AllocGlobal>(rt: &R, folder: &str, path: &str) -> io::Result<()> {
     for end in 0..path.len() {
         if let Some(below) = folder_at(path, end) {
@@ -16,7 +16,7 @@ pub fn make_folders<R: Files + AllocGlobal>(rt: &R, folder: &str, path: &str) ->
     Ok(())
 }
 
-// Makes a folder, unless one is there.
+// Creates a folder, unless it exists.
 fn make_folder<R: Files>(rt: &R, place: &str) -> io::Result<()> {
     match fs::create_dir(rt, place) {
         Ok(()) => Ok(()),
@@ -25,7 +25,7 @@ fn make_folder<R: Files>(rt: &R, place: &str) -> io::Result<()> {
     }
 }
 
-// Something is there: a folder, or an error.
+// An error unless there is a folder at this path.
 fn require_folder<R: Files>(rt: &R, place: &str) -> io::Result<()> {
     if fs::symlink_metadata(rt, place)?.is_dir() {
         Ok(())
@@ -34,7 +34,7 @@ fn require_folder<R: Files>(rt: &R, place: &str) -> io::Result<()> {
     }
 }
 
-/// An error where a folder stands in the place of a file.
+/// An error if there is a folder where a file should go.
 pub fn refuse_folder<R: Files>(rt: &R, place: &str) -> io::Result<()> {
     match fs::symlink_metadata(rt, place) {
         Ok(found) if found.is_dir() => Err(ErrorKind::IsADirectory.into()),
@@ -42,8 +42,8 @@ pub fn refuse_folder<R: Files>(rt: &R, place: &str) -> io::Result<()> {
     }
 }
 
-/// Has the system write out the names in the store's folder and in each on the way to a file, so that the file is found
-/// after a power cut, also where another server made one of the folders a moment ago.
+/// Flushes the store's folder and each folder on the path of a file, so that the file is found after a power failure,
+/// even if another server has just created one of the folders.
 pub fn flush_folders<R: Files + AllocGlobal>(rt: &R, folder: &str, path: &str) -> io::Result<()> {
     for end in 0..path.len() {
         if let Some(below) = folder_at(path, end) {

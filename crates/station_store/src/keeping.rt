@@ -1,4 +1,4 @@
-//! A file is written beside its place, flushed, and given its name.
+//! Keeping a file: it is written to a temporary file next to its place, flushed, and given its name.
 ghost use Rattle.std.specs.Prelude.{◌≡◌, ◌↔◌, IfOk, string_bytes};
 ghost use Rattle.station_store.specs.Paths.{IsTaken, IsPlaceFor, path_of};
 
@@ -11,23 +11,23 @@ use std::io::{ErrorKind, Write};
 use std::rt::Files;
 use std::{fs, io};
 
-/// How many names are tried for the file that is written before it gets its own name.
+/// How many names are tried for the temporary file.
 const PART_NAMES: u64 = 100_000;
 
-/// The greatest number behind the name of a further copy.
+/// The greatest number that is appended to a copy's name.
 const MOST_COPIES: u64 = 9_999;
 
-/// Where a store keeps its files, and how.
+/// Where and how a store keeps its files.
 #[derive(Clone, Copy)]
 pub struct Target<'a> {
     pub folder: &'a str,
     pub layout: Layout,
     pub clash: Clash,
-    /// The number of the first name that is tried for a part.
+    /// The number of the first temporary name to try.
     pub first_part: u64,
 }
 
-/// Keeps a file under its name, and gives the path, below the folder, under which it is kept.
+/// Keeps a file under its name, and returns its path below the folder.
 pub fn keep<R: Files + AllocGlobal>(
     rt: &R,
     target: Target<'_>,
@@ -46,7 +46,7 @@ pub fn keep<R: Files + AllocGlobal>(
     }
 }
 
-/// Keeps a file under a path, or a further copy of it, and gives the path under which it is kept.
+/// Keeps a file under a path, or as a numbered copy there, and returns its path.
 pub fn keep_at<R: Files + AllocGlobal>(
     rt: &R,
     target: Target<'_>,
@@ -64,7 +64,8 @@ pub fn keep_at<R: Files + AllocGlobal>(
     Ok(place)
 }
 
-// Writes and flushes the octets beside the file's place, in folders that are made for it, and gives the path of that part.
+// Writes and flushes the octets to a temporary file next to the file's place, in folders made for it.
+// Returns the temporary path.
 fn write_part<R: Files + AllocGlobal>(
     rt: &R,
     target: Target<'_>,
@@ -84,7 +85,7 @@ fn write_part<R: Files + AllocGlobal>(
     Ok(part)
 }
 
-// Makes a new file beside a place, and gives it with its path.
+// Creates a temporary file next to a place, and returns it with its path.
 fn new_part<R: Files + AllocGlobal>(
     rt: &R,
     place: &str,
@@ -106,7 +107,7 @@ fn new_part<R: Files + AllocGlobal>(
     Err(ErrorKind::AlreadyExists.into())
 }
 
-// Gives a part its name, or one of a further copy; it is gone as a part then, or where that fails.
+// Gives a temporary file its own name, or that of a numbered copy. It is gone afterwards, even on failure.
 fn name_part<R: Files + AllocGlobal>(
     rt: &R,
     target: Target<'_>,
@@ -125,7 +126,7 @@ fn name_part<R: Files + AllocGlobal>(
     named
 }
 
-// Puts a part into its place, instead of what is there.
+// Moves a temporary file to its place, replacing an existing file.
 fn rename<R: Files + AllocGlobal>(
     rt: &R,
     folder: &str,
@@ -140,8 +141,8 @@ fn rename<R: Files + AllocGlobal>(
     Ok(named)
 }
 
-// Gives a part the first of its names that nothing has, as a second name. The system makes that name only where nothing
-// has it, so two servers never take one name for two files.
+// Links a temporary file to the first of its names that is unused. The system creates the link only if the name is
+// unused, so two servers never take one name for two files.
 fn link_first_free<R: Files + AllocGlobal>(
     rt: &R,
     folder: &str,
@@ -162,8 +163,8 @@ fn link_first_free<R: Files + AllocGlobal>(
     Err(ErrorKind::AlreadyExists.into())
 }
 
-// Takes away a copy whose folder couldn't be flushed, so that the next try makes no further one. A file that took the place
-// of another stays.
+// Removes a copy whose folder couldn't be flushed, so that the next try makes no further copy. A file that replaced
+// another one stays.
 fn take_back<R: Files + AllocGlobal>(rt: &R, target: Target<'_>, named: &str) {
     if target.clash == Clash::Keep {
         let folder = target.folder;

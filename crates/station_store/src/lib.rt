@@ -1,4 +1,4 @@
-//! A store that keeps received files in a folder or in folders below it.
+//! A store that keeps received files in a folder, or in folders below it.
 #![tactic(auto)]
 
 mod folders;

@@ -1,4 +1,4 @@
-//! Names as they come, the paths that they lead to, and the paths of further copies.
+//! The names of received files, their paths, and the paths of numbered copies.
 ghost use Rattle.std.specs.Prelude.{◌≡◌, ◌↔◌, ◌<◌, ◌≤◌, ◌==◌, ◌||◌, IsSome, IfOk, IfSome, true, length, string_bytes, slice_index};
 ghost use Rattle.std.specs.List.{list_any, list_all, prefix_len, slice_split, before_last, after_last};
 ghost use Rattle.std.specs.Option.{option_map, option_copied};
@@ -8,7 +8,7 @@ ghost use Rattle.station_store.specs.Paths.{is_slash, relative, path_of, folder_
 use crate::settings::Layout;
 use std::alloc::{AllocError, Global};
 
-/// The path below a store's folder that a name leads to, if the layout takes the name.
+/// The path below the store's folder for a name, if the name is valid in the layout.
 pub fn path_of(layout: Layout, name: &[u8]) -> Option<&str>
     ensures taken { IsSome result ↔ IsTaken layout name.now }
     ensures path { IfSome result (λ path. path.now ≡ path_of layout name.now) }
@@ -19,7 +19,7 @@ pub fn path_of(layout: Layout, name: &[u8]) -> Option<&str>
     }
 }
 
-// The name of a file of the folder, as text.
+// The name as text, if it is a valid name for a file in the folder.
 fn flat_path(name: &[u8]) -> Option<&str>
     ensures taken { IsSome result ↔ IsTaken Layout.Flat name.now }
     ensures path { IfSome result (λ path. path.now ≡ name.now) }
@@ -30,7 +30,7 @@ fn flat_path(name: &[u8]) -> Option<&str>
     str::from_utf8(name).ok()
 }
 
-// The path below the folder, as text.
+// The path below the folder as text, if it is valid.
 fn tree_path(name: &[u8]) -> Option<&str>
     ensures taken { IsSome result ↔ IsTreeName name.now }
     ensures path { IfSome result (λ path. path.now ≡ relative name.now) }
@@ -42,7 +42,7 @@ fn tree_path(name: &[u8]) -> Option<&str>
     str::from_utf8(path).ok()
 }
 
-// A name without the slashes that lead it.
+// A name without its leading slashes.
 fn relative(name: &[u8]) -> &[u8]
     ensures { result.now ≡ relative name.now }
 {
@@ -50,7 +50,7 @@ fn relative(name: &[u8]) -> &[u8]
     path
 }
 
-// How many slashes lead a name.
+// The number of leading slashes in a name.
 fn leading_slashes(name: &[u8]) -> usize
     ensures count { result ≡ prefix_len is_slash name.now }
     ensures bound { result ≤ length name.now }
@@ -65,21 +65,21 @@ fn has_plain_parts(path: &[u8]) -> bool
     path.split(|octet| *octet == b'/').all(is_plain)
 }
 
-// A name that stays in its folder.
+// Whether the name stays in its folder.
 fn is_plain(name: &[u8]) -> bool
     ensures { result ≡ is_plain_name name.now }
 {
     !name.is_empty() && name != b".".as_slice() && name != b"..".as_slice() && !has_separator(name)
 }
 
-// A slash, or the octet that ends a name.
+// Whether the name has a slash, or a zero octet, which would end it.
 fn has_separator(name: &[u8]) -> bool
     ensures { result ≡ list_any (λ octet. octet == 47 || octet == 0) name.now }
 {
     name.iter().any(|octet| *octet == b'/' || *octet == 0)
 }
 
-/// The folder on the way to a file whose name ends before a slash at `end`, if a slash is there.
+/// The folder on a file's path whose name ends before the slash at `end`, if there is a slash.
 pub fn folder_at(path: &str, end: usize) -> Option<&str>
     ensures { option_copied result ≡ folder_at path.now end }
 {
@@ -90,7 +90,7 @@ pub fn folder_at(path: &str, end: usize) -> Option<&str>
     }
 }
 
-// Whether an octet is there, and is a slash.
+// Whether there is an octet at this place, and it is a slash.
 fn is_slash_at(octets: &[u8], at: usize) -> bool
     ensures slash { result ≡ is_slash (slice_index octets.now at) }
     ensures inside { result ≡ true → at < length octets.now }
@@ -98,7 +98,7 @@ fn is_slash_at(octets: &[u8], at: usize) -> bool
     at < octets.len() && octets[at] == b'/'
 }
 
-/// The path of a copy: from the first further one on with a dot and its number behind it.
+/// The path of a copy: for copy 0 the path itself, otherwise the path with a dot and the number appended.
 pub fn numbered(alloc: Global, path: &str, copy: u64) -> Result<String, AllocError>
     ensures { IfOk result (λ place. string_bytes place ≡ numbered path.now copy) }
 {
@@ -109,7 +109,7 @@ pub fn numbered(alloc: Global, path: &str, copy: u64) -> Result<String, AllocErr
     }
 }
 
-/// The name with a number for a part of a file, unless that is the file's own.
+/// The temporary name with a number, unless that is the file's own name.
 pub fn part_for(alloc: Global, name: &str, number: u64) -> Result<Option<String>, AllocError>
     ensures { IfOk result (λ part. option_map string_bytes part ≡ part_for name.now number) }
 {
@@ -120,7 +120,7 @@ pub fn part_for(alloc: Global, name: &str, number: u64) -> Result<Option<String>
     Ok(Some(part))
 }
 
-/// What stands before the last slash of a path.
+/// The part of a path before its last slash.
 pub fn holder(path: &str) -> &str
     ensures { result.now ≡ before_last is_slash path.now }
 {
@@ -130,7 +130,7 @@ pub fn holder(path: &str) -> &str
     }
 }
 
-/// What stands behind the last slash of a path.
+/// The part of a path after its last slash.
 pub fn own_name(path: &str) -> &str
     ensures { result.now ≡ after_last is_slash path.now }
 {

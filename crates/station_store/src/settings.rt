@@ -1,17 +1,17 @@
-/// Where the files of a store stand.
+/// Where a store puts its files.
 #[derive(Clone, Copy, Debug, PartialEq, Eq)]
 pub enum Layout {
-    /// Each in the store's own folder: a name has no slash.
+    /// Into the store's own folder: a name may not have a slash.
     Flat,
-    /// In folders below it: the slashes of a name lead there.
+    /// Into folders below it, as the slashes in a name say.
     Tree,
 }
 
-/// What becomes of a file that is there when one of its name comes.
+/// What happens to an existing file when a file with its name is received.
 #[derive(Clone, Copy, Debug, PartialEq, Eq)]
 pub enum Clash {
-    /// The new one takes its place.
+    /// The new file replaces it.
     Replace,
-    /// It stays, and the new one gets `.1`, `.2` and so on behind its name.
+    /// It stays, and the new file is named with `.1`, `.2` and so on appended.
     Keep,
 }

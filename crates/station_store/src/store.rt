@@ -11,11 +11,11 @@ use file_stores::{Filestore, StoreFault};
 use std::marker::Model;
 use std::rt::Files;
 
-/// A store that keeps files in one folder, or in folders below it, and replaces a file that is there or keeps it. A file
-/// is written beside its place, flushed, and named once it is whole, so that no half file is ever seen under its name; then
-/// its folder and those on the way to it are flushed, and only then the file is kept.
+/// A store that keeps files in one folder, or in folders below it, and replaces or keeps existing files. A file is
+/// written to a temporary file next to its place, flushed, and named once it is complete, so that no incomplete file is
+/// seen under its name. Then its folder and those on its path are flushed; only after that it counts as kept.
 ///
-/// A file may be prepared before it is deposited, as often as the caller likes: so a fault that passes costs no deposit.
+/// A file may be prepared before it is deposited, any number of times: a temporary fault then costs no deposit.
 #[derive(Drop)]
 pub struct StationStore<R: Files + AllocGlobal + Drop> {
     rt: R,
@@ -57,7 +57,7 @@ impl<R: Files + AllocGlobal + Drop> Model for StationStore<R> {
 }
 
 impl<R: Files + AllocGlobal + Drop> StationStore<R> {
-    /// A store over a folder, which has to be there when a file comes.
+    /// A store in a folder, which must exist when a file is deposited.
     pub fn new(rt: R, folder: String, layout: Layout, clash: Clash) -> StationStore<R>
         ensures { result ≡ record { layout = layout; clash = clash; calls = 0; failures = 0; stored_as = []; ready = None } }
     {
@@ -74,16 +74,16 @@ impl<R: Files + AllocGlobal + Drop> StationStore<R> {
         }
     }
 
-    /// The path, below the folder, under which the last file was kept whose deposit succeeded; empty before the first.
+    /// The path, below the folder, of the last file whose deposit succeeded; empty before the first.
     pub fn stored_as(&self) -> &str
         ensures { result.now ≡ self.now.stored_as }
     {
         self.stored_as.as_str()
     }
 
-    /// Tries to keep a file, and counts nothing. After `Ready` the next deposit answers at once what came of it, if it is of
-    /// the same name and as many octets; what was ready before is forgotten, though its file stays. After `Later` the file
-    /// may be prepared again, and a deposit tries once more itself.
+    /// Tries to keep a file, without counting a deposit. After `Ready` the next deposit is answered at once, if it
+    /// has the same name and as many octets; a file that was ready before is forgotten, but stays in the folder. After
+    /// `Later` the file may be prepared again, and a deposit tries once more itself.
     pub fn prepare(&mut self, name: &[u8], octets: &[u8]) -> Prepared
         ensures tried { Prepares self.old name.now octets.now result self.new.ready }
         ensures same { self.new ≡ record self.old { ready = self.new.ready } }
@@ -157,7 +157,7 @@ impl<R: Files + AllocGlobal + Drop> Filestore for StationStore<R> {
     }
 }
 
-// Where the file that is ready was kept, if it has that name and so many octets.
+// The path of the file that is ready, if it has this name and this size.
 fn ready_place(ready: Option<KeptFile>, name: &[u8], size: usize) -> Option<String>
     ensures { option_map string_bytes result ≡ ready_place ready name.now size }
 {

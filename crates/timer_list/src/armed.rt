@@ -1,15 +1,15 @@
 use crate::slot::Run;
 use cfdp_types::{TimerKind, TxnKey};
 
-/// A timer that runs.
+/// A running timer.
 #[derive(Clone, Copy, Debug, PartialEq, Eq)]
 pub struct Armed {
-    /// Whose timer it is.
+    /// The transaction that the timer belongs to.
     pub key: TxnKey,
     pub kind: TimerKind,
-    /// The place in the journal of the event that armed the timer.
+    /// The number, in the lane's journal, of the event that armed the timer.
     pub stamp: u32,
-    /// The moment at which it expires, in the caller's milliseconds.
+    /// When the timer expires, on the caller's clock in milliseconds.
     pub deadline: u64,
 }
 

@@ -1,4 +1,4 @@
-//! The timers that run, in the order in which they were armed.
+//! The running timers, in the order in which they were armed.
 #![tactic(auto)]
 
 mod armed;

@@ -8,12 +8,12 @@ use cfdp_types::{TimerKind, TimerOp, TxnKey};
 use std::alloc::{AllocError, Global};
 use std::marker::Model;
 
-/// The timers that run, at most one of each kind for a transaction. Contracts see the list of them: a
-/// timer that was armed anew keeps its place, and one that did not run goes last.
+/// The running timers, at most one of each kind for a transaction. Contracts see them as a list: a timer that is
+/// armed again keeps its place, and one that did not run goes to the end.
 #[derive(Drop)]
 pub struct TimerList {
     slots: Slots,
-    /// No timer expires before this moment.
+    /// No timer expires before this time.
     soonest: u64,
 }
 
@@ -30,7 +30,7 @@ impl Model for TimerList {
 }
 
 impl TimerList {
-    /// No timer runs.
+    /// An empty list.
     pub fn new(alloc: Global) -> TimerList
         ensures { result ≡ [] }
     {
@@ -40,9 +40,9 @@ impl TimerList {
         }
     }
 
-    /// Does to the list what a step says, at the moment `now` of the caller's milliseconds. An operation
-    /// of a step that came before the one which armed the timer changes nothing. On average over many calls
-    /// the cost does not grow with the list.
+    /// Carries out a step's operation on the list; `now` is the time on the caller's clock in milliseconds. An
+    /// operation of an earlier step than the one that armed the timer changes nothing. Averaged over many calls, the
+    /// cost does not grow with the list.
     pub fn apply(&mut self, op: TimerOp, now: u64) -> Result<(), AllocError>
         ensures ok { OnOk result (self.new ≡ after op now self.old) }
         ensures err { OnErr result (self.new ≡ self.old) }
@@ -93,9 +93,8 @@ impl TimerList {
         }
     }
 
-    /// Takes out the first timer of the list that has expired at the moment `now`. Where none can have
-    /// expired, by the least deadline that was seen, the cost does not grow with the list; else the list is
-    /// gone through up to that timer, and to its end where there is none.
+    /// Removes the first timer in the list that has expired at `now`. The cost does not grow with the list where the
+    /// least known deadline shows that none has expired. Otherwise the list is searched up to that timer or its end.
     pub fn due(&mut self, now: u64) -> Option<Armed>
         ensures timer { result ≡ first_due now self.old }
         ensures others { self.new ≡ without_due now self.old }
@@ -111,16 +110,16 @@ impl TimerList {
         Some(timer)
     }
 
-    /// A moment before which no timer expires, in the caller's milliseconds. It is the first at which one does, or the last
-    /// that 64 bits hold where none runs, once `due` has found none since timers were taken out or armed anew.
+    /// A time before which no timer expires, on the caller's clock. It is exact, or the greatest 64-bit number where no
+    /// timer runs, if `due` has returned None since timers were last removed or armed again.
     pub fn soonest(&self) -> u64
         ensures { IsTrue (none_before result self.now) }
     {
         self.soonest
     }
 
-    /// Adds a timer that was taken out as the last of the list, and gives it back where it runs again or
-    /// no memory was found. On average over many calls the cost does not grow with the list.
+    /// Appends a timer that was removed. Gives it back if a timer of its transaction and kind runs again, or if memory
+    /// runs out. Averaged over many calls, the cost does not grow with the list.
     pub fn put_back(&mut self, timer: Armed) -> Result<(), Armed>
         ensures ok { OnOk result (self.new ≡ self.old ++ timer ∷ []) }
         ensures given_back { IfErr result (λ back. back ≡ timer) }

@@ -1,15 +1,15 @@
 use crate::armed::Armed;
 use cfdp_types::{TimerKind, TxnKey};
 
-/// What stands at a place of the list: the place of a timer, or one that nothing uses any more.
+/// A place in the list: that of a timer, or one that is no longer used.
 #[derive(Clone, Copy, PartialEq, Eq, Hash)]
 pub(crate) enum Slot {
     Timer { key: TxnKey, kind: TimerKind },
-    /// The number of the place itself.
+    /// The number of this place.
     Vacant(usize),
 }
 
-/// How a timer runs.
+/// The stamp and the deadline of a running timer.
 #[derive(Clone, Copy)]
 pub(crate) struct Run {
     pub stamp: u32,
@@ -20,7 +20,7 @@ impl Slot {
     ghost use Rattle.std.specs.Prelude.{◌≡◌};
     ghost use Rattle.timer_list.specs.Slots.{timer_at};
 
-    /// The timer that runs at this place.
+    /// The timer that runs at this place, if one does.
     pub(crate) fn timer(&self, run: Option<Run>) -> Option<Armed>
         ensures { result ≡ timer_at self.now run }
     {

@@ -8,12 +8,12 @@ use cfdp_types::{TimerKind, TxnKey};
 use indexmap::IndexMap;
 use std::alloc::{AllocError, Global};
 
-/// The places of the list, in order. A timer that is taken out leaves its place behind, which is
-/// given up when as many are left behind as are in use.
+/// The places of the list, in order. A timer that is removed leaves its place unused; unused places are dropped
+/// when there are as many of them as used ones.
 #[derive(Drop)]
 pub(crate) struct Slots {
     pub(crate) entries: IndexMap<Slot, Option<Run>>,
-    /// Places that were left behind, as a bound: whether it is exact decides on speed alone.
+    /// A bound on the number of unused places. Whether it is exact affects only speed.
     left_behind: usize,
     ghost in_place: { IsTrue (are_in_place 0 (keys entries)) },
 }
@@ -27,7 +27,7 @@ impl Slots {
     ghost use Rattle.timer_list.specs.Slots.{is_running, is_slot, least_deadline, run_at, run_of, same_slot, timers_in, value_at};
     ghost use Rattle.timer_list.specs.Timers.{first_due};
 
-    /// No place is in use.
+    /// No places.
     pub(crate) fn new(alloc: Global) -> Slots
         ensures { result.entries.entries ≡ [] }
     {
@@ -37,7 +37,7 @@ impl Slots {
         }
     }
 
-    /// What stands at the place of a timer, if it has one.
+    /// The value at a timer's place, if it has one.
     #[tactic(auto, using(crate::proofs::SlotLemmas::distinct_slots))]
     fn value_of(&self, key: TxnKey, kind: TimerKind) -> Option<Option<Run>>
         ensures value { result ≡ value_at key kind self.now.entries.entries }
@@ -48,7 +48,7 @@ impl Slots {
         Some(*value)
     }
 
-    /// How a timer runs, if it does.
+    /// The stamp and deadline of a timer, if it runs.
     pub(crate) fn run_of(&self, key: TxnKey, kind: TimerKind) -> Option<Run>
         ensures run { result ≡ run_at key kind self.now.entries.entries }
         ensures distinct { IsDistinct same_slot (keys self.now.entries) }
@@ -59,7 +59,7 @@ impl Slots {
         }
     }
 
-    /// Writes what stands at the place of a timer.
+    /// Sets the value at a timer's place.
     #[tactic(auto, using(crate::proofs::SlotLemmas::distinct_slots))]
     fn write(&mut self, key: TxnKey, kind: TimerKind, value: Option<Run>)
         requires { IsSome (value_at key kind self.old.entries.entries) }
@@ -71,7 +71,7 @@ impl Slots {
         }
     }
 
-    /// Has a timer that runs run anew.
+    /// Rearms a timer that runs, at its place.
     pub(crate) fn run_anew(&mut self, timer: Armed)
         requires { IsSome (run_at timer.key timer.kind self.old.entries.entries) }
         ensures { self.new.entries.entries
@@ -80,7 +80,7 @@ impl Slots {
         self.write(timer.key, timer.kind, Some(timer.run()));
     }
 
-    /// Takes a timer out.
+    /// Removes a timer.
     pub(crate) fn take_out(&mut self, key: TxnKey, kind: TimerKind)
         requires { IsSome (value_at key kind self.old.entries.entries) }
         ensures timers { timers_in self.new.entries.entries
@@ -94,7 +94,7 @@ impl Slots {
         }
     }
 
-    /// Adds a timer that does not run, as the last one.
+    /// Appends a timer that does not run.
     pub(crate) fn add(&mut self, timer: Armed) -> Result<(), AllocError>
         requires { run_at timer.key timer.kind self.old.entries.entries ≡ None }
         ensures ok { OnOk result (timers_in self.new.entries.entries ≡ timers_in self.old.entries.entries ++ timer ∷ []) }
@@ -106,7 +106,7 @@ impl Slots {
         self.push(timer.key, timer.kind, timer.run())
     }
 
-    /// Adds a place for a timer that has none.
+    /// Appends a place for a timer that has none.
     fn push(&mut self, key: TxnKey, kind: TimerKind, run: Run) -> Result<(), AllocError>
         requires { value_at key kind self.old.entries.entries ≡ None }
         ensures ok { OnOk result (self.new.entries.entries
@@ -117,7 +117,7 @@ impl Slots {
         Ok(())
     }
 
-    /// Gives up the place of a timer that was taken out. The others keep theirs.
+    /// Marks the place of a removed timer as unused. The other timers keep their places.
     fn vacate(&mut self, key: TxnKey, kind: TimerKind) -> Result<(), AllocError>
         requires { value_at key kind self.old.entries.entries ≡ Some None }
         ensures same { timers_in self.new.entries.entries ≡ timers_in self.old.entries.entries }
@@ -132,7 +132,7 @@ impl Slots {
         Ok(())
     }
 
-    /// Leaves no place behind that is not in use.
+    /// Drops the unused places.
     fn squeeze(&mut self)
         ensures { timers_in self.new.entries.entries ≡ timers_in self.old.entries.entries }
     {
@@ -144,7 +144,7 @@ impl Slots {
         self.left_behind = 0;
     }
 
-    /// The first timer that has expired.
+    /// The first timer in the list that has expired.
     pub(crate) fn first_due(&self, now: u64) -> Option<Armed>
         ensures { result ≡ first_due now (timers_in self.now.entries.entries) }
     {
@@ -154,7 +154,7 @@ impl Slots {
             .find(|timer| timer.deadline <= now)
     }
 
-    /// The first moment at which a timer expires, or the last one that 64 bits hold.
+    /// The earliest time at which a timer expires; the greatest 64-bit number where none runs.
     pub(crate) fn soonest(&self) -> u64
         ensures { result ≡ least_deadline (timers_in self.now.entries.entries) }
     {

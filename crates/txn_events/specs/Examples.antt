@@ -1,4 +1,4 @@
--- Rows. The PDUs and the Put that worked transactions of both ends and of lanes go by.
+-- Rows. The PDUs and the Put used in worked transactions, for both ends and for lanes.
 use Rattle.std.specs.Prelude.{ℕ, false, List, [], ◌∷◌, None}
 use Rattle.cfdp_types.specs.Put.{PutValue}
 use Rattle.cfdp_types.specs.declared.names.Class.{Class}
@@ -13,7 +13,7 @@ use Rattle.pdu_values.specs.declared.bodies.Eof.{Eof}
 use Rattle.txn_events.specs.declared.event.What.{What}
 use Rattle.txn_events.specs.declared.event.What.TheVariants as what
 
--- from entity 1 to entity 2, sequence number 5
+-- the header of PDUs from entity 1 to entity 2, sequence number 5
 abbrev pub header : Class → Header
 header class = record {
   direction = TowardReceiver;
@@ -26,12 +26,12 @@ header class = record {
   destination = record { 0 = 2 };
 }
 
--- of the file "a", to be kept as "b": a type of checksum and a size
+-- Metadata of the file "a", to be stored as "b", with a checksum type and a size
 abbrev pub metadata_value : ℕ → ℕ → Metadata
 metadata_value kind size =
     record { closure = false; checksum_type = kind; size = size; source_name = 97 ∷ []; destination_name = 98 ∷ []; messages = [] }
 
--- a condition, a checksum and a size
+-- an EOF with a condition, a checksum and a size
 abbrev pub eof_value : ℕ → ℕ → ℕ → Eof
 eof_value condition checksum size = record { condition = condition; checksum = checksum; size = size; location = None }
 
@@ -44,7 +44,7 @@ finished_acknowledged code =
 abbrev pub abc : List ℕ
 abc = 97 ∷ 98 ∷ 99 ∷ []
 
--- "a", to be kept as "b" at entity 1
+-- a Put of "a", to be stored as "b" at entity 1
 abbrev pub put_value : Class → List ℕ → PutValue
 put_value class file = record {
   destination = record { 0 = 1 };

@@ -3,7 +3,7 @@ use Rattle.std.specs.Prelude.{ℕ, List, codes, Option, Some, None, Result, Ok, 
 use Rattle.txn_events.specs.declared.refusal.Refusal.{Refusal}
 use Rattle.txn_events.specs.declared.refusal.Refusal.TheVariants.{NoTransaction, OldTransaction, LaneBusy, ModeMismatch, StaleTimer, StaleStored, Storing, WrongState, SeqExhausted, TooLarge, JournalFull, NoMemory, QueueFull}
 
--- the number that is printed for a refusal
+-- the number of a refusal, as it is printed
 abbrev pub refusal_number : Refusal → ℕ
 refusal_number NoTransaction = 1
 refusal_number OldTransaction = 2
@@ -19,7 +19,7 @@ refusal_number JournalFull = 11
 refusal_number NoMemory = 12
 refusal_number QueueFull = 13
 
--- the name that is printed for a refusal, as octets
+-- the name of a refusal, as it is printed, in octets
 abbrev pub refusal_name : Refusal → List ℕ
 refusal_name NoTransaction = codes "NoTransaction"
 refusal_name OldTransaction = codes "OldTransaction"
@@ -35,7 +35,7 @@ refusal_name JournalFull = codes "JournalFull"
 refusal_name NoMemory = codes "NoMemory"
 refusal_name QueueFull = codes "QueueFull"
 
--- an answer, or why there is none
+-- an answer, or the refusal
 abbrev pub unless_refused : {A : Type 0} → Option Refusal → A → Result A Refusal
 unless_refused None answer = Ok answer
 unless_refused (Some why) answer = Err why

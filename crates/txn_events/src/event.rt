@@ -4,31 +4,31 @@ use cfdp_types::{Params, PutRequest, TimerKind, TxnKey};
 use pdu_values::Pdu;
 use std::alloc::AllocError;
 
-/// What happens to a transaction: an event of its end in this entity.
+/// What can happen to a transaction: an event for this entity's end of it.
 #[derive(Clone, Debug, Drop)]
 pub enum What {
-    /// The user ends the transaction.
+    /// The user cancels the transaction.
     Cancel,
-    /// The user has the transaction wait.
+    /// The user suspends the transaction.
     Suspend,
-    /// The user has it go on.
+    /// The user resumes the transaction.
     Resume,
-    /// The user asks how it stands.
+    /// The user asks for a report.
     Report,
-    /// The user leaves it, without a word to the other entity.
+    /// The user abandons the transaction: it ends here, and the other entity is not informed.
     Abandon,
-    /// The next PDU is to be sent.
+    /// The next PDU is due to be sent.
     Pump,
-    /// A PDU of the transaction came.
+    /// A PDU of the transaction was received.
     Pdu(Pdu),
     /// The timer that was armed with this stamp expired.
     Timer(TimerKind, u32),
-    /// The file store answered the deposit with this stamp: whether it keeps the file.
+    /// The file store answered the deposit with this stamp; true if it keeps the file.
     Stored(u32, bool),
 }
 
 impl What {
-    /// A copy, with memory of its own.
+    /// A copy of the event.
     pub fn copy(&self) -> Result<What, AllocError>
         ensures { IfOk result (λ copy. copy ≡ self.now) }
     {
@@ -36,17 +36,17 @@ impl What {
     }
 }
 
-/// An event that a lane gets.
+/// An event for a lane.
 #[derive(Debug, Drop)]
 pub enum Event {
-    /// Its user puts a file, by these parameters: it opens a sending transaction.
+    /// The lane's user requests to send a file, with these parameters: this opens a sending transaction.
     Put(PutRequest, Params),
-    /// Something happens to the transaction with this key. The key of a PDU is the PDU's own.
+    /// Something happens to the transaction with this key. For a PDU it is the key in the PDU's header.
     On(TxnKey, What),
 }
 
 impl Event {
-    /// A copy, with memory of its own.
+    /// A copy of the event.
     pub fn copy(&self) -> Result<Event, AllocError>
         ensures { IfOk result (λ copy. copy ≡ self.now) }
     {

@@ -1,4 +1,4 @@
-//! What both ends ask of an event.
+//! Tests of an event that both ends use.
 ghost use Rattle.std.specs.Prelude.{◌≡◌, not};
 ghost use Rattle.cfdp_types.specs.Steps.{is_stamp};
 ghost use Rattle.txn_events.specs.Events as asked;
@@ -10,7 +10,7 @@ use cfdp_types::limits::FILE_OCTETS;
 use cfdp_types::{Class, Condition, TimerKind};
 use pdu_values::Body;
 
-/// Whether the event is a PDU whose mode is not the transaction's class.
+/// Whether the event is a PDU whose transmission mode is not the transaction's class.
 pub fn is_of_other_class(class: Class, event: &What) -> bool
     ensures { result ≡ asked.is_of_other_class class event.now }
 {
@@ -20,22 +20,22 @@ pub fn is_of_other_class(class: Class, event: &What) -> bool
     }
 }
 
-/// Whether the event is taken only where the journal has room: the file store's answer and Abandon
-/// are taken although it is full.
+/// Whether the event is refused when the journal is full. The file store's answer and Abandon are not: places are
+/// reserved for them.
 pub fn needs_room(event: &What) -> bool
     ensures { result ≡ asked.needs_room event.now }
 {
     !matches!(event, What::Stored(_, _) | What::Abandon)
 }
 
-/// Whether a PDU came.
+/// Whether the event is the reception of a PDU.
 pub fn is_pdu(event: &What) -> bool
     ensures { result ≡ asked.is_pdu event.now }
 {
     matches!(event, What::Pdu(_))
 }
 
-/// Whether the timer of this kind expired.
+/// Whether the event is the expiration of a timer of this kind.
 pub fn is_expiration(kind: TimerKind, event: &What) -> bool
     ensures { result ≡ asked.is_expiration kind event.now }
 {
@@ -45,7 +45,7 @@ pub fn is_expiration(kind: TimerKind, event: &What) -> bool
     }
 }
 
-// Whether the timer of a kind does not run with this stamp.
+// Whether no timer of this kind runs with this stamp.
 fn is_stale(armed: &Stamps, kind: TimerKind, stamp: u32) -> bool
     ensures { result ≡ not (is_stamp (stamp_of armed.now kind) stamp) }
 {
@@ -55,7 +55,7 @@ fn is_stale(armed: &Stamps, kind: TimerKind, stamp: u32) -> bool
     }
 }
 
-/// Whether a timer expired that does not run, or was armed again since.
+/// Whether the event is the expiration of a timer that does not run, or that was armed again since.
 pub fn is_stale_timer(armed: &Stamps, event: &What) -> bool
     ensures { result ≡ asked.is_stale_timer (stamp_of armed.now) event.now }
 {
@@ -65,15 +65,14 @@ pub fn is_stale_timer(armed: &Stamps, event: &What) -> bool
     }
 }
 
-/// Whether a PDU with this body opens a reception that is not there yet: Metadata, File Data and EOF
-/// do.
+/// Whether a PDU with this body opens a reception that does not exist yet: Metadata, File Data and EOF do.
 pub fn body_opens(body: &Body) -> bool
     ensures { result ≡ asked.body_opens body.now }
 {
     matches!(body, Body::Metadata(_) | Body::FileData(_) | Body::Eof(_))
 }
 
-/// Whether a size or an end of a part is larger than the entity takes.
+/// Whether the file size, or the end of the file data, is beyond the largest file that the entity supports.
 pub fn is_body_too_large(body: &Body) -> bool
     ensures { result ≡ asked.is_body_too_large body.now }
 {
@@ -90,7 +89,7 @@ pub fn is_body_too_large(body: &Body) -> bool
     }
 }
 
-/// Whether an event is a PDU with a size or an end of a part that is larger than the entity takes.
+/// Whether the event is a PDU with a file size, or an end of file data, beyond the largest file.
 pub fn is_too_large(event: &What) -> bool
     ensures { result ≡ asked.is_too_large event.now }
 {

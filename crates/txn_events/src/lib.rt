@@ -1,6 +1,5 @@
-//! What happens to a transaction at either end, why it may be refused, and what a step of either end
-//! is made of: the PDUs that it sends, what it does with the timers and their counts, and what is
-//! asked of an event and of the user's indications.
+//! Events of a transaction at either end, the reasons for refusing one, and the parts of a step that both ends
+//! share: the PDUs to send, the timer operations and counts, and tests of events and of the user's indications.
 #![tactic(auto)]
 
 mod answer;

@@ -21,7 +21,7 @@ impl Model for Pdus {
 }
 
 impl Pdus {
-    /// No PDU.
+    /// An empty list.
     pub fn new(alloc: Global) -> Pdus
         ensures { result ≡ [] }
     {
@@ -47,8 +47,7 @@ impl Pdus {
     }
 }
 
-/// What one step does to the timers of its transaction, in order. Contracts see the list of the
-/// operations.
+/// The timer operations of one step, in order. Contracts see the list of them.
 #[derive(Debug, Drop)]
 pub struct TimerOps {
     items: Vec<TimerOp>,
@@ -64,7 +63,7 @@ impl Model for TimerOps {
 }
 
 impl TimerOps {
-    /// No operation.
+    /// An empty list.
     pub fn new(alloc: Global) -> TimerOps
         ensures { result ≡ [] }
     {

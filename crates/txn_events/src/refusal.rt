@@ -4,30 +4,30 @@ ghost use Rattle.txn_events.specs.declared.refusal.Refusal.TheVariants as refusa
 
 use std::alloc::{AllocError, AllocFailed};
 
-/// Why an event is not taken: the first that applies. It then changes nothing.
+/// Why an event is refused; it then changes nothing. Where several reasons apply, the first is reported.
 #[derive(Clone, Copy, Debug, PartialEq, Eq)]
 pub enum Refusal {
-    /// No such transaction was opened here.
+    /// No transaction with this key was opened here.
     NoTransaction = 1,
-    /// The transaction has ended, or was never opened and a later one was.
+    /// The transaction has ended, or it was never opened but a later one was.
     OldTransaction = 2,
-    /// Another transaction runs.
+    /// The lane is running another transaction.
     LaneBusy = 3,
-    /// The PDU's mode is not the transaction's class.
+    /// The PDU's transmission mode is not the transaction's class.
     ModeMismatch = 4,
-    /// The timer is not armed, or with another stamp.
+    /// The timer does not run, or runs with another stamp.
     StaleTimer = 5,
-    /// The stamp is not that of a deposit that waits.
+    /// No deposit with this stamp is waiting for an answer.
     StaleStored = 6,
-    /// A deposit waits for the file store's answer.
+    /// A deposit is waiting for the file store's answer.
     Storing = 7,
-    /// The event has no place in the state that the transaction is in.
+    /// The event is not possible in the state of the transaction.
     WrongState = 8,
-    /// The sequence numbers of the lane are used up.
+    /// The lane has used up its sequence numbers.
     SeqExhausted = 9,
-    /// The file is larger than the entity takes.
+    /// The file is larger than the entity supports.
     TooLarge = 10,
-    /// The journal has no room for more events of this kind.
+    /// The journal has no room for another event of this kind.
     JournalFull = 11,
     /// Memory ran out.
     NoMemory = 12,
@@ -36,14 +36,14 @@ pub enum Refusal {
 }
 
 impl Refusal {
-    /// The number that is printed for the refusal.
+    /// The refusal's number, as it is printed.
     pub fn number(self) -> u8
         ensures { result ≡ refusal_number self }
     {
         self as u8
     }
 
-    /// The name that is printed for the refusal.
+    /// The refusal's name, as it is printed.
     pub fn name(self) -> &'static str
         ensures { result.now ≡ refusal_name self }
     {

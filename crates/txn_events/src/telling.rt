@@ -1,4 +1,4 @@
-//! What both ends ask of the indications of one step.
+//! Tests of a step's indications that both ends use.
 ghost use Rattle.std.specs.Prelude.{◌≡◌};
 ghost use Rattle.std.specs.List.{list_any};
 ghost use Rattle.indications.specs.Words.{paused_after, is_resumed, is_fault};
@@ -6,7 +6,7 @@ ghost use Rattle.indications.specs.Kinds.{kind_of, suspended_behind};
 
 use indications::{Indication, IndicationKind};
 
-// Whether the transaction is suspended once one more indication is issued.
+// Whether the transaction is suspended after one more indication.
 fn is_suspended_behind(before: bool, indication: &Indication) -> bool
     ensures { result ≡ suspended_behind (kind_of indication.now) before }
 {
@@ -17,7 +17,7 @@ fn is_suspended_behind(before: bool, indication: &Indication) -> bool
     }
 }
 
-/// Whether the last of Suspended and Resumed is Suspended, where `paused` says so of the indications before.
+/// Whether the transaction is suspended after these indications; `paused` says whether it was before them.
 pub fn paused_after(paused: bool, inds: &[Indication]) -> bool
     ensures { result ≡ paused_after paused inds.now }
 {
@@ -28,14 +28,14 @@ pub fn paused_after(paused: bool, inds: &[Indication]) -> bool
     now
 }
 
-/// Whether it is indicated that the transaction goes on.
+/// Whether a Resumed is among the indications.
 pub fn has_resumed(inds: &[Indication]) -> bool
     ensures { result ≡ list_any is_resumed inds.now }
 {
     inds.iter().any(|indication| matches!(indication.kind(), IndicationKind::Resumption))
 }
 
-/// Whether a fault that is ignored is indicated.
+/// Whether a Fault, which reports an ignored fault, is among the indications.
 pub fn has_fault(inds: &[Indication]) -> bool
     ensures { result ≡ list_any is_fault inds.now }
 {

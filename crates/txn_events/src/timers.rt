@@ -1,4 +1,4 @@
-//! The timers of one end of a transaction: which run, and how often each expired.
+//! The timers of one end of a transaction: which of them run, and how often each has expired.
 ghost use Rattle.std.specs.Prelude.{◌≡◌, ◌≤◌, ◌+◌, ◌||◌, ◌&&◌, ◌++◌, IfOk, OnOk, if◌then◌else◌};
 ghost use Rattle.cfdp_types.specs.declared.limits.TheConstants.{JOURNAL_ENTRIES};
 ghost use Rattle.cfdp_types.specs.Steps.{operation, operations};
@@ -13,7 +13,7 @@ use cfdp_types::{Params, TimerKind, TimerLengths, TimerOp, TxnKey};
 use indications::Indication;
 use std::alloc::{AllocError, Global};
 
-/// What a step does with a timer.
+/// What a step does to one timer.
 #[derive(Clone, Copy)]
 pub enum TimerChange {
     Arms,
@@ -21,7 +21,7 @@ pub enum TimerChange {
     Stops,
 }
 
-/// What a step does with each timer.
+/// What a step does to each timer.
 #[derive(Clone, Copy)]
 pub struct TimerChanges {
     pub ack: TimerChange,
@@ -30,7 +30,7 @@ pub struct TimerChanges {
     pub inactivity: TimerChange,
 }
 
-/// For each timer that runs, its stamp: the place in the journal of the event that armed it.
+/// For each running timer its stamp: the number in the journal of the event that armed it.
 #[derive(Clone, Copy)]
 pub struct Stamps {
     pub ack: Option<u32>,
@@ -39,7 +39,7 @@ pub struct Stamps {
     pub inactivity: Option<u32>,
 }
 
-/// For each timer, its expirations since their count began.
+/// For each timer its expirations since the count last began.
 #[derive(Clone, Copy)]
 pub struct Tries {
     pub ack: u32,
@@ -61,7 +61,7 @@ impl Stamps {
         inactivity: None,
     };
 
-    /// The stamp of the timer of a kind.
+    /// The stamp of the timer of this kind.
     pub fn of(&self, kind: TimerKind) -> Option<u32>
         ensures { result ≡ stamp_of self.now kind }
     {
@@ -73,7 +73,7 @@ impl Stamps {
         }
     }
 
-    /// The stamps after what a step with a stamp does with each timer.
+    /// The stamps after a step, which has this stamp itself and makes these changes.
     pub fn after(self, changes: TimerChanges, stamp: u32) -> Stamps
         ensures { (kind : TimerKind)
             → stamp_of result kind ≡ stamp_by stamp (effects changes kind) (stamp_of self kind) }
@@ -87,7 +87,7 @@ impl Stamps {
     }
 }
 
-/// Of which timers a step begins the count again, for a reason of its end alone.
+/// Which counts a step begins again for reasons specific to its end.
 #[derive(Clone, Copy)]
 pub struct CountResets {
     pub ack: bool,
@@ -100,7 +100,7 @@ impl Tries {
     ghost use Rattle.cfdp_types.specs.declared.limits.TheConstants.{JOURNAL_ENTRIES};
     ghost use Rattle.txn_events.specs.Timers.{tries_of, tries_by, AreUpTo};
 
-    /// No timer expired.
+    /// No timer has expired.
     pub const NONE: Tries = Tries {
         ack: 0,
         nak: 0,
@@ -108,8 +108,8 @@ impl Tries {
         inactivity: 0,
     };
 
-    /// The counts after an event with these indications: all begin again where the
-    /// transaction is resumed, and that of a timer where its fault is ignored; else an expiration
+    /// The counts after an event with these indications. All begin again where the transaction is resumed; a
+    /// timer's count begins again where its fault is ignored, or where `resets` says so; otherwise an expiration
     /// adds one.
     pub fn after(self, event: &What, inds: &[Indication], resets: CountResets) -> Tries
         requires { AreUpTo JOURNAL_ENTRIES self }
@@ -147,7 +147,7 @@ impl Tries {
     }
 }
 
-// An expiration more, or none where the count begins again.
+// The count with one more expiration, or 0 where it begins again.
 fn count(before: u32, expired: bool, again: bool) -> u32
     requires { before ≤ JOURNAL_ENTRIES }
     ensures { result ≡ (if again then 0 else if expired then before + 1 else before) }
@@ -168,7 +168,7 @@ fn begins_again(resumed: bool, expired: bool, faulted: bool, resets: bool) -> bo
     resumed || (expired && faulted) || resets
 }
 
-// The stamp of a timer after what a step does with it.
+// The stamp of a timer after a change by a step with this stamp.
 fn stamp_after(before: Option<u32>, change: TimerChange, stamp: u32) -> Option<u32>
     ensures { result ≡ stamp_by stamp (effect_of_change change) before }
 {
@@ -179,7 +179,7 @@ fn stamp_after(before: Option<u32>, change: TimerChange, stamp: u32) -> Option<u
     }
 }
 
-/// Whose timers a step changes, how long they run, and its stamp: its place in the journal.
+/// The transaction whose timers a step changes, how long they run, and the step's stamp: its number in the journal.
 #[derive(Clone, Copy)]
 pub struct TimerContext {
     pub key: TxnKey,
@@ -190,7 +190,7 @@ pub struct TimerContext {
 impl TimerContext {
     ghost use Rattle.std.specs.Prelude.{◌≡◌};
 
-    /// That of a step with a stamp, by the parameters of its transaction.
+    /// The context of a step with this stamp, in a transaction with these parameters.
     pub fn new(key: TxnKey, params: &Params, stamp: u32) -> TimerContext
         ensures { result ≡ record { key = key; lengths = params.now.timers; stamp = stamp } }
     {
@@ -202,7 +202,7 @@ impl TimerContext {
     }
 }
 
-// Adds the operation that tells what a step does with a timer, if there is something to tell.
+// Appends the operation for one timer's change, if the change needs one.
 fn put_operation(
     ops: &mut TimerOps,
     context: &TimerContext,
@@ -232,7 +232,7 @@ fn put_operation(
     }
 }
 
-/// The operations that tell what a step does with the timers.
+/// The timer operations for a step's changes.
 pub fn operations(
     alloc: Global,
     context: &TimerContext,

@@ -10,14 +10,14 @@ abbrev pub bundle_for : ℕ → ℕ → TxnKey → List Indication → Option Bu
 bundle_for user lane key [] = None
 bundle_for user lane key (first ∷ rest) = Some (record { user = user; lane = lane; key = key; inds = first ∷ rest })
 
--- an outlet of this user and lane may be offered the bundle that there is, behind bundles that it may stand after
+-- the bundle, if there is one, is of this user and lane, and may follow bundles after which the outlet may stand
 abbrev pub MayHandOver : ℕ → ℕ → (List Bundle → Type 0) → Option Bundle → Type 0
 MayHandOver user lane stands None = Unit {0}
 MayHandOver user lane stands (Some bundle) =
     (bundle.user ≡ user) × (bundle.lane ≡ lane)
     × ((bundles : List Bundle) × stands bundles × IsLaneList bundle.user bundle.lane bundle.key.source (bundles ++ bundle ∷ []))
 
--- a bundle that there is was taken, and without one nothing happened
+-- the bundle, if there is one, was accepted by the outlet; otherwise nothing happened
 abbrev pub IsHandedOver : {A : Type 0} → (A → Bundle → A → Type 0) → A → A → Option Bundle → Type 0
 IsHandedOver takes old new None = new ≡ old
 IsHandedOver takes old new (Some bundle) = takes old bundle new

@@ -17,28 +17,28 @@ use Rattle.lane_table.specs.Lane.{State, is_above, log_of, IsSound}
 use Rattle.txn_lane.specs.Transactions.{StandsAfter}
 use Rattle.txn_lane.specs.declared.running.Running.{Running}
 
--- what a lane stands at, by its parts
+-- the state of a lane, from its parts
 abbrev pub lane_state : LaneSide → ℕ → ℕ → EntityId → Option ℕ → Option ℕ → List Event → State
 lane_state side user lane source last before journal =
     record { side = side; user = user; lane = lane; source = source; last = last; before = before; journal = journal }
 
--- the transaction that the code keeps is where this log is
+-- the code's transaction stands after this log, or there is neither
 abbrev pub Stands : Option Running → Option Log → Type 0
 Stands None None = Unit {0}
 Stands (Some running) (Some log) = StandsAfter running.core log × (running.trace.items ≡ issued log)
 Stands running found = ⊥
 
--- its events
+-- the events of the code's transaction
 abbrev pub journal_of : Option Running → List Event
 journal_of None = []
 journal_of (Some running) = running.journal.items
 
--- what the code's lane holds fits what it stands at
+-- the code's transaction fits the lane's state
 pub record IsHeld (state : State) (running : Option Running) : Type 0 where
   pub sound : IsSound state
   pub stands : Stands running (log_of state)
 
--- why an event of a key is refused by a lane itself, by what it meets and by whether it would open a transaction
+-- why a lane itself refuses an event with a key, from the lane's state and whether the event would open a transaction
 abbrev pub refused_by_key : EntityId → Option ℕ → Bool → Bool → TxnKey → What → Option Refused
 refused_by_key source last running opens key what =
     if not (key.source.0 == source.0) || (is_above key.seq last && not opens) then Some (plainly refusal.NoTransaction)
@@ -47,6 +47,6 @@ refused_by_key source last running opens key what =
     else if opens && running then Some (plainly refusal.LaneBusy)
     else None
 
--- why a Put is refused by a lane itself: another transaction runs, or there is no number for it
+-- why a lane itself refuses a Put: another transaction runs, or the Put gets no number
 abbrev pub refused_put : Bool → Option Refusal → Option Refused
 refused_put running why = if running then Some (plainly refusal.LaneBusy) else option_map plainly why

@@ -1,4 +1,4 @@
--- Meaning. What a step does with the outlet, and why an event is not taken.
+-- Meaning. What a step does with the outlet, and why an event is refused.
 use Rattle.std.specs.Prelude.{◌≡◌, ℕ, List, [], ◌∷◌, ◌++◌, Option, None, Some, ◌⊎◌, Result, Ok, IsSome}
 use Rattle.txn_events.specs.declared.answer.Answer.{Answer}
 use Rattle.cfdp_types.specs.declared.key.TxnKey.{TxnKey}
@@ -17,53 +17,53 @@ use Rattle.lane_table.specs.Keeping.{Keeps, bundle_of}
 use Rattle.lane_table.specs.Lane.{State}
 use Rattle.lane_table.specs.Steps.{IsKeyed, plainly, refused_by_lane, refusal_at, number_in, new_transaction, stepped, IsDone}
 
--- the bundle that there is was offered once and taken, and without one nothing happened
+-- the bundle, if there is one, was offered once and accepted; otherwise nothing happened
 abbrev pub IsOffered : {A : Type 0} → (A → Bundle → A → Type 0) → A → A → List Bundle → Type 0
 IsOffered takes old new [] = new ≡ old
 IsOffered takes old new (bundle ∷ none) = takes old bundle new
 
--- an event is not refused, but memory ran out
+-- the event is not refused, but memory ran out
 abbrev pub RanOut : State → Event → Refused → Type 0
 RanOut state event refused = (refusal_at state event ≡ None) × (refused ≡ plainly refusal.NoMemory)
 
--- an event is not refused, and what it tells found the user's queue full
+-- the event is not refused, but the user's queue had no room for its indications
 abbrev pub WasFull : State → Event → Refused → Type 0
 WasFull state event refused =
     (refusal_at state event ≡ None) × (refused ≡ plainly refusal.QueueFull)
     × ((bundle : Bundle) × (bundle_of (stepped state event) ≡ bundle ∷ []))
 
--- why a lane does not take an event, with what the outlet was before and is after: it gave the bundle back
--- where the queue was full, and was left alone else
+-- why a lane refuses an event, with the outlet before and after: the outlet gave the bundle back where the queue was
+-- full, and was left alone otherwise
 abbrev pub IsWhyNot : {A : Type 0} → (A → A → Type 0) → State → Event → A → A → Refused → Type 0
 IsWhyNot returns state event old new refused =
     ((new ≡ old) × ((refusal_at state event ≡ Some refused) ⊎ RanOut state event refused))
     ⊎ (returns old new × WasFull state event refused)
 
--- an outlet is the lane's, and some list of bundles that it stands after fits the lane
+-- the outlet is the lane's, and some list of bundles after which it may stand fits the lane
 pub record IsOutletOf {O : Type 0} (user lane : O → ℕ) (stands : O → List Bundle → Type 0) (state : State) (outlet : O) : Type 0 where
   pub of_user : user outlet ≡ state.user
   pub of_lane : lane outlet ≡ state.lane
   pub kept : (bundles : List Bundle) × stands outlet bundles × Keeps state bundles
 
--- an event is taken
+-- the event is accepted
 pub record IsTaken (state : State) (event : Event) (next : State) (done : Done) : Type 0 where
   pub free : refusal_at state event ≡ None
   pub next_is : next ≡ stepped state event
   pub done_is : IsDone next done
 
--- an outlet is still of its user and lane
+-- the outlet still belongs to the same user and lane
 pub record IsSameEnd {O : Type 0} (user lane : O → ℕ) (old new : O) : Type 0 where
   pub of_user : user new ≡ user old
   pub of_lane : lane new ≡ lane old
 
--- the step's bundle was offered once and taken, and every list that fitted the lane fits it with the bundle
+-- the step's bundle was offered once and accepted, and every list that fitted the lane still fits with the bundle added
 pub record IsHanded {O : Type 0} (user lane : O → ℕ) (takes : O → Bundle → O → Type 0) (stands : O → List Bundle → Type 0) (state next : State) (old new : O) : Type 0 where
   pub offered : IsOffered takes old new (bundle_of next)
   pub same_end : IsSameEnd user lane old new
   pub keeps : (bundles : List Bundle) → stands old bundles → Keeps state bundles
       → stands new (bundles ++ bundle_of next) × Keeps next (bundles ++ bundle_of next)
 
--- an event was not taken: the lane is as it was, and every list that fitted it fits it still
+-- the event was refused: the lane is as it was, and every list that fitted it still fits
 pub record IsLeft {O : Type 0} (user lane : O → ℕ) (returns : O → O → Type 0) (stands : O → List Bundle → Type 0) (state : State) (event : Event) (next : State) (old new : O) (refused : Refused) : Type 0 where
   pub same : next ≡ state
   pub why : IsWhyNot returns state event old new refused
@@ -72,49 +72,49 @@ pub record IsLeft {O : Type 0} (user lane : O → ℕ) (returns : O → O → Ty
 
 -- ---- inside the code
 
--- an event is one of its key, and the lane itself does not refuse it
+-- the event has its PDU's key, and the lane itself does not refuse it
 pub record Passes (state : State) (event : Event) : Type 0 where
   pub keyed : IsKeyed event
   pub passed : refused_by_lane state event ≡ None
 
--- an event that passes opens a transaction, and gives it this number
+-- such an event opens a transaction with this number
 pub record IsFirst (state : State) (event : Event) (number : ℕ) : Type 0 where
   pub passes : Passes state event
   pub opens : IsSome (new_transaction state event)
   pub number_is : number ≡ number_in state event
 
--- an event that passes opens none
+-- such an event opens no transaction
 pub record IsLater (state : State) (event : Event) : Type 0 where
   pub passes : Passes state event
   pub opens_none : new_transaction state event ≡ None
 
--- an event was the first one of a transaction under a key: it was answered and done, and what it tells was handed over
+-- the event was the first of the transaction with a key: it was answered, and its indications were handed over
 pub record HasBegun {O : Type 0} (takes : O → Bundle → O → Type 0) (old new : O) (user lane : ℕ) (key : TxnKey) (opened : Option Transaction) (event : Event) (running : Running) (done : Done) : Type 0 where
   pub answer : Answer
   pub started : IsStarted opened event running answer
   pub done_by : IsDoneBy key answer done
   pub offered : IsHandedOver takes old new (bundle_for user lane key answer.inds)
 
--- a transaction under a key went on by an event: it was answered and done, and what it tells was handed over
+-- the event continued the transaction with a key: it was answered, and its indications were handed over
 pub record HasGoneOn {O : Type 0} (takes : O → Bundle → O → Type 0) (old new : O) (user lane : ℕ) (key : TxnKey) (before after : Running) (event : Event) (done : Done) : Type 0 where
   pub answer : Answer
   pub advanced : IsAdvanced before after event answer
   pub done_by : IsDoneBy key answer done
   pub offered : IsHandedOver takes old new (bundle_for user lane key answer.inds)
 
--- an event was not taken, and the lane is as it was
+-- the event was refused, and the lane is as it was
 pub record IsNotTaken {O : Type 0} (returns : O → O → Type 0) (state : State) (event : Event) (next : State) (old new : O) (why : Refusal) : Type 0 where
   pub same : next ≡ state
   pub why_not : IsWhyNot returns state event old new (plainly why)
 
--- the queue was full: the bundle that there was came back, and the transaction is as it was
+-- the queue was full: the bundle was given back, and the transaction is as it was
 pub record IsGivenBack {O T : Type 0} (returns : O → O → Type 0) (bundle : Option Bundle) (before after : T) (old new : O) (why : Refusal) : Type 0 where
   pub same : after ≡ before
   pub full : why ≡ refusal.QueueFull
   pub some : IsSome bundle
   pub returned : returns old new
 
--- why an answer under a key is not carried out: there is none, memory ran out, or the queue was full
+-- why an answer is not carried out: there is none, memory ran out, or the queue was full
 abbrev pub IsNotCarried : {A : Type 0} → (A → A → Type 0) → A → A → ℕ → ℕ → TxnKey → Result Answer Refusal → Refusal → Type 0
 IsNotCarried returns old new user lane key answered why =
     ((new ≡ old) × IsWhy answered why)

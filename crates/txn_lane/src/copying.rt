@@ -1,5 +1,5 @@
-//! What a step needs beside its plan, all of it taken before anything changes: a copy of its event, the bundle of
-//! what it tells, and room in the journal and the trace.
+//! What a step needs besides its plan, all of it allocated before anything changes: a copy of its event, the bundle of
+//! its indications, and room in the journal and the trace.
 ghost use Rattle.std.specs.Prelude.{◌≡◌, ◌<◌, ◌≤◌, ◌+◌, [], IfOk, OnOk, length, vec_len, vec_capacity};
 ghost use Rattle.txn_events.specs.declared.event.Event.TheVariants.{On};
 ghost use Rattle.txn_lane.specs.Handing.{bundle_for};
@@ -10,17 +10,17 @@ use indications::{Bundle, Indication, Indications};
 use std::alloc::AllocError;
 use txn_events::{Event, What};
 
-// The room that a transaction begins with in its journal and in its trace: that of a small file which comes in order.
+// Initial room in the journal and in the trace of a transaction: enough for a small file that arrives in order.
 const FIRST_ROOM: usize = 5;
 
-/// A copy of an event, and the bundle of what its end tells of it.
+/// A copy of an event, and the bundle of its indications.
 #[derive(Drop)]
 pub(crate) struct Copies {
     pub(crate) event: Event,
     pub(crate) bundle: Option<Bundle>,
 }
 
-/// Those of an event that opens a transaction, with its journal and its trace, which have room for it.
+/// The copies for an event that opens a transaction, and its new journal and trace, which have room for them.
 pub(crate) fn copies_to_begin(
     address: LaneAddress,
     key: TxnKey,
@@ -40,7 +40,7 @@ pub(crate) fn copies_to_begin(
     Ok((Copies { event, bundle }, journal, trace))
 }
 
-/// Those of an event of a transaction that goes on, for which room is made in the two lists.
+/// The copies for a later event of a transaction; makes room for them in its journal and trace.
 pub(crate) fn copies_to_go_on(
     address: LaneAddress,
     key: TxnKey,

@@ -1,4 +1,4 @@
-//! What a look at a lane shows, without an event.
+//! Glances: the state of a lane, read without an event.
 ghost use Rattle.std.specs.Prelude.{◌≡◌, IfOk, option_copied, option_map};
 ghost use Rattle.sender_core.specs.Core as sender;
 ghost use Rattle.sender_core.specs.Core.{sending_of};
@@ -21,7 +21,7 @@ impl TransactionCore {
     ghost use Rattle.lane_table.specs.Glances.{glance_in};
     ghost use Rattle.txn_lane.specs.Transactions.{StandsAfter};
 
-    /// A look at it.
+    /// A glance at the transaction.
     pub(crate) fn glance(&self) -> Result<Glance, AllocError>
         ensures { (log : Log) → StandsAfter self.now log → IfOk result (λ glance. glance ≡ glance_in log) }
     {
@@ -37,7 +37,7 @@ impl Lane {
     ghost use Rattle.std.specs.Prelude.{◌≡◌, IfOk};
     ghost use Rattle.lane_table.specs.Glances.{glance_of};
 
-    /// A look at the transaction that it runs or ran last, if there is one; its file's names are copied.
+    /// A glance at the transaction that the lane runs or ran last, if there is one. Copies the names of its file.
     pub fn glance(&self) -> Result<Option<Glance>, AllocError>
         ensures { IfOk result (λ glance. glance ≡ glance_of self.now) }
     {
@@ -48,7 +48,7 @@ impl Lane {
     }
 }
 
-// A look at a sender.
+// A glance at a sender.
 fn glance_at_sender(core: &SenderCore) -> Result<Glance, AllocError>
     ensures { IfOk result (λ glance. glance ≡ glance_at_sender (sending_of core.now) (sender.shown core.now)) }
 {
@@ -71,7 +71,7 @@ fn glance_at_sender(core: &SenderCore) -> Result<Glance, AllocError>
     })
 }
 
-// A look at a receiver.
+// A glance at a receiver.
 fn glance_at_receiver(core: &ReceiverCore) -> Result<Glance, AllocError>
     ensures { IfOk result (λ glance. glance ≡ glance_at_receiver (reception_of core.now) (receiver.shown core.now)) }
 {
@@ -90,7 +90,7 @@ fn glance_at_receiver(core: &ReceiverCore) -> Result<Glance, AllocError>
     })
 }
 
-// A copy of a look, with memory of its own.
+// A copy of a glance.
 fn copied(glance: &Glance) -> Result<Glance, AllocError>
     ensures { IfOk result (λ copy. copy ≡ glance.now) }
 {
@@ -105,7 +105,7 @@ fn copied(glance: &Glance) -> Result<Glance, AllocError>
     Ok(Glance { file, ..*glance })
 }
 
-// The file that Metadata describes, if it came.
+// The file that the Metadata describes, if there is Metadata.
 fn described(metadata: Option<&Metadata>) -> Result<Option<GlancedFile>, AllocError>
     ensures { IfOk result (λ file. file ≡ option_map file_of_metadata (option_copied metadata.entry)) }
 {

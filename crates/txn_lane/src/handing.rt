@@ -1,4 +1,4 @@
-//! How what a step tells is handed to the user's queue.
+//! Handing a step's indications to the user's queue.
 ghost use Rattle.std.specs.Prelude.{◌≡◌, IfOk, OnOk, IfErr, IsSome};
 ghost use Rattle.txn_events.specs.declared.refusal.Refusal.TheVariants as refusal;
 ghost use Rattle.txn_lane.specs.Handing.{bundle_for, MayHandOver, IsHandedOver};
@@ -8,7 +8,7 @@ use indications::{Bundle, Indications, Outlet};
 use std::alloc::{AllocError, Global};
 use txn_events::Refusal;
 
-/// The lane of a user, with the memory that its steps take.
+/// The number of a lane and of its user, and the allocator for its steps.
 #[derive(Clone, Copy)]
 pub(crate) struct LaneAddress {
     pub(crate) alloc: Global,
@@ -16,7 +16,7 @@ pub(crate) struct LaneAddress {
     pub(crate) lane: usize,
 }
 
-/// The bundle of what a step tells, if it tells anything.
+/// The bundle of a step's indications, if there are any.
 pub(crate) fn bundle_for(
     user: usize,
     lane: usize,
@@ -36,7 +36,7 @@ pub(crate) fn bundle_for(
     }))
 }
 
-/// Offers the bundle, if there is one.
+/// Offers the bundle, if there is one, to the outlet. `QueueFull` if the queue is full.
 pub(crate) fn hand_over<O: Outlet>(outlet: &mut O, bundle: Option<Bundle>) -> Result<(), Refusal>
     requires { MayHandOver (O.user outlet.old) (O.lane outlet.old) (O.stands outlet.old) bundle }
     ensures taken { OnOk result (IsHandedOver O.takes outlet.old outlet.new bundle) }

@@ -9,8 +9,8 @@ use std::alloc::Global;
 use std::marker::Model;
 use txn_events::{Event, Refusal, What};
 
-/// A lane of a user, which runs one transaction after the other: those that its user puts, or those
-/// whose files come from one source. Contracts see what it stands at.
+/// A lane of a user. It runs one transaction after the other: those that its user puts, or those that it receives
+/// from one source. Contracts see the lane's state.
 #[derive(Drop)]
 pub struct Lane {
     alloc: Global,
@@ -46,8 +46,8 @@ impl Lane {
     ghost use Rattle.lane_table.specs.declared.lane_side.LaneSide.TheVariants.{Sending, Receiving};
     ghost use Rattle.lane_table.specs.Lane.{idle, key_of, is_running, issued_by, IsNumbered, IsSound};
 
-    /// A lane that has sent nothing yet: of a user's lane, for files of the source, by these
-    /// numbers up to the greatest that the sequence length holds.
+    /// A new sending lane of a user, for files of this source. Its transactions get these numbers, up to the greatest
+    /// that the configured sequence length holds.
     pub fn sending(
         alloc: Global,
         user: usize,
@@ -64,8 +64,7 @@ impl Lane {
         Lane::idle(alloc, side, user, lane, source)
     }
 
-    /// A lane that has received nothing yet: of a user's lane, for what comes from the source, by
-    /// these parameters.
+    /// A new receiving lane of a user, for transactions from this source, with these parameters.
     pub fn receiving(
         alloc: Global,
         user: usize,
@@ -78,7 +77,7 @@ impl Lane {
         Lane::idle(alloc, LaneSide::Receiving(params), user, lane, source)
     }
 
-    // A lane that has opened nothing yet.
+    // A lane that has opened no transaction.
     fn idle(alloc: Global, side: LaneSide, user: usize, lane: usize, source: EntityId) -> Lane
         requires { IsNumbered side }
         ensures { result ≡ idle side user lane source }
@@ -95,7 +94,7 @@ impl Lane {
         }
     }
 
-    /// The key of the transaction that it runs or ran last.
+    /// The key of the transaction that the lane runs or ran last.
     pub fn key(&self) -> Option<TxnKey>
         ensures { result ≡ key_of self.now }
     {
@@ -103,7 +102,7 @@ impl Lane {
         self.last.map(|seq| TxnKey { source, seq })
     }
 
-    /// The events of that transaction that were taken, in order.
+    /// The events that this transaction has accepted, in order.
     pub fn journal(&self) -> &[Event]
         ensures events { result.now ≡ self.now.journal }
         ensures limit { length result.now ≤ JOURNAL_ENTRIES }
@@ -114,7 +113,7 @@ impl Lane {
         }
     }
 
-    /// All indications of that transaction, in order.
+    /// All indications of this transaction, in order.
     pub fn trace(&self) -> &[Indication]
         ensures { result.now ≡ issued_by self.now }
     {
@@ -124,7 +123,7 @@ impl Lane {
         }
     }
 
-    /// The file of that transaction's deposit that waits, by its key and its stamp.
+    /// The file of the waiting deposit with this key and stamp. `StaleStored` if there is no such deposit.
     pub fn image(&self, key: TxnKey, stamp: u32) -> Result<Image, Refusal>
         ensures image { IfOk result (λ image. image_of self.now key stamp ≡ Ok image) }
         ensures refused { IfErr result (λ why. IsWhy (image_of self.now key stamp) why) }
@@ -138,7 +137,7 @@ impl Lane {
         }
     }
 
-    // Whether that transaction has not ended.
+    // Whether the lane's last transaction has not ended.
     pub(crate) fn is_running(&self) -> bool
         ensures { result ≡ is_running self.now }
     {
@@ -148,14 +147,14 @@ impl Lane {
         }
     }
 
-    // Whether an event of a key opens a transaction here.
+    // Whether an event with this key opens a transaction here.
     fn opens(&self, key: TxnKey, what: &What) -> bool
         ensures { result ≡ is_some (new_transaction self.now (On key what.now)) }
     {
         is_above(key.seq, self.last) && opens_at(&self.side, what)
     }
 
-    // The number of the next Put, or why it gets none.
+    // The number of the next Put, or why it gets no number.
     pub(crate) fn next_number(&self) -> Result<u64, Refusal>
         ensures held { IfOk result (λ number. number ≡ next_number self.now) }
         ensures free { OnOk result (refused_number self.now.side (next_number self.now) ≡ None) }
@@ -172,7 +171,7 @@ impl Lane {
         }
     }
 
-    // Why the lane refuses an event, before its end is asked.
+    // Why the lane itself refuses an event, before its end is asked.
     pub(crate) fn refusal(&self, event: &Event) -> Option<Refused>
         ensures { result ≡ refused_by_lane self.now event.now }
     {
@@ -190,8 +189,8 @@ impl Lane {
         }
     }
 
-    /// Takes an event: what the step tells is offered to the outlet, and only then is the step made.
-    /// An event that is not taken changes nothing.
+    /// Handles an event. The step's indications are offered to the outlet, and the step is made only if they are
+    /// accepted. An event that is refused changes nothing.
     pub fn step<O: Outlet>(&mut self, event: &Event, outlet: &mut O) -> Result<Done, Refused>
         requires keyed { IsKeyed event.now }
         requires outlet { IsOutletOf O.user O.lane O.stands self.old outlet.old }
@@ -209,7 +208,7 @@ impl Lane {
         }
     }
 
-    // Takes an event that the lane itself does not refuse.
+    // Handles an event that the lane itself does not refuse.
     fn take<O: Outlet>(&mut self, event: &Event, outlet: &mut O) -> Result<Done, Refusal>
         requires passes { Passes self.old event.now }
         requires outlet { IsOutletOf O.user O.lane O.stands self.old outlet.old }
@@ -234,7 +233,7 @@ impl Lane {
         }
     }
 
-    // Opens a transaction, with this number.
+    // Opens a transaction with this number.
     fn step_first<O: Outlet>(
         &mut self,
         seq: u64,
@@ -258,7 +257,7 @@ impl Lane {
         Ok(done)
     }
 
-    // Has the transaction that it runs go on.
+    // Continues the transaction that the lane runs.
     fn step_on<O: Outlet>(
         &mut self,
         key: TxnKey,
@@ -281,7 +280,7 @@ impl Lane {
         Ok(done)
     }
 
-    // Where its bundles go, and where memory comes from.
+    // The lane's number, its user and its allocator.
     fn address(&self) -> LaneAddress
         ensures user { result.user ≡ self.now.user }
         ensures lane { result.lane ≡ self.now.lane }

@@ -1,4 +1,4 @@
-//! Why a lane refuses an event before its end is asked.
+//! Why a lane itself refuses an event, before its end is asked.
 ghost use Rattle.std.specs.Prelude.{◌≡◌, ◌==◌, ℕ, is_some, Ok, Err};
 ghost use Rattle.txn_events.specs.declared.refusal.Refusal.{Refusal as RefusalValue};
 ghost use Rattle.lane_table.specs.Lane.{is_above};
@@ -17,7 +17,7 @@ use lane_table::{LaneSide, Refused};
 use pdu_values::{Ack, Acknowledged, Body, Direction, Header, Pdu, TransactionStatus};
 use txn_events::{Refusal, What, body_opens};
 
-/// What the refusals of a lane go by.
+/// What the refusals of a lane depend on.
 #[derive(Clone, Copy)]
 pub(crate) struct LaneView {
     pub(crate) source: EntityId,
@@ -33,7 +33,7 @@ pub(crate) fn plainly(why: Refusal) -> Refused
     Refused { why, echo: None }
 }
 
-// The ACK of an EOF or a Finished PDU, with its condition, of a transaction that is over.
+// The ACK of an EOF or a Finished PDU of a terminated transaction, with that PDU's condition code.
 fn late_ack(header: Header, of: Acknowledged, condition: Condition) -> Pdu
     requires { HeaderFits header }
     ensures { result ≡ record
@@ -50,7 +50,7 @@ fn late_ack(header: Header, of: Acknowledged, condition: Condition) -> Pdu
     )
 }
 
-// What class 2 sends back to a PDU of a transaction that is over.
+// The echo of a PDU of a terminated transaction: in class 2 an EOF and a Finished are acknowledged.
 fn echo_of(pdu: &Pdu) -> Option<Pdu>
     ensures { result ≡ echo_of pdu.now }
 {
@@ -77,7 +77,7 @@ fn echo_of(pdu: &Pdu) -> Option<Pdu>
     }
 }
 
-// The echo of an event, if it is a PDU that has one.
+// The echo of an event, if it is a PDU that gets one.
 fn echo_to(event: &What) -> Option<Pdu>
     ensures { (key : KeyValue) → result ≡ echo_to (On key event.now) }
 {
@@ -97,7 +97,7 @@ pub(crate) fn is_above(number: u64, last: Option<u64>) -> bool
     }
 }
 
-/// Whether an event of a key that is new to a lane opens a transaction there.
+/// Whether an event opens a transaction at a lane for which its key is new.
 pub(crate) fn opens_at(side: &LaneSide, event: &What) -> bool
     ensures { (key opened : KeyValue) → result ≡ is_some (opened_by side.now opened (On key event.now)) }
 {
@@ -107,7 +107,7 @@ pub(crate) fn opens_at(side: &LaneSide, event: &What) -> bool
     }
 }
 
-/// Why an event of a key is refused by a lane, by whether it would open a transaction there.
+/// Why a lane refuses an event with a key; `opens` says whether the event would open a transaction there.
 pub(crate) fn refused_by_key(
     lane: LaneView,
     opens: bool,
@@ -133,7 +133,7 @@ pub(crate) fn refused_by_key(
     None
 }
 
-/// Why a Put is refused, by whether a transaction runs and by what the number that it would get says.
+/// Why a lane refuses a Put; `number` is what the Put would get, or why it would get none.
 pub(crate) fn refused_put(is_running: bool, number: Result<u64, Refusal>) -> Option<Refused>
     ensures taken { (seq : ℕ) → number ≡ Ok seq → result ≡ refused_put is_running None }
     ensures refused { (why : RefusalValue) → number ≡ Err why → result ≡ refused_put is_running (Some why) }

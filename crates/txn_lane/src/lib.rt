@@ -1,6 +1,6 @@
-//! Lanes: each runs one transaction after the other, those of its user or those that come from one source,
-//! and hands the indications of each step to its user's queue. A transaction is opened, planned and carried
-//! out alike, whether its file is sent or received.
+//! Lanes. Each runs one transaction after the other, those of its user or those from one source, and hands the
+//! indications of each step to its user's queue. Transactions are opened, planned and carried out in the same way
+//! at both ends.
 #![tactic(auto)]
 
 mod copying;

@@ -1,4 +1,4 @@
-//! How a transaction is opened.
+//! Opening a transaction.
 use crate::transaction::{TransactionCore, TransactionPlan};
 use cfdp_types::{Params, PutRequest, TxnKey};
 use lane_table::LaneSide;
@@ -55,7 +55,7 @@ impl TransactionCore {
         Ok((core, TransactionPlan::Receiver(Box::new(alloc, plan)?)))
     }
 
-    // The reception that something opens which happens to its key.
+    // The reception that an event other than a Put opens.
     fn on(
         alloc: Global,
         side: &LaneSide,
@@ -76,8 +76,7 @@ impl TransactionCore {
         }
     }
 
-    /// The transaction that an event opens under its key, with the plan of this event as its first one;
-    /// a Put gets this key.
+    /// Opens the transaction with this key by an event, which is also planned as its first. A Put is given this key.
     pub(crate) fn open(
         alloc: Global,
         side: &LaneSide,

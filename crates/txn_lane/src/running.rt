@@ -12,13 +12,13 @@ use txn_events::{Answer, Event, Refusal, What};
 #[derive(Drop)]
 pub(crate) struct Running {
     pub(crate) core: TransactionCore,
-    /// Its events that were taken, in order.
+    /// The events that it has accepted, in order.
     pub(crate) journal: Vec<Event>,
-    /// All indications to its user.
+    /// All its indications, in order.
     pub(crate) trace: Vec<Indication>,
 }
 
-/// An event that its end takes, with all that is needed to carry it out.
+/// An event that its end accepts, with all that is needed to carry it out.
 #[derive(Drop)]
 pub(crate) struct Step {
     pub(crate) event: Event,
@@ -33,8 +33,8 @@ impl Running {
     ghost use Rattle.txn_lane.specs.Handing.{bundle_for};
     ghost use Rattle.txn_lane.specs.RunningCode.{IsStepOf, IsGoing, IsOpenedBy, IsUnmoved, MayCommit, IsDoneBy};
 
-    /// The transaction that an event opens, before its first event, and that event, with the bundle
-    /// of what it tells.
+    /// Opens the transaction with this key by an event, which is planned as its first step, with the bundle of its
+    /// indications.
     pub(crate) fn open(
         address: LaneAddress,
         side: &LaneSide,
@@ -60,7 +60,7 @@ impl Running {
         Ok((running, Step { event, plan }, bundle))
     }
 
-    /// Plans an event, with the bundle of what it tells, and makes room for it.
+    /// Plans an event, with the bundle of its indications, and makes room for it.
     pub(crate) fn plan(
         &mut self,
         address: LaneAddress,
@@ -82,8 +82,8 @@ impl Running {
         Ok((Step { event, plan }, bundle))
     }
 
-    /// Carries out a step under a key that was planned in the present state, and says what is to be done. What is not
-    /// needed behind an end is let go with it.
+    /// Carries out a step that was planned in the present state, and returns its result. After an end, it frees what
+    /// is no longer needed.
     pub(crate) fn commit(&mut self, key: TxnKey, step: Step) -> Done
         requires { MayCommit self.old step }
         ensures done { IsDoneBy key (plan_answer step.plan) result }
@@ -99,7 +99,7 @@ impl Running {
             timers,
             deposit,
         } = self.core.commit(plan);
-        // Where there is no memory for the look, the lane holds it whole until the next one opens.
+        // Without memory for the glance, the lane keeps the whole transaction until the next one opens.
         let _settled = self.core.settle();
         self.journal.push_reserved(event);
         append_reserved(&mut self.trace, inds.into_vec());
@@ -112,7 +112,7 @@ impl Running {
     }
 }
 
-// Adds indications in room that is there.
+// Appends indications without allocating.
 fn append_reserved(trace: &mut Vec<Indication>, mut told: Vec<Indication>)
     requires { vec_len trace.old + vec_len told ≤ vec_capacity trace.old }
     ensures { trace.new.items ≡ trace.old.items ++ told.items }

@@ -1,5 +1,5 @@
-//! How an event of a transaction is carried out: it is planned, what it tells is offered, and only
-//! then does the transaction go on.
+//! Carrying out an event of a transaction: it is planned, its indications are offered, and only then does the
+//! transaction change.
 ghost use Rattle.std.specs.Prelude.{◌≡◌, IsSome, Ok, IfOk, IfErr, OnOk, OnErr};
 ghost use Rattle.txn_events.specs.declared.answer.Answer.{Answer as AnswerValue};
 ghost use Rattle.txn_events.specs.declared.event.Event.TheVariants.{On};
@@ -59,7 +59,7 @@ pub(crate) fn start<O: Outlet>(
     Ok((running, done))
 }
 
-/// Has a transaction go on by an event.
+/// Continues a transaction by an event.
 pub(crate) fn advance<O: Outlet>(
     running: &mut Running,
     address: LaneAddress,

@@ -9,17 +9,16 @@ use txn_events::{Answer, Refusal, What};
 /// The transaction of a lane.
 #[derive(Drop)]
 pub(crate) enum TransactionCore {
-    /// Its file is sent.
+    /// The file is being sent.
     Sender(SenderCore),
-    /// Its file is received.
+    /// The file is being received.
     Receiver(ReceiverCore),
-    /// It has ended, and no deposit of it waits: only the look at it is left.
+    /// The transaction has ended and no deposit waits: only its glance is left.
     Ended(Glance),
 }
 
-/// An event that the transaction takes, with its answer and all memory that carrying it out needs. It
-/// can be carried out in the state that it was made in. A plan is large and is handed on often, so it
-/// stands in a box.
+/// An event that the transaction accepts, with its answer and all the memory that carrying it out needs. A plan can
+/// be carried out in the state that it was made in. It is large and passed on often, so it is boxed.
 #[derive(Drop)]
 pub(crate) enum TransactionPlan {
     Sender(Box<sender_core::Plan>),
@@ -30,7 +29,7 @@ impl TransactionPlan {
     ghost use Rattle.std.specs.Prelude.{◌≡◌};
     ghost use Rattle.txn_lane.specs.Transactions.{plan_answer};
 
-    /// What the event will be answered.
+    /// The answer that the event will get.
     pub(crate) fn answer(&self) -> &Answer
         ensures { result.now ≡ plan_answer self.now }
     {
@@ -49,7 +48,7 @@ impl TransactionCore {
     ghost use Rattle.lane_table.specs.Logs.{Log, has_ended, answered_behind, extended, image_in};
     ghost use Rattle.txn_lane.specs.Transactions.{StandsAfter, IsPlanOf, IsSettled, IsWhy, plan_answer};
 
-    /// Whether the end of the transaction was indicated: no event follows.
+    /// Whether an end was issued. After it no event may follow.
     pub(crate) fn has_ended(&self) -> bool
         ensures { (log : Log) → StandsAfter self.now log → result ≡ has_ended log }
     {
@@ -60,8 +59,8 @@ impl TransactionCore {
         }
     }
 
-    /// Plans an event in the present state, which stays as it is: the plan holds all memory that the
-    /// event takes, and room is made for the octets that it brings.
+    /// Plans an event without changing the state. The plan holds all memory that the event needs, and room is made for
+    /// the octets that it brings.
     pub(crate) fn plan(&mut self, alloc: Global, what: &What) -> Result<TransactionPlan, Refusal>
         requires { (log : Log) × StandsAfter self.old log × (has_ended log ≡ false) }
         ensures same { (log : Log) → StandsAfter self.old log → StandsAfter self.new log }
@@ -82,7 +81,7 @@ impl TransactionCore {
         }
     }
 
-    /// Carries out a plan that was made in the present state, and hands out its answer.
+    /// Carries out a plan that was made in the present state, and returns its answer.
     pub(crate) fn commit(&mut self, plan: TransactionPlan) -> Answer
         requires planned { (event : Event) × IsPlanOf self.old plan event }
         requires runs { (log : Log) × StandsAfter self.old log × (has_ended log ≡ false) }
@@ -101,7 +100,7 @@ impl TransactionCore {
         }
     }
 
-    /// The file of the deposit that waits, by its stamp; a sender has none.
+    /// The file of the waiting deposit with this stamp; a sender has none.
     pub(crate) fn image(&self, stamp: u32) -> Result<Image, Refusal>
         ensures image { (log : Log) → StandsAfter self.now log → IfOk result (λ image. image_in log stamp ≡ Ok image) }
         ensures refused { (log : Log) → StandsAfter self.now log → IfErr result (λ why. IsWhy (image_in log stamp) why) }
@@ -112,8 +111,8 @@ impl TransactionCore {
         }
     }
 
-    /// Lets go of all but the look at it, where it has ended and no deposit waits: of the file with its gaps, or of
-    /// the request. An error says that there is no memory for the names that the look shows.
+    /// Frees all but the glance, if the transaction has ended and no deposit waits: the file with its gaps, or the
+    /// request. An error means that there is no memory for the names in the glance.
     pub(crate) fn settle(&mut self) -> Result<(), AllocError>
         ensures stands { (log : Log) → StandsAfter self.old log → StandsAfter self.new log }
         ensures settled { (log : Log) → StandsAfter self.old log → OnOk result (IsSettled self.new log) }

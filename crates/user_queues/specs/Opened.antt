@@ -6,31 +6,31 @@ use Rattle.queue_rule.specs.declared.view.PortView.{PortView}
 use Rattle.queue_rule.specs.Views.{with_lane, next_outlet}
 use Rattle.user_queues.specs.Shared.{OutletEnd, PortEnd}
 
--- nothing is known of so many lanes
+-- nothing is known yet of so many lanes
 abbrev pub unknown : ℕ → List (Option (List Bundle))
 unknown zero = []
 unknown (suc lanes) = unknown lanes ++ None ∷ []
 
--- a port of so many lanes, from which nothing was taken
+-- the port of a user with so many lanes, from which nothing was taken
 abbrev pub fresh_port : ℕ → ℕ → ℕ → PortView
 fresh_port user lanes room = record { user = user; room = room; taken = []; known = unknown lanes }
 
--- an outlet of a lane that sent nothing yet
+-- the outlet of a lane that has sent nothing yet
 abbrev pub fresh_outlet : TableId → ℕ → ℕ → ℕ → OutletEnd
 fresh_outlet queue user room lane =
     record { queue = queue; knows = record { user = user; room = room; lane = lane; sent = [] } }
 
--- those of so many lanes, in order
+-- the outlets of so many lanes, in order
 abbrev pub fresh_outlets : TableId → ℕ → ℕ → ℕ → List OutletEnd
 fresh_outlets queue user room zero = []
 fresh_outlets queue user room (suc lanes) = fresh_outlets queue user room lanes ++ fresh_outlet queue user room lanes ∷ []
 
--- one queue of a user, with an outlet for each lane, through which nothing went
+-- a user's new queue, with an outlet for each lane, and nothing sent yet
 pub record IsOpenedFor (user lanes room : ℕ) (port : PortEnd) (outlets : List OutletEnd) : Type 0 where
   pub of_port : port.knows ≡ fresh_port user lanes room
   pub of_lanes : outlets ≡ fresh_outlets port.queue user room lanes
 
--- the port's user has one lane more, with an outlet of the same queue
+-- the port's user has one more lane, whose outlet is of the same queue
 pub record IsNextLane (old new : PortEnd) (outlet : OutletEnd) : Type 0 where
   pub of_port : new ≡ record { queue = old.queue; knows = with_lane old.knows }
   pub of_lane : outlet ≡ record { queue = old.queue; knows = next_outlet old.knows }

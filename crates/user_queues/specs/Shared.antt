@@ -1,4 +1,4 @@
--- Meaning. The ends of a queue that threads share: which queue it is, and what the end knows of it.
+-- Meaning. The ends of a queue that threads share: which queue it is, and what the end knows about it.
 use Rattle.std.specs.Prelude.{Bool, List, map, Option, is_some}
 use Rattle.atomic_table.specs.Seated.{TableId}
 use Rattle.crossbeam_queue.specs.Passes.{Pass, view}
@@ -8,7 +8,7 @@ use Rattle.queue_rule.specs.declared.view.OutletView.{OutletView}
 use Rattle.queue_rule.specs.declared.view.PortView.{PortView}
 use Rattle.queue_rule.specs.declared.view.View.{View}
 
--- an outlet: its queue, whose lane it is, and what the lane sent
+-- an outlet: its queue, whose lane it is, and what the lane has sent
 pub record OutletEnd : Type 0 where
   pub queue : TableId
   pub knows : OutletView
@@ -18,17 +18,17 @@ pub record PortEnd : Type 0 where
   pub queue : TableId
   pub knows : PortView
 
--- what an end knows, by its pass
+-- an end, from its pass
 abbrev pub outlet_end : Pass Bundle View → OutletEnd
 outlet_end pass = record { queue = pass.table_id; knows = outlet_in (view pass) }
 
 abbrev pub port_end : Pass Bundle View → PortEnd
 port_end pass = record { queue = pass.table_id; knows = port_in (view pass) }
 
--- all that the lane sent is known
+-- whether all that the lane sent is known
 abbrev pub is_admitted : Option (List Bundle) → Bool
 is_admitted known = is_some known
 
--- of which lanes
+-- for each lane, whether all that it sent is known
 abbrev pub admitted_in : PortView → List Bool
 admitted_in port = map is_admitted port.known

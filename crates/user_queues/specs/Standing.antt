@@ -1,11 +1,11 @@
--- Of the code. What a lane sent ends in what is held of it, whatever goes in.
+-- Of the code. What a lane has sent ends with what the queue holds of it, after every offer.
 use Rattle.std.proofs.Common.{◌≡◌, ℕ, List, [], ◌∷◌, ◌++◌, ap, sym, ◌∙◌, append_assoc, subst}
 use Rattle.indications.specs.declared.bundle.Bundle.{Bundle}
 use Rattle.indications.specs.LaneLists.{of_lane}
 use Rattle.indications.proofs.LaneLemmas.{of_lane-more}
 use Rattle.user_queues.specs.Queue.{Queue, EndsInHeld, IsPutIn, IsFull, with_last}
 
--- a bundle of the lane behind all that is held is one more of what is held of it
+-- appending a bundle of the lane adds it to what the queue holds of the lane
 ends_with_last : (queue : Queue) (lane : ℕ) (bundle : Bundle) (bundles : List Bundle) → bundle.lane ≡ lane
     → EndsInHeld queue lane bundles → EndsInHeld (with_last queue bundle) lane (bundles ++ bundle ∷ [])
 ends_with_last queue lane bundle bundles is ends = (
@@ -15,7 +15,7 @@ ends_with_last queue lane bundle bundles is ends = (
       ∙ ap (λ (l : List Bundle). ends.0 ++ l) (sym (of_lane-more lane queue.held bundle is)),
 )
 
--- where a bundle of the lane goes in, the list is one bundle longer
+-- an accepted bundle of the lane makes the list one bundle longer
 pub put_in_ends : (old new : Queue) (lane lane' : ℕ) (bundle : Bundle) → lane' ≡ lane → IsPutIn lane old bundle new
     → (new.user ≡ old.user) × (lane' ≡ lane)
     × ((bundles : List Bundle) → EndsInHeld old lane bundles → EndsInHeld new lane' (bundles ++ bundle ∷ []))
@@ -27,7 +27,7 @@ put_in_ends old new lane lane' bundle same put = (
       (ends_with_last old lane bundle bundles put.of_lane ends)),
 )
 
--- where none goes in, it is as it was
+-- a refused bundle leaves the list as it was
 pub full_ends : (old new : Queue) (lane lane' : ℕ) → lane' ≡ lane → IsFull old new
     → (new.user ≡ old.user) × (lane' ≡ lane)
     × ((bundles : List Bundle) → EndsInHeld old lane bundles → EndsInHeld new lane' bundles)

@@ -4,8 +4,8 @@ use std::alloc::Global;
 use std::marker::Model;
 use std::sync::{Arc, Wait};
 
-/// The end of a queue that threads share, into which one of its user's lanes puts its bundles. Contracts
-/// see which queue it is, whose lane it is, and all that the lane sent.
+/// An outlet of a queue that threads share: the end into which one lane of the user puts its bundles. Contracts see
+/// which queue it is, whose lane it is, and all that the lane has sent.
 #[derive(Drop)]
 pub struct LaneOutlet<R: Copy> {
     rt: R,
@@ -67,14 +67,14 @@ impl<R: Copy> LaneOutlet<R> {
         pass
     }
 
-    /// The number of the user.
+    /// The user's number.
     pub fn user(&self) -> usize
         ensures { result ≡ self.now.knows.user }
     {
         self.user
     }
 
-    /// The number of the user's lane.
+    /// The lane's number among the user's lanes.
     pub fn lane(&self) -> usize
         ensures { result ≡ self.now.knows.lane }
     {

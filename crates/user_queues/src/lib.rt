@@ -1,5 +1,5 @@
-//! Users' queues of bundles, which a user's lanes put into and the user takes from: that of one thread, and
-//! those that threads share.
+//! Users' queues of bundles. A user's lanes put bundles in, and the user takes them out. There is a queue for one
+//! thread, and one that threads share.
 #![tactic(auto)]
 
 mod lane_outlet;

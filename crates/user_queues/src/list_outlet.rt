@@ -1,7 +1,7 @@
 use crate::list_queue::ListQueue;
 use indications::{Bundle, Outlet};
 
-/// The end of a queue that one of its user's lanes puts its bundles into.
+/// An outlet of a `ListQueue`: the end into which one of the user's lanes puts its bundles.
 #[derive(Drop)]
 pub struct ListOutlet<'q> {
     queue: &'q mut ListQueue,

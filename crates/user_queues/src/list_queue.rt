@@ -7,8 +7,8 @@ use indications::Bundle;
 use std::alloc::{AllocError, Global};
 use std::marker::Model;
 
-/// The queue of a user, for one thread: a ring of so many bundles. Contracts see whose it is, how many
-/// lanes the user has, how many bundles there is room for, and what is held, from the front on.
+/// A user's queue for one thread, a ring of bundles. Contracts see whose it is, how many lanes the user has, how
+/// many bundles there is room for, and the bundles held, from the front on.
 #[derive(Drop)]
 pub struct ListQueue {
     user: usize,
@@ -28,8 +28,7 @@ impl Model for ListQueue {
 }
 
 impl ListQueue {
-    /// A queue that holds nothing. The room for its bundles is made here, so that no other call takes
-    /// memory.
+    /// An empty queue with room for `capacity` bundles. The room is allocated here; no other call allocates.
     pub fn new(
         alloc: Global,
         user: usize,
@@ -42,7 +41,7 @@ impl ListQueue {
         Ok(ListQueue { user, lanes, ring })
     }
 
-    /// The end of the queue that one of the user's lanes puts its bundles into.
+    /// The outlet of one of the user's lanes.
     pub fn outlet(&mut self, lane: usize) -> ListOutlet<'_>
         requires { lane < self.old.lanes }
         ensures same_reference { result.queue.ghost_name ≡ self.entry.ghost_name }
@@ -52,7 +51,7 @@ impl ListQueue {
         ListOutlet::new(self, lane)
     }
 
-    /// Puts a bundle behind all that is held, or gives it back where the queue is full.
+    /// Appends a bundle, or gives it back where the queue is full.
     pub(crate) fn put(&mut self, bundle: Bundle) -> Result<(), Bundle>
         ensures room { OnOk result (length self.old.held < self.old.capacity) }
         ensures held { OnOk result (self.new ≡ with_last self.old bundle) }
@@ -62,7 +61,7 @@ impl ListQueue {
         self.ring.try_push_back(bundle)
     }
 
-    /// Takes out the bundle at the front, if any is held.
+    /// Takes the bundle at the front, if there is one.
     pub fn take(&mut self) -> Option<Bundle>
         ensures none { IfNone result ((self.old.held ≡ []) × (self.new ≡ self.old)) }
         ensures front { IfSome result (λ bundle. self.old ≡ with_front self.new bundle) }

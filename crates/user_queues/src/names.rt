@@ -1,7 +1,7 @@
 use std::marker::Brand;
 
-/// The queues of one run, which threads share. No value of it is made: it is what all types that speak of these
-/// queues agree on.
+/// The queues that the threads of one run share. No value of it is made: it is a type on which all types that mention
+/// these queues agree.
 pub trait Names {
     ghost use Rattle.std.specs.Prelude.{ℕ};
     ghost use Rattle.atomic_table.specs.Seated.{TableId};
@@ -9,7 +9,7 @@ pub trait Names {
     /// The queue of each user.
     ghost queue: { ℕ → TableId };
 
-    /// How many lanes all users have.
+    /// The number of lanes of all users together.
     ghost lanes: { ℕ };
 }
 

@@ -1,4 +1,4 @@
-//! How the queues of all users are opened.
+//! Opening the queues of all users.
 ghost use Rattle.std.specs.Prelude.{◌≡◌, ◌<◌, ℕ, Some, IfOk, length, slice_get, slice_index, vec_len};
 ghost use Rattle.user_queues.specs.Opened.{IsOpenedFor};
 
@@ -7,21 +7,21 @@ use crate::user_port::UserPort;
 use std::alloc::{AllocError, Global};
 use std::sync::Wait;
 
-/// The ends of a user's queue, which threads share.
+/// The two kinds of ends of one user's queue, which threads share.
 #[derive(Drop)]
 pub struct UserQueue<R: Copy> {
     pub port: UserPort,
-    /// Those of the user's lanes, in order.
+    /// The outlets of the user's lanes, in order.
     pub outlets: Vec<LaneOutlet<R>>,
 }
 
-/// The queues of all users, in order.
+/// The queues of all users, in the order of their numbers.
 #[derive(Drop)]
 pub struct Queues<R: Copy> {
     pub users: Vec<UserQueue<R>>,
 }
 
-/// Opens a queue for each user, with so many lanes, and room for so many bundles.
+/// Opens a queue for each user, with this many lanes and room for `capacity` bundles.
 pub fn open<R: Wait + Copy>(
     rt: R,
     alloc: Global,
@@ -40,7 +40,7 @@ pub fn open<R: Wait + Copy>(
     Ok(Queues { users })
 }
 
-// Opens the queue of a user.
+// Opens the queue of one user.
 fn open_user<R: Wait + Copy>(
     rt: R,
     alloc: Global,

@@ -8,14 +8,14 @@ use std::alloc::{AllocError, Global};
 use std::marker::Model;
 use std::sync::{Arc, Wait};
 
-/// The end of a queue that threads share, from which its user takes. Contracts see which queue it is,
+/// The port of a queue that threads share: the end from which its user takes. Contracts see which queue it is,
 /// whose it is, and all that was taken.
 #[derive(Drop)]
 pub struct UserPort {
     queue: Arc<SharedQueue, Global>,
     pass: QueuePass,
     user: usize,
-    /// Which lanes have given their outlets back.
+    /// For each lane, whether it has given its outlet back.
     admitted: Vec<bool>,
 }
 
@@ -41,7 +41,7 @@ impl UserPort {
     ghost use Rattle.user_queues.specs.Shared.{is_admitted};
     ghost use Rattle.queue_rule.specs.Views.{new_port, with_taken, with_known, IsTakenInOrder, IsTakenOfLanes, IsWholeWith};
 
-    /// The port of a queue of a user's own, with room for so many bundles. The user has no lanes yet.
+    /// The port of a new queue with room for `room` bundles. The user has no lanes yet.
     pub(crate) fn open(alloc: Global, user: usize, room: usize) -> Result<UserPort, AllocError>
         requires { 0 < room }
         ensures { IfOk result (λ port. port.knows ≡ new_port user room) }
@@ -58,7 +58,7 @@ impl UserPort {
         })
     }
 
-    /// The outlet of the user's next lane, which has this number.
+    /// The outlet of the user's next lane, whose number is `lane`.
     pub(crate) fn next_lane<R: Copy>(
         &mut self,
         rt: R,
@@ -73,14 +73,14 @@ impl UserPort {
         Ok(LaneOutlet::new(rt, queue, pass, self.user, lane))
     }
 
-    /// The number of the user.
+    /// The user's number.
     pub fn user(&self) -> usize
         ensures { result ≡ self.now.knows.user }
     {
         self.user
     }
 
-    /// Takes the bundle at the front, if the queue was not empty.
+    /// Takes the bundle at the front. None where the queue was empty.
     pub fn take<R: Wait>(&mut self, rt: &R) -> Option<Bundle>
         ensures same_queue { self.new.queue ≡ self.old.queue }
         ensures taken { IfSome result (λ bundle. self.new.knows ≡ with_taken self.old.knows bundle) }
@@ -92,7 +92,7 @@ impl UserPort {
         take(rt, &self.queue, &mut self.pass)
     }
 
-    /// How many bundles lay in the queue at one moment of the call.
+    /// How many bundles were in the queue at some moment during the call.
     pub fn waiting<R: Wait>(&mut self, rt: &R) -> usize
         ensures same { self.new ≡ self.old }
         ensures within { result ≤ self.old.knows.room }
@@ -108,7 +108,7 @@ impl UserPort {
         self.queue.capacity()
     }
 
-    /// Takes the outlet of a lane back, through which nothing can come any more.
+    /// Takes back the outlet of a lane; the lane can send nothing any more.
     pub fn admit<R: Copy>(&mut self, outlet: LaneOutlet<R>)
         requires { outlet.queue ≡ self.old.queue }
         ensures same_queue { self.new.queue ≡ self.old.queue }
@@ -119,7 +119,7 @@ impl UserPort {
         mark(&mut self.admitted, lane);
     }
 
-    /// Whether each lane has given its outlet back.
+    /// Whether all lanes have given their outlets back.
     pub fn is_complete(&self) -> bool
         ensures { result ≡ list_all is_admitted self.now.knows.known }
     {
@@ -127,7 +127,7 @@ impl UserPort {
     }
 }
 
-// Marks a lane, if it is there.
+// Marks a lane, if there is one with this number.
 fn mark(lanes: &mut Vec<bool>, lane: usize)
     ensures { lanes.new.items ≡ slice_set lanes.old.items lane true }
 {

@@ -1,4 +1,4 @@
--- Of the code. How an entity of one thread comes to its answers.
+-- Of the code. How an entity of one thread arrives at its answers.
 use Rattle.std.specs.Prelude.{◌≡◌, List, ◌∷◌, Result, Ok, Err, IfOk, IfErr}
 use Rattle.config_reading.specs.Values.{ConfigValue}
 use Rattle.lane_table.specs.declared.done.Done.{Done}
@@ -13,7 +13,7 @@ use Rattle.entity_parts.specs.declared.refusal.EntityRefusal.TheVariants as answ
 use Rattle.world_core.specs.Opening.{layout_of}
 use Rattle.world_core.specs.Worlds.{StandsAfter}
 
--- a lane took an event, and so the users stand now
+-- the lane accepted the event, and the users stand after the longer history
 pub record IsTakenIn (config : ConfigValue) (history : List Happening) (routed : Routed) (posts : List Post) (done : Done) : Type 0 where
   pub takes_it : Takes (layout_of config) history routed.place.user routed.place.lane routed.event done
   pub stands : StandsAfter (record { config = config; posts = posts }) (steps routed.place.user routed.place.lane routed.event ∷ history)
@@ -24,7 +24,7 @@ pub record AnswersAt (config : ConfigValue) (history : List Happening) (routed :
   pub refused : IfErr result (λ why. (refused : Refused) × (why ≡ answer.Lane refused)
       × IsRefusedAt (layout_of config) history routed.place.user routed.place.lane routed.event refused)
 
--- the answer, by where the event goes
+-- the answer, by the route of the event
 abbrev pub Answers : ConfigValue → List Happening → Result Routed RouteRefusal → List Post → Result Done EntityRefusal → Type 0
 Answers config history (Err why) posts result = result ≡ Err (answer.Route why)
 Answers config history (Ok routed) posts result = AnswersAt config history routed posts result

@@ -1,4 +1,4 @@
-//! A protocol entity: the lanes of its users, and what it answers to what happens.
+//! A protocol entity in one thread: the lanes of its users, and its answers to events.
 #![tactic(auto)]
 
 mod opening;

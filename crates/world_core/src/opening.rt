@@ -1,4 +1,4 @@
-//! How the users of an entity are made, by its configuration.
+//! Making the users of an entity, as configured.
 ghost use Rattle.std.specs.Prelude.{◌≡◌, [], IfOk, IsTrue};
 ghost use Rattle.world_users.specs.Standing.{IsPostAfter, UsersStandAfter};
 ghost use Rattle.config_reading.specs.Values.{is_config};
@@ -11,7 +11,7 @@ use std::alloc::{AllocError, Global};
 use user_queues::ListQueue;
 use world_users::{UserPart, Users};
 
-/// The users of an entity, to whom nothing has happened.
+/// The users of a new entity.
 pub(crate) fn users_for(alloc: Global, config: &Config) -> Result<Users, AllocError>
     ensures stand { IfOk result (UsersStandAfter (layout_of config.now) []) }
     ensures kept { IsTrue (is_config config.now) }
@@ -25,7 +25,7 @@ pub(crate) fn users_for(alloc: Global, config: &Config) -> Result<Users, AllocEr
     Ok(Users::new(parts))
 }
 
-// A user, with a queue for so many bundles and with lanes.
+// A new user, whose queue has room for `capacity` bundles, with the configured lanes.
 fn part_for(
     alloc: Global,
     config: &Config,

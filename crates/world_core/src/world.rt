@@ -12,9 +12,9 @@ use std::marker::Model;
 use txn_events::{Event, What};
 use world_users::Users;
 
-/// A protocol entity in one thread. It gets what happens, and answers what is to be done; its users take their
-/// indications. Contracts see its configuration, and where its users stand; they speak of every list of what has
-/// happened, the newest first, after which it stands.
+/// A protocol entity in one thread. It handles events and returns what is to be done; its users take their
+/// indications. Contracts see its configuration and its users; they speak of every history, newest first, after which
+/// the entity may stand.
 #[derive(Drop)]
 pub struct World {
     alloc: Global,
@@ -48,7 +48,7 @@ impl World {
     ghost use Rattle.entity_parts.specs.Refusals.{IsUnreadFrom};
     ghost use Rattle.world_core.specs.Answering.{Answers, AnswersAt};
 
-    /// An entity with this configuration, to which nothing has happened.
+    /// A new entity with this configuration. An error means that there is no memory for its users.
     pub fn open(alloc: Global, config: Config) -> Result<World, AllocError>
         ensures config { IfOk result (λ world. world.config ≡ config) }
         ensures stands { IfOk result (λ world. StandsAfter world []) }
@@ -75,15 +75,15 @@ impl World {
         self.config.entity().put_lanes
     }
 
-    /// Its configuration.
+    /// The entity's configuration.
     pub fn config(&self) -> &Config
         ensures { result.now ≡ self.now.config }
     {
         &self.config
     }
 
-    /// Whether it may get an event ([`World::step`]): all but a request may come, and a request has to name a user
-    /// and, where it is a Put, a sending lane that the entity has.
+    /// Whether [`World::step`] may be called with this event. Only a request can be inadmissible: it must name a user
+    /// of the entity and, in a Put, one of the user's sending lanes.
     pub fn may_come(&self, event: &WorldEvent) -> bool
         ensures may { result ≡ true → MayCome self.now.config event.now }
         ensures never { result ≡ false → MayCome self.now.config event.now → ⊥ }
@@ -94,8 +94,8 @@ impl World {
         }
     }
 
-    /// Tells it of an event: the lane that the event goes to takes it, or it is refused and changes nothing. The users
-    /// that it names have to be among its own, and the lane of a Put among the user's sending lanes.
+    /// Handles an event: the lane that it goes to accepts it, or it is refused and changes nothing. The event must be
+    /// admissible ([`World::may_come`]).
     pub fn step(&mut self, event: &WorldEvent) -> Result<Done, EntityRefusal>
         requires { MayCome self.old.config event.now }
         ensures answered { (history : List Happening) → StandsAfter self.old history
@@ -108,7 +108,7 @@ impl World {
         self.answer(event)
     }
 
-    /// A user takes the bundle at the front of the user's queue, if any waits.
+    /// Takes the bundle at the front of a user's queue, if one is waiting.
     pub fn take(&mut self, user: usize) -> Option<Bundle>
         requires { user < length self.old.config.users }
         ensures none { (history : List Happening) → StandsAfter self.old history
@@ -123,7 +123,7 @@ impl World {
         self.users.take(user)
     }
 
-    /// The file of a deposit that waits, by its transaction and its stamp.
+    /// The file of the waiting deposit with this key and this stamp.
     pub fn image(&self, key: TxnKey, stamp: u32) -> Result<Image, EntityRefusal>
         ensures { (history : List Happening) → StandsAfter self.now history
             → IsImage self.now history key stamp (key_place self.now.config key) result }
@@ -135,7 +135,7 @@ impl World {
         }
     }
 
-    // The answer to an event, before it is noted what follows of the history.
+    // The answer to an event, with the contract stated by the users alone.
     fn answer(&mut self, event: &WorldEvent) -> Result<Done, EntityRefusal>
         requires { MayCome self.old.config event.now }
         ensures answered { (history : List Happening) → StandsAfter self.old history
@@ -153,7 +153,7 @@ impl World {
         }
     }
 
-    // A user asks for something.
+    // Handles a user's request.
     fn request(&mut self, user: usize, request: &Request) -> Result<Done, EntityRefusal>
         requires { MayRequest self.old.config user request.now }
         ensures answered { (history : List Happening) → StandsAfter self.old history
@@ -171,7 +171,7 @@ impl World {
         }
     }
 
-    // Something happens to a transaction, in the entity itself.
+    // Handles an event of a transaction that arises in the entity itself.
     fn inside(&mut self, key: TxnKey, what: What) -> Result<Done, EntityRefusal>
         requires { IsKeyed (On key what) }
         ensures answered { (history : List Happening) → StandsAfter self.old history
@@ -183,7 +183,7 @@ impl World {
         self.tell(place, Event::On(key, what))
     }
 
-    // Something happens to a transaction because a user asks for it, who has to be its own.
+    // Handles a user's request on a transaction, which must be the user's own.
     fn own(&mut self, user: usize, key: TxnKey, what: What) -> Result<Done, EntityRefusal>
         requires { IsKeyed (On key what) }
         ensures answered { (history : List Happening) → StandsAfter self.old history
@@ -195,7 +195,7 @@ impl World {
         self.tell(place, Event::On(key, what))
     }
 
-    // A user wants a file to be sent.
+    // Handles a user's Put.
     fn put(&mut self, user: usize, lane: usize, put: &PutRequest) -> Result<Done, EntityRefusal>
         requires user { user < length self.old.config.users }
         requires lane { lane < self.old.config.entity.put_lanes }
@@ -213,7 +213,7 @@ impl World {
         }
     }
 
-    // A datagram comes.
+    // Handles a datagram.
     fn deliver(&mut self, octets: &[u8]) -> Result<Done, EntityRefusal>
         ensures answered { (history : List Happening) → StandsAfter self.old history
             → Answers self.old.config history (routed_reading self.old.config (reading octets.now)) self.new.posts
@@ -228,7 +228,7 @@ impl World {
         self.tell(place, Event::On(key, What::Pdu(pdu)))
     }
 
-    // Tells a lane of an event.
+    // Gives a lane its event.
     fn tell(&mut self, place: Place, event: Event) -> Result<Done, EntityRefusal>
         requires keyed { IsKeyed event }
         requires routed { IsRoutedTo self.old.config place.user place.lane event }

@@ -1,4 +1,4 @@
-//! What holds of every run of an entity of one thread whose events go where its configuration says.
+//! Laws of every run of an entity of one thread whose events go where its configuration says.
 #![tactic(auto)]
 
 pub mod laws;

@@ -1,4 +1,4 @@
--- Rows. Worked histories of two users, computed.
+-- Rows. Worked histories of two users.
 use Rattle.std.proofs.Common.{◌≡◌, ℕ, List, [], ◌∷◌, Some, None, arith, refl}
 use Rattle.cfdp_types.specs.declared.names.Class.TheVariants.{One}
 use Rattle.cfdp_types.specs.declared.names.Delivery.TheVariants.{Incomplete}
@@ -22,12 +22,12 @@ lanes user lane = sending_lane 1 user lane
 pub idle_lanes : AreIdle lanes
 idle_lanes = record { numbered = λ user lane. (omega (arith), omega (arith)); idle_is = λ user lane. refl }
 
--- both users put a file, the first one takes its indications and cancels, and puts from another lane; the newest first
+-- both users put a file; the first takes its indications, cancels, and puts from another lane; newest first
 abbrev pub history : List Happening
 history =
     steps 0 1 (put One) ∷ steps 0 0 (on 4 what.Cancel) ∷ takes 0 ∷ steps 1 0 (put One) ∷ steps 0 0 (put One) ∷ []
 
--- it can be
+-- the history is legal
 pub can_be : IsHistory lanes history
 unfolding initial step state_of runs_of runs_from
 can_be = (tt, refl, (tt, refl, ((λ none. some_is_none none), (tt, refl, (tt, refl, tt)))))
@@ -35,7 +35,7 @@ can_be = (tt, refl, (tt, refl, ((λ none. some_is_none none), (tt, refl, (tt, re
     some_is_none : {A : Type 0} {x : A} {xs : List A} → x ∷ xs ≡ [] → ⊥
     some_is_none e = cc
 
--- a step of the one lane is none of another, nor of another user's
+-- a step of one lane belongs to no other lane and to no other user
 pub first_lane : events_at history 0 0 ≡ put One ∷ on 4 what.Cancel ∷ []
 first_lane = refl
 
@@ -66,7 +66,7 @@ journal_of_first_lane = refl
 abbrev pub bundle : ℕ → ℕ → ℕ → List Indication → Bundle
 bundle user lane number inds = record { user = user; lane = lane; key = key number; inds = inds }
 
--- all of it, in the order of the steps, whatever their lanes
+-- all that the user's lanes issued, in the order of the steps
 pub told_to_alice : mine lanes history 0
     ≡ bundle 0 0 4 (told.Transaction ∷ []) ∷ bundle 0 0 4 (told.TransactionFinished 15 Incomplete Unreported ∷ []) ∷ bundle 0 1 6 (told.Transaction ∷ []) ∷ []
 unfolding initial step state_of runs_of runs_from
@@ -76,7 +76,7 @@ pub told_to_bob : mine lanes history 1 ≡ bundle 1 0 5 (told.Transaction ∷ []
 unfolding initial step state_of runs_of runs_from
 told_to_bob = refl
 
--- what was taken, and what waits
+-- what was taken, and what is waiting
 pub alice_took : taken_by lanes history 0 ≡ bundle 0 0 4 (told.Transaction ∷ []) ∷ []
 unfolding initial step state_of runs_of runs_from
 alice_took = refl
@@ -93,12 +93,12 @@ pub bob_waits_for : held_for lanes history 1 ≡ bundle 1 0 5 (told.Transaction 
 unfolding initial step state_of runs_of runs_from
 bob_waits_for = refl
 
--- a take takes one
+-- each take takes one bundle
 pub one_more_taken : held_for lanes (takes 0 ∷ history) 0 ≡ bundle 0 1 6 (told.Transaction ∷ []) ∷ []
 unfolding initial step state_of runs_of runs_from
 one_more_taken = refl
 
--- a user takes nothing where nothing waits
+-- a user can't take where nothing is waiting
 pub nothing_to_take : IsHistory lanes (takes 1 ∷ []) → ⊥
 nothing_to_take can = can.0 refl
 

@@ -1,4 +1,4 @@
--- Rows. Worked histories of lanes that receive, computed: two files one after the other in a lane, and another user's beside them.
+-- Rows. Worked histories of receiving lanes: two files in sequence in one lane, and another user's file meanwhile.
 use Rattle.std.proofs.Common.{◌≡◌, ℕ, true, All, List, [], ◌∷◌, Option, Some, None, Ok, Err, Contains, refl, ap, ◌∙◌, arith}
 use Rattle.cfdp_types.specs.Reference.{reference}
 use Rattle.cfdp_types.specs.declared.key.TxnKey.{TxnKey}
@@ -24,24 +24,24 @@ use Rattle.world_table.proofs.HistoryFacts.{tells_lane_lists, keeps_journals}
 use Rattle.world_table.proofs.EventFacts.{keeps_events_apart}
 use Rattle.world_table.proofs.LogFacts.{logs_are_legal, delivers_good, gives_images}
 
--- lanes of every user for what comes from entity 1
+-- every user's lanes receive from entity 1
 abbrev pub lanes : ℕ → ℕ → State
 lanes user lane = idle (Receiving reference) user lane (record { 0 = 1 })
 
 pub idle_lanes : AreIdle lanes
 idle_lanes = record { numbered = λ user lane. tt; idle_is = λ user lane. refl }
 
--- a file of alice waits to be kept, and one of bob has begun to come; the newest first
+-- a file of alice is waiting for the file store, and a file of bob is being received; newest first
 abbrev pub waiting : List Happening
 waiting = steps 0 2 (eof Two 5) ∷ steps 1 2 (metadata One 6) ∷ steps 0 2 (part Two 5) ∷ steps 0 2 (metadata Two 5) ∷ []
 
--- it was kept, and the next one has begun to come in the same lane
+-- alice's file was kept, and the next one is being received in the same lane
 abbrev pub history : List Happening
 history =
     steps 0 2 (part One 7) ∷ steps 0 2 (metadata One 7) ∷ steps 0 2 (on 5 (finished_acknowledged 0)) ∷ takes 0
     ∷ steps 0 2 (on 5 (what.Stored 2 true)) ∷ waiting
 
--- both can be
+-- both histories are legal
 pub can_wait : IsHistory lanes waiting
 unfolding initial step state_of runs_of runs_from
 can_wait = ((refl, refl), refl, ((refl, refl), refl, ((refl, refl), refl, ((refl, refl), refl, tt))))
@@ -54,14 +54,14 @@ unfolding initial step state_of runs_of runs_from
 can_be =
     ((refl, refl), refl, ((refl, refl), refl, ((refl, refl), refl, ((λ none. some_is_none none), (tt, refl, can_wait)))))
 
--- what is over is not taken again
+-- an ended transaction is not opened again
 pub not_again : IsHistory lanes (steps 0 2 (metadata Two 5) ∷ history) → ⊥
 unfolding initial step state_of runs_of runs_from
 not_again can = let free = can.1 in absurd cc
 
 -- ---- transactions
 
--- each has its own events
+-- each transaction has its own events
 pub first_events : events_for lanes history 0 2 5
     ≡ metadata Two 5 ∷ part Two 5 ∷ eof Two 5 ∷ on 5 (what.Stored 2 true) ∷ on 5 (finished_acknowledged 0) ∷ []
 first_events = refl
@@ -72,21 +72,21 @@ second_events = refl
 pub events_of_bob : events_for lanes history 1 2 6 ≡ metadata One 6 ∷ []
 events_of_bob = refl
 
--- a number of another user's has none here, and no log
+-- the number of another user's transaction has no events here, and no log
 pub no_events : events_for lanes history 0 2 6 ≡ []
 no_events = refl
 
 pub no_log : log_for lanes history 0 2 6 ≡ None
 no_log = refl
 
--- the lane stands at the second one
+-- the lane's last transaction is the second one
 pub last_is_second : (lane_after lanes history 0 2).last ≡ Some 7
 last_is_second = refl
 
 pub journal_of_second : (lane_after lanes history 0 2).journal ≡ events_for lanes history 0 2 7
 journal_of_second = keeps_journals lanes history 0 2 7 idle_lanes can_be last_is_second
 
--- and all of them name it, which an event of another one does not
+-- all its events name the transaction, which an event of another one doesn't
 pub events_name_it : All (IsEventOf (key 5)) (events_for lanes history 0 2 5)
 events_name_it = keeps_events_apart lanes history 0 2 5 idle_lanes can_be
 
@@ -108,7 +108,7 @@ pub told_of_second : told_of 7 (of_lane 2 (mine lanes history 0))
 unfolding initial step state_of runs_of runs_from
 told_of_second = refl
 
--- the users' indications are what their logs tell
+-- the users' indications are what the logs issue
 pub logged_of_first : issued_in (log_for lanes history 0 2 5)
     ≡ told.MetadataRecv (record { 0 = 1 }) 3 (97 ∷ []) (98 ∷ []) [] ∷ told.FileSegmentRecv 0 3 ∷ told.EofRecv ∷ told.TransactionFinished 0 Complete Retained ∷ []
 unfolding initial step state_of runs_of runs_from
@@ -119,13 +119,13 @@ pub logged_of_second : issued_in (log_for lanes history 0 2 7)
 unfolding initial step state_of runs_of runs_from
 logged_of_second = refl
 
--- so the lane's bundles are a lane list, of two words one after the other
+-- so the lane's bundles are a lane list, of two words in order
 pub both_listed : IsLaneList 0 2 (record { 0 = 1 }) (of_lane 2 (mine lanes history 0))
 both_listed = (tells_lane_lists lanes history 0 2 idle_lanes can_be).0
 
 -- ---- logs
 
--- the lane stands where it can, and both logs are of the end's table
+-- the lane's state is sound, and both logs are legal
 pub lane_sound : IsSound (lane_after lanes history 0 2)
 lane_sound = (logs_are_legal lanes history 0 2 idle_lanes can_be).0
 
@@ -146,11 +146,11 @@ pub first_completes : Contains (told_of 5 (of_lane 2 (mine lanes history 0))) (t
 unfolding initial step state_of runs_of runs_from
 first_completes = (3, omega (arith), refl)
 
--- so the file came
+-- so the file was received
 pub first_is_good : HasGoodFile lanes history 0 2 5
 first_is_good = delivers_good lanes history 0 2 5 0 Retained idle_lanes can_be refl first_completes
 
--- of the second, no EOF came
+-- of the second file no EOF was received
 abbrev entries_of : Option Log → List Entry
 entries_of (Some (received reception log)) = log
 entries_of other = []
@@ -163,7 +163,7 @@ unfolding initial step state_of runs_of runs_from
 second_is_not file =
     none_is_some file.good.eof (ap (λ (o : Option Log). (state_of (entries_of o)).eof) file.is_received.log_is ∙ file.good.eof_came)
 
--- while it waited, the lane gave its image
+-- while the file was waiting, the lane gave its image
 pub image_waits : image_of (lane_after lanes waiting 0 2) (key 5) 2 ≡ Ok image
 unfolding initial step state_of runs_of runs_from
 image_waits = refl
@@ -171,7 +171,7 @@ image_waits = refl
 pub image_is_the_file : IsImageOf lanes waiting 0 2 (key 5) 2 image
 image_is_the_file = gives_images lanes waiting 0 2 (key 5) 2 image idle_lanes can_wait image_waits
 
--- and none once it was kept, nor of another user
+-- once it was kept the lane gives none, and for another user's file neither
 pub image_is_gone : image_of (lane_after lanes history 0 2) (key 5) 2 ≡ Err refusal.StaleStored
 unfolding initial step state_of runs_of runs_from
 image_is_gone = refl

@@ -1,4 +1,4 @@
-//! What holds of every run of an entity of one thread, over the definitions alone.
+//! Laws of every run of an entity of one thread, stated over the definitions alone.
 
 ghost use Rattle.world_table.specs.HistoryLaws.{
   DeliversGood,
@@ -12,19 +12,19 @@ ghost use Rattle.world_table.specs.HistoryLaws.{
   TellsWhatLogsTell,
 };
 
-/// What a user took, followed by what still waits, is all that the user's lanes issued: each bundle once, in the order
-/// in which it was issued.
+/// What a user took, followed by what still waits, is all that the user's lanes issued: each bundle once, in the
+/// order in which it was issued.
 pub fn takes()
     ensures { TakesAllInOrder }
 {}
 
-/// What each lane tells is a list of transactions with rising numbers, each a word of the lane's end, of which only the
-/// last may be a beginning: so nothing follows the end of a transaction.
+/// What each lane issues is a list of transactions with rising numbers, each a word of the lane's end. Only the last
+/// may be the beginning of a word, so that nothing follows the end of a transaction.
 pub fn lists()
     ensures { TellsLaneLists }
 {}
 
-/// The user's indications of a transaction are what the log of its own events tells, no more and no less.
+/// The user's indications of a transaction are exactly what the log of its own events issues.
 pub fn issued()
     ensures { TellsWhatLogsTell }
 {}
@@ -34,29 +34,29 @@ pub fn journals()
     ensures { KeepsJournals }
 {}
 
-/// The events of a transaction are its Put and what happens under its own key; each PDU among them names that key too.
+/// The events of a transaction are its Put and the events with its own key; each PDU among them has that key too.
 pub fn events()
     ensures { KeepsEventsApart }
 {}
 
-/// What a lane issued fits where it stands, so that it can issue what its next step says.
+/// What a lane has issued fits the lane's state, so that it may issue the indications of its next step.
 pub fn keeps()
     ensures { LanesKeep }
 {}
 
-/// Where each lane stands is sound, and the log of each of its transactions is one that its end can have.
+/// The state of each lane is sound, and the log of each of its transactions is legal for the lane's end.
 pub fn sound()
     ensures { LogsAreLegal }
 {}
 
-/// Where a receiving lane tells its user of a complete delivery, Metadata and EOF came, every octet below the EOF's
-/// size was received and none above it, and the modular checksum agrees, unless the file has none.
+/// Where a receiving lane indicates a complete delivery, Metadata and EOF were received, with every octet below the
+/// EOF's size and none at or above it, and the modular checksum agrees, unless the file has none.
 pub fn complete()
     ensures { DeliversGood }
 {}
 
-/// The image that a lane gives of a deposit that waits has the names of the Metadata that came and, at each offset
-/// below the EOF's size, the octet that was received there, of the very transaction that was asked for.
+/// The image that a lane gives of a waiting deposit belongs to the requested transaction: it has the names in its first
+/// Metadata and, at each offset below the EOF's size, the octet that was received there first.
 pub fn images()
     ensures { GivesImages }
 {}

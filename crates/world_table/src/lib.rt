@@ -1,5 +1,5 @@
-//! What an entity of one thread means: what happens in it, where its lanes stand then, its users' indications, and what
-//! holds of every run.
+//! The meaning of an entity of one thread: what happens in it, the states of its lanes after that, the users'
+//! indications, and the laws of every run.
 #![tactic(auto)]
 
 pub mod laws;

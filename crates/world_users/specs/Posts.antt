@@ -1,4 +1,4 @@
--- Of the code. A user of an entity of one thread: the queue of the user's indications, and the user's lanes.
+-- Of the code. A user of an entity of one thread: the user's queue of indications, and the user's lanes.
 use Rattle.std.specs.Prelude.{◌≡◌, ℕ, ◌<◌, List, [], ◌∷◌, ◌++◌, length, None, Some, slice_get, slice_set, ◌⊎◌}
 use Rattle.indications.specs.declared.bundle.Bundle.{Bundle}
 use Rattle.txn_events.specs.declared.event.Event.{Event}
@@ -10,35 +10,35 @@ use Rattle.lane_table.specs.Steps.{refusal_at, stepped, IsDone}
 use Rattle.txn_lane.specs.Stepping.{RanOut, WasFull}
 use Rattle.user_queues.specs.Queue.{Queue, EndsInHeld}
 
--- the user's queue, and where each of the user's lanes stands
+-- the user's queue, and the state of each of the user's lanes
 pub record Post : Type 0 where
   pub queue : Queue
   pub lanes : List State
 
 -- ---- a lane and the queue of its user
 
--- the queue is the lane's user's, and what the lane keeps of its bundles ends in what is held of it
+-- the queue is of the lane's user, and what the lane knows of its bundles ends with what the queue holds of them
 pub record Fits (lane : State) (number : ℕ) (queue : Queue) : Type 0 where
   pub of_user : queue.user ≡ lane.user
   pub of_lane : lane.lane ≡ number
   pub in_queue : number < queue.lanes
   pub kept : (bundles : List Bundle) × EndsInHeld queue number bundles × Keeps lane bundles
 
--- what a step tells stands behind all that is held
+-- the queue with a step's bundle, if any, at the back
 abbrev pub with_told : Queue → List Bundle → Queue
 with_told queue bundles = record queue { held = queue.held ++ bundles }
 
--- there is room for what a step tells, if it tells anything
+-- there is room for a step's bundle, if there is one
 abbrev pub HasRoomFor : Queue → List Bundle → Type 0
 HasRoomFor queue [] = Unit {0}
 HasRoomFor queue (bundle ∷ none) = length queue.held < queue.capacity
 
--- what a step tells was put into the queue
+-- a step's bundle, if any, was put into the queue
 pub record IsToldTo (old : Queue) (bundles : List Bundle) (new : Queue) : Type 0 where
   pub room : HasRoomFor old bundles
   pub told : new ≡ with_told old bundles
 
--- why an event is not taken: for a reason of the lane, for want of memory, or since the queue has no room for what it tells
+-- why an event is refused: by the lane, for NoMemory, or because the queue has no room for its indications
 abbrev pub IsWhyRefused : State → Queue → Event → Refused → Type 0
 IsWhyRefused state queue event refused =
     (refusal_at state event ≡ Some refused) ⊎ RanOut state event refused
@@ -56,7 +56,7 @@ pub record MayStep (post : Post) (lane : ℕ) : Type 0 where
 abbrev pub post_stepped : Post → ℕ → State → Post
 post_stepped post lane next = record { queue = with_told post.queue (bundle_of next); lanes = slice_set post.lanes lane next }
 
--- a lane took an event, and the user's queue what it tells
+-- a lane accepted an event, and the user's queue its indications
 pub record IsStepOf (old : Post) (lane : ℕ) (event : Event) (new : Post) (done : Done) : Type 0 where
   pub state : State
   pub is : slice_get old.lanes lane ≡ Some state
@@ -65,7 +65,7 @@ pub record IsStepOf (old : Post) (lane : ℕ) (event : Event) (new : Post) (done
   pub done_is : IsDone (stepped state event) done
   pub new_is : new ≡ post_stepped old lane (stepped state event)
 
--- a lane did not take an event
+-- a lane refused an event
 pub record IsNoStepOf (old : Post) (lane : ℕ) (event : Event) (new : Post) (refused : Refused) : Type 0 where
   pub state : State
   pub is : slice_get old.lanes lane ≡ Some state

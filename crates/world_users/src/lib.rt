@@ -1,4 +1,4 @@
-//! The users of an entity of one thread: the queue of each one's indications, and each user's lanes.
+//! The users of an entity of one thread: each user's queue of indications, and the user's lanes.
 #![tactic(auto)]
 
 mod stepping;

@@ -1,4 +1,4 @@
-//! How a lane takes an event beside its user's queue.
+//! A lane's step together with its user's queue.
 ghost use Rattle.std.specs.Prelude.{◌≡◌, IfOk, IfErr, OnOk, OnErr};
 ghost use Rattle.lane_table.specs.Keeping.{bundle_of};
 ghost use Rattle.lane_table.specs.Steps.{IsKeyed};
@@ -9,7 +9,7 @@ use txn_events::Event;
 use txn_lane::{Done, Lane, Refused};
 use user_queues::ListQueue;
 
-/// Has a lane of a user, by its number, take an event: what it tells goes into the user's queue.
+/// Has the lane with this number of a user handle an event; the step's indications go into the user's queue.
 pub fn step_lane(
     queue: &mut ListQueue,
     lane: &mut Lane,

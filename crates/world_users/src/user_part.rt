@@ -6,7 +6,7 @@ use txn_events::{Event, Refusal};
 use txn_lane::{Done, Lane, Refused};
 use user_queues::ListQueue;
 
-/// A user of an entity of one thread. Contracts see the user's queue, and where the user's lanes stand.
+/// A user of an entity of one thread. Contracts see the user's queue and the states of the user's lanes.
 #[derive(Drop)]
 pub struct UserPart {
     queue: ListQueue,
@@ -38,7 +38,7 @@ impl UserPart {
         UserPart { queue, lanes }
     }
 
-    /// Has a lane of the user take an event.
+    /// Has one of the user's lanes handle an event.
     pub fn step(&mut self, lane: usize, event: &Event) -> Result<Done, Refused>
         requires keyed { IsKeyed event.now }
         requires lane { MayStep self.old lane }
@@ -48,7 +48,7 @@ impl UserPart {
         step_lane(&mut self.queue, &mut self.lanes[lane], lane, event)
     }
 
-    /// The user takes the bundle at the front, if any waits.
+    /// Takes the bundle at the front of the user's queue, if one is waiting.
     pub fn take(&mut self) -> Option<Bundle>
         ensures none { IfNone result ((self.old.queue.held ≡ []) × (self.new ≡ self.old)) }
         ensures front { IfSome result
@@ -57,8 +57,8 @@ impl UserPart {
         self.queue.take()
     }
 
-    /// Why a lane of the user does not take a Put of this request for which there is no memory: for a reason of its
-    /// own, or else for want of memory.
+    /// Why a lane of the user refuses a Put of this request when there is no memory to make the event: for a reason of
+    /// its own, otherwise with NoMemory.
     pub fn why_put_refused(&self, lane: usize, request: &PutRequest) -> Refused
         requires { lane < length self.now.lanes }
         ensures { (state : State) (params : ParamsParts) → slice_get self.now.lanes lane ≡ Some state
@@ -73,7 +73,7 @@ impl UserPart {
         }
     }
 
-    /// The file of a deposit that waits at a lane of the user, by its key and its stamp.
+    /// The file of the waiting deposit at one of the user's lanes, with this key and this stamp.
     pub fn image(&self, lane: usize, key: TxnKey, stamp: u32) -> Result<Image, Refusal>
         requires { lane < length self.now.lanes }
         ensures image { (state : State) → slice_get self.now.lanes lane ≡ Some state

@@ -5,7 +5,7 @@ use std::marker::Model;
 use txn_events::{Event, Refusal};
 use txn_lane::{Done, Refused};
 
-/// All users of an entity of one thread, in order.
+/// All users of an entity of one thread, in the order of their numbers.
 #[derive(Drop)]
 pub struct Users {
     parts: Vec<UserPart>,
@@ -45,7 +45,7 @@ impl Users {
         Users { parts }
     }
 
-    /// Has a lane of a user take an event: what it tells goes into the user's queue.
+    /// Has a lane of a user handle an event; the step's indications go into the user's queue.
     pub fn step(&mut self, user: usize, lane: usize, event: &Event) -> Result<Done, Refused>
         requires keyed { IsKeyed event.now }
         requires stands { MayHappen self.old user lane }
@@ -60,7 +60,7 @@ impl Users {
         self.parts[user].step(lane, event)
     }
 
-    /// A user takes the bundle at the front, if any waits.
+    /// Takes the bundle at the front of a user's queue, if one is waiting.
     pub fn take(&mut self, user: usize) -> Option<Bundle>
         requires { user < length self.old }
         ensures none { (layout : Layout) (history : List Happening) → UsersStandAfter layout history self.old
@@ -72,8 +72,8 @@ impl Users {
         self.parts[user].take()
     }
 
-    /// Why a lane of a user does not take a Put of this request for which there is no memory: for a reason of its own,
-    /// or else for want of memory.
+    /// Why a lane of a user refuses a Put of this request when there is no memory to make the event: for a reason of
+    /// its own, otherwise with NoMemory.
     pub fn why_put_refused(&self, user: usize, lane: usize, request: &PutRequest) -> Refused
         requires { MayHappen self.now user lane }
         ensures { (layout : Layout) (history : List Happening) (params : ParamsParts)
@@ -83,7 +83,7 @@ impl Users {
         self.parts[user].why_put_refused(lane, request)
     }
 
-    /// The file of a deposit that waits at a lane of a user, by its key and its stamp.
+    /// The file of the waiting deposit at a user's lane, with this key and this stamp.
     pub fn image(&self, user: usize, lane: usize, key: TxnKey, stamp: u32) -> Result<Image, Refusal>
         requires { MayHappen self.now user lane }
         ensures image { (layout : Layout) (history : List Happening) → UsersStandAfter layout history self.now

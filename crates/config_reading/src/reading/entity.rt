@@ -25,7 +25,7 @@ const KEYS: [Key; 8] = [
     Key::Segment,
 ];
 
-/// What a table says of the entity itself.
+/// The entity's settings, from its table.
 pub(crate) fn entity_in(table: &Table) -> Result<EntitySettings, ConfigFault>
     ensures { result ≡ entity_in (table_view table.now) }
 {
@@ -62,7 +62,7 @@ pub(crate) fn entity_in(table: &Table) -> Result<EntitySettings, ConfigFault>
     })
 }
 
-/// The greatest ID of so many octets.
+/// The greatest ID that a configuration may name for IDs of so many octets.
 pub(crate) fn greatest_id(octets: u8) -> u64
     requires { octets ≤ ID_OCTETS }
     ensures { result ≡ greatest_id octets }

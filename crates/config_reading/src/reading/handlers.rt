@@ -1,4 +1,4 @@
-//! The tables of handlers.
+//! The handler tables.
 ghost use Rattle.std.specs.Prelude.{◌≡◌, IfOk};
 ghost use Rattle.cfdp_types.specs.Params.{IsTableFor};
 ghost use Rattle.cfdp_types.specs.Reference.{all_cancel};
@@ -89,7 +89,7 @@ fn handlers_from(table: &Table, role: Role) -> Result<FaultTable, ConfigFault>
     )
 }
 
-// The handlers with the one that a key names.
+// The fault table with the handler that a key names; unchanged where the key is absent.
 fn handler_at(
     table: &Table,
     handlers: FaultTable,

@@ -7,7 +7,7 @@ use crate::fault::{ConfigFault, Key};
 use crate::reading::tables::required;
 use toml::{Table, Value};
 
-/// The number at a key.
+/// The number at a key, from `least` to `most`.
 pub(crate) fn number_at(table: &Table, key: Key, least: u64, most: u64) -> Result<u64, ConfigFault>
     ensures number { result ≡ number_at key least most (table_view table.now) }
     ensures least { IfOk result (λ number. least ≤ number) }

@@ -16,7 +16,7 @@ use cfdp_types::{
 };
 use toml::{Table, Value};
 
-/// The parameters in the table of a remote entity.
+/// The parameters of a remote entity, from its table.
 pub(crate) fn params_in(table: &Table, entity: EntitySettings) -> Result<Params, ConfigFault>
     requires { IsTrue (is_entity entity) }
     ensures { result ≡ params_in entity (table_view table.now) }
@@ -85,7 +85,7 @@ fn tables_in(table: &Table) -> Result<FaultTables, ConfigFault>
     })
 }
 
-// The checksum of the files that are sent to the remote entity, modular if the table names none.
+// The checksum of the files that are sent to the remote entity: modular where the table names none.
 fn checksum_at(table: &Table) -> Result<Checksum, ConfigFault>
     ensures { result ≡ checksum_at (table_view table.now) }
 {

@@ -56,7 +56,7 @@ pub(crate) fn remotes_in(
     Ok(peers)
 }
 
-// The remote entity of one table, after those before it.
+// The remote entity of one table; it may not repeat an ID of those before it.
 fn remote_in(
     alloc: Global,
     table: &Table,
@@ -120,7 +120,7 @@ fn user_named(value: &Value, users: &[String]) -> Result<Option<usize>, ConfigFa
     }
 }
 
-// Whether the user, if there is one, has room for one more remote entity.
+// Whether the user, if there is one, may have one more source.
 fn takes_source(before: &[Peer], user: Option<usize>) -> bool
     ensures { result ≡ takes_source (map peer_shown before.now) user }
 {

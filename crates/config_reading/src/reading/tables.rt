@@ -11,14 +11,14 @@ use crate::fault::{ConfigFault, Key};
 use std::alloc::Global;
 use toml::{Table, Value};
 
-/// The value of a key.
+/// The value of a key, if it is present.
 pub(crate) fn value_at(table: &Table, key: Key) -> Option<&Value>
     ensures { option_map (λ value. view value.now) result ≡ value_at key (table_view table.now) }
 {
     table.get(key.name())
 }
 
-/// The value of a key that has to be there.
+/// The value of a required key.
 pub(crate) fn required(table: &Table, key: Key) -> Result<&Value, ConfigFault>
     ensures value { IfOk result (λ value. value_at key (table_view table.now) ≡ Some (view value.now)) }
     ensures missing { IfErr result (λ fault. value_at key (table_view table.now) ≡ None) }
@@ -30,7 +30,7 @@ pub(crate) fn required(table: &Table, key: Key) -> Result<&Value, ConfigFault>
     }
 }
 
-/// Whether each key of a table is one of some.
+/// Whether a table has no keys but these.
 pub(crate) fn has_only(table: &Table, keys: &[Key]) -> bool
     ensures { result ≡ has_only keys.now (table_view table.now) }
 {
@@ -43,7 +43,7 @@ fn is_one_of(name: &str, keys: &[Key]) -> bool
     keys.iter().any(|key| key.name() == name)
 }
 
-/// A table.
+/// The value as a table.
 pub(crate) fn table_of(value: &Value, key: Key) -> Result<&Table, ConfigFault>
     ensures { seen (λ table. table_view table.now) result ≡ table_of key (view value.now) }
 {
@@ -53,7 +53,7 @@ pub(crate) fn table_of(value: &Value, key: Key) -> Result<&Table, ConfigFault>
     }
 }
 
-/// The tables of an array, no fewer and no more than the limits allow.
+/// The tables of an array, whose number is from `least` to `most`.
 pub(crate) fn counted(
     alloc: Global,
     value: &Value,

@@ -10,7 +10,7 @@ use crate::fault::{ConfigFault, Key};
 use cfdp_types::limits::USER_NAME_OCTETS;
 use toml::Value;
 
-/// The name of a user.
+/// A user's name: letters from a to z and digits.
 pub(crate) fn name_of(value: &Value, key: Key) -> Result<&str, ConfigFault>
     ensures { seen (λ name. name.now) result ≡ name_of key (view value.now) }
 {
@@ -23,7 +23,7 @@ pub(crate) fn name_of(value: &Value, key: Key) -> Result<&str, ConfigFault>
     Ok(name)
 }
 
-/// An address: four numbers with dots, a colon and a port.
+/// An address: an IPv4 address in dotted decimals, a colon and a port.
 pub(crate) fn address_in(value: &Value) -> Result<&str, ConfigFault>
     ensures { seen (λ address. address.now) result ≡ address_in (view value.now) }
 {
@@ -61,7 +61,7 @@ fn is_address(text: &str) -> bool
     }
 }
 
-// What follows an address at the front of a text.
+// What follows an address at the start of a text; None where it doesn't start with one.
 fn after_address(text: &[u8]) -> Option<&[u8]>
     ensures { option_copied result ≡ after_address text.now }
 {
@@ -72,7 +72,7 @@ fn after_address(text: &[u8]) -> Option<&[u8]>
     after_number(text, 65_535)
 }
 
-// What follows a number up to 255 and an octet at the front of a text.
+// What follows a number up to 255 and a given octet at the start of a text.
 fn after_part(text: &[u8], octet: u8) -> Option<&[u8]>
     ensures { option_copied result ≡ after_part octet text.now }
 {
@@ -82,7 +82,7 @@ fn after_part(text: &[u8], octet: u8) -> Option<&[u8]>
     }
 }
 
-// What follows a number at the front of a text.
+// What follows a number at the start of a text.
 fn after_number(text: &[u8], most: u32) -> Option<&[u8]>
     ensures { option_copied result ≡ after_number most text.now }
 {
@@ -93,7 +93,7 @@ fn after_number(text: &[u8], most: u32) -> Option<&[u8]>
     Some(&text[end..])
 }
 
-// How many digits stand at the front of a text.
+// The number of digits at the start of a text.
 fn digits(text: &[u8]) -> usize
     ensures { result ≡ length (take_while is_digit text.now) }
 {
@@ -102,7 +102,7 @@ fn digits(text: &[u8]) -> usize
         .count()
 }
 
-// Whether the digits have no zero in front and write a number up to a limit.
+// Whether the digits have no leading zero and write a number up to a limit.
 fn is_number(digits: &[u8], most: u32) -> bool
     ensures { result ≡ is_number most digits.now }
 {

@@ -25,7 +25,7 @@ pub(crate) fn users_in(alloc: Global, tables: &[&Table]) -> Result<Vec<String>, 
     Ok(users)
 }
 
-// The name in one table, which none before it has.
+// The name in one table; it may not repeat one of those before it.
 fn user_in<'t>(table: &'t Table, before: &[String]) -> Result<&'t str, ConfigFault>
     ensures { seen (λ name. name.now) result ≡ user_in (map string_bytes before.now) (table_view table.now) }
 {
@@ -45,7 +45,7 @@ fn is_one_of(name: &str, names: &[String]) -> bool
     names.iter().any(|other| name == other.as_str())
 }
 
-/// The place of a name among some.
+/// The place of a name in a list.
 pub fn place_of(names: &[String], name: &str) -> Option<usize>
     ensures { result ≡ position (λ other. is_same_text name.now (string_bytes other)) names.now }
 {
