@@ -51,7 +51,7 @@ const RUN: [(Entity, Step, &str); 14] = [
         Step::Pump,
         "ok\npdu 20000a0002040104006162630000000003\n",
     ),
-    // The EOF arrives first: everything is requested.
+    // Only the EOF arrives: everything is requested.
     (
         Entity::One,
         Step::Deliver("20000a0002040104006162630000000003"),
