@@ -16,12 +16,12 @@ import sys
 TOP = pathlib.Path(__file__).resolve().parent.parent
 ROOM = pathlib.Path(os.environ.get("BINESUNSET_BUILD") or pathlib.Path.home() / ".cache" / "binesunset")
 
-# How much memory a check takes, in bytes, with room to spare.
+# How much memory a check takes at most, in bytes, with some reserve.
 CHECK_OCTETS = 4 * 2**30
 
 
 def crates():
-    """The lines of crates.txt, by crate, and what each crate stands on."""
+    """The lines of crates.txt, by crate, and the crates that each uses."""
     lines, uses = {}, {}
     for line in (TOP / "crates.txt").read_text().splitlines():
         head, colon, below = line.partition(":")
@@ -32,7 +32,7 @@ def crates():
 
 
 def needed(programs, uses):
-    """The programs and all that they stand on, of the crates of this repository."""
+    """The programs and all crates of this repository that they use."""
     left, found = list(programs), set()
     while left:
         name = left.pop()
@@ -49,7 +49,7 @@ def side_by_side():
 
 
 def copy(names, lines):
-    """Copies the crates, where they have changed; what was proved there stays."""
+    """Copies the crates that have changed; what was proved there is kept."""
     for name in names:
         source, target = TOP / "crates" / name, ROOM / "crates" / name
         there = {path.relative_to(source) for path in source.rglob("*") if path.is_file() and "out" not in path.relative_to(source).parts}
@@ -68,7 +68,7 @@ def copy(names, lines):
 
 
 def prove(names):
-    """Proves the crates, and says how far it is."""
+    """Proves the crates, and prints the progress."""
     done, told = 0, []
     with subprocess.Popen(["rt", "all", "check", "--jobs", str(side_by_side())], cwd=ROOM, stdin=subprocess.DEVNULL,
                           stdout=subprocess.PIPE, stderr=subprocess.STDOUT, text=True, errors="replace") as run:
@@ -82,7 +82,7 @@ def prove(names):
 
 
 def build(program):
-    """Builds a program over what was proved, and puts it into its crate's folder."""
+    """Builds a program from the proved crates, and puts it into its crate's folder."""
     run = subprocess.run(["rt", "run", "--", "--version"], cwd=ROOM / "crates" / program, stdin=subprocess.DEVNULL,
                          stdout=subprocess.PIPE, stderr=subprocess.STDOUT, text=True, errors="replace", check=False)
     made = ROOM / "crates" / program / "out" / program
