@@ -37,7 +37,7 @@ done_text is_put done = codes "ok\n" ++ (opened_text is_put done.key ++ (pdus_te
 abbrev pub refusal_text : ℕ → List ℕ → List ℕ
 refusal_text number name = codes "refused " ++ (decimal number ++ (codes " " ++ (name ++ codes "\n")))
 
--- the line for octets that are no PDU, with the number of the fault
+-- the line for octets that are not a PDU, with the number of the decode fault
 abbrev pub fault_line : ℕ → List ℕ
 fault_line number = codes "refused 20 DecodeFault " ++ (decimal number ++ codes "\n")
 

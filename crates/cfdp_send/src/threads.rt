@@ -81,8 +81,9 @@ pub(crate) fn put_over<
     )
 }
 
-// Puts a file with a desk whose memory is reserved; that of the threads is, too, before the first one starts. The worker
-// has the main thread handle each step within a millisecond, since only that thread takes the user's indications.
+// Puts a file with a desk whose memory is reserved; that of the threads is, too, before the first one starts. The
+// worker has the main thread handle each step within a millisecond, since only that thread takes the user's
+// indications.
 fn put_at<
     'x,
     N: Names + Send + Sync,

@@ -1,4 +1,4 @@
--- Meaning. How a file ended, by the condition, the delivery and the status that the sender reports.
+-- Meaning. How a file ended, by the condition, the delivery and the status that a sender is notified of.
 use Rattle.std.specs.Prelude.{◌≡◌, ◌≢◌, ℕ, List, codes}
 use Rattle.ctl_views.specs.declared.ends.End.{End}
 use Rattle.ctl_views.specs.declared.ends.End.TheVariants as ends

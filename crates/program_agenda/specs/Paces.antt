@@ -1,4 +1,4 @@
--- Meaning. Limits how fast octets leave.
+-- Meaning. Limits on how fast octets leave.
 use Rattle.std.specs.Prelude.{ℕ, ◌+◌, ◌-◌, ◌*◌, ◌/◌, min, max, Bool, nat_le, Option, Some, None}
 use Rattle.std.specs.Int.{div_ceil}
 use Rattle.program_agenda.specs.declared.pace.Pace.{Pace}

@@ -137,8 +137,8 @@ impl Desk {
         }
     }
 
-    /// Moves the steps that were left into `steps`, in place of its content. `steps` should be empty and have as much
-    /// room as the desk, which keeps its memory.
+    /// Moves the steps that were left into `steps`, in place of its content. `steps` should be empty, with as much room
+    /// as the desk has; the desk then uses its memory.
     pub fn take_steps<R: Wait>(&self, rt: &R, steps: &mut Vec<Step>) {
         let mut trays = self.trays.lock(rt);
         let was_full = trays.steps.len() >= self.step_room;

@@ -24,8 +24,8 @@ struct Place {
     changed: Condvar,
 }
 
-/// The seats of clients. The thread that answers never waits for a client. Each method does the `Seat` method of the
-/// same name under the seat's lock.
+/// The seats of clients. The thread that answers never waits for a client. Each change of a seat is made by a method of
+/// `Seat`, under the seat's lock.
 #[derive(Drop)]
 pub struct Seats {
     alloc: Global,

@@ -70,7 +70,7 @@ fn push_wrong(text: &mut String, wrong: Option<&str>) -> Result<(), AllocError> 
     }
 }
 
-// The server's option whose value is not allowed.
+// What is wrong with the value of one of the server's options, if anything.
 fn wrong_for_server(alloc: Global, matches: &ArgMatches<'_>) -> Option<&'static str> {
     if !matches.get_str("bind").is_some_and(is_address) {
         return Some(ADDRESS);
@@ -95,7 +95,7 @@ fn wrong_for_server(alloc: Global, matches: &ArgMatches<'_>) -> Option<&'static 
     numbers_complaint(matches)
 }
 
-// The option or word of the put whose value is not allowed.
+// What is wrong with the value of one of the put's options or words, if anything.
 fn wrong_for_put(matches: &ArgMatches<'_>) -> Option<&'static str> {
     if !matches.get_str("bind").is_some_and(is_address) {
         return Some(ADDRESS);
