@@ -3,10 +3,10 @@
 usage: bench.py PROGRAM
 
 The scripts are made here, each at one size and at eight times that size: receptions of a large file in both
-classes, also with the EOF first and the parts in rising and in falling order; many small receptions one
-after another; files that are put and sent; and datagrams of every kind. Nothing may be refused, but among
-those datagrams. Below each pair stand the bars that it has, for a machine with four processors and no other
-work: for speed, and for how time and memory grow.
+classes, also with the EOF first and the segments in rising and in falling order; many small receptions in
+sequence; files that are put and sent; and datagrams of every kind. Only of those datagrams may any be refused.
+Below each pair its bars are printed, for a machine with four processors and no other work: for speed, and for
+how time and memory grow.
 """
 
 import fcntl
@@ -26,19 +26,20 @@ PUTS = 8
 SEGMENTS = 2_048
 MIXED = 25_000
 
-# A script runs so often at least, and for so many seconds in all: a short one, whose time varies more, runs more often.
+# How often a script runs at least, and for how many seconds in all: a short one, whose time varies more, runs more
+# often.
 RUNS = 5
 SECONDS = 10.0
 
 # A line of a script has at most 131,200 octets, so the largest file that a script can put has 65,590: two
-# hexadecimal digits for each octet, behind the 20 octets `put alice 0 1 1 a b `. In the reference
-# configuration it is sent in parts of 256 octets.
+# hexadecimal digits for each octet, after the 20 octets `put alice 0 1 1 a b `. In the reference
+# configuration it is sent in segments of 256 octets.
 PUT_OCTETS = 65_590
 PART = 256
 
-# The bars: how many times as long a script of eight times the size may take; the peak memory beside four
-# times the file, in octets; how much more memory eight times as many receptions may take, one after another;
-# and how many times as long falling parts may take as rising ones.
+# The bars: how many times as long a script of eight times the size may take; the peak memory besides four
+# times the file, in octets; how much more memory eight times as many receptions in sequence may take;
+# and how many times as long segments in falling order may take as in rising order.
 GROWTH = 10
 MEMORY = 16_000_000
 LEFT_BEHIND = 500_000
@@ -91,7 +92,7 @@ class Reception:
 
 
 def large(number, size, octets):
-    """One reception in order, in parts of so many octets, whose bundles are taken as they come."""
+    """One reception in order, in segments of this many octets, whose bundles are taken as they come."""
     reception = Reception(number, 5, file_of(size))
     lines = [reception.metadata(), "take alice"]
     for offset in range(0, size, octets):
@@ -101,7 +102,7 @@ def large(number, size, octets):
 
 
 def ended_first(count, falling):
-    """One reception in class 2, the EOF and the Metadata before the parts, which rise or fall."""
+    """One reception in class 2, the EOF and the Metadata before the segments, in rising or falling order."""
     reception = Reception(2, 5, file_of(count * PART))
     lines = [reception.eof(), "take alice", reception.metadata(), "take alice"]
     numbers = range(count - 1, -1, -1) if falling else range(count)
@@ -121,7 +122,7 @@ def small(count):
 
 
 def puts(count):
-    """Files that alice puts in class 1 and sends to their ends, by turns in both of her lanes."""
+    """Files that alice puts in class 1 and sends completely, by turns in both of her lanes."""
     octets = file_of(PUT_OCTETS).hex()
     lines = []
     for number in range(count):
@@ -176,8 +177,8 @@ KINDS = {
     "mixed": mixed,
 }
 
-# For each kind: what its smaller size is, what it counts, how many octets the largest file of each has, and
-# the least speed of the larger one, by its unit.
+# For each kind: its smaller size, what it counts, how many octets the largest file of each has, and
+# the least speed at the larger size, by its unit.
 MEASURED = {
     "class 1 by 256": (LARGE, "octets", 1, None),
     "class 1 by 1,400": (LARGE, "octets", 1, (150, "MB/s")),
@@ -191,12 +192,12 @@ MEASURED = {
 
 
 def make(kind, size):
-    """Prints a script: it runs in a process of its own, so that the measuring one stays small."""
+    """Prints a script, in a process of its own, so that the measuring one stays small."""
     sys.stdout.write("\n".join(KINDS[kind](size)) + "\n")
 
 
 def run(program, script, output):
-    """Runs a script, and answers its seconds."""
+    """Runs a script, and gives the seconds that it took."""
     with open(script, "rb") as lines, open(output, "wb") as answers:
         start = time.perf_counter()
         child = subprocess.Popen([program], stdin=lines, stdout=answers)

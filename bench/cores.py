@@ -9,12 +9,13 @@ import subprocess
 import sys
 import time
 
-# A scenario runs so often at least, and for so many seconds in all: a short one, whose time varies more, runs more often.
+# How often a scenario runs at least, and for how many seconds in all: a short one, whose time varies more, runs more
+# often.
 RUNS = 5
 SECONDS = 3.0
 
-# A scenario of the program, its greater size, how much longer eight times the size may take, and the
-# seconds that it may take, where there is such a bar.
+# A scenario of the program, its greater size, how many times as long eight times the size may take, and how many
+# seconds it may take, if there is such a bar.
 SCENARIOS = [
     ("eof-last", 16_384, 10, 0.05),
     ("eof-first-rising", 16_384, 10, None),

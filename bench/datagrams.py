@@ -24,7 +24,7 @@ FEW, MANY = 400, 1_400
 PART = 1_400
 PAUSE = 0.0003
 
-# How fast the put's file leaves, in octets a second, so that none is lost.
+# How fast the put's file is sent, in octets a second, so that no datagram is lost.
 RATE = 1_000_000
 
 # The bars, in instructions a PDU.

@@ -11,7 +11,7 @@ import time
 
 RUNS = 5
 
-# How many files come in each lane, and how many datagrams each takes.
+# How many files each lane receives, and how many datagrams each file takes.
 FILES = 20
 DATAGRAMS = 20_002
 

@@ -20,10 +20,10 @@ SEGMENT = 256
 # How many times as many instructions four times the size may take.
 GROWTH = 4.5
 
-# The memory that a file may take beside the process, in times its octets.
+# The memory that a file may take besides the process's own, as a multiple of its octets.
 MEMORY = 4
 
-# Small receptions, one after another, and the instructions that they may take.
+# The number of small receptions, in sequence, and how many instructions they may take.
 RECEPTIONS = 5_000
 BEFORE = 160_000_000
 

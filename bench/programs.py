@@ -24,7 +24,7 @@ import time
 
 RUNS = 5
 
-# The file, and the part of it that a PDU has, behind a header and an offset of 11 octets.
+# The file, and the segment of it that a PDU has, after a header and an offset of 11 octets.
 FILE_OCTETS = 4 * 1024 * 1024
 PART = 1_400
 HEAD = 11
@@ -36,25 +36,26 @@ LOADS = 3
 SECONDS = 1.5
 EVENTS = 55_000
 
-# The transactions of a server under load, by their sequence numbers, and the part that comes again and again.
+# The transactions of a server under load, by their sequence numbers, and the segment that arrives again and again.
 TRANSACTIONS = range(1, 9)
 LOAD_PART = 1_000
 
 IDLE_SECONDS = 10.0
 
-# The bars: how many times as long as the blast the transfer may take, how much of one worker's speed several have at least, and
-# how much processor time an idle server may take.
+# The bars: how many times as long as the blast the transfer may take, which part of one worker's speed several workers
+# have at least, and how much processor time an idle server may take.
 TRANSFER = 3.3
 SLOWER = 0.9
 IDLE = 0.1
 
-# A file for counting, at a rate that keeps the receive buffer from running over while `strace` slows the server, and how many
-# calls a datagram may cost with one worker and with four. Processor time is taken of a file without a rate.
+# A file for counting system calls, at a rate at which the receive buffer doesn't overflow while `strace` slows the
+# server, and how many calls a datagram may cost with one worker and with four. Processor time is measured with a file
+# without a rate.
 COUNTED_OCTETS = 16 * 1024 * 1024
 COUNTED_RATE = 8_000_000
 CALLS = {1: {"futex": 0.3, "write": 0.1, "mprotect": 0.02}, 4: {"futex": 0.5, "write": 0.1, "mprotect": 0.02}}
 
-# How much processor time a datagram may take with four workers, in times that with one.
+# How much processor time a datagram may take with four workers, as a multiple of that with one.
 FOUR_WORKERS = 1.2
 
 CONFIGS = pathlib.Path(__file__).resolve().parent.parent / "examples" / "transfer"

@@ -11,7 +11,7 @@ import time
 
 RUNS = 5
 
-# A scenario of the program, its lanes, and how many bundles go in through each.
+# A scenario of the program, its lanes, and how many bundles each lane puts in.
 SCENARIOS = [
     ("one-thread", 1, 4_096_000),
     ("one-producer", 1, 1_024_000),

@@ -1,8 +1,8 @@
 #!/usr/bin/env python3
-"""Looks at the console in Chromium, as a person sees it: tests/browser.py CFDP_WEB [PICTURE].
+"""Tests the console in Chromium, as a person sees it: tests/browser.py CFDP_WEB [PICTURE].
 
-Wants Debian's package chromium, and promtool of its package prometheus, which is left out where it isn't there. Chromium is
-driven over its DevTools port. A picture goes to PICTURE, if that is given."""
+Needs Debian's package chromium; uses promtool of the package prometheus if it is installed. Chromium is driven over its
+DevTools port. A picture is written to PICTURE, if that is given."""
 import base64
 import http.client
 import json

@@ -1,9 +1,9 @@
 #!/usr/bin/env python3
-"""What a server with a control socket does for its clients: each answer in order, whatever other clients do.
+"""A server with a control socket serves its clients: each gets its answers in order, whatever other clients do.
 
 usage: tests/control.py SERVER
 
-Each case has a server of its own on loopback, in a folder of its own, and ends within a minute.
+Each case has its own server on loopback, in its own folder, and ends within a minute.
 """
 import contextlib
 import json
@@ -37,7 +37,7 @@ class Server(Running):
         super().__init__(words, path, start_new_session=True)
 
     def clients_sit(self):
-        """How many clients have a seat, this one included; all seats where there is none for this one."""
+        """How many clients have a seat, this one included; all seats if there is none for this one."""
         client = self.client()
         lines = client.ask("status")
         client.close()
@@ -82,7 +82,7 @@ def server(**named):
 
 @case
 def without_standard_input():
-    """The server has a session of its own and no input, and goes on; the socket is its owner's alone."""
+    """The server has its own session and no input, and keeps running; only its owner may use the socket."""
     with server() as one:
         client = one.client()
         want(stat.S_IMODE(os.stat("control").st_mode), 0o600)
@@ -94,7 +94,7 @@ def without_standard_input():
 
 @case
 def a_received_file():
-    """A file comes: a follower reads each event once, and a later one the same from the beginning."""
+    """A file is received: a follower reads each event once, and a later follower the same events from the beginning."""
     with server() as one:
         client = one.client()
         want(client.ask("follow"), ["ok"])
@@ -108,7 +108,7 @@ def a_received_file():
         want([event["number"] for event in later.events], list(range(1, finished["number"] + 1)))
         want(later.events[0]["kind"], "start")
         want([event for event in later.events if event["number"] > 1], client.events[: finished["number"] - 1])
-        # two workers may deliver datagrams in another order than they came
+        # two workers may deliver datagrams in another order than they arrived
         names = [event["name"] for event in client.events if event["kind"] == "indication"]
         want((sorted(names), names[-1]),
              (["EOF-Recv", "File-Segment-Recv", "Metadata-Recv", "Transaction-Finished"], "Transaction-Finished"))
@@ -124,7 +124,7 @@ def a_received_file():
 
 @case
 def refusals():
-    """Octets that are no PDU, a source without a user, and a command: each kind is counted and reported."""
+    """Octets that are not a PDU, a source without a user, and a command: each kind is counted and reported."""
     with server() as one:
         client = one.client()
         want(client.ask("follow"), ["ok"])
@@ -162,7 +162,7 @@ def a_put():
 
 @case
 def many_clients():
-    """Sixteen clients ask at once, each gets its own answers in order; one more hears that all seats are taken."""
+    """Sixteen clients ask at once, and each gets its own answers in order; one more is answered `busy`."""
     with server() as one:
         one.client().close()
         clients = []
@@ -206,7 +206,7 @@ def many_clients():
 
 @case
 def many_commands_at_once():
-    """Commands that come together are answered one after the other, also behind the end of the client's own sending."""
+    """Commands that arrive together are answered in order, also after the client has shut down its sending end."""
     with server() as one:
         client = one.client()
         client.stream.sendall(b"status\nno command\n" + b"trace 1 9\n" * 100)
@@ -221,7 +221,7 @@ def many_commands_at_once():
 
 @case
 def broken_clients():
-    """Half a line is no command, a line without an end is answered once, and who goes away takes nobody along."""
+    """Half a line is not a command, an endless line is answered once, and a client that leaves disturbs no other."""
     with server() as one:
         half = one.client()
         half.stream.sendall(b"quit")
@@ -232,7 +232,7 @@ def broken_clients():
             long.stream.sendall(b"x" * 300_000)
         want(long.answer() in (["bad command"], None), True)
         for _ in range(200):
-            # some of them find no seat
+            # some of them get no seat
             gone = one.client()
             with contextlib.suppress(OSError):
                 gone.stream.sendall(b"status\nfollow\nsta")
@@ -243,7 +243,7 @@ def broken_clients():
 
 @case
 def clients_that_do_not_read():
-    """One that follows and one that asks without reading are cut; a status comes at once meanwhile, and files too."""
+    """A follower and a client that don't read are cut off; meanwhile a status comes at once, and files are received."""
     with server() as one:
         deaf = one.client()
         deaf.stream.sendall(b"follow\n")
@@ -266,7 +266,7 @@ def clients_that_do_not_read():
 
 @case
 def a_status_under_load():
-    """Datagrams come as fast as they may while a client asks again and again: each answer is whole."""
+    """Datagrams arrive as fast as possible while a client asks again and again: each answer is whole."""
     with server() as one:
         client = one.client()
         stop = threading.Event()
@@ -307,7 +307,7 @@ def stale_and_live_sockets():
 
 @case
 def two_starts_at_once():
-    """Of servers that start together, over a stale socket, one serves and the others end."""
+    """Of several servers that start at the same time, where a stale socket is, one serves and the others end."""
     for _ in range(5):
         stale = socket.socket(socket.AF_UNIX)
         stale.bind("control")
@@ -326,7 +326,7 @@ def two_starts_at_once():
 
 @case
 def sources_that_are_not_known():
-    """With --known-sources what comes from elsewhere is counted and not read."""
+    """With --known-sources, datagrams from other sources are counted and not read."""
     with server(options=("--known-sources",)) as one:
         client = one.client()
         want(client.ask("follow"), ["ok"])
@@ -356,7 +356,7 @@ def a_path_that_is_no_socket():
 
 @case
 def a_log():
-    """Each event stands in the file once, in order, over two servers."""
+    """Each event is in the file once, in order, over the runs of two servers."""
     with server(options=("--log", "log")) as one:
         client = one.client()
         want(client.ask("follow"), ["ok"])
@@ -376,7 +376,7 @@ def a_log():
 
 @case
 def a_log_on_a_full_disk():
-    """The server goes on, says so, and goes on with the log once there is room."""
+    """The server keeps running, reports that the log fails, and continues it once there is room."""
     os.makedirs("logs", exist_ok=True)
     made = subprocess.run(["mount", "-t", "tmpfs", "-o", "size=16k", "tmpfs", "logs"], capture_output=True)
     if made.returncode:
@@ -405,7 +405,7 @@ def a_log_on_a_full_disk():
 
 @case
 def followers_that_read_late():
-    """A follower that reads nothing for a while gets all of it then."""
+    """A follower that reads nothing for a while gets all events later."""
     with server() as one:
         late = one.client()
         want(late.ask("follow"), ["ok"])

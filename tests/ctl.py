@@ -1,5 +1,5 @@
 #!/usr/bin/env python3
-"""cfdp_ctl against a station that is made up: its exit statuses, what it prints, and what it does when the station goes away.
+"""cfdp_ctl with a fake station: its exit statuses, its output, and what it does when the station goes away.
 
 usage: tests/ctl.py PROGRAM
 """
@@ -176,7 +176,7 @@ def tables():
 
 
 def said(status=(), events=()):
-    """The words of a station that says this."""
+    """The options of a fake station whose status and events these are."""
     path = os.path.join(FOLDER, "said")
     with open(path, "w") as file:
         json.dump({"status": list(status), "events": list(events)}, file)
@@ -386,7 +386,7 @@ def outbox():
 
 
 def progress():
-    """A line for each file on a terminal, in place of the ones before, and nothing of it elsewhere."""
+    """On a terminal, a line for each file, which replaces the one before; elsewhere no progress."""
     with station("--step", "3"):
         person, program = pty.openpty()
         run = subprocess.Popen([PROGRAM, "--control", SOCKET, "send", "--to", "5", "--wait", *ODD[:3]], stdout=subprocess.PIPE,

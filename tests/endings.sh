@@ -1,5 +1,5 @@
 #!/usr/bin/env bash
-# How runs of the program end: what it says of that on either stream, and its exit status.
+# How runs of the program end: what it prints on either stream, and its exit status.
 # usage: tests/endings.sh PROGRAM
 set -euo pipefail
 program=$(realpath "$1")
@@ -31,7 +31,7 @@ status=0
 "$program" <<< 'take alice' > /dev/full 2> told || status=$?
 ends 'a full disk' 1 '' 'write fault'
 
-# begins: plays what is written to descriptor 3, a script that stays open.
+# begins: plays the script that is written to descriptor 3, which stays open.
 mkfifo script
 begins() {
     timeout 60 "$program" < script > printed 2> told &
@@ -39,7 +39,7 @@ begins() {
     exec 3> script
 }
 
-# finishes: the run ends though its script may go on, or is ended after a minute.
+# finishes: the run ends although its script may continue, or is ended after a minute.
 finishes() {
     status=0
     wait "$playing" || status=$?

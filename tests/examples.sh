@@ -1,5 +1,5 @@
 #!/usr/bin/env bash
-# Each script of the folder `examples` ends well, and prints what stands beside it.
+# Each script of the folder `examples` ends well, and prints the text in the file next to it.
 # usage: tests/examples.sh PROGRAM
 set -euo pipefail
 program=$(realpath "$1")

@@ -35,7 +35,7 @@ def moment(seconds=None):
 
 
 def words_of(line):
-    """The words of a command: plain, or in double quotes with backslashes. None where the line is no list of words."""
+    """The words of a command: plain, or in double quotes with backslashes. None where the line isn't made of words."""
     words, at = [], 0
     while at < len(line):
         if line[at:at + 1] == b" ":
@@ -62,7 +62,7 @@ def words_of(line):
 
 
 def named(member, octets):
-    """A member for a file's name."""
+    """The member for a file's name."""
     try:
         return {member: octets.decode()}
     except UnicodeDecodeError:
@@ -93,7 +93,7 @@ class Station:
         self.tell(kind="indication", user=sent["user"], source=1, seq=sent["seq"], name=name, **members)
 
     def run_queued(self, sent):
-        """A file of the outbox: it is read when its turn comes."""
+        """Runs a file of the outbox, which is read when its turn comes."""
         time.sleep(0.05)
         if self.options.unreadable and sent["file"].endswith(self.options.unreadable.encode()):
             sent["state"] = "gone"
@@ -111,7 +111,7 @@ class Station:
                   **named("file", sent["file"]), why=why)
 
     def run_file(self, sent, **queued):
-        """A file that is sent: its start, its progress, its end."""
+        """Runs a file that is sent: its start, its progress, its end."""
         self.tell(kind="put", user=sent["user"], source=1, seq=sent["seq"], peer=sent["peer"], **{"class": sent["class"]},
                   **named("file", sent["file"]), **named("to", sent["to"]), size=sent["size"], **queued)
         for step in range(10):
@@ -126,7 +126,7 @@ class Station:
         self.indicate(sent, "Transaction-Finished", **sent["end"])
 
     def add(self, user, number, peer, file, to, state, unreported=False):
-        """One more file that is sent, or waits for that."""
+        """Adds a file that is sent, or waits to be sent."""
         with self.lock:
             place = len(self.sent)
             sent = {"queued": place + 1, "seq": 100 + place, "user": user.decode(), "class": int(number), "peer": int(peer),

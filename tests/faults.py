@@ -1,5 +1,5 @@
 #!/usr/bin/env python3
-"""What the server and the put say of a wrong start: one line where nobody reads it, a second one on a terminal, and both after
+"""What the server and the put print after a wrong start: one line, and on a terminal a second one; both after
 `--check`.
 
 usage: tests/faults.py SERVER PUT
@@ -23,7 +23,7 @@ def want(title, found, wanted):
 
 
 def read_all(descriptor):
-    """What a terminal shows until the last program has let it go."""
+    """What a terminal shows until the last program has closed it."""
     held = b""
     while True:
         try:
@@ -55,7 +55,7 @@ def shown(words):
 GOOD = (EXAMPLES / "ground.toml").read_text(encoding="ascii").replace("@PEER@", "4557")
 # Eight more remote entities whose files are alice's.
 EIGHT_MORE = "".join(GOOD[GOOD.index("[[remote]]"):].replace("id = 1\n", f"id = {number}\n") for number in range(3, 11))
-# What is changed in a configuration, the fault that this makes, and what a check says of the file.
+# A change in a configuration, the fault that it causes, and what a check prints for the file.
 FAULTS = [
     ("[[user]]", "[[user", 1, "the text is not TOML; look for a missing quote or bracket, or a key that stands twice"),
     ("capacity = 1024\n", "", 2, "`capacity` is missing"),
@@ -77,7 +77,7 @@ FAULTS = [
 
 
 def check_rows():
-    """Configurations, what a check prints of each behind the program's name, and the line that explains it."""
+    """Configurations, what a check prints for each after the program's name, and the line that explains it."""
     yield "good", None, None
     for place, (old, new, number, why) in enumerate(FAULTS):
         want(f"{old!r} in the configuration", GOOD.count(old), 1)

@@ -1,5 +1,5 @@
 #!/usr/bin/env bash
-# Each line of crates.txt names only crates whose lines stand above it.
+# Each line of crates.txt names only crates whose lines are above it.
 set -euo pipefail
 cd "$(dirname "$0")/.."
 wrong=$(awk -F: '

@@ -1,11 +1,12 @@
 #!/usr/bin/env python3
-"""What the calls of the entities answer where memory runs out: each allocation of a run is refused in turn, and each
-answer is that there was no memory, or the one with ample memory; where there was none, the same call then gives the
-ample answer, and so does every call after it. Then what a million datagrams that were changed as if by lot are answered.
+"""The answers of an entity's calls when memory runs out: each allocation of a run is refused in turn, and each
+answer is that there was no memory, or the one with ample memory; after the former, the same call gives the
+ample answer, and so does every call after it. Then the answers to a million datagrams with pseudo-random changes.
 
 usage: tests/memory.py PROGRAM
 
-PROGRAM is crates/hostile_runs/out/hostile_runs. gcc builds what refuses the allocations, tests/failing_malloc.c.
+PROGRAM is crates/hostile_runs/out/hostile_runs. gcc builds the library that refuses allocations from
+tests/failing_malloc.c.
 """
 import concurrent.futures
 import os
@@ -18,20 +19,20 @@ import time
 from support import Wrong, library
 
 DATAGRAMS = 1_000_000
-# A worker's thread that finds no memory can't be started, which its caller learns.
+# If memory for a worker's thread runs out, the thread can't be started, which its caller is told.
 NO_MEMORY = {"no memory", "no thread", "refused 12 NoMemory"}
-# Calls of which each has to say at least once that there was no memory.
+# Each of these calls has to answer at least once that there was no memory.
 ASKED = """World::open queues_of Intake::new Intake::send Entity::open run_workers decode encode read_config TimerList::apply
 WordReader::with_room Gaps::copy""".split()
-# What a send is answered at an intake that is closed, and that wants memory first.
+# The answer to a send at an intake that is closed, which needs memory first.
 CLOSED = "closed"
-# How many seconds a run may take, and how many runs are made at once.
+# How many seconds a run may take, and how many runs are made at the same time.
 PATIENCE = 60
 AT_ONCE = os.cpu_count() or 1
 
 
 def play(words, patience, around=None):
-    """A run of a program, which may take so many seconds."""
+    """Runs a program, for at most this many seconds."""
     return subprocess.run(
         words, env=around, capture_output=True, text=True, timeout=patience, stdin=subprocess.DEVNULL
     )
@@ -47,7 +48,7 @@ def answers_of(text):
 
 
 class Runs:
-    """Runs of the program, of which each may be refused one allocation."""
+    """Runs of the program, each with one allocation that is refused, or with none."""
 
     def __init__(self, program, folder):
         self.program = program
@@ -61,7 +62,7 @@ class Runs:
                 raise Wrong(f"{title}: no memory, where no allocation is refused")
 
     def run(self, refused):
-        """What is answered where the allocation with this number is refused, and how many there were."""
+        """The answers if the allocation with this number is refused, and how many allocations there were."""
         report = self.folder / f"report-{refused}"
         around = dict(os.environ, LD_PRELOAD=str(self.library), FAIL_AT=str(refused), FAIL_REPORT=str(report))
         done = play([self.program, "memory"], PATIENCE, around)
@@ -72,7 +73,7 @@ class Runs:
         return answers_of(done.stdout), made
 
     def compare(self, refused):
-        """Compares a run with the one that had ample memory; the title of the call that had none, if one did."""
+        """Compares a run with the one that had ample memory; gives the title of the call that ran out of memory, if one did."""
         answers, made = self.run(refused)
         if made < refused:
             raise Wrong(f"allocation {refused}: only {made} came")
@@ -114,7 +115,7 @@ def refuse_each(program, folder):
 
 
 def change(program):
-    """Has changed datagrams come."""
+    """Runs the program with changed datagrams."""
     done = play([program, "mutate", str(DATAGRAMS)], 2 * PATIENCE)
     right = "each answer may be, and each kind came"
     wanted = [f"{DATAGRAMS} datagrams are read: {right}", f"{DATAGRAMS} datagrams come: {right}"]

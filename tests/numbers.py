@@ -1,9 +1,9 @@
 #!/usr/bin/env python3
-"""Transaction numbers over restarts: programs that are killed at any moment never give one twice, by what a peer receives.
+"""Transaction numbers over restarts: programs that are killed at any moment never use one twice, as a peer's PDUs show.
 
 usage: tests/numbers.py SERVER PUT
 
-Everything is on loopback, in a folder of its own, and ends within two minutes.
+Everything is on loopback, in its own folder, and ends within two minutes.
 """
 import contextlib
 import os
@@ -23,7 +23,7 @@ KILLS = 100
 
 
 class Peer:
-    """The entity that files go to: it receives datagrams and answers none."""
+    """The entity that files are sent to: it receives datagrams and answers none."""
 
     def __init__(self, octets=4, first=1):
         self.octets = octets
@@ -40,7 +40,7 @@ class Peer:
                           recv_lanes=1, capacity=1_024))
 
     def numbers(self):
-        """The numbers of the transactions whose Metadata came since the last look."""
+        """The numbers of the transactions whose Metadata was received since the last call."""
         found = []
         while True:
             try:
@@ -93,7 +93,7 @@ def ask(client, command):
 
 
 def ended(*options):
-    """How a server that can't start ends."""
+    """The end of a server that can't start."""
     with server(*options) as run:
         try:
             status = run.wait(20)
@@ -103,7 +103,7 @@ def ended(*options):
 
 
 def killed_servers(peer, chance):
-    """A server is killed at any moment of many Puts, again and again."""
+    """A server is killed at random moments of many Puts, again and again."""
     seen, answered = set(), set()
     for _ in range(KILLS):
         with server("--numbers", "numbers") as run:
@@ -126,7 +126,7 @@ def killed_servers(peer, chance):
 
 
 def killed_puts(peer, chance):
-    """The put is killed at any moment of its run."""
+    """The put is killed at random moments of its run."""
     seen = set()
     for _ in range(KILLS):
         words = ["--config", "config", "--bind", "127.0.0.1:0", "--user", "alice", "--remote", "1", "--class", "1"]
@@ -144,7 +144,7 @@ def killed_puts(peer, chance):
 
 
 def faults(peer):
-    """What is no number, can't be written, or is used by another program."""
+    """Files without a number, that can't be written, or that another program uses."""
     for text in (b"", b"5x\n", b"\xff\n", b"9223372036854775808\n"):
         pathlib.Path("odd").write_bytes(text)
         want(ended("--numbers", "odd"), (1, "cfdp_server: numbers fault\n"))
@@ -171,7 +171,8 @@ def faults(peer):
 
 
 def first_numbers(peer):
-    """The higher of the file's number and the configuration's first round: a round of two lanes and two users has four."""
+    """Numbers begin at the higher of the file's and the configuration's first round: with two lanes and two users a round
+    has four numbers."""
     for first, written, number in ((1, None, 4), (1, b"40\n", 40), (1, b"41\n", 44), (50, b"40", 200)):
         peer.write_config(first)
         if written is not None:
@@ -181,7 +182,7 @@ def first_numbers(peer):
 
 
 def first_put(numbers):
-    """The number of the first Put of a server that is killed then."""
+    """The number of a server's first Put, after which the server is killed."""
     with server("--numbers", numbers) as run:
         client = connected(run)
         [_, txn] = ask(client, "put alice 0 1 1 file to")
@@ -190,7 +191,7 @@ def first_put(numbers):
 
 
 def other_lanes(peer):
-    """Numbers go on where the lanes of a user change between two runs."""
+    """Numbers continue when the lanes of a user change between two runs."""
     last = 0
     for lanes in (8, 1, 2, 32, 1):
         peer.write_config(1, lanes)

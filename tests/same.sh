@@ -15,7 +15,7 @@ defined() {
         crates/{txn_events,entity_routing}/specs/Refusal.antt crates/entity_parts/specs/Refusals.antt | sort -u
 }
 
-# The same by the page: rows of the tables of an end and of a lane, and what is told of where an event goes.
+# The same by the page: rows of the tables of an end and of a lane, and the refusals that have no lane.
 told() {
     {
         sed -n '/^### What is refused/,/^### Phases/s/^| \([0-9]*\) | \([A-Za-z]*\) |.*/\1 \2/p' docs/profile.md

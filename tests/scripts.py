@@ -1,11 +1,12 @@
 #!/usr/bin/env python3
-"""Plays scripts by the built program, and compares what they print, and their status.
+"""Plays scripts with the built program, and compares the output and the exit status.
 
 usage: tests/scripts.py PROGRAM
 
-The scripts of `tests/scripts/*.rows` are written out: `== TITLE`, and below it a line of the script for each row with, behind a colon,
-the lines that it prints, with semicolons between. What is printed was worked out by hand from the tables. Below are those that are too
-long to be written out: full journals, many gaps, long lines and names; and those that end in a bad line.
+The scripts of `tests/scripts/*.rows` are written out: `== TITLE`, and below it, in each row, a line of the script, a
+colon, and the lines that it prints, separated by semicolons. The output was worked out by hand from the tables. Scripts
+that are too long to be written out are made here: full journals, many gaps, long lines and names; and those that end in
+a bad line.
 """
 import pathlib
 import subprocess
@@ -16,7 +17,7 @@ SECONDS = 120
 
 
 def play(program, title, script, printed, status=0):
-    """Plays a script, and fails where it prints something else, ends with another status, or has something to say of errors."""
+    """Plays a script, and fails if it prints something else, ends with another status, or writes to the standard error."""
     run = subprocess.run([program], input=script.encode(), capture_output=True, timeout=SECONDS, check=False)
     given, wanted = run.stdout.decode("ascii").splitlines(), printed.splitlines()
     for place, line in enumerate(wanted + ["nothing more"]):
@@ -28,7 +29,7 @@ def play(program, title, script, printed, status=0):
 
 
 def rows_of(path):
-    """The scripts of a file: the title of each, its lines, and what they print."""
+    """The scripts of a file: the title of each, its lines, and their output."""
     title, script, printed = None, [], []
     for row in path.read_text(encoding="ascii").splitlines() + ["== "]:
         if row.startswith("== "):
@@ -61,7 +62,7 @@ def full_journals():
 
 
 def many_gaps():
-    """Every second octet of a file came: of the 65 that are missing 64 are asked for at once."""
+    """Every second octet of a file has arrived: of the 65 missing ones, 64 are requested at once."""
     offsets = [2 * i + 1 for i in range(65)]
     script = ["pdu 20000a0001050207000000000301610162", "take alice"]
     printed = ["ok", "alice 1 5 Metadata-Recv 1 3 61 62"]
@@ -97,7 +98,7 @@ def long_words():
     yield "the longest line", "#" + "x" * 131_199 + "\ntake alice", "none"
 
 
-# Lines of which each is bad, as a script's first one.
+# Lines that are bad as a script's first line.
 BAD_LINES = [
     "set capacity 0", "set capacity 1025", "set checksum crc", "set checksum 15", "set first 9223372036854775808",
     "set ack_limit 0", "set ack_limit 256", "set nak_limit 0", "set nak_limit 256", "set check_limit 0", "set check_limit 256",
@@ -118,14 +119,14 @@ BAD_LINES = [
 
 
 def ends():
-    """Remarks alone, and a last line without a line feed."""
+    """Only comments, and a last line without a line feed."""
     yield "nothing", "", ""
     yield "remarks", "\n\n# take alice\n#", ""
     yield "no line feed at the end", "\ntake alice\n\n#\ntake bob", "none\nnone"
 
 
 def bad_lines():
-    """Each with status 1."""
+    """Bad lines, each with exit status 1."""
     for line in BAD_LINES:
         yield repr(line), line, "line 1: bad line"
     yield "a word that is not known", "take alice\npud 24\ntake alice\n", "none\nline 2: bad line"

@@ -1,10 +1,10 @@
 #!/usr/bin/env python3
-"""What a running server does when things go wrong around it: after each it answers the next command, or it has ended
-with the text and the status that the page of the manual says.
+"""A running server when things go wrong around it: after each case it answers the next command, or it has ended
+with the text and the status that its manual page gives.
 
 usage: tests/server.py SERVER
 
-Each case has a server of its own on loopback, in a folder of its own, and ends within a minute.
+Each case has its own server on loopback, in its own folder, and ends within a minute.
 """
 import contextlib
 import os
@@ -26,7 +26,7 @@ FINISHED = "alice 1 5 Transaction-Finished "
 
 
 class Server:
-    """A server that runs, with its commands, its answers and a socket that sends to it."""
+    """A running server, with its commands, its answers and a socket that sends to it."""
 
     def __init__(self, port=None, folder="received", peer=None, output=subprocess.PIPE, remote="127.0.0.1", keys=""):
         self.port = port or free_port()
@@ -47,7 +47,7 @@ class Server:
         self.run.stdin.flush()
 
     def line(self):
-        """The next line of its answers."""
+        """The next line of the server's answers."""
         end = time.monotonic() + 20
         while b"\n" not in self.held:
             if not select.select([self.run.stdout], [], [], max(0.0, end - time.monotonic()))[0]:
@@ -68,7 +68,7 @@ class Server:
         want(self.ask("trace 1 9"), "refused 1 NoTransaction")
 
     def takes(self, beginning):
-        """Takes until a line begins so; the line."""
+        """Takes indications until a line begins like this; gives the line."""
         for _ in range(2_000):
             line = self.ask("take alice")
             if line.startswith(beginning):
@@ -77,7 +77,7 @@ class Server:
         raise Wrong(f"{beginning} was never told")
 
     def ended(self):
-        """How it ended: its status, and what it told."""
+        """How the server ended: its status, and what it printed."""
         try:
             status = self.run.wait(30)
         except subprocess.TimeoutExpired:
@@ -161,7 +161,7 @@ def a_remote_that_nobody_answers_at():
 
 @case
 def a_remote_that_can_not_be_sent_to():
-    """Each send fails, since no socket may send there that did not ask for it: as if nobody answered."""
+    """Each send fails, since the socket has no permission to send there: as if nobody answered."""
     pathlib.Path("a").write_bytes(bytes(1_000))
     with server(remote="255.255.255.255") as one:
         one.answers()
@@ -176,7 +176,7 @@ def a_remote_that_can_not_be_sent_to():
 
 @case
 def a_file_at_the_limit():
-    """A file of 16 MiB may be put; one with an octet more may not, and none of it is sent."""
+    """A file of 16 MiB may be put; one with an octet more may not, and nothing of it is sent."""
     for name, octets in (("large", 16_777_216), ("larger", 16_777_217)):
         with open(name, "wb") as file:
             file.truncate(octets)
@@ -190,7 +190,7 @@ def a_file_at_the_limit():
 
 @case
 def files_without_a_checksum():
-    """One is put, and one comes whose EOF has any: with the large file flag, since it may."""
+    """One is put, and one is received whose EOF has any checksum, with the large file flag, which is allowed."""
     pathlib.Path("a").write_bytes(b"abc")
     with socket.socket(socket.AF_INET, socket.SOCK_DGRAM) as peer:
         peer.bind(("127.0.0.1", 0))
@@ -255,7 +255,7 @@ def a_folder_that_is_full():
 
 
 def rejects():
-    """A file that comes is told as rejected, and the server goes on."""
+    """The server reports a received file as rejected, and keeps running."""
     with server() as one:
         one.answers()
         one.send(METADATA, FILE_DATA, EOF)
@@ -276,7 +276,7 @@ def commands_that_end_within_a_line():
 
 @case
 def odd_lines():
-    """Lines that are too long or no text are bad commands, and what follows them is read."""
+    """Lines that are too long or aren't text are bad commands, and the lines after them are read."""
     with server() as one:
         one.say(b"x" * 300_000 + b"\ntake alice\n\xff\xfe\ntake \xc3\xa9\ntake alice\n" + b"y" * 131_201)
         one.run.stdin.close()

@@ -1,6 +1,6 @@
 #!/usr/bin/env python3
-"""Two servers behind a relay that loses and doubles datagrams send files in class 2 for a long while: every file that is
-told as complete is the one that was put, and no server's memory grows after the first minute.
+"""Two servers, with a relay between them that loses and doubles datagrams, send files in class 2 for a long time: every
+file that is reported as complete is the one that was put, and no server's memory grows after the first minute.
 
 usage: tests/soak.py SERVER [SECONDS]    (600 where none are given)
 """
@@ -22,8 +22,8 @@ SERVER = os.path.abspath(sys.argv[1])
 SECONDS = float(sys.argv[2]) if len(sys.argv) > 2 else 600.0
 RELAY = pathlib.Path(__file__).resolve().parent.parent / "examples/transfer/relay.py"
 LANES = 4
-# The C library gives back what is freed at once: what a server holds is then its own, and no store of free memory for each
-# of its threads.
+# Has the C library return freed memory at once, so that a server's memory is what it uses, without free memory that is
+# kept for each of its threads.
 AROUND = dict(os.environ, MALLOC_TRIM_THRESHOLD_="0", MALLOC_TOP_PAD_="0")
 
 
@@ -38,7 +38,7 @@ def free_ports(count):
 
 
 class Server:
-    """A server whose lines come into a queue."""
+    """A server whose output lines are put into a queue."""
 
     def __init__(self, own, other, port, peer):
         pathlib.Path(f"config{own}").write_text(
@@ -58,7 +58,7 @@ class Server:
             self.lines.put(line.rstrip("\n"))
 
     def memory(self):
-        """What it holds, in KiB."""
+        """The server's memory, in KiB."""
         for line in pathlib.Path(f"/proc/{self.run.pid}/status").read_text().splitlines():
             if line.startswith("VmRSS"):
                 return int(line.split()[1])
@@ -66,7 +66,7 @@ class Server:
 
 
 class Soak:
-    """The servers, and the files under way by the lane that each is put from."""
+    """The servers, and the files that are being sent, by the lane of each."""
 
     def __init__(self):
         self.at_ground, self.at_craft, self.to_craft, self.to_ground = free_ports(4)
@@ -84,7 +84,7 @@ class Soak:
         self.wrong = []
 
     def put(self, lane):
-        """A new file is put from a lane."""
+        """Puts a new file from a lane."""
         name = f"f{lane}"
         pathlib.Path(name).write_bytes(self.draws.randbytes(self.draws.randrange(200_000)))
         self.puts += 1
@@ -92,7 +92,7 @@ class Soak:
         self.under_way[lane] = f"r{self.puts}"
 
     def ends(self, line):
-        """A transaction of the craft has ended: its file is compared."""
+        """Compares the file of a transaction of the craft that has ended."""
         words = line.split()
         lane = int(words[2]) % LANES
         target = self.under_way.pop(lane)
@@ -106,7 +106,7 @@ class Soak:
         received.unlink(missing_ok=True)
 
     def run(self):
-        """Goes on for the seconds that are wanted; what each server held at most in the first minute, and since then."""
+        """Runs for the given seconds; gives each server's greatest memory in the first minute, and since then."""
         begin = time.monotonic()
         held = {}
         while time.monotonic() < begin + SECONDS or self.under_way and time.monotonic() < begin + SECONDS + 60:

@@ -1,9 +1,10 @@
 #!/usr/bin/env python3
-"""What the server and the put don't start with, and what they say of it, in the order in which they look; their help.
+"""Command lines and surroundings with which the server and the put don't start, and what they print, in the order of
+their checks; and their help.
 
 usage: tests/starts.py SERVER PUT
 
-Each program runs in a folder of its own. No run is to take longer than ten seconds.
+Each program runs in its own folder. No run may take longer than ten seconds.
 """
 import os
 import pathlib
@@ -15,7 +16,7 @@ import tempfile
 from support import configuration
 
 SERVER, PUT = (os.path.abspath(path) for path in sys.argv[1:3])
-# Command lines that the server doesn't start with, and what is said of each.
+# Command lines with which the server doesn't start, and what it prints for each.
 SERVER_FAULTS = [
     ("", "usage"),
     ("--config nowhere --folder .", "usage"),
@@ -30,7 +31,7 @@ SERVER_FAULTS = [
     ("--config bad --bind 192.0.2.1:7002 --folder .", "config fault 4"),
     ("--config good --bind 192.0.2.1:7002 --folder .", "bind fault"),
 ]
-# Those that the put doesn't begin with.
+# Command lines with which the put doesn't start.
 PUT_FAULTS = [
     ("", "usage"),
     ("--config nowhere --bind 127.0.0.1:0 --user alice --remote 1 --class 3 f b", "usage"),
@@ -50,7 +51,7 @@ PUT_FAULTS = [
     ("--config good --bind 127.0.0.1:0 --user bob --remote 1 --class 1 --first 64 f b", "refused 9 SeqExhausted"),
     ("--config good --config good --bind 127.0.0.1:0 --user bob --remote 1 --class 1 f b", "usage"),
 ]
-# The help and the version are printed, and that is all. Sixteen workers serve as one does, and a folder may be gone.
+# Only the help or the version is printed. Sixteen workers serve as one does, and the folder may be missing.
 SERVER_RUNS = [
     ("--help", "Receives and sends files by CFDP over UDP"),
     ("--version", "cfdp_server 0.1\n"),
@@ -61,7 +62,7 @@ PUT_RUNS = [("--help", "Sends one file by CFDP over UDP"), ("--version", "cfdp_p
 
 
 def ended(program, line):
-    """How a program ended that was given a command: its status, what it printed, and what it said of faults."""
+    """How a program ended that was given a command: its status, its output, and its errors."""
     run = subprocess.run([program, *line.split()], input="take alice\n", capture_output=True, text=True, timeout=10, check=False)
     return run.returncode, run.stdout, run.stderr
 

@@ -1,9 +1,9 @@
 #!/usr/bin/env python3
-"""Two stations that people command: an outbox, links that are held, and limits of single links.
+"""Two stations under commands: an outbox, links that are held, and limits of single links.
 
 usage: tests/station.py SERVER CTL
 
-Each case has servers of its own on loopback, in a folder of its own, and ends within two minutes.
+Each case has its own servers on loopback, in its own folder, and ends within two minutes.
 """
 import contextlib
 import hashlib
@@ -24,7 +24,7 @@ SERVER, CTL = (os.path.abspath(path) for path in sys.argv[1:3])
 
 
 class Relay:
-    """A link between two stations that loses datagrams by chance, and counts them."""
+    """A link between two stations that loses datagrams at random, and counts them."""
 
     def __init__(self, loss=0.0, seed=1):
         self.sockets = [socket.socket(socket.AF_INET, socket.SOCK_DGRAM) for _ in range(2)]
@@ -39,7 +39,7 @@ class Relay:
         self.thread = threading.Thread(target=self.work, daemon=True)
 
     def join(self, first, second):
-        """What comes at the first port goes to the second station, and the reverse."""
+        """Forwards datagrams from the first port to the second station, and the reverse."""
         self.targets = [("127.0.0.1", second), ("127.0.0.1", first)]
         self.thread.start()
 
@@ -116,7 +116,7 @@ def a_hundred_files():
 
 @case
 def contact_windows():
-    """A pass of a second in each four with loss in it: all files are whole, none was ended by a limit, and nothing leaves
+    """A contact of one second in every four, with loss: all files arrive whole, no limit ends one, and nothing is sent
     while the links are held."""
     with stations(loss=0.05, first=("--hold",), second=("--hold",), limit=3) as (one, other, relay):
         names = {f"file{n}": write(f"file{n}", octets_of(n, 30_000)) for n in range(6)}
@@ -151,7 +151,7 @@ def contact_windows():
 
 @case
 def held_at_the_start():
-    """With --hold nothing leaves until the link is released; then the first PDU comes at once."""
+    """With --hold nothing is sent until the link is released; then the first PDU arrives at once."""
     with station(SERVER, options=("--hold",)) as (one, peer):
         client = one.client()
         write("a", b"abc")
@@ -172,7 +172,7 @@ def held_at_the_start():
 
 @case
 def an_outbox_that_is_full():
-    """At most 1,024 files wait; one that is dropped makes room."""
+    """At most 1,024 files wait; dropping one makes room."""
     with station(SERVER, options=("--hold",)) as (one, _):
         client = one.client()
         want(client.ask("follow"), ["ok"])
@@ -192,7 +192,7 @@ def an_outbox_that_is_full():
 
 @case
 def files_that_can_not_be_sent():
-    """A file that is gone when its turn comes is an event, and the next one goes."""
+    """A file that is missing when its turn comes is reported by an event, and the next one is sent."""
     with stations(lanes=1) as (one, other, _):
         client = one.client()
         other.client().close()
@@ -220,7 +220,7 @@ def kinds_put(client):
 
 @case
 def files_that_take_long():
-    """A file whose reading takes long holds up only who waits for it, and the status shows it meanwhile."""
+    """A file that takes long to read delays only the client that waits for it, and the status shows it meanwhile."""
     around = {**os.environ, "LD_PRELOAD": library("slow_files")}
     with station(SERVER, around=around) as (one, _):
         patient, other = one.client(), one.client()
@@ -248,7 +248,7 @@ def files_that_take_long():
 
 @case
 def users_take_turns():
-    """A user with many files doesn't hold up another."""
+    """A user with many files doesn't delay another."""
     with stations(lanes=1, first=("--rate", "200000")) as (one, other, _):
         client = one.client()
         other.client().close()
@@ -264,7 +264,7 @@ def users_take_turns():
 
 @case
 def names_in_quotes():
-    """Names of any octet, in quotes; without them a word means what it always did."""
+    """Quoted names may have any octets; without quotes a word is read as always."""
     with stations() as (one, other, _):
         client = one.client()
         other.client().close()
@@ -288,7 +288,7 @@ def names_in_quotes():
 
 @case
 def limits_of_links():
-    """Octets to one entity keep to its own limit, whatever the limit of the rest; an entity that isn't there is no limit's."""
+    """Octets to an entity keep to its own limit, whatever the limit of the rest; an unknown entity can't have one."""
     with station(SERVER, options=("--rate", "2=20000", "--rate", "1000000000")) as (one, peer):
         client = one.client()
         write("a", octets_of(1, 40_000))
@@ -305,7 +305,7 @@ def limits_of_links():
 
 @case
 def a_server_that_is_killed():
-    """Who waits for files of a server that goes away is told within five seconds, with 1."""
+    """A client that waits for files of a server that goes away ends within five seconds, with status 1."""
     with station(SERVER, options=("--hold",)) as (one, _):
         one.client().close()
         write("a", b"abc")

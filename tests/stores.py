@@ -1,9 +1,9 @@
 #!/usr/bin/env python3
-"""Where a server keeps what it receives: names with folders, names that are there already, disks that fail for a while.
+"""Where a server stores received files: names with folders, names that exist already, disks that fail for a while.
 
 usage: tests/stores.py SERVER
 
-Each case has a server of its own on loopback, in a folder of its own, and ends within a minute.
+Each case has its own server on loopback, in its own folder, and ends within a minute.
 """
 import os
 import pathlib
@@ -33,14 +33,14 @@ class Receiver:
         want(self.client.ask("follow"), ["ok"])
 
     def send(self, name, octets=b"abc"):
-        """Sends a file; the number of its transaction."""
+        """Sends a file; gives the number of its transaction."""
         self.seq += 1
         for datagram in (metadata(self.seq, len(octets), name), file_data(self.seq, 0, octets), end_of_file(self.seq, octets)):
             self.peer.sendto(datagram, ("127.0.0.1", self.one.port))
         return self.seq
 
     def stored(self, seq):
-        """What the store said of a transaction: its answer, and where it kept the file."""
+        """The store's answer for a transaction, and where it kept the file."""
         event = self.client.wait_event(lambda event: event["kind"] == "stored" and event["seq"] == seq, f"the store's answer {seq}")
         return event["status"], event.get("as")
 
@@ -85,7 +85,7 @@ def names_with_folders():
 
 @case
 def names_without_folders():
-    """Without --tree a name with a slash is refused, and a file that is there is replaced."""
+    """Without --tree a name with a slash is refused, and an existing file is replaced."""
     with station(SERVER) as (one, peer):
         receiver = Receiver(one, peer)
         want(receiver.receives(b"a/b"), ("rejected", None))
@@ -95,7 +95,7 @@ def names_without_folders():
 
 @case
 def names_that_are_there():
-    """With --keep a file stays, and the next ones get numbers."""
+    """With --keep an existing file is kept, and the next ones get numbers."""
     with station(SERVER, options=("--tree", "--keep")) as (one, peer):
         receiver = Receiver(one, peer)
         for place, octets in (("d/a", b"one"), ("d/a.1", b"two"), ("d/a.2", b"three")):
@@ -104,14 +104,14 @@ def names_that_are_there():
 
 
 def mounted(folder, size):
-    """A small file system at a folder, or why there is none."""
+    """A small file system mounted at a folder, or why that isn't possible."""
     done = subprocess.run(["mount", "-t", "tmpfs", "-o", f"size={size}", "tmpfs", folder], capture_output=True, check=False)
     return None if done.returncode == 0 else "no file system can be mounted here"
 
 
 @case
 def a_disk_that_is_full_for_a_while():
-    """With --retry a file that finds no room is stored once there is some; its sender is answered once."""
+    """With --retry a file for which the disk has no room is stored once there is some; its sender is answered once."""
     with station(SERVER, options=("--retry", "30")) as (one, peer):
         folder = one.received()
         why = mounted(folder, "64k")
@@ -134,7 +134,7 @@ def a_disk_that_is_full_for_a_while():
 
 @case
 def a_folder_that_goes_away():
-    """With --retry a folder may be gone for a while; after the time the store says no, once, and names that are refused are
+    """With --retry the folder may be missing for a while; after that time the store rejects the file, once. A bad name is
     refused at once."""
     with station(SERVER, options=("--retry", "2")) as (one, peer):
         receiver = Receiver(one, peer)
@@ -162,8 +162,8 @@ def virtual_octets(process):
 
 @case
 def a_flood_behind_a_limit_of_memory():
-    """Copies of one part fill a lane up to the server's limit of memory; other lanes go on, and so does that one once its
-    transaction was abandoned. All threads take memory from one place, as under `examples/cfdp_server.service`."""
+    """Copies of one segment fill a lane up to the server's memory limit; other lanes continue, and so does that one once
+    its transaction was abandoned. All threads take memory from one arena, as with `examples/cfdp_server.service`."""
     with mock.patch.dict(os.environ, MALLOC_ARENA_MAX="1"), station(SERVER) as (one, peer):
         client = one.client()
         limit = virtual_octets(one.run.pid) + 2**26
@@ -171,7 +171,7 @@ def a_flood_behind_a_limit_of_memory():
         target = ("127.0.0.1", one.port)
 
         def moves(seq, name):
-            """Sends a file once more; whether it is there."""
+            """Sends a file once more; gives whether it was stored."""
             for datagram in (metadata(seq, 3, name), file_data(seq, 0, b"abc"), end_of_file(seq, b"abc")):
                 peer.sendto(datagram, target)
             time.sleep(0.05)

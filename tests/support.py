@@ -1,4 +1,4 @@
-"""What the scripts that press stations share: their cases, and a client of a control socket."""
+"""What the scripts that test stations share: the runner of their cases, and a client of a control socket."""
 import contextlib
 import json
 import os
@@ -12,7 +12,7 @@ import time
 
 
 class Wrong(Exception):
-    """What a server did that it should not."""
+    """A server did something that it should not."""
 
 
 def want(found, wanted):
@@ -35,7 +35,7 @@ def until(holds, what, seconds=20):
 
 
 def library(name):
-    """The library of a source file beside this one, which stands between a program and the C library."""
+    """Builds a library from a source file in this folder, to be preloaded between a program and the C library."""
     source = pathlib.Path(__file__).resolve().with_name(f"{name}.c")
     compiler = shutil.which("gcc")
     if compiler is None:
@@ -49,7 +49,7 @@ def library(name):
 
 
 def fill_backlog(path):
-    """Clients that wait to be let in at a socket, until no other can."""
+    """Connects clients to a socket where nobody is let in, until its queue is full."""
     waiting = []
     while len(waiting) < 10_000:
         client = socket.socket(socket.AF_UNIX)
@@ -112,7 +112,7 @@ class Client:
         return [json.loads(line) for line in self.ask("status")]
 
     def wait_event(self, holds, what):
-        """Reads until an event comes of which that holds."""
+        """Reads until an event comes for which the condition holds."""
         for event in self.events:
             if holds(event):
                 return event
@@ -153,7 +153,7 @@ check_limit = {check_limit}
 
 
 def configuration(address, users=("alice",), timer=200, limit=2, lanes=2, **values):
-    """The text of entity 2's configuration, with a remote entity 1 at an address, or of another with the values that are given."""
+    """The text of entity 2's configuration, with a remote entity 1 at an address; other values may be given."""
     keys = {"id": 2, "octets": 1, "first": 1, "put_lanes": lanes, "recv_lanes": lanes, "capacity": 64, "segment": 256, "remote": 1,
             "ack": timer, "nak": timer, "check": timer, "inactivity": 2_000,
             "ack_limit": limit, "nak_limit": limit, "check_limit": limit}
@@ -162,7 +162,7 @@ def configuration(address, users=("alice",), timer=200, limit=2, lanes=2, **valu
 
 
 class Running:
-    """A server that runs with a control socket."""
+    """A running server with a control socket."""
 
     def __init__(self, words, path, **around):
         self.path = path
@@ -189,7 +189,7 @@ class Running:
 
 
 class Station(Running):
-    """A server with a control socket in a folder of its own, and one remote entity."""
+    """A server with a control socket in its own folder, and one remote entity."""
 
     def __init__(self, server, number, port, remote, peer, options=(), lanes=4, timer=300, limit=10,
                  users=("alice", "bob"), around=None):
@@ -224,7 +224,7 @@ def station(server, **named):
 
 
 def pdu(kind, seq, body):
-    """A PDU of entity 2's transaction, toward the receiver, in class 1."""
+    """A PDU of a transaction of entity 2, toward the receiver, in class 1."""
     head = bytes([0x34 if kind == "data" else 0x24]) + len(body).to_bytes(2, "big") + bytes([0x03, 2])
     return head + seq.to_bytes(4, "big") + bytes([1]) + body
 
@@ -245,7 +245,7 @@ def end_of_file(seq, octets):
 
 
 def run_cases(subject, cases):
-    """Runs each case in a folder of its own; ends with 1 where one fails."""
+    """Runs each case in its own folder; ends with status 1 if one fails."""
     failed = 0
     for body in cases:
         name = body.__name__.replace("_", " ")

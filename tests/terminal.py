@@ -1,5 +1,5 @@
 #!/usr/bin/env python3
-"""The script program answers a person line by line, where its output is a terminal, and writes by blocks where it is none.
+"""The script program answers line by line if its output is a terminal, and otherwise writes by blocks.
 
 usage: tests/terminal.py PROGRAM
 """
@@ -16,7 +16,7 @@ PATIENCE = 20
 
 
 def read_until(descriptor, wanted, patience):
-    """What can be read until it is what is wanted, or until patience ends."""
+    """Reads until the expected text has come, or until the time is up."""
     held = b""
     end = time.monotonic() + patience
     while held != wanted and select.select([descriptor], [], [], max(0.0, end - time.monotonic()))[0]:
@@ -34,7 +34,7 @@ def want(title, found, wanted):
 
 
 def silent_terminal():
-    """Both ends of a terminal that does not print what is typed."""
+    """Both ends of a terminal without echo."""
     person, program = pty.openpty()
     modes = termios.tcgetattr(program)
     modes[3] &= ~termios.ECHO

@@ -60,7 +60,8 @@ together.
 There a refusal is no answer: indications, PDUs and the deposit are an option. Each whole transaction comes with the lemma that its log
 is legal. Rows stand in `specs/` or `proofs/` of a crate (`*Rows.antt`), or in a crate of rows."""
 
-# Which notion is defined where. A line is a notion, and behind the colon the files of crates; a crate alone means all of its files.
+# Which notion is defined where. A line is a notion, and after the colon the files of crates; a crate alone means all
+# of its files.
 MAP = """
 condition codes, checksum types: cfdp_types/Condition ChecksumType
 handlers that a role allows, fault tables: cfdp_types/Handlers
@@ -185,7 +186,7 @@ def read_definitions(crates):
 
 
 def in_order(files, found):
-    """Each file behind those of the same crate that it cites, else by name."""
+    """Each file after those of the same crate that it cites, else by name."""
     order = []
 
     def visit(path):
@@ -204,7 +205,7 @@ def in_order(files, found):
 # ---- what public calls cite
 
 def exported(crate):
-    """The names that a crate gives out, and the modules; a program gives out none."""
+    """The names and modules that a crate exports; a program exports none."""
     if not (TOP / "crates" / crate / "src" / "lib.rt").exists():
         return set()
     text = (TOP / "crates" / crate / "src" / "lib.rt").read_text()
@@ -243,7 +244,7 @@ def cited_by_calls(crate):
 
 
 def believed(found):
-    """All files of meaning, and those of another kind that they or the promises cite, directly or by others."""
+    """All files of meaning, and those of another kind that they or the promises cite, directly or through others."""
     left = [path for path, one in found.items() if one.kind == MEANING]
     for crate in PROMISING:
         left += cited_by_calls(crate)
@@ -256,7 +257,7 @@ def believed(found):
     return seen
 
 
-# ---- what stands in the code itself
+# ---- definitions in the code itself
 
 def models_and_members(crate):
     """The public types of a crate that contracts see by a model, and the public traits with ghost members; each with its file."""
@@ -313,7 +314,7 @@ def page():
 
 
 def map_table():
-    """The table of the map, whose files have to be there."""
+    """The table of the map, whose files must exist."""
     rows = ["| Notion | Files of `specs/` |", "|---|---|"]
     for line in MAP.strip().splitlines():
         notion, _, files = line.rpartition(": ")

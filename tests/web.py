@@ -1,5 +1,5 @@
 #!/usr/bin/env python3
-"""Tries the console over HTTP: tests/web.py CFDP_WEB. A station with invented transactions stands behind it."""
+"""Tests the console over HTTP: tests/web.py CFDP_WEB. It is connected to a station with invented transactions."""
 import base64
 import hashlib
 import http.client
@@ -81,7 +81,7 @@ def start_console(*words):
 
 
 def ask(port, target, method="GET", host="", more=(), body=None):
-    """Status, headers by small letters, and body. An empty host is the console's own; None leaves the header out."""
+    """Status, headers by lower-case names, and body. An empty host is the console's own; None leaves the header out."""
     connection = http.client.HTTPConnection("127.0.0.1", port, timeout=15)
     connection.putrequest(method, target, skip_host=True, skip_accept_encoding=True)
     if host is not None:
@@ -170,7 +170,7 @@ def refusals(port):
 
 
 def names():
-    """A name of another host, with or without the port 80, in any case."""
+    """The name of another host, with or without port 80, in upper or lower case."""
     for name in ("Console.example:80", "console.example"):
         console, port = start_console("--name", name)
         for host, status in (("console.example", 200), ("CONSOLE.example:80", 200), (f"127.0.0.1:{port}", 200),
@@ -180,7 +180,7 @@ def names():
 
 
 def token_files():
-    """The first line of a token's file, without its end; no token where it is empty or too long."""
+    """The first line of a token's file, without its end, is the token; an empty or too long line is not."""
     path = os.path.join(folder.name, "tokens")
     for text in (b"", b"\n" + TOKEN.encode(), b"\r\n", b"x" * 4097, b"x" * 4097 + b"\r\n", b"x" * 10_000 + b"\n"):
         with open(path, "wb") as file:
@@ -241,7 +241,7 @@ def many(port):
 
 
 def stopped(port, station):
-    """A station that stands still, and lets nobody in any more: each route is answered in time, however many ask."""
+    """With a station that is stopped and lets nobody in, each route is answered in time, however many clients ask."""
     station.send_signal(signal.SIGSTOP)
     time.sleep(0.6)
     for title, waiting in (("a station that stands still", []), ("a station that lets nobody in", fill_backlog(control))):
@@ -266,13 +266,13 @@ def stopped(port, station):
 
 
 def event_ids(port, *last):
-    """The IDs of the events behind one, or of all."""
+    """The IDs of the events after one, or of all."""
     body = ask(port, "/events", more=[("Last-Event-ID", one) for one in last])[2].decode()
     return re.findall("^id: (.*)$", body, re.M)
 
 
 def restarted(port, old):
-    """The ID of an event of a former run hides none of this one."""
+    """The ID of an event of a former run hides no event of this one."""
     check("another run's events", wait_for(lambda: event_ids(port)[:1] not in ([], old[:1])))
     now = event_ids(port)
     check("each run's IDs are its own", not set(old) & set(now) and now[0].endswith("-1"))
@@ -307,7 +307,7 @@ def memory_of(process):
 
 
 def timed(port, target):
-    """The best of five, in milliseconds, and the body; the station is asked anew each time."""
+    """The shortest of five times, in milliseconds, and the body; the station is asked anew each time."""
     best = None
     for _ in range(5):
         time.sleep(0.6)

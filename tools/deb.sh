@@ -1,7 +1,7 @@
 #!/usr/bin/env bash
-# Makes a Debian package of programs that are built, installs it into a folder, and tries what lies there.
+# Makes a Debian package of programs that are built, installs it into a folder, and tries the installed programs.
 # usage: tools/deb.sh PROGRAM..
-# The package lies in out/ then, by the version that the first program prints.
+# The package is put in out/, named by the version that the first program prints.
 set -euo pipefail
 top=$(realpath "$(dirname "$0")/..")
 version=$("$1" --version | cut -d ' ' -f 2)

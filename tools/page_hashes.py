@@ -1,5 +1,5 @@
 #!/usr/bin/env python3
-"""Writes the hashes of the console page's style and script into the policy that is served with it."""
+"""Writes the hashes of the console page's style and script into the policy that is served with the page."""
 import base64, hashlib, os, re
 
 here = os.path.join(os.path.dirname(os.path.abspath(__file__)), "..", "crates", "web_pages", "src")

@@ -19,7 +19,7 @@ def has_tests(crate):
 
 
 def run(crate):
-    """Tries the tests of a crate: whether they passed, what was printed, and the seconds that it took."""
+    """Runs the tests of a crate: whether they passed, what they printed, and how many seconds they took."""
     start = time.monotonic()
     run = subprocess.run(["rt", "try", "--test"], cwd=crate, stdin=subprocess.DEVNULL, stdout=subprocess.PIPE,
                          stderr=subprocess.STDOUT, text=True, errors="replace", check=False)

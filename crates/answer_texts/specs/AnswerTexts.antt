@@ -37,15 +37,15 @@ done_text is_put done = codes "ok\n" ++ (opened_text is_put done.key ++ (pdus_te
 abbrev pub refusal_text : ℕ → List ℕ → List ℕ
 refusal_text number name = codes "refused " ++ (decimal number ++ (codes " " ++ (name ++ codes "\n")))
 
--- the line for octets that are no PDU, with the number of the fault
+-- the line for octets that are not a PDU, with the number of the decode fault
 abbrev pub fault_line : ℕ → List ℕ
 fault_line number = codes "refused 20 DecodeFault " ++ (decimal number ++ codes "\n")
 
--- the line for what is sent back all the same, if anything is
+-- the line for the PDU that is sent back nevertheless, if there is one
 abbrev pub echo_text : Option PduValue → List ℕ
 echo_text None = []
 echo_text (Some pdu) = pdu_text (codes "echo") pdu
 
--- the lines for an event that a lane refuses
+-- the lines for an event that a lane refused
 abbrev pub refused_text : Refused → List ℕ
 refused_text refused = refusal_text (refusal_number refused.why) (refusal_name refused.why) ++ echo_text refused.echo

@@ -14,26 +14,26 @@ use Rattle.indications.specs.declared.indication.Indication.{Indication}
 use Rattle.indications.specs.declared.indication.Indication.TheVariants.{Transaction, EofSent, EofRecv, TransactionFinished, MetadataRecv, FileSegmentRecv, Suspended as SuspendedIndication, Resumed, Report, Fault, Abandoned}
 use Rattle.indications.specs.declared.bundle.Bundle.{Bundle}
 
--- whether the receiver has the whole file, in a word
+-- the printed name of a delivery code: whether the receiver has the whole file
 abbrev pub delivery_name : Delivery → List ℕ
 delivery_name Complete = codes "complete"
 delivery_name Incomplete = codes "incomplete"
 
--- what became of the file, in a word
+-- the printed name of a file status: what became of the file
 abbrev pub status_name : FileStatus → List ℕ
 status_name Discarded = codes "discarded"
 status_name Rejected = codes "rejected"
 status_name Retained = codes "retained"
 status_name Unreported = codes "unreported"
 
--- what a transaction does, in a word
+-- the printed name of a transaction's phase
 abbrev pub phase_name : Phase → List ℕ
 phase_name Active = codes "active"
 phase_name SuspendedPhase = codes "suspended"
 phase_name StoringPhase = codes "storing"
 phase_name Closing = codes "closing"
 
--- the name of an indication
+-- the printed name of an indication
 abbrev pub indication_name : Indication → List ℕ
 indication_name Transaction = codes "Transaction"
 indication_name EofSent = codes "EOF-Sent"
@@ -47,7 +47,7 @@ indication_name (Report phase progress) = codes "Report"
 indication_name (Fault condition progress) = codes "Fault"
 indication_name (Abandoned condition progress) = codes "Abandoned"
 
--- octets in hex, or a dash for none
+-- octets in hex, or a dash if there are none
 abbrev pub hex_word : List ℕ → List ℕ
 hex_word octets = if length octets == 0 then codes "-" else encode_lower octets
 
@@ -55,15 +55,15 @@ hex_word octets = if length octets == 0 then codes "-" else encode_lower octets
 abbrev pub messages_text : List (List ℕ) → List ℕ
 messages_text messages = flat_map (λ message. codes " " ++ hex_word message) messages
 
--- a number behind a space
+-- a space and a number
 abbrev pub operand : ℕ → List ℕ
 operand number = codes " " ++ decimal number
 
--- a part of a file
+-- a segment of a file: its offset and its length
 abbrev pub segment_text : ℕ → ℕ → List ℕ
 segment_text offset octets = operand offset ++ operand octets
 
--- what a transaction does, and its progress
+-- a transaction's phase and its progress
 abbrev pub report_text : Phase → ℕ → List ℕ
 report_text phase progress = codes " " ++ (phase_name phase ++ operand progress)
 
@@ -76,12 +76,12 @@ abbrev pub finished_text : ℕ → Delivery → FileStatus → List ℕ
 finished_text condition delivery status =
     operand condition ++ (codes " " ++ (delivery_name delivery ++ (codes " " ++ status_name status)))
 
--- a file and its names
+-- a file's source entity, size and names
 abbrev pub metadata_text : EntityId → ℕ → List ℕ → List ℕ → List ℕ
 metadata_text source size source_name destination_name =
     operand source.0 ++ (operand size ++ (codes " " ++ (hex_word source_name ++ (codes " " ++ hex_word destination_name))))
 
--- what an indication says behind its name
+-- an indication's operands, which follow its name
 abbrev pub operands_text : Indication → List ℕ
 operands_text Transaction = []
 operands_text EofSent = []
@@ -97,15 +97,15 @@ operands_text (Report phase progress) = report_text phase progress
 operands_text (Fault condition progress) = fault_text condition progress
 operands_text (Abandoned condition progress) = fault_text condition progress
 
--- what is said of a transaction
+-- an indication: its name and its operands
 abbrev pub indication_text : Indication → List ℕ
 indication_text said = indication_name said ++ operands_text said
 
--- the two numbers of a transaction
+-- a transaction ID's two numbers
 abbrev pub key_text : TxnKey → List ℕ
 key_text key = decimal key.source.0 ++ (codes " " ++ decimal key.seq)
 
--- whom a bundle is for, by name, and its transaction
+-- the beginning of a line: the user's name and the transaction
 abbrev pub line_head : List ℕ → Bundle → List ℕ
 line_head name bundle = name ++ (codes " " ++ (key_text bundle.key ++ codes " "))
 

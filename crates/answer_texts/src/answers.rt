@@ -1,4 +1,4 @@
-//! The texts of answers to events. Each function adds to a text; after an `Err` the text is no answer.
+//! Texts of the answers to events. Each function appends to `text`; after an `Err` the text is not to be used.
 ghost use Rattle.std.specs.Prelude.{◌≡◌, ◌++◌, OnOk, string_bytes};
 ghost use Rattle.answer_texts.specs.AnswerTexts.{done_text, opened_text, pdus_text, pdu_text, deposit_text, refusal_text, fault_line, refused_text};
 
@@ -9,7 +9,7 @@ use pdu_values::Pdu;
 use std::alloc::{AllocError, Global};
 use txn_events::Pdus;
 
-/// Adds the lines for an event that was taken; for a Put, that of the transaction that it opened too.
+/// Appends the lines for an event that was taken; for a Put, also the line of the transaction that it opened.
 pub fn push_done(
     alloc: Global,
     text: &mut String,
@@ -68,21 +68,21 @@ fn push_pdu(alloc: Global, text: &mut String, word: &str, pdu: &Pdu) -> Result<(
     text.push_str("\n")
 }
 
-/// Adds the line for a refusal with a number and a name.
+/// Appends the line for a refusal with a number and a name.
 pub fn push_refusal(text: &mut String, number: u8, name: &str) -> Result<(), AllocError>
     ensures { OnOk result (string_bytes text.new ≡ string_bytes text.old ++ refusal_text number name.now) }
 {
     writeln!(text, "refused {number} {name}")
 }
 
-/// Adds the line for octets that are no PDU that the entity takes, with the number of the fault.
+/// Appends the line for octets that are not a PDU the entity takes, with the number of the decode fault.
 pub fn push_decode_fault(text: &mut String, number: u8) -> Result<(), AllocError>
     ensures { OnOk result (string_bytes text.new ≡ string_bytes text.old ++ fault_line number) }
 {
     writeln!(text, "refused 20 DecodeFault {number}")
 }
 
-/// Adds the lines for an event that a lane refuses: with what is sent back all the same, if anything is.
+/// Appends the lines for an event that a lane refused, with the PDU that it sends back nevertheless, if there is one.
 pub fn push_refused(alloc: Global, text: &mut String, refused: &Refused) -> Result<(), AllocError>
     ensures { OnOk result (string_bytes text.new ≡ string_bytes text.old ++ refused_text refused.now) }
 {

@@ -1,5 +1,4 @@
-//! What is printed of an entity's answers: lines for the indications of its users, and for events that were taken or
-//! refused.
+//! Prints an entity's answers: lines for its users' indications, and for events that were taken or refused.
 #![tactic(auto)]
 
 mod answers;

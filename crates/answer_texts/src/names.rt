@@ -1,11 +1,11 @@
-//! The words for what a user hears of.
+//! The printed names of indications and of their values.
 ghost use Rattle.std.specs.Prelude.{◌≡◌};
 ghost use Rattle.answer_texts.specs.ToldTexts.{indication_name, delivery_name, status_name, phase_name};
 
 use cfdp_types::{Delivery, FileStatus};
 use indications::{Indication, Phase};
 
-/// The name of an indication.
+/// The printed name of an indication.
 pub fn indication_name(said: &Indication) -> &'static str
     ensures { result.now ≡ indication_name said.now }
 {
@@ -24,7 +24,7 @@ pub fn indication_name(said: &Indication) -> &'static str
     }
 }
 
-/// Whether the receiver has the whole file, in a word.
+/// The printed name of a delivery code: whether the receiver has the whole file.
 pub fn delivery_name(delivery: Delivery) -> &'static str
     ensures { result.now ≡ delivery_name delivery }
 {
@@ -34,7 +34,7 @@ pub fn delivery_name(delivery: Delivery) -> &'static str
     }
 }
 
-/// What became of the file, in a word.
+/// The printed name of a file status: what became of the file.
 pub fn status_name(status: FileStatus) -> &'static str
     ensures { result.now ≡ status_name status }
 {
@@ -46,7 +46,7 @@ pub fn status_name(status: FileStatus) -> &'static str
     }
 }
 
-/// What a transaction does, in a word.
+/// The printed name of a transaction's phase.
 pub fn phase_name(phase: Phase) -> &'static str
     ensures { result.now ≡ phase_name phase }
 {

@@ -1,4 +1,4 @@
-//! The texts of a user's indications. Each function adds to a text; after an `Err` the text is no answer.
+//! Texts of a user's indications. Each function appends to `text`; after an `Err` the text is not to be used.
 ghost use Rattle.std.specs.Prelude.{◌≡◌, ◌++◌, IfOk, OnOk, string_bytes, codes, decimal};
 ghost use Rattle.answer_texts.specs.ToldTexts.{bundle_text, line_head, indication_text, operands_text, finished_text, metadata_text, segment_text, report_text, fault_text, messages_text, hex_word};
 
@@ -7,7 +7,7 @@ use cfdp_types::{Condition, Delivery, EntityId, FileStatus, Messages, Octets};
 use indications::{Bundle, Indication, Phase};
 use std::alloc::{AllocError, Global};
 
-/// Adds a line for each indication of a bundle, which is for the user with this name.
+/// Appends a line for each indication of a bundle for the user with this name.
 pub fn push_bundle(
     alloc: Global,
     text: &mut String,
@@ -44,7 +44,7 @@ fn push_indication(alloc: Global, text: &mut String, said: &Indication) -> Resul
     push_operands(alloc, text, said)
 }
 
-// What an indication says behind its name.
+// Appends an indication's operands, which follow its name.
 fn push_operands(alloc: Global, text: &mut String, said: &Indication) -> Result<(), AllocError>
     ensures { OnOk result (string_bytes text.new
         ≡ string_bytes text.old ++ operands_text said.now) }
@@ -149,7 +149,7 @@ fn push_messages(alloc: Global, text: &mut String, messages: &Messages) -> Resul
     Ok(())
 }
 
-// Adds a number behind a space.
+// Appends a space and a number.
 fn push_value(text: &mut String, number: u64) -> Result<(), AllocError>
     ensures { OnOk result (string_bytes text.new ≡ string_bytes text.old ++ (codes " " ++ decimal number)) }
 {
@@ -157,7 +157,7 @@ fn push_value(text: &mut String, number: u64) -> Result<(), AllocError>
     write!(text, "{number}")
 }
 
-// Adds a word behind a space.
+// Appends a space and a word.
 fn push_word(text: &mut String, word: &str) -> Result<(), AllocError>
     ensures { OnOk result (string_bytes text.new ≡ string_bytes text.old ++ (codes " " ++ word.now)) }
 {
@@ -165,7 +165,7 @@ fn push_word(text: &mut String, word: &str) -> Result<(), AllocError>
     text.push_str(word)
 }
 
-// Octets in hex, or a dash for none.
+// Octets in hex, or a dash if there are none.
 fn hex_word(alloc: Global, octets: &Octets) -> Result<String, AllocError>
     ensures { IfOk result (λ word. string_bytes word ≡ hex_word octets.now) }
 {

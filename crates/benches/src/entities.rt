@@ -1,3 +1,3 @@
-//! An entity that threads share.
+//! A shared entity.
 pub(crate) mod datagrams;
 pub(crate) mod deliveries;

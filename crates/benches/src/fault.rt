@@ -1,4 +1,4 @@
-//! Why a scenario is not run to its end.
+//! Why a scenario does not run to its end.
 use cfdp_types::{HandlerNotAllowed, PutFault};
 use entity_config::ConfigFault;
 use pdu_codec::DecodeFault;
@@ -7,26 +7,26 @@ use std::io;
 use std::num::{ParseIntError, TryFromIntError};
 use txn_events::Refusal;
 
-/// Why a scenario is not run to its end.
+/// Why a scenario does not run to its end.
 #[derive(Clone, Copy, Debug)]
 pub(crate) enum Fault {
-    /// The program wants the name of a scenario and its numbers.
+    /// The program takes the name of a scenario and its numbers.
     Usage,
     /// Memory ran out.
     NoMemory,
-    /// The program's surroundings fail it.
+    /// A call of the system failed.
     Surroundings,
-    /// What a transaction or an entity goes by is refused.
+    /// The parameters of a transaction or an entity are refused.
     BadSetting,
-    /// A datagram is no PDU.
+    /// A datagram is not a PDU.
     Decode(DecodeFault),
     /// A core refuses an event.
     Refused(Refusal),
-    /// A transaction has ended before its events.
+    /// A transaction ended before all its events.
     Ended,
-    /// The file is whole, and is not given to the store.
+    /// The whole file was received, but not handed out to be stored.
     NotGiven,
-    /// A lane gave up on a full queue.
+    /// A lane gave up because its queue was full.
     NotSent,
     /// A datagram was not taken.
     NotTaken,

@@ -1,4 +1,4 @@
-//! Datagrams that go from one socket to another, as fast as two threads send and take them.
+//! Sends datagrams from one socket to another, as fast as two threads send and receive them.
 use crate::fault::Fault;
 use std::alloc::{AllocError, Global};
 use std::net::{Net, UdpSocket};
@@ -6,21 +6,21 @@ use std::thread;
 use std::thread::Threads;
 use std::time::Duration;
 
-/// How many datagrams go, and how many octets each has.
+/// How many datagrams are sent, and how many octets each has.
 #[derive(Clone, Copy)]
 pub(crate) struct Load {
     pub(crate) datagrams: u32,
     pub(crate) octets: u16,
 }
 
-// Each time that so many have come, the taking end says so. At most twice as many are under way, which a receive buffer of the
-// usual size holds: so none is lost.
+// The receiving end reports each time that this many have arrived. At most twice as many are on their way, which a
+// receive buffer of the usual size holds: so none is lost.
 const WINDOW: u32 = 32;
 
 // How many milliseconds an end waits for the other before it gives up.
 const PATIENCE_MS: u64 = 1_000;
 
-// Both ends, which send to each other.
+// Two sockets that send to each other.
 fn two_sockets<R: Net>(rt: &R) -> Result<(UdpSocket, UdpSocket), Fault> {
     let first = UdpSocket::bind(rt, "127.0.0.1:0")?;
     let second = UdpSocket::bind(rt, "127.0.0.1:0")?;
@@ -32,7 +32,7 @@ fn two_sockets<R: Net>(rt: &R) -> Result<(UdpSocket, UdpSocket), Fault> {
     Ok((first, second))
 }
 
-// A datagram of so many octets.
+// A datagram of this many octets.
 fn datagram(alloc: Global, octets: u16) -> Result<Vec<u8>, AllocError> {
     let mut datagram = Vec::with_capacity(alloc, octets as usize)?;
     for _ in 0..octets {
@@ -41,7 +41,7 @@ fn datagram(alloc: Global, octets: u16) -> Result<Vec<u8>, AllocError> {
     Ok(datagram)
 }
 
-// Sends so many datagrams, unless the other end falls silent.
+// Sends this many datagrams, unless the other end falls silent.
 fn send_all(socket: &UdpSocket, datagram: &[u8], count: u32) {
     let mut answer = [0u8];
     let mut room = 2 * WINDOW;
@@ -59,7 +59,7 @@ fn send_all(socket: &UdpSocket, datagram: &[u8], count: u32) {
     }
 }
 
-// Takes so many datagrams, unless the other end falls silent; how many came.
+// Receives this many datagrams, unless the other end falls silent; answers how many arrived.
 fn take_all(socket: &UdpSocket, buffer: &mut [u8], count: u32) -> u32 {
     for number in 0..count {
         if socket.recv(buffer).is_err() {
@@ -72,7 +72,7 @@ fn take_all(socket: &UdpSocket, buffer: &mut [u8], count: u32) -> u32 {
     count
 }
 
-/// Sends datagrams over loopback, and tells how many came.
+/// Sends datagrams over loopback; answers how many arrived.
 pub(crate) fn blast<R: Threads + Net>(rt: &R, alloc: Global, load: Load) -> Result<u64, Fault> {
     let (sending, taking) = two_sockets(rt)?;
     let sent = datagram(alloc, load.octets)?;

@@ -1,5 +1,5 @@
-//! Runs one scenario at a size that the caller names, or some of each kind at small sizes, and prints what came of it.
-//! `make bench` measures these runs.
+//! Runs one scenario at a size that the caller names, or some of each kind at small sizes, and prints the result. `make
+//! bench` measures these runs.
 #![tactic(auto)]
 
 mod cores;
@@ -21,10 +21,10 @@ use std::net::Net;
 use std::sync::Wait;
 use std::thread::Threads;
 
-/// What is run.
+/// The scenarios.
 #[derive(Clone, Copy)]
 enum Scenario {
-    /// A core takes a file.
+    /// A core receives a file.
     Receives(Coming),
     /// A core sends a file.
     SendsOnce,
@@ -34,17 +34,17 @@ enum Scenario {
     Times,
     /// Bundles go through a queue of one thread.
     Listed,
-    /// Threads put bundles into a queue, a lane each, and one takes.
+    /// Threads put bundles into a queue, one thread for each lane, and another takes them.
     Shared { lanes: usize },
-    /// Threads deliver to an entity, a lane each.
+    /// Threads deliver to an entity, each to its own lane.
     Deliveries,
-    /// Datagrams go over loopback.
+    /// Datagrams are sent over loopback.
     Blast,
 }
 
-/// A scenario and its numbers: the size of what a core takes or sends, or of the timers; or for how many bundles a queue has
-/// room, and how many go in through each lane; or how many threads deliver, and how many files each; or how many datagrams go,
-/// and how many octets each has.
+/// A scenario and its numbers: the size of the file that a core receives or sends, or of the timers' list; or the
+/// capacity of a queue in bundles, and how many bundles each lane puts in; or how many threads deliver, and how many
+/// files each; or how many datagrams are sent, and how many octets each has.
 #[derive(Clone, Copy)]
 struct Wanted {
     scenario: Scenario,
@@ -52,7 +52,7 @@ struct Wanted {
     second: u32,
 }
 
-// Some of each kind.
+// Some runs of each kind.
 const EACH: [Wanted; 4] = [
     Wanted {
         scenario: Scenario::Receives(Coming::EofFirst(Order::Mixed)),
@@ -86,7 +86,7 @@ fn main(rt: HostRuntime) -> Result<(), Fault> {
     Ok(())
 }
 
-// The scenario and the numbers that the program's arguments name, if they name any.
+// The scenario and the numbers that the program's arguments give, if they give any.
 fn read_words(rt: &HostRuntime) -> Result<Option<Wanted>, Fault> {
     let mut words = env::args(rt)?.skip(1);
     let Some(scenario) = words.next() else {
@@ -126,7 +126,7 @@ fn scenario_of(name: &str) -> Option<Scenario> {
     }
 }
 
-// Runs a scenario, and counts what it gave.
+// Runs a scenario, and answers its count.
 fn run<R: Threads + Wait + Net + AllocGlobal + Copy + Send + Sync>(
     rt: R,
     wanted: Wanted,

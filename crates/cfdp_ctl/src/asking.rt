@@ -6,13 +6,13 @@ use std::net::Net;
 use std::sync::Wait;
 use std::time::{Clock, Duration};
 
-// How many milliseconds a server may take to let the program in, and then to answer, where nobody says how long it is awaited:
-// less than five seconds in all.
+// How many milliseconds a server may take to let the program in, and then to answer, unless the command line says how
+// long to wait: less than five seconds in all.
 const ENTRY_MILLIS: u64 = 400;
 
 const PATIENCE_MILLIS: u64 = 4_400;
 
-/// A connected server, and how long it may take to answer.
+/// A connection to a server, and how long the server may take to answer.
 #[derive(Drop)]
 pub(crate) struct Line {
     pub(crate) station: Station,
@@ -20,7 +20,7 @@ pub(crate) struct Line {
 }
 
 impl Line {
-    /// Connects; where a server is awaited, for so many seconds.
+    /// Connects, and tries again for `awaited` seconds if that is given.
     pub(crate) fn open<R: Net + Clock + Wait>(
         rt: &R,
         alloc: Global,
@@ -52,7 +52,7 @@ impl Line {
         Ok(self.station.ask(rt, command, self.limit)?)
     }
 
-    /// The JSON of the next event; none where none comes within so many milliseconds.
+    /// The JSON of the next event; `None` if none comes within this many milliseconds.
     pub(crate) fn next_event<R: Clock + Wait>(
         &mut self,
         rt: &R,

@@ -9,13 +9,13 @@ use std::alloc::AllocError;
 pub(crate) enum CtlFault {
     /// The server doesn't answer.
     Station(StationFault),
-    /// The words of the command line aren't text.
+    /// The words of the command line aren't UTF-8.
     Words,
     /// Neither the command line nor the environment has the path of the control socket.
     NoPath,
-    /// The folder in which the program runs has no name that is text.
+    /// The folder in which the program runs has no name in UTF-8.
     NoFolder,
-    /// Nobody reads what is printed.
+    /// The output can't be written.
     Output,
     /// The standard input can't be read.
     Input,
@@ -24,7 +24,7 @@ pub(crate) enum CtlFault {
 }
 
 impl CtlFault {
-    /// What happened; nothing where nobody would read it.
+    /// The fault's text; nothing where nobody would read it.
     pub(crate) fn text(self) -> Option<&'static str> {
         match self {
             CtlFault::Station(fault) => Some(fault.text()),

@@ -1,4 +1,4 @@
-//! Events as they come.
+//! Prints events as they come.
 use crate::asking::{Line, first_line};
 use crate::fault::CtlFault;
 use crate::screen::Screen;
@@ -9,7 +9,7 @@ use std::io::Write;
 use std::sync::Wait;
 use std::time::Clock;
 
-// How many milliseconds one waits for an event before one waits again.
+// How many milliseconds one wait for an event lasts, before the next one.
 const TURN_MILLIS: u64 = 60_000;
 
 /// Prints events until the server goes away.
@@ -37,7 +37,7 @@ where
     Ok(0)
 }
 
-/// Asks the server to tell its events. Where it doesn't, its answer is printed. The exit status for the answer.
+/// Asks the server to send events. If it refuses, its answer is printed. Answers the exit status for that answer.
 pub(crate) fn ask_for_events<R, W, E>(
     rt: &R,
     alloc: Global,
@@ -57,7 +57,7 @@ where
     Ok(status)
 }
 
-// Prints an event by its JSON, if it is asked for.
+// Prints the JSON of an event, if the event is wanted.
 fn print_json<W: Write + Drop, E: Write + Drop>(
     alloc: Global,
     screen: &mut Screen<W, E>,
@@ -88,7 +88,7 @@ fn print_event<W: Write + Drop, E: Write + Drop>(
     screen.print_page(alloc, &page)
 }
 
-// Whether an event is about the user and the transaction that are asked for.
+// Whether an event is about the user and the transaction that the command line names.
 fn is_wanted(words: FollowWords<'_>, event: &Event) -> bool {
     is_of_user(words, event) && is_of_transaction(words, event)
 }

@@ -1,4 +1,4 @@
-//! Looks at the status and at the outbox.
+//! Shows the status and the outbox.
 use crate::asking::{Line, first_line};
 use crate::fault::CtlFault;
 use crate::screen::Screen;
@@ -10,7 +10,7 @@ use std::sync::Wait;
 use std::thread;
 use std::time::{Clock, Duration};
 
-/// Prints the status, once or again each second, and gives the exit status.
+/// Prints the status, once or each second, and answers the exit status.
 pub(crate) fn look<R, W, E>(
     rt: &R,
     alloc: Global,
@@ -74,7 +74,7 @@ fn print_status<W: Write + Drop, E: Write + Drop>(
     }
 }
 
-/// Prints the files that wait in the outbox, and gives the exit status.
+/// Prints the files that wait in the outbox, and answers the exit status.
 pub(crate) fn look_at_outbox<R, W, E>(
     rt: &R,
     alloc: Global,

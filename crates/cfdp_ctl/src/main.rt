@@ -19,7 +19,7 @@ use std::io;
 use std::io::IsTerminal;
 use std::process::ExitCode;
 
-// Does what the words of the command line say.
+// Does what the command line asks for.
 fn main(rt: HostRuntime) -> ExitCode {
     let is_terminal = rt.stdout().is_terminal();
     let shows_progress = rt.stderr().is_terminal();

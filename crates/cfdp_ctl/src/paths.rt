@@ -4,14 +4,14 @@ use std::alloc::{AllocError, Global};
 use std::env;
 use std::env::Env;
 
-/// The folder in which the program runs; empty where no path needs it.
+/// The folder in which the program runs; empty if no path is relative.
 #[derive(Drop)]
 pub(crate) struct Folder {
     path: String,
 }
 
 impl Folder {
-    /// The folder, where one of these paths begins there.
+    /// The folder in which the program runs, if one of these paths is relative.
     pub(crate) fn of<R: Env + AllocGlobal>(
         rt: &R,
         alloc: Global,
@@ -28,7 +28,7 @@ impl Folder {
     }
 }
 
-/// A path as the server finds the file, wherever it runs.
+/// The absolute path of a file, which the server finds wherever it runs.
 pub(crate) fn whole_path(alloc: Global, folder: &Folder, path: &str) -> Result<String, AllocError> {
     if path.starts_with('/') {
         return String::from_str(alloc, path);
@@ -37,7 +37,7 @@ pub(crate) fn whole_path(alloc: Global, folder: &Folder, path: &str) -> Result<S
     format!(in alloc; "{folder}/{path}")
 }
 
-/// The name of a file at the receiver: that behind the last slash of its path, in a folder there where one is given.
+/// A file's name at the receiver: the part of its path after the last slash, in the folder `into` if one is given.
 pub(crate) fn target_name(
     alloc: Global,
     into: Option<&str>,

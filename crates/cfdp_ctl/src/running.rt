@@ -1,4 +1,4 @@
-//! What the words of the command line ask for.
+//! Does what the command line asks for.
 use crate::asking::Line;
 use crate::fault::CtlFault;
 use crate::following::follow;
@@ -16,7 +16,7 @@ use std::rt::Files;
 use std::sync::Wait;
 use std::time::Clock;
 
-/// Does what the words of the command line say, and gives the exit status.
+/// Does what the command line asks for, and answers the exit status.
 pub(crate) fn run<R, W, E>(rt: &R, alloc: Global, screen: &mut Screen<W, E>) -> u8
 where
     R: Net + Clock + Wait + Env + Files + Input + AllocGlobal,
@@ -29,7 +29,7 @@ where
     }
 }
 
-// The words of the command line, of which the first is the program's own name.
+// The words of the command line; the first is the program's own name.
 fn words_given<R: Env + AllocGlobal>(rt: &R) -> Result<Vec<String>, CtlFault> {
     let mut words = Vec::new(rt.alloc());
     match env::args(rt) {
@@ -61,7 +61,7 @@ where
     }
 }
 
-// Tells a fault, and gives its exit status.
+// Reports a fault, and answers its exit status.
 fn told<W: Write + Drop, E: Write + Drop>(
     alloc: Global,
     screen: &mut Screen<W, E>,
@@ -75,7 +75,7 @@ fn told<W: Write + Drop, E: Write + Drop>(
     fault.status()
 }
 
-// Says why a command line isn't taken, or what it asks for.
+// Reports why a command line isn't taken, or prints what it asks for.
 fn words_status<W: Write + Drop, E: Write + Drop>(
     alloc: Global,
     screen: &mut Screen<W, E>,
@@ -92,7 +92,7 @@ fn words_status<W: Write + Drop, E: Write + Drop>(
     }
 }
 
-// Prints a text, and gives the exit status.
+// Prints a text, and answers the exit status.
 fn printed<W: Write + Drop, E: Write + Drop>(
     alloc: Global,
     screen: &mut Screen<W, E>,
@@ -104,7 +104,7 @@ fn printed<W: Write + Drop, E: Write + Drop>(
     }
 }
 
-// A variable of the environment, where it is set to a text that isn't empty.
+// A variable of the environment, if it is set to a text that isn't empty.
 fn variable<R: Env + AllocGlobal>(rt: &R, name: &str) -> Option<String> {
     match env::var(rt, name) {
         Ok(text) if !text.is_empty() => Some(text),
@@ -112,7 +112,7 @@ fn variable<R: Env + AllocGlobal>(rt: &R, name: &str) -> Option<String> {
     }
 }
 
-// How many columns the environment gives.
+// How many columns the environment asks for.
 fn columns_given<R: Env + AllocGlobal>(rt: &R) -> Option<usize> {
     let text = variable(rt, "COLUMNS")?;
     let columns = text.parse::<usize>().ok()?;
@@ -155,7 +155,7 @@ fn is_coloured<R: Env + AllocGlobal>(rt: &R, colour: Colour, is_terminal: bool) 
     }
 }
 
-// How many columns the command line or the environment gives.
+// How many columns the command line or the environment asks for.
 fn width_given<R: Env + AllocGlobal>(rt: &R, width: Option<u64>) -> Option<usize> {
     match width {
         Some(columns) => usize::try_from(columns).ok(),

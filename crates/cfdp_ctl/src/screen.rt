@@ -1,10 +1,10 @@
-//! What is printed, and where.
+//! What is printed, on the output and on the standard error.
 use crate::fault::CtlFault;
 use ctl_views::{Page, Tone};
 use std::alloc::{AllocError, Global};
 use std::io::Write;
 
-// How many columns a table has where nobody says so.
+// How many columns a table has by default.
 const COLUMNS: usize = 100;
 
 /// The outputs of the program.
@@ -16,7 +16,7 @@ pub(crate) struct Screen<W: Drop, E: Drop> {
     pub(crate) is_terminal: bool,
     /// Whether the standard error is a terminal, so that progress is shown there.
     pub(crate) shows_progress: bool,
-    // How many lines of progress stand there.
+    // How many lines of progress are shown now.
     standing: usize,
     /// Whether colours are printed.
     pub(crate) is_coloured: bool,
@@ -25,7 +25,7 @@ pub(crate) struct Screen<W: Drop, E: Drop> {
 }
 
 impl<W: Write + Drop, E: Write + Drop> Screen<W, E> {
-    /// Outputs that nothing was printed on.
+    /// Outputs on which nothing was printed yet.
     pub(crate) fn new(
         writer: W,
         errors: E,
@@ -51,7 +51,7 @@ impl<W: Write + Drop, E: Write + Drop> Screen<W, E> {
         Ok(())
     }
 
-    /// Prints lines that came: as they are, but on a terminal without what it would obey.
+    /// Prints lines that were received: as they are, but on a terminal without characters that it would obey.
     pub(crate) fn print_lines(&mut self, alloc: Global, lines: &[u8]) -> Result<(), CtlFault> {
         if !self.is_terminal {
             return self.print(lines);
@@ -61,7 +61,7 @@ impl<W: Write + Drop, E: Write + Drop> Screen<W, E> {
         self.print_page(alloc, &page)
     }
 
-    /// Prints a line that came, behind a word, as `print_lines` does.
+    /// Prints a line that was received, after a word, as `print_lines` does.
     pub(crate) fn print_line(
         &mut self,
         alloc: Global,
@@ -94,7 +94,7 @@ impl<W: Write + Drop, E: Write + Drop> Screen<W, E> {
         self.print(octets.as_slice())
     }
 
-    /// Shows lines of progress on the standard error, in place of those that stand there.
+    /// Shows lines of progress on the standard error, in place of those shown now.
     pub(crate) fn show_progress(
         &mut self,
         alloc: Global,
@@ -112,7 +112,7 @@ impl<W: Write + Drop, E: Write + Drop> Screen<W, E> {
         Ok(())
     }
 
-    /// Takes away the lines of progress that stand on the standard error.
+    /// Removes the lines of progress from the standard error.
     pub(crate) fn clear_progress(&mut self) {
         for _ in 0..self.standing {
             let _said = self.errors.write_all(b"\x1b[1A\x1b[2K");
@@ -120,14 +120,14 @@ impl<W: Write + Drop, E: Write + Drop> Screen<W, E> {
         self.standing = 0;
     }
 
-    /// Says one line on the standard error, whatever is in it. Where it can't be said, it is lost.
+    /// Prints one line on the standard error, whatever is in it. If that fails, the line is lost.
     pub(crate) fn complain_line(&mut self, alloc: Global, line: &str) {
         if let Ok(octets) = one_line(alloc, line) {
             let _said = self.errors.write_all(octets.as_slice());
         }
     }
 
-    /// Says lines on the standard error. Where they can't be said, they are lost.
+    /// Prints lines on the standard error. If that fails, they are lost.
     pub(crate) fn complain(&mut self, alloc: Global, lines: &str) {
         self.clear_progress();
         if let Ok(octets) = complaint(alloc, lines) {
@@ -136,7 +136,7 @@ impl<W: Write + Drop, E: Write + Drop> Screen<W, E> {
     }
 }
 
-// Lines as a page. The last needs no line feed.
+// Lines as a page. The last one needs no line feed.
 fn page_of(alloc: Global, text: &str) -> Result<Page, AllocError> {
     let mut page = Page::new(alloc);
     if text.is_empty() {
@@ -148,7 +148,7 @@ fn page_of(alloc: Global, text: &str) -> Result<Page, AllocError> {
     Ok(page)
 }
 
-// What is said on the standard error.
+// The octets of lines for the standard error.
 fn complaint(alloc: Global, lines: &str) -> Result<Vec<u8>, AllocError> {
     let mut octets = Vec::new(alloc);
     let page = page_of(alloc, lines)?;
@@ -156,7 +156,7 @@ fn complaint(alloc: Global, lines: &str) -> Result<Vec<u8>, AllocError> {
     Ok(octets)
 }
 
-// One line that is said on the standard error.
+// The octets of one line for the standard error.
 fn one_line(alloc: Global, line: &str) -> Result<Vec<u8>, AllocError> {
     let mut octets = Vec::new(alloc);
     let mut page = Page::new(alloc);

@@ -1,4 +1,4 @@
-//! Files for the outbox.
+//! Puts files in the outbox.
 use crate::asking::{Line, first_line};
 use crate::fault::CtlFault;
 use crate::following::ask_for_events;
@@ -16,7 +16,7 @@ use std::rt::Files;
 use std::sync::Wait;
 use std::time::Clock;
 
-/// Whether each path leads to a plain file; a line says of each other that it doesn't.
+/// Whether each path is a plain file; prints a line for each that isn't.
 pub(crate) fn are_files<R, W, E>(
     rt: &R,
     alloc: Global,
@@ -46,14 +46,14 @@ fn is_file<R: Files>(rt: &R, path: &str) -> bool {
     }
 }
 
-// Who sends, and the folder in which the program runs.
+// The user whose files are sent, and the folder in which the program runs.
 #[derive(Drop)]
 struct Origin {
     user: String,
     folder: Folder,
 }
 
-/// Gives files to the outbox and, where that is asked for, waits for their ends. The exit status.
+/// Puts files in the outbox and, if asked to, waits for their ends. Answers the exit status.
 pub(crate) fn send<R, W, E>(
     rt: &R,
     alloc: Global,
@@ -87,7 +87,8 @@ where
     Ok(send_status(all_taken, words.wait, all_arrived))
 }
 
-// The user who sends: the one of the words, or the only one that the server has. None where it has others; a line names them.
+// The user whose files are sent: the one that the command line names, or the server's only one. If it has several,
+// prints their names and answers `None`.
 fn user_of<R, W, E>(
     rt: &R,
     alloc: Global,
@@ -120,7 +121,7 @@ where
     Ok(None)
 }
 
-// The names of the users in a status.
+// The users' names in a status.
 fn users_in(alloc: Global, answer: &[u8]) -> Result<Vec<String>, AllocError> {
     let lines = String::from_utf8_lossy(alloc, answer)?;
     let mut names = Vec::new(alloc);
@@ -134,7 +135,7 @@ fn users_in(alloc: Global, answer: &[u8]) -> Result<Vec<String>, AllocError> {
     Ok(names)
 }
 
-// Gives each file to the outbox; whether the server took each.
+// Puts each file in the outbox; answers whether the server took all of them.
 fn queue_all<'a, R, W, E>(
     rt: &R,
     alloc: Global,
@@ -168,7 +169,7 @@ where
     Ok(all)
 }
 
-// The number in an answer `queued N`.
+// The number in an answer such as `queued 12`.
 fn number_of(line: &[u8]) -> Option<u64> {
     let text = str::from_utf8(line).ok()?;
     text.strip_prefix("queued ")?.parse::<u64>().ok()
@@ -198,7 +199,7 @@ fn complain_of<W: Write + Drop, E: Write + Drop>(
     Ok(())
 }
 
-// The command that gives a file to the outbox.
+// The command that puts a file in the outbox.
 fn command_for(
     alloc: Global,
     words: &SendWords<'_>,

@@ -1,4 +1,4 @@
-//! Files that were given to the outbox, and what became of them.
+//! Files that were put in the outbox, and what became of them.
 ghost use Rattle.std.specs.Prelude.{◌≡◌};
 ghost use Rattle.std.specs.List.{list_all};
 ghost use Rattle.cfdp_ctl.specs.Exits.{has_arrived, is_good_end, send_status};
@@ -12,7 +12,7 @@ use std::collections::BTreeMap;
 pub(crate) enum Fate {
     /// It waits for its turn.
     Queued,
-    /// It is under way.
+    /// It is being sent.
     UnderWay,
     /// It was taken out of the outbox, or can't be sent.
     Unsent,
@@ -20,28 +20,28 @@ pub(crate) enum Fate {
     Ended(End),
 }
 
-/// A file that was given to the outbox.
+/// A file that was put in the outbox.
 #[derive(Drop)]
 pub(crate) struct SentFile<'a> {
     pub(crate) path: &'a str,
     pub(crate) fate: Fate,
-    /// How many octets were sent, and how many there are.
+    /// How many octets were sent, and how many the file has.
     pub(crate) octets: u64,
     pub(crate) size: u64,
 }
 
-/// The files that were given to the outbox, found by their numbers there and by their transactions.
+/// The files that were put in the outbox, found by their numbers there and by their transactions.
 #[derive(Drop)]
 pub(crate) struct SentFiles<'a> {
     pub(crate) files: Vec<SentFile<'a>>,
     by_number: BTreeMap<u64, usize>,
     by_key: BTreeMap<(u64, u64), usize>,
-    /// How many have not ended.
+    /// How many files have not ended.
     pub(crate) open: usize,
 }
 
 impl<'a> SentFiles<'a> {
-    /// No file was given.
+    /// Without any file.
     pub(crate) fn new(alloc: Global) -> SentFiles<'a> {
         SentFiles {
             files: Vec::new(alloc),
@@ -51,7 +51,7 @@ impl<'a> SentFiles<'a> {
         }
     }
 
-    /// Adds a file that was queued under a number.
+    /// Adds a file that was put in the outbox under this number.
     pub(crate) fn add(&mut self, path: &'a str, number: u64) -> Result<(), AllocError> {
         let place = self.files.len();
         let file = SentFile {
@@ -67,7 +67,7 @@ impl<'a> SentFiles<'a> {
         Ok(())
     }
 
-    /// Takes an event; the place of the file that it ends, if it ends one.
+    /// Handles an event; answers the place of the file that it ends, if it ends one.
     pub(crate) fn take(&mut self, event: &Event) -> Result<Option<usize>, AllocError> {
         match event.step {
             Step::Started(number) => {
@@ -86,7 +86,7 @@ impl<'a> SentFiles<'a> {
         }
     }
 
-    /// Notes how far a transaction is.
+    /// Notes the progress of a transaction.
     pub(crate) fn note(&mut self, progress: Progress) {
         if let Some(place) = self.by_key.get(&(progress.source, progress.seq)).copied()
             && let Some(file) = self.files.get_mut(place)
@@ -104,7 +104,7 @@ impl<'a> SentFiles<'a> {
             .copied()
     }
 
-    // The file with a number is under way as a transaction.
+    // Notes that the file with this number is being sent by a transaction.
     fn start(&mut self, number: u64, transaction: Option<Transaction>) -> Result<(), AllocError> {
         let Some(transaction) = transaction else {
             return Ok(());
@@ -122,7 +122,7 @@ impl<'a> SentFiles<'a> {
         Ok(())
     }
 
-    // A file has ended; its place, where it had not ended before.
+    // Notes that a file has ended; answers its place, if it had not ended before.
     fn end(&mut self, place: Option<usize>, fate: Fate) -> Option<usize> {
         let place = place?;
         let file = self.files.get_mut(place)?;
@@ -135,8 +135,8 @@ impl<'a> SentFiles<'a> {
     }
 }
 
-/// The exit status for files that were sent: by whether the server took all of them, whether their ends were awaited, and
-/// whether all have arrived.
+/// The exit status for files that were sent, by whether the server took all of them, whether their ends were awaited,
+/// and whether all have arrived.
 pub(crate) fn send_status(all_taken: bool, is_awaited: bool, all_arrived: bool) -> u8
     ensures { result ≡ send_status all_taken is_awaited all_arrived }
 {
@@ -149,14 +149,14 @@ pub(crate) fn send_status(all_taken: bool, is_awaited: bool, all_arrived: bool) 
     }
 }
 
-/// Whether all files have arrived, as far as their sender can know.
+/// Whether all files have arrived, as far as the sender can know.
 pub(crate) fn have_arrived(is_reported: bool, files: &[SentFile<'_>]) -> bool
     ensures { result ≡ list_all (λ file. has_arrived is_reported file.fate) files.now }
 {
     files.iter().all(|file| has_arrived(is_reported, file.fate))
 }
 
-/// Whether a file has arrived, as far as its sender can know.
+/// Whether a file has arrived, as far as the sender can know.
 pub(crate) fn has_arrived(is_reported: bool, fate: Fate) -> bool
     ensures { result ≡ has_arrived is_reported fate }
 {
@@ -166,7 +166,7 @@ pub(crate) fn has_arrived(is_reported: bool, fate: Fate) -> bool
     }
 }
 
-// Whether an end is as good as it gets.
+// Whether an end is a success: the file is kept, or it is unreported and no report was asked for.
 fn is_good_end(is_reported: bool, end: End) -> bool
     ensures { result ≡ is_good_end is_reported end }
 {

@@ -1,4 +1,4 @@
-//! Commands, from the command line or from the standard input.
+//! Runs commands, from the command line or from the standard input.
 use crate::asking::{Line, first_line};
 use crate::fault::CtlFault;
 use crate::screen::Screen;
@@ -8,10 +8,10 @@ use std::io::{BufRead, BufReader, Read, Write};
 use std::sync::Wait;
 use std::time::Clock;
 
-// The most octets of a command that are read, with its line feed: one more than a server takes.
+// The most octets of a command that are read, line feed included: one more than a server takes.
 const COMMAND_OCTETS: u64 = 131_073;
 
-/// Sends a command, prints its answer, and gives the exit status for it.
+/// Sends a command, prints its answer, and answers the exit status.
 pub(crate) fn run_command<R, W, E>(
     rt: &R,
     alloc: Global,
@@ -29,7 +29,7 @@ where
     Ok(exit_status(outcome_of(first_line(answer.as_slice()))))
 }
 
-/// Sends the commands of the standard input, one after the other. The exit status is 0 where each was taken.
+/// Sends the commands of the standard input in order. The exit status is 0 if each was taken.
 pub(crate) fn run_input<R, W, E>(
     rt: &R,
     alloc: Global,
@@ -57,7 +57,7 @@ where
     Ok(worst)
 }
 
-// Reads a line in place of what `command` held, without its line feed. False at the end of the input.
+// Reads a line into `command`, in place of its content, without the line feed; false at the end of the input.
 fn read_command<B: BufRead>(reader: &mut B, command: &mut Vec<u8>) -> Result<bool, CtlFault> {
     command.clear();
     let read = reader.take(COMMAND_OCTETS).read_until(b'\n', command);
@@ -73,7 +73,7 @@ fn read_command<B: BufRead>(reader: &mut B, command: &mut Vec<u8>) -> Result<boo
     }
 }
 
-// Prints the events that came, where the server was asked to tell them.
+// Prints the events that came, if the server was asked to send them.
 fn print_events<R, W, E>(
     rt: &R,
     alloc: Global,

@@ -1,4 +1,4 @@
-//! Waiting for the ends of files.
+//! Waits for the ends of files.
 use crate::asking::Line;
 use crate::fault::CtlFault;
 use crate::screen::Screen;
@@ -9,10 +9,11 @@ use std::io::Write;
 use std::sync::Wait;
 use std::time::{Clock, Duration};
 
-// After how many milliseconds without an event the server is asked whether it is there, and how often progress is shown.
+// After how many milliseconds without an event the server is asked whether it still runs, and how often progress is
+// shown.
 const TURN_MILLIS: u64 = 500;
 
-// How many files have a line of progress at once.
+// How many files have a line of progress at the same time.
 const LINES: usize = 16;
 
 /// Waits until each file has ended, and prints a line for each end.
@@ -51,7 +52,7 @@ fn now<R: Clock>(rt: &R) -> Duration {
     rt.monotonic().unwrap_or(Duration::ZERO)
 }
 
-// Whether a turn has gone by since a moment.
+// Whether a turn has passed since a moment.
 fn is_due<R: Clock>(rt: &R, since: Duration) -> bool {
     now(rt).saturating_sub(since) >= Duration::from_millis(TURN_MILLIS)
 }
@@ -96,7 +97,7 @@ fn print_end<W: Write + Drop, E: Write + Drop>(
     screen.print_page(alloc, &page)
 }
 
-// What is said of a file that has ended.
+// The words for a file that has ended.
 fn end_words<'a>(is_reported: bool, fate: Fate, event: &'a Event) -> &'a str {
     match fate {
         Fate::Ended(End::Unreported) if !is_reported =>
@@ -105,7 +106,7 @@ fn end_words<'a>(is_reported: bool, fate: Fate, event: &'a Event) -> &'a str {
     }
 }
 
-// Asks the server how far the files are, and shows it on a terminal; elsewhere it asks only for a sign of life.
+// On a terminal, asks the server for the files' progress and shows it; elsewhere only asks whether it still runs.
 fn look<R, W, E>(
     rt: &R,
     alloc: Global,
@@ -129,7 +130,7 @@ where
     screen.show_progress(alloc, &page, count)
 }
 
-// Notes how far the files are by the lines of a status.
+// Notes the files' progress from the lines of a status.
 fn note_all(alloc: Global, files: &mut SentFiles<'_>, answer: &[u8]) -> Result<(), AllocError> {
     let lines = String::from_utf8_lossy(alloc, answer)?;
     for line in lines.as_str().split('\n') {
@@ -140,7 +141,7 @@ fn note_all(alloc: Global, files: &mut SentFiles<'_>, answer: &[u8]) -> Result<(
     Ok(())
 }
 
-// Adds a line for each file that is under way, and one for those that wait; how many lines these are.
+// Adds a line for each file that is being sent, and one for those that wait; answers how many lines these are.
 fn push_lines(alloc: Global, page: &mut Page, files: &[SentFile<'_>]) -> Result<usize, AllocError> {
     let mut count = 0usize;
     let mut others = 0usize;

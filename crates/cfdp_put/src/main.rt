@@ -7,7 +7,7 @@ use std::io;
 use std::io::IsTerminal;
 use std::process::ExitCode;
 
-// Puts the file that the words of the command line name. How far it is is shown where somebody may look at the standard error.
+// Puts the file that the command line names. If the standard error is a terminal, progress is shown there.
 fn main(rt: HostRuntime) -> ExitCode {
     let status = match line_of(&rt) {
         Ok(words) => {

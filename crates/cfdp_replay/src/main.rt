@@ -1,4 +1,4 @@
-//! Runs a script of PDUs, requests, timers, store answers and takes through one protocol entity, and prints what it
+//! Runs a script of PDUs, requests, timers, store answers and takes through one protocol entity, and prints its
 //! answers.
 #![tactic(auto)]
 
@@ -7,7 +7,7 @@ use std::io;
 use std::io::IsTerminal;
 use std::process::ExitCode;
 
-// Plays the standard input to the standard output: line by line where somebody may look at it.
+// Plays the standard input to the standard output, line by line if that is a terminal.
 fn main(rt: HostRuntime) -> ExitCode {
     let pace = if rt.stdout().is_terminal() {
         AnswerPace::ByLines

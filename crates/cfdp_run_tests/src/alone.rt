@@ -11,7 +11,7 @@ use std::thread::Threads;
 use std::time::Clock;
 use test_configs::{ENTITY_ONE, EntityText, REMOTE_TWO, RemoteText, text_of};
 
-// The entity that sends, whose timers run for a short time.
+// The entity that sends, with short timers.
 const SOON: EntityText<'static> = EntityText {
     remotes: &[RemoteText {
         timers_ms: 50,
@@ -21,13 +21,13 @@ const SOON: EntityText<'static> = EntityText {
     ..ENTITY_ONE
 };
 
-// What is shown of a file that nobody answers: a line that is written over, and one more below the indications so far.
+// The progress of a file that nobody answers: a line that is overwritten, and another one below the indications so far.
 const SHOWN: &str = "\r3 of 3 octets sent, the end is awaited
 \r3 of 3 octets sent, the end is awaited
 ";
 
-// Puts that nobody at the remote's address answers: in class 2 the file is not acknowledged, and in class 1 with closure nobody
-// says what became of it. The user's indications of each.
+// Puts that nobody at the remote's address answers: in class 2 the file is not acknowledged, and in class 1 with
+// closure no Finished PDU comes. Each with its user's indications.
 const UNANSWERED: [(&str, &str); 2] = [
     (
         "cfdp_put --config nobody --bind 127.0.0.1:0 --user alice --remote 2 --class 2 n b",
@@ -39,7 +39,7 @@ const UNANSWERED: [(&str, &str); 2] = [
     ),
 ];
 
-// Whether a put ends unanswered, shows that, and tells its user this.
+// Whether a put ends unanswered, shows that progress, and prints these indications.
 fn is_unanswered<R: Threads + Wait + Clock + Net + Files + AllocGlobal + Copy + Drop + Send + Sync>(
     rt: R,
     line: &[String],

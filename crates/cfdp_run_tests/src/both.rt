@@ -19,28 +19,28 @@ use test_pipes::{Pipes, free_ports};
 // How many bundles are taken at most.
 const TAKES: u32 = 100;
 
-// What is put: the command line, and the command that asks the server how far it is.
+// What is put: the command line, and the command that asks the server for its progress.
 #[derive(Drop)]
 struct Sent {
     line: Vec<String>,
     trace: &'static [u8],
 }
 
-// The exit status of a put, and its indications to the server's user, as the server printed them.
+// The exit status of a put, and the indications to the server's user, as the server printed them.
 #[derive(Drop)]
 struct Went {
     status: u8,
     told: String,
 }
 
-// The words of a command line, before which stands that of a program at a port.
+// The words of a command line that begins with a program at a port.
 fn line_at(alloc: Global, program: &str, port: u16, rest: &str) -> Result<Vec<String>, AllocError> {
     let mut line = String::new(alloc);
     write!(line, "{program} --bind 127.0.0.1:{port} {rest}")?;
     words(alloc, line.as_str())
 }
 
-// A configuration whose remote is at a port.
+// A configuration whose remote entity is at a port.
 fn config_at(
     alloc: Global,
     entity: EntityText,
@@ -55,7 +55,7 @@ fn config_at(
     text_of(alloc, &entity)
 }
 
-// What is put from a port, and the command that asks how far it is.
+// What is put from a port, with the command that asks for its progress.
 fn sent_at(alloc: Global, port: u16, rest: &str, trace: &'static [u8]) -> Result<Sent, AllocError> {
     Ok(Sent {
         line: line_at(alloc, "cfdp_put", port, rest)?,
@@ -63,7 +63,7 @@ fn sent_at(alloc: Global, port: u16, rest: &str, trace: &'static [u8]) -> Result
     })
 }
 
-// All that waits in the queue of the server's user.
+// All bundles that wait for the server's user.
 fn take_all<R: Wait + Clock>(rt: &R, alloc: Global, pipes: &Pipes) -> Option<String> {
     let mut told = String::new(alloc);
     for _ in 0..TAKES {
@@ -77,7 +77,7 @@ fn take_all<R: Wait + Clock>(rt: &R, alloc: Global, pipes: &Pipes) -> Option<Str
     None
 }
 
-// Runs the server; the exit status.
+// Runs the server; answers the exit status.
 fn run_server<
     R: Threads + Wait + Clock + Net + Files + AllocGlobal + Copy + Drop + Send + Sync,
     F: FileReader + Sync,
@@ -96,8 +96,8 @@ fn run_server<
     status
 }
 
-// Runs the program that puts, once the server answers and so listens, and then asks the server until the transaction has
-// ended there.
+// Runs the program that puts, once the server answers and so listens, and then asks the server until the transaction
+// has ended there.
 fn put_and_ask<R: Threads + Wait + Clock + Net + Files + AllocGlobal + Copy + Drop + Send + Sync>(
     rt: &R,
     alloc: Global,
@@ -116,7 +116,7 @@ fn put_and_ask<R: Threads + Wait + Clock + Net + Files + AllocGlobal + Copy + Dr
     Some(Went { status, told })
 }
 
-// Puts one after the other, each as soon as the one before has ended at both ends, and then the server is to end.
+// Makes the Puts in order, each as soon as the one before has ended at both ends, and then tells the server to end.
 fn put_each<R: Threads + Wait + Clock + Net + Files + AllocGlobal + Copy + Drop + Send + Sync>(
     rt: &R,
     alloc: Global,
@@ -141,15 +141,15 @@ const ENDS: [(u8, &str); 3] = [
     (0, "alice 1 12 Transaction-Finished 0 complete retained\n"),
 ];
 
-// Whether each put went as it should.
+// Whether each put ended as expected.
 fn went_so(went: &[Went]) -> bool {
     went.len() == ENDS.len()
         && went.iter().zip(ENDS).all(|(one, (status, end))| one.status == status
             && one.told.as_str().ends_with(end))
 }
 
-// A file in class 2, of which both ends tell a complete delivery; one in class 1, of which the sender never hears how it came;
-// and one in class 1 with closure, of which it does.
+// A file in class 2, whose complete delivery both ends report; one in class 1, whose sender is not notified of its
+// delivery; and one in class 1 with closure, whose sender is.
 #[test]
 fn both_ends(rt: HostRuntime) -> Result<(), Fail> {
     let alloc: Global = rt.alloc();

@@ -12,13 +12,13 @@ use std::thread::Threads;
 use std::time::Clock;
 use test_configs::{EntityText, REFERENCE, REMOTE_ONE, RemoteText, text_of};
 
-// The reference, with the other end where nobody is.
+// The reference, with a remote entity at an address where nobody listens.
 const NOBODY: [RemoteText<'static>; 1] = [RemoteText {
     port: 9,
     ..REMOTE_ONE
 }];
 
-/// The text of the entity of number 2, for whose users so many bundles wait at the most.
+/// The text of entity 2's configuration, with room for `capacity` bundles for each user.
 pub(crate) fn config_of(alloc: Global, capacity: u16) -> Result<String, AllocError> {
     let entity = EntityText {
         capacity,
@@ -30,7 +30,7 @@ pub(crate) fn config_of(alloc: Global, capacity: u16) -> Result<String, AllocErr
 
 const START: &str = "cfdp_server --config commands --bind 127.0.0.1:0 --folder .";
 
-// Lines of commands, and what is answered.
+// Lines of commands, and their answers.
 const COMMANDS: [(&str, &str); 12] = [
     (
         "report alice 1 5\ntake alice\ntrace 1 5\nbogus\nquit\n",
@@ -57,7 +57,7 @@ const COMMANDS: [(&str, &str); 12] = [
         "ok\ntxn 2 4\nalice 2 4 Transaction\nrefused 1 NoTransaction\nrefused 2 OldTransaction\nrefused 24 NotYours\n",
     ),
     ("quit\ntake alice\n", ""),
-    // files are under way, and nobody answers them
+    // files are being sent, and nobody answers them
     ("put alice 0 2 1 s b\nquit\ntake alice\n", "ok\ntxn 2 4\n"),
     (
         "put alice 0 2 1 s b\nput bob 1 1 1 s b",
@@ -65,7 +65,7 @@ const COMMANDS: [(&str, &str); 12] = [
     ),
 ];
 
-// Whether a server answers these lines so, and ends well.
+// Whether a server gives these answers to these lines, and ends well.
 fn is_answered<
     R: Threads + Wait + Net + Clock + Files + AllocGlobal + Copy + Drop + Send + Sync,
     F: FileReader + Sync,

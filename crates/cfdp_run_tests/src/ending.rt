@@ -1,4 +1,4 @@
-//! A server that is to end while a received file waits to be stored.
+//! A server that has to end while a received file waits to be stored.
 use crate::commands::config_of;
 use crate::lines::words;
 use cfdp_serve::serve;
@@ -13,24 +13,24 @@ use std::time::{Clock, Duration};
 use std::{fs, thread};
 use test_pipes::{Pipes, free_ports};
 
-// A file of one part in class 1, named `b` here: its Metadata, the part, and the EOF.
+// A file of one segment in class 1, named `b` here: its Metadata, the segment, and the EOF.
 const PDUS: [&[u8]; 3] = [
     b"\x24\x00\x0a\x00\x01\x05\x02\x07\x00\x00\x00\x00\x03\x01a\x01b",
     b"\x34\x00\x07\x00\x01\x05\x02\x00\x00\x00\x00abc",
     b"\x24\x00\x0a\x00\x01\x05\x02\x04\x00abc\x00\x00\x00\x00\x03",
 ];
 
-// All three came, and its end was not indicated.
+// All three have arrived, and the end is not indicated.
 const TRACE: &[u8] = b"trace 1 5\n";
 
 const OPEN: &str = "trace 3 open";
 
-// How often the folder is looked at, and the pause behind each time.
+// How often the folder is checked, and the pause after each time.
 const LOOKS: u32 = 20_000;
 
 const PAUSE_MICROSECONDS: u64 = 500;
 
-// Runs the server; the exit status.
+// Runs the server; answers the exit status.
 fn run_server<
     R: Threads + Wait + Clock + Net + Files + AllocGlobal + Copy + Drop + Send + Sync,
     F: FileReader + Sync,
@@ -49,7 +49,7 @@ fn run_server<
     status
 }
 
-// Sends the file to a server that answers, and so listens, and waits until all of it came.
+// Sends the file to a server that answers, and so listens, and waits until all of it has arrived.
 fn deliver<R: Wait + Clock>(
     rt: &R,
     alloc: Global,
@@ -62,7 +62,7 @@ fn deliver<R: Wait + Clock>(
         && pipes.ask_until(rt, alloc, TRACE, OPEN)
 }
 
-// Waits until a file has these octets; whether it has.
+// Waits until a file has these octets; answers whether it has.
 fn await_file<R: Files + Clock + AllocGlobal>(rt: &R, path: &str, octets: &[u8]) -> bool {
     for _ in 0..LOOKS {
         if fs::read(rt, path).is_ok_and(|found| found.as_slice() == octets) {
@@ -74,7 +74,7 @@ fn await_file<R: Files + Clock + AllocGlobal>(rt: &R, path: &str, octets: &[u8])
 }
 
 // A user's queue is full, so the end of a file that is in the folder can't be indicated, and is tried again and again:
-// the server ends all the same.
+// the server ends nevertheless.
 #[test]
 fn quit_before_an_end_is_told(rt: HostRuntime) -> Result<(), Fail> {
     let alloc: Global = rt.alloc();

@@ -1,4 +1,4 @@
-//! The words of command lines.
+//! Splits command lines into words.
 use std::alloc::{AllocError, Global};
 
 /// The words of a command line, with one space between them.

@@ -1,11 +1,11 @@
-//! What the program ends with, by the indications of its user.
+//! The exit status, by the indications of the user.
 ghost use Rattle.std.specs.Prelude.{◌≡◌};
 ghost use Rattle.cfdp_send.specs.Ended.{end_status, status_in, status_of};
 
 use cfdp_types::{Condition, Delivery, TxnKey};
 use indications::{Bundle, Indication};
 
-/// The exit status where a bundle tells the end of a transaction: 0 where the receiver has the whole file, and 2 otherwise.
+/// The exit status if a bundle ends the transaction: 0 if the receiver has the whole file, and 2 otherwise.
 pub(crate) fn status_of(bundle: &Bundle, key: TxnKey) -> Option<u8>
     ensures { result ≡ status_of bundle.now key }
 {
@@ -16,7 +16,7 @@ pub(crate) fn status_of(bundle: &Bundle, key: TxnKey) -> Option<u8>
     }
 }
 
-// The exit status by the first of these indications that tells an end.
+// The exit status by the first of these indications that ends a transaction.
 fn status_in(told: &[Indication]) -> Option<u8>
     ensures { result ≡ status_in told.now }
 {
@@ -29,7 +29,7 @@ fn status_in(told: &[Indication]) -> Option<u8>
     }
 }
 
-// The exit status by one indication, if it tells an end.
+// The exit status by one indication, if it ends a transaction.
 fn end_status(told: &Indication) -> Option<u8>
     ensures { result ≡ end_status told.now }
 {

@@ -1,4 +1,4 @@
-//! The entity of a run, over queues that bear the run's name.
+//! The entity of a run, with queues under the run's name.
 ghost use Rattle.shared_entity.specs.Opening.{AreQueuesFor};
 
 use crate::outputs::Outputs;
@@ -17,7 +17,7 @@ use std::thread::Threads;
 use std::time::Clock;
 use user_queues::Queues;
 
-/// Opens an entity with its queues, and puts.
+/// Opens an entity with its queues, and puts the file.
 pub(crate) fn put_named<
     R: Threads + Wait + Clock + Files + Copy + Drop + Send + Sync,
     W: Write + Drop,

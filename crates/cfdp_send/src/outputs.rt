@@ -1,4 +1,4 @@
-//! What the program prints while it works: the indications of its user, and how far the file is.
+//! What the program prints while it works: its user's indications, and its progress.
 ghost use Rattle.std.specs.Prelude.{◌≡◌, ◌++◌, OnOk};
 ghost use Rattle.std.specs.String.{string_bytes};
 ghost use Rattle.cfdp_send.specs.Progress.{awaited_text, percent_of, progress_text};
@@ -7,13 +7,13 @@ use program_start::{ProgramFault, print};
 use std::alloc::{AllocError, Global};
 use std::io::Write;
 
-/// Where a run prints its user's indications, and, where that is wanted, a line of how far the file is. That line is
-/// written over until something else is to be printed.
+/// Where a run prints its user's indications and, if wanted, a line of progress, which is overwritten until something
+/// else is printed.
 #[derive(Drop)]
 pub struct Outputs<W: Drop, P: Drop> {
     writer: W,
     progress: Option<P>,
-    /// The whole percent that the line of progress shows, while it stands.
+    /// The whole percent that the line of progress shows, while there is one.
     shown: Option<u64>,
 }
 
@@ -35,8 +35,8 @@ impl<W: Write + Drop, P: Write + Drop> Outputs<W, P> {
         print(&mut self.writer, text)
     }
 
-    /// Shows how far a file of so many octets was sent, where no line shows that percent of it. Where the line can't be
-    /// printed, no other is.
+    /// Shows how much of a file of `size` octets was sent, unless the line shows that percent already. If the line
+    /// can't be printed, no other is tried.
     pub(crate) fn show(&mut self, alloc: Global, reach: u64, size: u64) {
         let Some(progress) = &mut self.progress else {
             return;
@@ -55,7 +55,7 @@ impl<W: Write + Drop, P: Write + Drop> Outputs<W, P> {
         }
     }
 
-    /// Ends the line of progress, if one stands.
+    /// Ends the line of progress, if there is one.
     pub(crate) fn end_line(&mut self) {
         if self.shown.take().is_none() {
             return;
@@ -66,7 +66,7 @@ impl<W: Write + Drop, P: Write + Drop> Outputs<W, P> {
     }
 }
 
-// The whole percents of a file that were sent.
+// How much of a file was sent, in whole percent.
 fn percent_of(reach: u64, size: u64) -> u64
     ensures { result ≡ percent_of reach size }
 {
@@ -77,14 +77,14 @@ fn percent_of(reach: u64, size: u64) -> u64
     }
 }
 
-// Adds the line of how far a file is.
+// Adds the line of progress.
 fn push_progress(text: &mut String, reach: u64, size: u64) -> Result<(), AllocError>
     ensures { OnOk result (string_bytes text.new ≡ string_bytes text.old ++ progress_text reach size) }
 {
     write!(text, "\r{reach} of {size} octets sent")
 }
 
-// Adds what is awaited, once all of a file was sent.
+// Adds that the end is awaited, once the whole file was sent.
 fn push_awaited(text: &mut String, reach: u64, size: u64) -> Result<(), AllocError>
     ensures { OnOk result (string_bytes text.new ≡ string_bytes text.old ++ awaited_text reach size) }
 {

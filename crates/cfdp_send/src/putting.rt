@@ -1,4 +1,4 @@
-//! How the program starts.
+//! Starts the program.
 use crate::named::put_named;
 use crate::outputs::Outputs;
 use crate::threads::Wanted;
@@ -23,9 +23,9 @@ use std::thread::Threads;
 use std::time::Clock;
 
 /// Puts one file from its user's first lane by the command line, whose first word is the program's own name. Prints the
-/// user's indications to the outputs until the transaction has ended. The result is the exit status: 0 where the
-/// receiver has the whole file, 2 after another end, and 1 where the program ended too early, which `errors` tells.
-/// Where a person reads `errors`, a second line there explains the fault, as after a check of the configuration.
+/// user's indications until the transaction has ended. Answers the exit status: 0 if the receiver has the whole file, 2
+/// after another end, and 1 if the program ended too early, which is reported to `errors`. With `explains`, for a
+/// person who reads `errors`, a second line there explains the fault, as after a check of the configuration.
 pub fn put_one<
     R: Threads + Wait + Net + Clock + Files + AllocGlobal + Copy + Drop + Send + Sync,
     W: Write + Drop,
@@ -51,7 +51,7 @@ pub fn put_one<
     }
 }
 
-// Reads the configuration alone.
+// Checks only the configuration.
 fn check<R: Files, W: Write + Drop, P: Write + Drop>(
     rt: &R,
     alloc: Global,
@@ -69,7 +69,7 @@ fn check<R: Files, W: Write + Drop, P: Write + Drop>(
     }
 }
 
-// Prints the help or the version, where a line asks for it.
+// Prints the help or the version, if the line asks for it.
 fn tell_about<W: Write + Drop, P: Write + Drop>(
     outputs: &mut Outputs<W, P>,
     fault: WordsFault,
@@ -82,7 +82,7 @@ fn tell_about<W: Write + Drop, P: Write + Drop>(
     Ok(0)
 }
 
-// Prints what a fault means, where there is memory for it.
+// Explains a fault, if there is memory for that.
 fn explain<R: Net + Files, E: Write>(
     rt: &R,
     alloc: Global,
@@ -96,7 +96,7 @@ fn explain<R: Net + Files, E: Write>(
     }
 }
 
-// Adds what a fault of a command line means.
+// Adds the explanation of a fault.
 fn push_meaning<R: Net + Files>(
     rt: &R,
     alloc: Global,
@@ -120,7 +120,7 @@ fn push_meaning<R: Net + Files>(
     }
 }
 
-// Adds which word of a line is wrong.
+// Adds which word of the command line is wrong.
 fn push_usage<R: Files>(
     rt: &R,
     alloc: Global,
@@ -138,7 +138,7 @@ fn push_usage<R: Files>(
     writeln!(text, "`cfdp_put --help` has the options")
 }
 
-// Adds which word of a line that can be read doesn't fit the configuration.
+// Adds which word of a command line that is right in itself doesn't fit the configuration.
 fn push_unfit<R: Files>(
     rt: &R,
     alloc: Global,
@@ -157,7 +157,7 @@ fn push_unfit<R: Files>(
     }
 }
 
-// What a check speaks of.
+// The path that explanations of a check mention.
 fn started_with(config: &str) -> Started<'_> {
     Started {
         config,
@@ -168,7 +168,7 @@ fn started_with(config: &str) -> Started<'_> {
     }
 }
 
-// What a put was started with.
+// The paths and addresses that explanations of a put mention.
 fn started_by<'a>(words: &PutWords<'a>) -> Started<'a> {
     Started {
         config: words.config,
@@ -179,13 +179,13 @@ fn started_by<'a>(words: &PutWords<'a>) -> Started<'a> {
     }
 }
 
-/// Prints why the words of the command line can't be had; the result is the exit status.
+/// Reports why the command line has no words; answers the exit status.
 pub fn tell_words_fault<E: Write>(alloc: Global, errors: &mut E, fault: WordsFault) -> u8 {
     tell_fault(alloc, errors, "cfdp_put", &fault_of(fault));
     1
 }
 
-// The fault of a program whose words have one.
+// The program's fault for a fault of its words.
 fn fault_of(fault: WordsFault) -> ProgramFault {
     match fault {
         WordsFault::NoMemory => ProgramFault::NoMemory,
@@ -213,7 +213,7 @@ fn start<
     }
 }
 
-// The configuration, with the first number that the words give where they give one.
+// The configuration, with the first number from the command line if it gives one.
 fn config_by<R: Files>(
     rt: &R,
     alloc: Global,
@@ -228,7 +228,7 @@ fn config_by<R: Files>(
     Ok(config)
 }
 
-// What is put, and by whom: the user is looked for first, and then the file.
+// What is put, and by whom: the user is looked up first, and then the file is read.
 fn wanted_by<R: Files>(
     rt: &R,
     alloc: Global,

@@ -1,7 +1,7 @@
 use entity_workers::{Filestore, StoreFault};
 use program_station::Preparing;
 
-/// A store that keeps nothing: who sends a file here hears that it was rejected.
+/// A store that keeps nothing: an entity that sends a file here is notified that it was rejected.
 #[derive(Debug, Drop)]
 pub(crate) struct RefusingStore {
     pub(crate) refused: u64,

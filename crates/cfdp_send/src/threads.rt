@@ -1,4 +1,4 @@
-//! The main thread of the program, which works in turns, beside the threads of each program.
+//! The main thread of the program, which works in turns, beside the other threads.
 use crate::ended::status_of;
 use crate::outputs::Outputs;
 use crate::refusing::RefusingStore;
@@ -26,40 +26,40 @@ use user_queues::UserPort;
 // How many steps may wait for the main thread.
 const STEPS: usize = 1_024;
 
-// How long the main thread sleeps at most, in milliseconds.
+// How many milliseconds the main thread sleeps at most.
 const LONGEST_SLEEP_MS: u64 = 60_000;
 
-/// What is put, by which user, how fast its octets may leave, and whose answers are heard.
+/// What is put, by which user, how fast its octets may be sent, and whose datagrams are taken.
 #[derive(Drop)]
 pub(crate) struct Wanted {
     pub(crate) user: usize,
     pub(crate) put: PutRequest,
     pub(crate) octets_a_second: Option<u64>,
     pub(crate) sources: Sources,
-    /// The file of its number, where there is one.
+    /// The file of transaction numbers, if there is one.
     pub(crate) numbers: Option<HeldNumbers>,
 }
 
-// What the main thread has.
+// The state of the main thread.
 #[derive(Drop)]
 struct Putter<'a, N: Names, R: Copy, W: Drop, P: Drop> {
     rt: &'a R,
     alloc: Global,
     desk: &'a Desk,
-    /// The steps that are to be noted, the last one first.
+    /// The steps that have yet to be noted, the last one first.
     steps: Vec<Step>,
     station: Station<'a, N, R, RefusingStore>,
     numbers: Option<HeldNumbers>,
     ports: Vec<UserPort>,
     user: usize,
-    /// What is put, until it is.
+    /// The request, until it was made.
     put: Option<PutRequest>,
-    /// How many octets its file has.
+    /// How many octets the file has.
     size: u64,
     outputs: Outputs<W, P>,
 }
 
-/// Puts over an opened entity and its socket until the transaction has ended; the exit status then.
+/// Puts a file with an open entity and its socket, and runs until the transaction has ended; answers the exit status.
 pub(crate) fn put_over<
     N: Names + Send + Sync,
     R: Threads + Wait + Clock + Files + Copy + Drop + Send + Sync,
@@ -81,8 +81,9 @@ pub(crate) fn put_over<
     )
 }
 
-// Puts at a desk, all of whose room is made; so is that of the threads before the first one starts. The worker has the main
-// thread look at each step within a millisecond, since that alone takes what the user receives.
+// Puts a file with a desk whose memory is reserved; that of the threads is, too, before the first one starts. The
+// worker has the main thread handle each step within a millisecond, since only that thread takes the user's
+// indications.
 fn put_at<
     'x,
     N: Names + Send + Sync,
@@ -157,7 +158,7 @@ fn putter_over<'x, N: Names, R: Wait + Clock + Copy, W: Drop, P: Drop>(
 
 impl<'a, N: Names, R: Wait + Clock + Files + Copy, W: Write + Drop, P: Write + Drop> MainThread
     for Putter<'a, N, R, W, P> {
-    /// Puts, and works until the transaction has ended.
+    /// Makes the Put, and works until the transaction has ended.
     fn work(self) -> Result<u8, ProgramFault> {
         let mut putter = self;
         let ended = put_and_work(&mut putter);
@@ -201,7 +202,7 @@ fn put_and_work<N: Names, R: Wait + Clock + Files + Copy, W: Write + Drop, P: Wr
 }
 
 impl<'a, N: Names, R: Wait + Clock + Files + Copy, W: Drop, P: Drop> Putter<'a, N, R, W, P> {
-    // Asks the entity for the Put.
+    // Passes the Put to the entity.
     fn begin(&mut self) -> Result<TxnKey, ProgramFault> {
         let entity = self.station.entity();
         self.station.reserve()?;
@@ -229,8 +230,8 @@ impl<'a, N: Names, R: Wait + Clock + Files + Copy, W: Drop, P: Drop> Putter<'a, 
         }
     }
 
-    // Takes the bundle at the front of the user's queue, if there is one, and adds its lines; the exit status where it tells
-    // the end of the transaction.
+    // Takes the bundle at the front of the user's queue, if there is one, and adds its lines; answers the exit status
+    // if it ends the transaction.
     fn take_one(&mut self, key: TxnKey, text: &mut String) -> Result<Option<u8>, ProgramFault> {
         let config = self.station.entity().config();
         let name = config.name_of(self.user).unwrap_or("");

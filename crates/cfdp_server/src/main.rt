@@ -1,4 +1,4 @@
-//! Receives and sends files by CFDP over UDP, as one entity, and does what lines of commands on the standard input say.
+//! Receives and sends files by CFDP over UDP, as one entity, and carries out lines of commands from the standard input.
 #![tactic(auto)]
 
 use cfdp_serve::{serve, tell_words_fault};
@@ -8,7 +8,8 @@ use std::io;
 use std::io::IsTerminal;
 use std::process::ExitCode;
 
-// Serves by the words of the command line. Where somebody may look at the standard error, it explains why the server ended too early.
+// Serves as the command line says. If the standard error is a terminal, it explains there why the server ended too
+// early.
 fn main(rt: HostRuntime) -> ExitCode {
     let status = match line_of(&rt) {
         Ok(words) => serve(

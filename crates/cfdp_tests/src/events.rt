@@ -58,7 +58,7 @@ fn copies() -> Result<bool, AllocError> {
     Ok(answered(&copy) == Some((5, 3, true)))
 }
 
-// Of which transaction a deposit is answered, with which stamp, and whether it is kept.
+// The transaction and the stamp of the deposit that an event answers, and whether the file is kept.
 fn answered(event: &Event) -> Option<(u64, u32, bool)> {
     match event {
         Event::On(key, What::Stored(stamp, is_kept)) => Some((key.seq, *stamp, *is_kept)),
@@ -108,7 +108,7 @@ const BEFORE: Stamps = Stamps {
     ..Stamps::NONE
 };
 
-// Ack is armed, Nak stops, Check runs on and Inactivity did not run.
+// The Ack timer is armed, Nak stops, Check runs on and Inactivity did not run.
 const CHANGES: TimerChanges = TimerChanges {
     ack: TimerChange::Arms,
     nak: TimerChange::Stops,

@@ -6,7 +6,7 @@ fn run(start: u32, end: u32) -> Run {
     Run { start, end }
 }
 
-// A set of some ranges.
+// The set of these ranges.
 fn set_of(alloc: Global, ranges: &[Run]) -> Result<Gaps, AllocError> {
     let mut gaps = Gaps::new(alloc);
     for range in ranges {
@@ -15,13 +15,13 @@ fn set_of(alloc: Global, ranges: &[Run]) -> Result<Gaps, AllocError> {
     Ok(gaps)
 }
 
-// Whether a range adds just these runs.
+// Whether adding a range reports exactly these runs as new.
 fn adds(gaps: &mut Gaps, start: u32, end: u32, new: &[Run]) -> Result<bool, AllocError> {
     let found = gaps.cover(start, end.max(start))?;
     Ok(found.as_slice() == new)
 }
 
-// Whether just these runs are missing below a limit.
+// Whether exactly these runs are missing below a limit.
 fn lacks(gaps: &Gaps, limit: u32, runs: &[Run]) -> Result<bool, AllocError> {
     let missing = gaps.missing(limit)?;
     Ok(missing.as_slice() == runs)
@@ -51,13 +51,13 @@ fn parts_in_room(alloc: Global) -> Result<bool, AllocError> {
     )
 }
 
-// Whether a range would add just these runs.
+// Whether adding a range would report exactly these runs as new.
 fn would_add(gaps: &Gaps, start: u32, end: u32, new: &[Run]) -> Result<bool, AllocError> {
     let found = gaps.new_within(start, end)?;
     Ok(found.as_slice() == new)
 }
 
-// Whether these are the first so many runs that are missing below 12.
+// Whether these are the first `count` runs that are missing below 12.
 fn lacks_first(gaps: &Gaps, count: usize, runs: &[Run]) -> Result<bool, AllocError> {
     let missing = gaps.missing_first(12, count)?;
     Ok(missing.as_slice() == runs)
@@ -73,7 +73,7 @@ fn first_runs(alloc: Global) -> Result<bool, AllocError> {
     )
 }
 
-// Moves to a set with more room, where there is one.
+// Moves to a set with more room, if there is one.
 fn moved(gaps: &mut Gaps, count: usize) -> Result<bool, AllocError> {
     let spare = gaps.spare(count)?;
     let is_spare = spare.is_some();
@@ -90,7 +90,7 @@ fn spare_room(alloc: Global) -> Result<bool, AllocError> {
     )
 }
 
-// What is missing below 20 where a range is thought of as added, and the first of it.
+// The runs that would be missing below 20 if a range were added, and the first of them.
 fn range_that_is_not_added(alloc: Global) -> Result<bool, AllocError> {
     let gaps = set_of(alloc, &[run(0, 4), run(8, 12)])?;
     let missing = gaps.missing_first_with(5, 10, 20, 9)?;

@@ -1,5 +1,5 @@
-//! The public calls of the crates that hold types, numbers, sets, words, timers, configurations, stores and scripts: each
-//! as its callers see it.
+//! The public calls of the crates with types, numbers, sets, words, timers, configurations, stores and scripts, as
+//! their callers see them.
 #![tactic(auto)]
 
 #[cfg(test)]

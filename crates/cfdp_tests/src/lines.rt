@@ -6,8 +6,8 @@ use std::io;
 use std::io::{BufRead, Error, ErrorKind, Read, Write};
 use std::test::*;
 
-// A reader that says so, mostly that it was interrupted, some times in a row before each read, and fails in place of its end
-// where it is broken.
+// A reader that answers with an error of this kind, mostly an interruption, some times in a row before each read, and
+// fails instead of ending where it is broken.
 #[derive(Drop)]
 struct SlowReader<'a> {
     kind: ErrorKind,
@@ -31,8 +31,8 @@ impl Read for SlowReader<'_> {
     }
 }
 
-// A writer that says so, mostly that it was interrupted, some times in a row before each write, takes nothing at first for some
-// writes, then two octets at a time, and nothing once it is full.
+// A writer that answers with an error of this kind, mostly an interruption, some times in a row before each write,
+// takes nothing in its first writes, then two octets at a time, and nothing once it is full.
 #[derive(Drop)]
 struct SlowWriter {
     kind: ErrorKind,
@@ -65,7 +65,7 @@ impl Write for SlowWriter {
     }
 }
 
-// Whether a reader has these lines, and this comes behind them.
+// Whether a reader has these lines, and then this ending.
 fn has_lines<B: BufRead>(
     alloc: Global,
     reader: &mut B,
@@ -112,7 +112,7 @@ fn interrupted_reads(rt: HostRuntime) -> Result<(), Fail> {
     Ok(())
 }
 
-// Each block of a line may be interrupted so often.
+// Reading each block of a line may be interrupted so often.
 #[test]
 fn interrupted_blocks(rt: HostRuntime) -> Result<(), Fail> {
     let text = vec![in rt.alloc(); b'x'; BLOCK_OCTETS + 1]?;
@@ -129,7 +129,7 @@ fn broken_reads(rt: HostRuntime) -> Result<(), Fail> {
     Ok(())
 }
 
-// A reader that failed is not asked again, though it would go on.
+// A reader that failed is not asked again, though it would continue.
 #[test]
 fn read_that_fails_once(rt: HostRuntime) -> Result<(), Fail> {
     let mut reader = slow(1, false, b"ab\n");
@@ -139,7 +139,7 @@ fn read_that_fails_once(rt: HostRuntime) -> Result<(), Fail> {
     Ok(())
 }
 
-// Whether a text of one line gives this.
+// Whether reading a text of one line gives this.
 fn gives<B: BufRead>(alloc: Global, reader: &mut B, expected: NextLine) -> bool {
     let mut line = Vec::new(alloc);
     next_line(reader, &mut line) == Ok(expected)
@@ -172,7 +172,7 @@ fn long_lines(rt: HostRuntime) -> Result<(), Fail> {
     Ok(())
 }
 
-// A writer with so much room, which says this so often before each write, and takes nothing for so many writes.
+// A writer with this much room, which gives this error so often before each write, and takes nothing for `idle` writes.
 fn writer_with(alloc: Global, kind: ErrorKind, times: u32, idle: u32, room: usize) -> SlowWriter {
     SlowWriter {
         kind,
@@ -184,7 +184,7 @@ fn writer_with(alloc: Global, kind: ErrorKind, times: u32, idle: u32, room: usiz
     }
 }
 
-// Whether this comes of writing a text.
+// Whether writing a text ends like this.
 fn writes_so(writer: &mut SlowWriter, expected: Result<(), ReplayFault>, taken: &[u8]) -> bool {
     write_whole(writer, b"hello") == expected && writer.taken.as_slice() == taken
 }
@@ -209,8 +209,8 @@ fn writes(rt: HostRuntime) {
     }
 }
 
-// Whether the writer gets this at the end of a run, this is written beside it, and this is the exit status. Both
-// writers take two octets at a time.
+// Whether these are the answers, the errors and the exit status at the end of a run. Both writers take two octets at a
+// time.
 fn ends_so(
     alloc: Global,
     ended: Result<(), ReplayFault>,

@@ -32,7 +32,7 @@ fn numbers(rt: HostRuntime) {
     assert!(rt; StoreFault::BadName.number() == 1 && StoreFault::Failed.number() == 2);
 }
 
-// An empty folder of a test's own.
+// An empty folder for one test.
 fn new_folder<R: Files + AllocGlobal>(rt: &R, name: &str) -> Result<String, Fail> {
     let folder = format!(in rt.alloc(); "/tmp/file_stores_{name}")?;
     let _ = fs::remove_dir_all(rt, folder.as_str());
@@ -49,7 +49,7 @@ fn new_store<R: Files + AllocGlobal + Clone + Drop>(
     Ok(FolderStore::new(rt.clone()?, folder))
 }
 
-// Whether a folder has so many files.
+// Whether a folder has this many files.
 fn has_count<R: Files + AllocGlobal + Clone + Drop>(
     rt: &R,
     folder: &str,
@@ -63,7 +63,7 @@ fn has_count<R: Files + AllocGlobal + Clone + Drop>(
     Ok(count == expected)
 }
 
-// Writes a file beside the store.
+// Writes a file to the folder, without the store.
 fn write<R: Files + AllocGlobal>(
     rt: &R,
     folder: &str,
@@ -86,7 +86,7 @@ fn has_file<R: Files + AllocGlobal>(
     Ok(fs::read(rt, path.as_str())?.as_slice() == octets)
 }
 
-// Gives a store a file, and reads it in the store's folder.
+// Gives a store a file, and checks it in the store's folder.
 fn keeps<R: Files + AllocGlobal, S: Files + AllocGlobal + Drop>(
     rt: &R,
     store: &mut FolderStore<S>,
@@ -94,14 +94,14 @@ fn keeps<R: Files + AllocGlobal, S: Files + AllocGlobal + Drop>(
     name: &str,
     octets: &[u8],
 ) -> Result<bool, Fail> {
-    // a deposit asks that its call can be counted
+    // a deposit requires that its call can be counted
     if store.calls() >= 4 || store.deposit(name.as_bytes(), octets).is_err() {
         return Ok(false);
     }
     has_file(rt, folder, name, octets)
 }
 
-// A name that is there is replaced whole.
+// An existing file is replaced as a whole.
 fn replaces<R: Files + AllocGlobal, S: Files + AllocGlobal + Drop>(
     rt: &R,
     store: &mut FolderStore<S>,
@@ -114,7 +114,7 @@ fn replaces<R: Files + AllocGlobal, S: Files + AllocGlobal + Drop>(
     )
 }
 
-// A part that an earlier run left is in nobody's way.
+// A part that an earlier run left does no harm.
 fn keeps_files<R: Files + AllocGlobal + Clone + Drop>(rt: &R, folder: &str) -> Result<bool, Fail> {
     let mut store = new_store(rt, folder)?;
     write(rt, folder, ".part-1", b"left")?;
@@ -146,7 +146,7 @@ fn refuses<S: Files + AllocGlobal + Drop>(store: &mut FolderStore<S>) -> bool {
     store.failures() == 7
 }
 
-// Nothing is left of them in the folder.
+// Nothing of them is left in the folder.
 #[test]
 fn bad_names(rt: HostRuntime) -> Result<(), Fail> {
     let folder = new_folder(&rt, "names")?;
@@ -156,7 +156,7 @@ fn bad_names(rt: HostRuntime) -> Result<(), Fail> {
     Ok(())
 }
 
-// The names of parts are free for files: the fourth deposit's part would have this one.
+// A file may have the name of a part: the fourth deposit's part would have this one.
 fn keeps_odd<R: Files + AllocGlobal + Clone + Drop>(rt: &R, folder: &str) -> Result<bool, Fail> {
     let mut store = new_store(rt, folder)?;
     Ok(
@@ -186,7 +186,7 @@ fn fails<R: Files + AllocGlobal + Clone + Drop>(rt: &R, folder: &str) -> Result<
     )
 }
 
-// A folder that is gone, one that is a file, and one that nobody may write into.
+// A folder that was removed, one that is a file, and one without permission to write.
 #[test]
 fn folders_that_keep_nothing(rt: HostRuntime) -> Result<(), Fail> {
     let folder = new_folder(&rt, "gone")?;
@@ -197,7 +197,7 @@ fn folders_that_keep_nothing(rt: HostRuntime) -> Result<(), Fail> {
     Ok(())
 }
 
-// A file can't take the place of a folder: the file that was written beside it goes away again.
+// A file can't replace a folder: the part that was written next to it is removed again.
 #[test]
 fn place_of_a_folder(rt: HostRuntime) -> Result<(), Fail> {
     let folder = new_folder(&rt, "place")?;

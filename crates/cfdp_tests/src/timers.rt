@@ -36,22 +36,22 @@ fn armed(seq: u64, stamp: u32, deadline: u64) -> Armed {
     }
 }
 
-// What is done to a list, and what it answers. Transaction 5 has the one timer, a NAK timer.
+// A call of a list, and its expected answer. Transaction 5 has the only timer, a NAK timer.
 #[derive(Clone, Copy)]
 enum Step {
-    // Armed at a moment: its stamp and its length.
+    // Armed at a moment, with a stamp and an interval.
     Arms(u64, u32, u32),
-    // By a step with this stamp.
+    // Disarmed by a step with this stamp.
     Disarms(u32),
-    // At a moment none is due.
+    // At this moment no timer is due.
     NoneDue(u64),
-    // At a moment it is due: its stamp and its deadline.
+    // At this moment the timer is due, with its stamp and its deadline.
     Due(u64, u32, u64),
-    // It is put back, with its stamp and its deadline; whether the list takes it.
+    // Put back, with its stamp and its deadline; whether the list takes it.
     PutBack(u32, u64, bool),
 }
 
-// Does it, and tells whether the answer is as expected.
+// Makes the call; answers whether the answer is as expected.
 fn is_done(timers: &mut TimerList, step: Step) -> Result<bool, AllocError> {
     match step {
         Step::Arms(now, stamp, ms) => {
@@ -70,7 +70,7 @@ fn is_done(timers: &mut TimerList, step: Step) -> Result<bool, AllocError> {
     }
 }
 
-// Each with what it is about.
+// Each script with its title.
 const SCRIPTS: &[(&str, &[Step])] = &[
     (
         "taken out and put back",
@@ -107,7 +107,7 @@ const SCRIPTS: &[(&str, &[Step])] = &[
     ),
 ];
 
-// Whether one step after the other is done.
+// Whether all steps answer as expected, in order.
 fn are_done(alloc: Global, steps: &[Step]) -> Result<bool, AllocError> {
     let mut timers = TimerList::new(alloc);
     for step in steps {

@@ -32,7 +32,7 @@ fn are_codes(codes: &[(Condition, u8)]) -> bool {
     true
 }
 
-// What is made of numbers, and their numbers.
+// Values that are made from numbers, and their numbers.
 fn are_made_of_numbers() -> bool {
     Condition::new(7) == Condition::NAK_LIMIT
         && ChecksumType::new(15) == ChecksumType::NULL
@@ -98,7 +98,7 @@ const PAIRS: [(Condition, Handler); 3] = [
     (Condition::NAK_LIMIT, Handler::Abandon),
 ];
 
-// The last pair counts, and where there is none, Cancel.
+// The last pair for a condition counts; without a pair the handler is Cancel.
 fn has_last_pairs(table: FaultTable) -> bool {
     table.action(Condition::NAK_LIMIT) == Handler::Abandon
         && table.action(Condition::INACTIVITY) == Handler::Ignore
@@ -106,7 +106,7 @@ fn has_last_pairs(table: FaultTable) -> bool {
         && table.action(Condition::NO_ERROR) == Handler::Cancel
 }
 
-// Whether the table is of that role, and has the handler that was put in.
+// Whether the table is for that role, and has the handler that was set.
 fn has_suspend(table: FaultTable) -> bool {
     table.action(Condition::CHECK_LIMIT) == Handler::Suspend && table.role() == Role::RecvTwo
 }

@@ -3,7 +3,7 @@ use ind_words::{Indication, NotAWord, Side, WordReader};
 use std::process::Abort;
 use std::test::*;
 
-// What an indication tells.
+// An indication, in short.
 #[derive(Clone, Copy)]
 enum Told {
     Transaction,
@@ -39,7 +39,7 @@ fn indication(told: Told) -> Indication {
     }
 }
 
-// Gives a reader indications, each with whether it takes it, and sees whether it is at an end.
+// Gives a reader indications, each with whether the reader takes it, and checks whether it is at an end.
 fn read<R: Abort>(rt: &R, reader: &mut WordReader, all: &[(Told, bool)], is_end: bool) {
     for (place, (told, is_taken)) in all.iter().enumerate() {
         let answer = reader.next(&indication(*told));
@@ -76,7 +76,7 @@ fn receiver_with_room_for_three_segments(rt: HostRuntime) -> Result<(), Fail> {
     Ok(())
 }
 
-// Behind the Metadata.
+// The indications after the Metadata.
 const WHOLE_FILE: &[(Told, bool)] = &[
     (Told::Segment(8, 4), true),
     (Told::EofRecv, true),

@@ -1,4 +1,4 @@
-//! A console in the browser: what a server's control socket says, over HTTP.
+//! A console in the browser, which serves a server's control socket over HTTP.
 #![tactic(auto)]
 
 mod names;
@@ -21,13 +21,13 @@ use std::time::Clock;
 use web_console::{Watch, run_console};
 use web_pages::Settings;
 
-// The status of a fault of the program.
+// The exit status after a fault of the program.
 const FAULT: u8 = 1;
 
-// The status of a command line that is none of the program's.
+// The exit status after a command line that the program doesn't take.
 const USAGE: u8 = 2;
 
-// Serves by the words of the command line.
+// Serves as the command line says.
 fn main(rt: HostRuntime) -> ExitCode {
     let mut output = io::writer(&rt);
     let mut errors = rt.stderr();
@@ -76,7 +76,7 @@ fn serve<
     fail(errors, "start fault")
 }
 
-// Prints where the console is, and the token if it was made up.
+// Prints the console's address, and its token if that is a new one.
 fn greet<W: Write>(output: &mut W, words: &Words<'_>, token: &Option<Vec<u8>>) -> io::Result<()> {
     writeln!(output, "cfdp_web: http://{}/", words.listen)?;
     if words.token_file.is_none()
@@ -89,13 +89,13 @@ fn greet<W: Write>(output: &mut W, words: &Words<'_>, token: &Option<Vec<u8>>) -
     output.flush()
 }
 
-// Prints why the program ends.
+// Prints why the program ends; answers the exit status.
 fn fail<E: Write>(errors: &mut E, why: &str) -> u8 {
     let _said = writeln!(errors, "cfdp_web: {why}");
     FAULT
 }
 
-// Prints what is asked for, or why nothing is served.
+// Prints the help or the version if asked for it, or why nothing is served.
 fn say_instead<W: Write, E: Write>(fault: WordsFault, output: &mut W, errors: &mut E) -> u8 {
     match fault {
         WordsFault::Help => {

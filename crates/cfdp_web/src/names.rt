@@ -3,7 +3,7 @@ use crate::words::Words;
 use std::alloc::{AllocError, Global};
 use web_pages::Names;
 
-/// The address at which it listens, and the name that the command line gives, or else `localhost` with the port.
+/// The address where the console listens, and the name from the command line, or else `localhost` with the port.
 pub(crate) fn names_of(alloc: Global, words: &Words<'_>) -> Result<Names, AllocError> {
     let first = Vec::from_slice(alloc, words.listen.as_bytes())?;
     let second = match words.name {

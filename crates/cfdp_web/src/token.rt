@@ -1,4 +1,4 @@
-//! The token that commands have to bring.
+//! The token that a browser has to send with a command.
 use crate::words::Words;
 use std::alloc::{AllocError, Global};
 use std::fs::File;
@@ -13,13 +13,13 @@ const RANDOM_OCTETS: usize = 16;
 // The most octets of a token.
 const TOKEN_OCTETS: usize = 4096;
 
-// How many octets of its file are read: those of the longest token, and of the end of its line.
+// How many octets of the token's file are read: enough for the longest token and the end of its line.
 const FILE_OCTETS: u64 = 4098;
 
 // The digits of a token.
 const DIGITS: [u8; 16] = *b"0123456789abcdef";
 
-/// The token: none where no commands are taken, the first line of its file where one is given, and else a new one.
+/// The token: `None` if no commands are taken, the first line of its file if one is given, and else a new one.
 pub(crate) fn token_for<R: Files + RandomSource + AllocGlobal>(
     rt: &R,
     words: &Words<'_>,
@@ -33,7 +33,7 @@ pub(crate) fn token_for<R: Files + RandomSource + AllocGlobal>(
     }
 }
 
-// The first line of a file. An empty one is no token, nor is one that is too long.
+// The first line of a file. An empty or too long line is not a token.
 fn read_token<R: Files>(rt: &R, alloc: Global, path: &str) -> io::Result<Vec<u8>> {
     let mut text = Vec::new(alloc);
     File::open(rt, path)?
@@ -49,7 +49,7 @@ fn read_token<R: Files>(rt: &R, alloc: Global, path: &str) -> io::Result<Vec<u8>
     }
 }
 
-// All before the first line feed, without the carriage return that may stand before it.
+// The text before the first line feed, without a carriage return at its end.
 fn first_line(text: &[u8]) -> &[u8] {
     let line = match text.iter().position(|octet| *octet == b'\n') {
         Some(at) => &text[..at],

@@ -5,25 +5,25 @@ use std::alloc::{AllocError, Global};
 use std::env::Env;
 use std::{env, io};
 
-/// Where the console listens unless the command line says otherwise.
+/// The console's address unless the command line gives another.
 const LISTEN: &str = "127.0.0.1:4580";
 
-/// What the console is started with.
+/// What the command line asks for.
 #[derive(Clone, Copy, Debug)]
 pub(crate) struct Words<'a> {
     /// The path of the station's control socket.
     pub(crate) control: &'a str,
-    /// The address that the console listens at: `A.B.C.D:PORT`.
+    /// The console's address: `A.B.C.D:PORT`.
     pub(crate) listen: &'a str,
-    /// A second name with the port by which browsers reach it.
+    /// A second name, with a port, by which browsers reach the console.
     pub(crate) name: Option<&'a str>,
     /// Whether commands are taken.
     pub(crate) commands: bool,
-    /// The file that has the token.
+    /// The path of the file with the token.
     pub(crate) token_file: Option<&'a str>,
 }
 
-/// Why there is nothing to start with.
+/// Why a command line doesn't start the console.
 #[derive(Clone, Copy, Debug, PartialEq, Eq)]
 pub(crate) enum WordsFault {
     Usage,
@@ -50,14 +50,14 @@ The page is at http://ADDR/. Programs find /status.json, /events, /metrics and /
 ended. Status 1: a fault of the program. 2: the command line is wrong.
 ";
 
-/// What is printed where the command line is wrong.
+/// What is printed if the command line is wrong.
 pub(crate) const USAGE_LINE: &str =
     "cfdp_web: usage: cfdp_web --control PATH [--listen ADDR] [--name HOST:PORT] [--commands] [--token-file FILE]\n";
 
 /// What `--version` prints.
 pub(crate) const VERSION: &str = "cfdp_web 0.1\n";
 
-/// The words of the command line, of which the first is the program's own name.
+/// The words of the command line; the first is the program's own name.
 pub(crate) fn line_of<R: Env + AllocGlobal>(rt: &R) -> Result<Vec<String>, WordsFault> {
     let mut words = Vec::new(rt.alloc());
     match env::args(rt) {
@@ -74,7 +74,7 @@ pub(crate) fn line_of<R: Env + AllocGlobal>(rt: &R) -> Result<Vec<String>, Words
     }
 }
 
-/// What a command line says; its first word is the program's own name.
+/// Parses a command line; its first word is the program's own name.
 pub(crate) fn words_of<'a>(alloc: Global, line: &'a [String]) -> Result<Words<'a>, WordsFault> {
     match command(alloc) {
         Ok(command) => match command.try_get_matches_from(line) {
@@ -106,7 +106,7 @@ fn valued<'a>(alloc: Global, name: &'static str) -> Arg<'a> {
     Arg::new(alloc, name).long(name).action(ArgAction::Set)
 }
 
-// What the matches of a command line say.
+// The words that the matches of a command line give.
 fn words_in<'a>(matches: &ArgMatches<'a>) -> Option<Words<'a>> {
     let words = Words {
         control: matches.get_str("control")?,
@@ -121,7 +121,7 @@ fn words_in<'a>(matches: &ArgMatches<'a>) -> Option<Words<'a>> {
     Some(words)
 }
 
-// Why a command line is not taken.
+// The fault for an error of the parser.
 fn fault_of(error: &Error) -> WordsFault {
     match error.kind() {
         ErrorKind::OutOfMemory => WordsFault::NoMemory,

@@ -3,11 +3,11 @@ use Rattle.std.specs.Prelude.{◌≡◌, ◌≢◌, ℕ, List, take, codes}
 use Rattle.ctl_views.specs.declared.outcomes.Outcome.{Outcome}
 use Rattle.ctl_views.specs.declared.outcomes.Outcome.TheVariants as outcomes
 
--- a line says that a command was refused
+-- a line reports that a command was refused
 abbrev pub SaysRefused : List ℕ → Type 0
 SaysRefused line = take 8 line ≡ codes "refused "
 
--- what each outcome is answered by
+-- the first line of the answer for each outcome
 abbrev pub IsOutcome : Outcome → List ℕ → Type 0
 IsOutcome outcomes.BadCommand line = line ≡ codes "bad command"
 IsOutcome outcomes.ReadFault line = line ≡ codes "read fault"
@@ -16,7 +16,7 @@ IsOutcome outcomes.Refused line = SaysRefused line
 IsOutcome outcomes.Taken line =
     (line ≢ codes "bad command") × (line ≢ codes "read fault") × (line ≢ codes "numbers fault") × ¬ SaysRefused line
 
--- 0 where a command was taken, and else 3
+-- 0 if a command was taken, and else 3
 abbrev pub exit_status : Outcome → ℕ
 exit_status outcomes.Taken = 0
 exit_status outcomes.Refused = 3

@@ -21,11 +21,11 @@ tone_end tones.Good = 27 ∷ codes "[0m"
 tone_end tones.Bad = 27 ∷ codes "[0m"
 tone_end tones.Faint = 27 ∷ codes "[0m"
 
--- a piece in UTF-8, between the sequences of its tone where colours are asked for
+-- a piece in UTF-8, between the sequences of its tone if colours are asked for
 abbrev pub piece_octets : Bool → Piece → List ℕ
 piece_octets is_coloured piece = let text = flat_map encode_utf8 piece.text in
     if is_coloured then tone_start piece.tone ++ text ++ tone_end piece.tone else text
 
--- the pieces, one after the other
+-- the pieces in order
 abbrev pub page_octets : Bool → List Piece → List ℕ
 page_octets is_coloured pieces = flat_map (piece_octets is_coloured) pieces

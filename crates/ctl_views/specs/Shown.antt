@@ -1,4 +1,4 @@
--- Meaning. Which characters a terminal shows, and what stands for the others.
+-- Meaning. Which characters a terminal shows, and what replaces the others.
 use Rattle.std.specs.Prelude.{ℕ, Bool, List, [], ◌∷◌, ◌++◌, ◌+◌, ◌/◌, ◌%◌, ◌&&◌, ◌||◌, ◌==◌, nat_le, nat_lt, not, if◌then◌else◌}
 use Rattle.std.specs.Char.{is_control}
 
@@ -6,7 +6,8 @@ use Rattle.std.specs.Char.{is_control}
 abbrev pub is_between : ℕ → ℕ → ℕ → Bool
 is_between least most number = nat_le least number && nat_le number most
 
--- a mark of Unicode's general punctuation: it has no width, or turns the direction of the text round it, or ends a line
+-- a mark of Unicode's general punctuation: it has no width, or turns the direction of the text around it, or ends a
+-- line
 abbrev pub is_punctuation_mark : ℕ → Bool
 is_punctuation_mark code = is_between 0x200b 0x200f code || is_between 0x2028 0x202e code || is_between 0x2060 0x206f code
 
@@ -20,8 +21,8 @@ abbrev pub is_high_mark : ℕ → Bool
 is_high_mark code = is_between 0xfe00 0xfe0f code || code == 0xfeff || code == 0xffa0 || is_between 0xfff0 0xfffb code
     || is_between 0x1bca0 0x1bca3 code || is_between 0x1d173 0x1d17a code || is_between 0xe0000 0xe0fff code
 
--- a mark that a terminal hides, or that turns the direction of the text round it: what Unicode lets a display ignore, and
--- the separators of lines
+-- a mark that a terminal hides, or that turns the direction of the text around it: those that Unicode lets a display
+-- ignore, and the separators of lines
 abbrev pub is_mark : ℕ → Bool
 is_mark code = is_punctuation_mark code || is_script_mark code || is_high_mark code
 
@@ -29,23 +30,23 @@ is_mark code = is_punctuation_mark code || is_script_mark code || is_high_mark c
 abbrev pub is_hidden : ℕ → Bool
 is_hidden code = is_control code || is_mark code
 
--- a character that may stand in what is printed: one that a terminal shows, or a line feed
+-- a character that may be printed: one that a terminal shows, or a line feed
 abbrev pub is_visible : ℕ → Bool
 is_visible code = code == 10 || not (is_hidden code)
 
--- the digit of a number below sixteen
+-- the hex digit of a number below sixteen
 abbrev pub hex_digit : ℕ → ℕ
 hex_digit number = if nat_lt number 10 then 48 + number else 87 + number
 
--- the two digits of a number below 256
+-- the two hex digits of a number below 256
 abbrev pub hex_pair : ℕ → List ℕ
 hex_pair number = hex_digit (number / 16) ∷ hex_digit (number % 16) ∷ []
 
--- what stands for a hidden character: a backslash, and its code in hex
+-- the replacement of a hidden character: a backslash, and its code in hex
 abbrev pub escape : ℕ → List ℕ
 escape code = if nat_lt code 256 then 92 ∷ 120 ∷ hex_pair code
     else 92 ∷ 117 ∷ hex_pair (code / 65536) ++ hex_pair (code / 256 % 256) ++ hex_pair (code % 256)
 
--- what is printed of a character
+-- a character as it is printed
 abbrev pub shown : ℕ → List ℕ
 shown code = if is_hidden code then escape code else code ∷ []

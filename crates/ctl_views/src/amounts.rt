@@ -1,4 +1,4 @@
-//! Amounts as people read them.
+//! Amounts in a form for people.
 ghost use Rattle.std.specs.Prelude.{◌≡◌};
 ghost use Rattle.ctl_views.specs.Amounts.{percent};
 
@@ -19,7 +19,7 @@ pub(crate) fn push_octets(text: &mut String, octets: u64) -> Result<(), AllocErr
     }
 }
 
-// Adds an amount in a unit, cut to a tenth.
+// Adds an amount in a unit, rounded down to a tenth.
 fn push_tenths(text: &mut String, octets: u64, unit: u64, name: &str) -> Result<(), AllocError> {
     let Some(whole) = octets.checked_div(unit) else {
         return Ok(());
@@ -30,7 +30,7 @@ fn push_tenths(text: &mut String, octets: u64, unit: u64, name: &str) -> Result<
     write!(text, "{whole}.{tenth} {name}")
 }
 
-/// Adds the octets a second; a dash where they aren't known.
+/// Adds a rate in octets a second; a dash if it isn't known.
 pub(crate) fn push_rate(text: &mut String, rate: Option<u64>) -> Result<(), AllocError> {
     match rate {
         Some(octets) => {
@@ -52,7 +52,7 @@ pub(crate) fn push_age(text: &mut String, milliseconds: u64) -> Result<(), Alloc
     write!(text, "{amount} {unit}")
 }
 
-// An amount of seconds in a unit that is not too small.
+// A number of seconds in its largest suitable unit.
 fn age_of(seconds: u64) -> (u64, &'static str) {
     if seconds < 120 {
         (seconds, "s")
@@ -65,7 +65,7 @@ fn age_of(seconds: u64) -> (u64, &'static str) {
     }
 }
 
-/// Adds how far a file is: a bar, the whole percents, and the octets.
+/// Adds a file's progress: a bar, the whole percent, and the octets.
 pub fn push_progress(text: &mut String, octets: u64, size: u64) -> Result<(), AllocError> {
     let percent = percent_of(octets, size);
     push_bar(text, percent)?;
@@ -75,7 +75,7 @@ pub fn push_progress(text: &mut String, octets: u64, size: u64) -> Result<(), Al
     push_octets(text, size)
 }
 
-/// The whole percents of a file that are there: 100 of an empty one, and never more.
+/// How much of a file is there, in whole percent: 100 of an empty file, and never more.
 pub(crate) fn percent_of(octets: u64, size: u64) -> u64
     ensures { result ≡ percent octets size }
 {

@@ -6,40 +6,40 @@ use crate::parts::Part::{
     Text, Words,
 };
 
-/// A column of a table: its head, and what its cells are made of.
+/// A column of a table: its head, and the parts of its cells.
 #[derive(Clone, Copy)]
 pub(crate) enum Column {
-    /// Words, at the left.
+    /// Words, aligned left.
     Left(&'static str, &'static [Part]),
-    /// Numbers, at the right.
+    /// Numbers, aligned right.
     Right(&'static str, &'static [Part]),
 }
 
 impl Column {
-    /// Its head.
+    /// The column's head.
     pub(crate) fn head(&self) -> &'static str {
         match self {
             Left(head, _) | Right(head, _) => head,
         }
     }
 
-    /// What its cells are made of.
+    /// The parts of the column's cells.
     pub(crate) fn parts(&self) -> &'static [Part] {
         match self {
             Left(_, parts) | Right(_, parts) => parts,
         }
     }
 
-    /// Whether its cells stand at the right.
+    /// Whether the column's cells are aligned right.
     pub(crate) fn is_right(&self) -> bool {
         matches!(self, Right(_, _))
     }
 }
 
-/// What a table has a row for.
+/// The lines for which a table has a row.
 #[derive(Clone, Copy)]
 pub(crate) enum Rows<'a> {
-    /// Each line of this kind, but for transactions that have ended.
+    /// Each line of this kind, except transactions that have ended.
     Of(&'a str),
     /// Each transaction that has ended.
     Ended,
@@ -49,11 +49,11 @@ pub(crate) enum Rows<'a> {
 #[derive(Clone, Copy)]
 pub(crate) enum Shade {
     Plain,
-    /// Good where the file is kept, and else bad.
+    /// Good if the file is kept, and else bad.
     ByEnd,
-    /// Bad where there is a notice.
+    /// Bad if there is a notice.
     ByNotice,
-    /// Faint where the link is held.
+    /// Faint if the link is held.
     ByHold,
 }
 
@@ -194,7 +194,7 @@ pub(crate) const LAYOUTS: [Layout; 7] = [
     },
 ];
 
-/// The line of the entity.
+/// The line of the entity, above the tables.
 pub(crate) const ENTITY: [Part; 8] = [
     Words("Entity "),
     Number("id", "?"),
@@ -206,7 +206,7 @@ pub(crate) const ENTITY: [Part; 8] = [
     Text("now", "?"),
 ];
 
-/// The line of its counters, where workers read no more.
+/// The line of its counter of ended reads, if workers stopped reading.
 pub(crate) const ENDED_READS: [Part; 2] = [
     Words("Workers that read no more, since the socket failed: "),
     Number("ended_reads", "?"),

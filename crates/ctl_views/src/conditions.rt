@@ -1,6 +1,6 @@
 //! Condition codes in words.
 
-/// What a condition code of the protocol means, in words.
+/// The meaning of a condition code, in words.
 pub(crate) fn condition_words(code: u64) -> &'static str {
     match code {
         0 => "no error",

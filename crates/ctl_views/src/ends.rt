@@ -10,15 +10,15 @@ use std::alloc::AllocError;
 /// How a file ended.
 #[derive(Clone, Copy)]
 pub enum End {
-    /// The receiver keeps all of it.
+    /// The receiver has kept the whole file.
     Kept,
-    /// All of it was sent, and the receiver reports nothing.
+    /// The whole file was sent, and the receiver reports nothing.
     Unreported,
     /// Anything else.
     Lost,
 }
 
-/// The end that an event or a line of a status says.
+/// The end that an event or a line of a status reports.
 pub(crate) fn end_in(value: &Value<'_>) -> End {
     match (
         number_in(value, "condition"),
@@ -44,7 +44,7 @@ fn end_of(condition: u64, delivery: &str, status: &str) -> End
     }
 }
 
-/// The tone of the end that an event or a line of a status says.
+/// The tone of the end that an event or a line of a status reports.
 pub(crate) fn end_tone(value: &Value<'_>) -> Tone {
     match end_in(value) {
         End::Kept => Tone::Good,
@@ -52,7 +52,7 @@ pub(crate) fn end_tone(value: &Value<'_>) -> Tone {
     }
 }
 
-/// Adds how a transaction ended: its condition where there is an error, its delivery, and what became of the file.
+/// Adds how a transaction ended: its condition if that is an error, its delivery, and what became of the file.
 pub(crate) fn push_end(text: &mut String, value: &Value<'_>) -> Result<(), AllocError> {
     let code = number_in(value, "condition").unwrap_or(0);
     let words = condition_words(code);

@@ -1,4 +1,4 @@
-//! Events, as they matter to who reads or awaits them.
+//! Reads events for programs that show them or wait for them.
 use crate::ends::{End, end_in};
 use crate::fields::{number_in, text_in, value_of};
 use crate::page::Tone;
@@ -6,12 +6,12 @@ use crate::telling::{push_head, push_words, tone_of};
 use json::{Scratch, Value};
 use std::alloc::{AllocError, Global};
 
-/// What an event says of a file of the outbox.
+/// What an event reports of a file of the outbox.
 #[derive(Clone, Copy)]
 pub enum Step {
-    /// The file with this number is under way, as the transaction of the event.
+    /// The file with this number is being sent, by the event's transaction.
     Started(u64),
-    /// The file with this number is not sent.
+    /// The file with this number won't be sent.
     Unsent(u64),
     /// The transaction of the event has ended.
     Ended(End),
@@ -22,28 +22,28 @@ pub enum Step {
 /// An event.
 #[derive(Drop)]
 pub struct Event {
-    /// The user that it is about, where it is about one.
+    /// The user that the event is about, if it is about one.
     pub user: Option<String>,
-    /// The transaction that it is about, where it is about one.
+    /// The transaction that the event is about, if it is about one.
     pub transaction: Option<Transaction>,
-    /// What it says of a file of the outbox.
+    /// What the event reports of a file of the outbox.
     pub step: Step,
-    /// How it is coloured.
+    /// The tone in which the event is shown.
     pub tone: Tone,
-    /// Its moment, and its user and its transaction where it has them.
+    /// The event's moment, and its user and transaction if it has them.
     pub head: String,
     /// What happened, in words.
     pub words: String,
 }
 
-/// The name of a transaction.
+/// A transaction ID.
 #[derive(Clone, Copy)]
 pub struct Transaction {
     pub source: u64,
     pub seq: u64,
 }
 
-/// Reads an event: the JSON of its line. None where it is no JSON object.
+/// Reads an event from the JSON of its line; `None` where that is not a JSON object.
 pub fn read_event(alloc: Global, line: &str) -> Result<Option<Event>, AllocError> {
     let mut scratch = Scratch::new(alloc);
     match value_of(alloc, line, &mut scratch)? {

@@ -5,7 +5,7 @@ use crate::shown::hex_digit;
 use json::{Error, Scratch, Value};
 use std::alloc::{AllocError, Global};
 
-/// Parses a line: None where it is no JSON.
+/// Parses a line; `None` where it is not JSON.
 pub(crate) fn value_of<'a>(
     alloc: Global,
     line: &'a str,
@@ -24,12 +24,12 @@ pub(crate) fn text_in<'a>(value: &Value<'a>, name: &str) -> Option<&'a str> {
     value.get(name)?.as_str()
 }
 
-/// A member that is a number of 64 bits.
+/// A member that is a number of at most 64 bits.
 pub(crate) fn number_in(value: &Value<'_>, name: &str) -> Option<u64> {
     value.get(name)?.as_u64()
 }
 
-/// Whether a member is there and true.
+/// Whether a member is present and true.
 pub(crate) fn is_set(value: &Value<'_>, name: &str) -> bool {
     match value.get(name) {
         Some(member) => member.as_bool() == Some(true),
@@ -45,7 +45,7 @@ pub(crate) fn moment_in(value: &Value<'_>, name: &str) -> Option<u64> {
     }
 }
 
-/// The whole percents of a file that are there; None where its size isn't known.
+/// How much of a file is there, in whole percent; `None` if its size isn't known.
 pub(crate) fn share_in(value: &Value<'_>) -> Option<u64> {
     let octets = number_in(value, "octets").unwrap_or(0);
     match number_in(value, "size") {
@@ -54,8 +54,8 @@ pub(crate) fn share_in(value: &Value<'_>) -> Option<u64> {
     }
 }
 
-/// Adds a name of a file: its text, or where its octets are no text, those in hex that are not letters of ASCII; a question
-/// mark where there is none.
+/// Adds a file's name: its text, or for octets that aren't UTF-8, those in hex that aren't ASCII letters; a question
+/// mark if there is no name.
 pub(crate) fn push_name(
     alloc: Global,
     text: &mut String,
@@ -72,7 +72,7 @@ pub(crate) fn push_name(
     }
 }
 
-// Adds what hex digits stand for; the digits themselves where they are none.
+// Adds the text that hex digits encode, or the digits themselves if they aren't hex.
 fn push_decoded(alloc: Global, text: &mut String, digits: &str) -> Result<(), AllocError> {
     match hex::decode(alloc, digits) {
         Ok(octets) => {

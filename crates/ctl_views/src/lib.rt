@@ -1,4 +1,4 @@
-//! What a station says, laid out for people.
+//! Shows a station's status, events and answers in a form for people.
 #![tactic(auto)]
 
 mod amounts;

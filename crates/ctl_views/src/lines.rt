@@ -1,20 +1,20 @@
-//! Lines of a status, one by one.
+//! Reads single lines of a status.
 use crate::fields::{number_in, text_in, value_of};
 use json::{Scratch, Value};
 use std::alloc::{AllocError, Global};
 
-/// What a line of a status says to one who sends files.
+/// What a line of a status says to a client that sends files.
 #[derive(Drop)]
 pub enum StatusLine {
     /// The name of a user.
     User(String),
-    /// How far a file is that is sent.
+    /// The progress of a file that is being sent.
     Sending(Progress),
     /// Anything else.
     Other,
 }
 
-/// How far a file is that is sent.
+/// The progress of a file that is being sent.
 #[derive(Clone, Copy)]
 pub struct Progress {
     pub source: u64,

@@ -1,4 +1,4 @@
-//! Moments as the station writes them.
+//! Reads moments in the form that the station writes.
 ghost use Rattle.std.specs.Prelude.{◌≤◌};
 
 use std::alloc::AllocError;
@@ -11,7 +11,7 @@ const HOUR: u64 = 60 * MINUTE;
 
 const DAY: u64 = 24 * HOUR;
 
-/// The milliseconds of a moment `2026-11-26T12:00:00.000Z`, counted from a day that is always the same.
+/// The milliseconds of a moment such as `2026-11-26T12:00:00.000Z`, counted from a fixed day.
 pub(crate) fn milliseconds_of(moment: &str) -> Option<u64> {
     let octets = moment.as_bytes();
     if octets.len() != 24 {
@@ -41,7 +41,7 @@ fn time_of(octets: &[u8]) -> Option<u64> {
     )
 }
 
-// The days before a month by the calendar of leap years, in which a year is taken to begin in March.
+// The days before a month in the Gregorian calendar, for years that begin in March.
 fn days_of(year: u64, month: u64) -> Option<u64> {
     let (year, month) = if month > 2 {
         (year, month - 3)
@@ -55,7 +55,7 @@ fn days_of(year: u64, month: u64) -> Option<u64> {
     Some(days.saturating_add(month.saturating_mul(153).saturating_add(2) / 5))
 }
 
-// The number that so many digits write.
+// The number in this many decimal digits.
 fn number_at(octets: &[u8], from: usize, count: usize) -> Option<u64> {
     let mut number = 0u64;
     for digit in octets.get(from..from.saturating_add(count))? {

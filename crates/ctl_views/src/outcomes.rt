@@ -9,11 +9,11 @@ pub enum Outcome {
     Taken,
     /// The entity or the server refused it.
     Refused,
-    /// It is no command.
+    /// It is not a command.
     BadCommand,
     /// Its file couldn't be read.
     ReadFault,
-    /// The number of its Put couldn't be kept.
+    /// The number of its Put couldn't be written to the file of numbers.
     NumbersFault,
 }
 
@@ -34,7 +34,7 @@ pub fn outcome_of(line: &[u8]) -> Outcome
     }
 }
 
-// Whether a line says that a command was refused.
+// Whether a line reports that a command was refused.
 fn says_refused(line: &[u8]) -> bool
     ensures { IsTrue result ↔ SaysRefused line.now }
 {

@@ -1,4 +1,4 @@
-//! Shown text in pieces, each with its tone.
+//! Text to be shown, in pieces with tones.
 ghost use Rattle.std.specs.Prelude.{◌≡◌, ◌++◌, ◌∷◌, [], OnOk, chars, flat_map};
 ghost use Rattle.ctl_views.specs.Shown.{shown};
 ghost use Rattle.ctl_views.specs.Pages.{page_octets, piece_octets, tone_end, tone_start};
@@ -7,7 +7,7 @@ use crate::shown::{Shown, columns_of};
 use std::alloc::{AllocError, Global};
 use std::marker::Model;
 
-/// What a piece of text is, for who colours it.
+/// What a piece of text is, which decides its colour.
 #[derive(Clone, Copy)]
 pub enum Tone {
     Plain,
@@ -28,7 +28,7 @@ pub struct Piece {
     pub text: Shown,
 }
 
-/// Shown text in pieces. Contracts see the list of them.
+/// Text to be shown, in pieces. Contracts see the list of them.
 #[derive(Drop)]
 pub struct Page {
     alloc: Global,
@@ -45,7 +45,7 @@ impl Model for Page {
 }
 
 impl Page {
-    /// No text.
+    /// An empty page.
     pub fn new(alloc: Global) -> Page
         ensures { result ≡ [] }
     {
@@ -55,7 +55,7 @@ impl Page {
         }
     }
 
-    /// Adds the page to octets, in UTF-8, with the sequences for colours where they are asked for.
+    /// Appends the page to octets, in UTF-8, with colour sequences if `is_coloured`.
     pub fn push_to(&self, octets: &mut Vec<u8>, is_coloured: bool) -> Result<(), AllocError>
         ensures { OnOk result (octets.new.items ≡ octets.old.items ++ page_octets is_coloured self.now) }
     {
@@ -65,7 +65,7 @@ impl Page {
         Ok(())
     }
 
-    /// Adds a text, as `Shown::push_visible` does.
+    /// Adds a text as a piece, made safe as by `Shown::push_visible`.
     pub fn push(&mut self, tone: Tone, text: &str) -> Result<(), AllocError>
         ensures { OnOk result (self.new ≡ self.old ++ record { tone = tone; text = flat_map shown (chars text.now) } ∷ []) }
     {
@@ -74,7 +74,7 @@ impl Page {
         self.push_piece(tone, shown)
     }
 
-    /// Adds a line.
+    /// Adds a text as a line.
     pub fn push_line(&mut self, tone: Tone, text: &str) -> Result<(), AllocError>
         ensures { OnOk result
             (self.new ≡ self.old ++ record { tone = tone; text = flat_map shown (chars text.now) ++ 10 ∷ [] } ∷ []) }
@@ -85,7 +85,7 @@ impl Page {
         self.push_piece(tone, shown)
     }
 
-    /// Adds a text in just so many columns, with spaces before it or behind it where it has fewer.
+    /// Adds a text in exactly `columns` columns, with spaces before or after it if it has fewer.
     pub(crate) fn push_cell(
         &mut self,
         tone: Tone,
@@ -124,7 +124,7 @@ impl Page {
     }
 }
 
-// Adds a piece to octets.
+// Appends a piece to octets.
 fn push_piece_to(piece: &Piece, octets: &mut Vec<u8>, is_coloured: bool) -> Result<(), AllocError>
     ensures { OnOk result (octets.new.items ≡ octets.old.items ++ piece_octets is_coloured piece.now) }
 {
@@ -136,7 +136,7 @@ fn push_piece_to(piece: &Piece, octets: &mut Vec<u8>, is_coloured: bool) -> Resu
     octets.extend_from_slice(tone_end(piece.tone))
 }
 
-// What begins a tone on a terminal.
+// The sequence that begins a tone on a terminal.
 fn tone_start(tone: Tone) -> &'static [u8]
     ensures { result.now ≡ tone_start tone }
 {
@@ -149,7 +149,7 @@ fn tone_start(tone: Tone) -> &'static [u8]
     }
 }
 
-// What ends a tone on a terminal.
+// The sequence that ends a tone on a terminal.
 fn tone_end(tone: Tone) -> &'static [u8]
     ensures { result.now ≡ tone_end tone }
 {

@@ -1,4 +1,4 @@
-//! Texts that are made of a JSON object, part by part.
+//! Makes texts from the members of a JSON object, part by part.
 use crate::amounts::{push_age, push_bar, push_octets, push_rate};
 use crate::conditions::condition_words;
 use crate::ends::push_end;
@@ -6,23 +6,23 @@ use crate::fields::{is_set, moment_in, number_in, push_name, share_in, text_in};
 use json::Value;
 use std::alloc::{AllocError, Global};
 
-/// A part of a text, most by the name of the member that it is made of. A part that begins with `Some` is left out where the
-/// member is missing.
+/// A part of a text, in most cases with the name of the member that it shows. A part that begins with `Some` is left
+/// out if the member is missing.
 #[derive(Clone, Copy)]
 pub(crate) enum Part {
-    /// The words themselves.
+    /// These words.
     Words(&'static str),
-    /// A number, or what stands for one that is missing.
+    /// A number, or a text in its place if it is missing.
     Number(&'static str, &'static str),
-    /// A text, or what stands for one that is missing.
+    /// A text, or another in its place if it is missing.
     Text(&'static str, &'static str),
-    /// An amount of octets, or what stands for one that is missing.
+    /// An amount of octets, or a text in its place if it is missing.
     Octets(&'static str, &'static str),
-    /// A file's name, by its two members.
+    /// A file's name, from its two members.
     Name(&'static str, &'static str),
-    /// Words, a number, and words behind it.
+    /// Words, a number, and words after it.
     SomeNumber(&'static str, &'static str, &'static str),
-    /// Words, a text, and words behind it.
+    /// Words, a text, and words after it.
     SomeText(&'static str, &'static str, &'static str),
     /// Words and an amount of octets.
     SomeOctets(&'static str, &'static str),
@@ -30,34 +30,35 @@ pub(crate) enum Part {
     Condition,
     /// How the transaction ended.
     End,
-    /// In front of the entity at the other end: which way the file goes.
+    /// The direction of the file, before the entity at the other end.
     Direction,
-    /// Since when the link is held, where it is.
+    /// Since when the link is held, if it is.
     Held,
-    /// How far the file is, as a bar.
+    /// The file's progress, as a bar.
     Bar,
-    /// How far the file is, in percent.
+    /// The file's progress, in percent.
     Percent,
-    /// The octets a second since the last look.
+    /// The rate in octets a second since the last look.
     Rate,
     /// The time since the last event.
     Age,
 }
 
-/// What parts say beside the object: the moment of the look in milliseconds, and the octets a second since the one before.
+/// What parts show besides the object: the moment of the look in milliseconds, and the rate in octets a second since
+/// the one before.
 #[derive(Clone, Copy)]
 pub(crate) struct Look {
     pub(crate) now: Option<u64>,
     pub(crate) rate: Option<u64>,
 }
 
-/// No look.
+/// For parts that show neither.
 pub(crate) const NO_LOOK: Look = Look {
     now: None,
     rate: None,
 };
 
-/// Adds all parts.
+/// Adds the texts of all parts.
 pub(crate) fn push_parts(
     alloc: Global,
     text: &mut String,

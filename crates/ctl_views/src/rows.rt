@@ -12,7 +12,7 @@ use std::alloc::{AllocError, Global};
 #[derive(Drop)]
 pub(crate) struct Row {
     pub(crate) tone: Tone,
-    /// The milliseconds of the last event, where it is known.
+    /// The moment of the last event in milliseconds, if it is known.
     pub(crate) last: u64,
     pub(crate) cells: Vec<String>,
 }
@@ -32,7 +32,7 @@ pub(crate) struct Tables {
 }
 
 impl Tables {
-    /// No rows.
+    /// Tables without rows.
     pub(crate) fn new(alloc: Global) -> Result<Tables, AllocError> {
         let mut tables = Vec::new(alloc);
         for layout in LAYOUTS.as_slice() {
@@ -68,13 +68,13 @@ pub(crate) fn push_record(
     }
 }
 
-// Adds the lines of the entity.
+// Adds the entity's lines, above the tables.
 fn push_entity(alloc: Global, tables: &mut Tables, value: &Value<'_>) -> Result<(), AllocError> {
     push_head(alloc, tables, value, ENTITY.as_slice())?;
     push_ended_reads(alloc, tables, value)
 }
 
-// Adds how many workers read no more, where some don't.
+// Adds how many workers stopped reading, if any did.
 fn push_ended_reads(
     alloc: Global,
     tables: &mut Tables,
@@ -96,7 +96,7 @@ fn push_log(alloc: Global, tables: &mut Tables, value: &Value<'_>) -> Result<(),
     }
 }
 
-// Adds a transaction; what is seen of one that is under way is noted for the next look.
+// Adds a transaction; for one that goes on, what is seen is noted for the next look.
 fn push_transaction(
     alloc: Global,
     tables: &mut Tables,
@@ -126,7 +126,7 @@ fn push_head(
     }
 }
 
-// Adds a row to the table that has such rows, if there is one.
+// Adds a row to the table for such rows, if there is one.
 fn push_row(
     alloc: Global,
     tables: &mut Tables,

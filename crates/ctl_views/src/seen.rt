@@ -1,11 +1,11 @@
-//! What a look saw, for the rates of the next one.
+//! What one look at the status saw, for the rates that the next one shows.
 use crate::fields::number_in;
 use crate::parts::Look;
 use json::Value;
 use std::alloc::{AllocError, Global};
 use std::collections::BTreeMap;
 
-/// The name of a transaction, and the lane that runs it.
+/// A transaction ID, and the lane that runs the transaction.
 #[derive(Clone, Copy, PartialEq, Eq, PartialOrd, Ord)]
 pub(crate) struct Place {
     source: u64,
@@ -13,7 +13,7 @@ pub(crate) struct Place {
     lane: u64,
 }
 
-/// What a look saw of transactions under way, and its moment in milliseconds.
+/// What a look saw of the transactions that go on, and its moment in milliseconds.
 #[derive(Drop)]
 pub(crate) struct Seen {
     pub(crate) now: Option<u64>,
@@ -21,7 +21,7 @@ pub(crate) struct Seen {
 }
 
 impl Seen {
-    /// Nothing was seen.
+    /// Without any transaction.
     pub(crate) fn new(alloc: Global) -> Seen {
         Seen {
             now: None,
@@ -37,7 +37,7 @@ impl Seen {
     }
 }
 
-/// Looks at a transaction under way; what is seen of it is noted for the next look.
+/// Looks at a transaction that goes on; what is seen of it is noted for the next look.
 pub(crate) fn look_at(value: &Value<'_>, seen: &Seen, next: &mut Seen) -> Result<Look, AllocError> {
     let octets = number_in(value, "octets").unwrap_or(0);
     let place = place_of(value);
@@ -57,7 +57,7 @@ fn place_of(value: &Value<'_>) -> Place {
     }
 }
 
-// The octets a second since the last look.
+// The rate in octets a second since the last look.
 fn rate_since(seen: &Seen, now: Option<u64>, place: &Place, octets: u64) -> Option<u64> {
     let before = *seen.octets.get(place)?;
     let span = now?.checked_sub(seen.now?)?;

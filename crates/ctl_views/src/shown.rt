@@ -8,7 +8,8 @@ use std::alloc::{AllocError, Global};
 use std::marker::Model;
 use unicode_width::UnicodeWidthChar;
 
-/// Text for a terminal. Contracts see its characters, none of which a terminal obeys or hides, but for line feeds.
+/// Text for a terminal. Contracts see its characters; except for line feeds, the terminal neither obeys nor hides any
+/// of them.
 #[derive(Drop)]
 pub struct Shown {
     letters: Vec<char>,
@@ -27,7 +28,7 @@ impl Model for Shown {
 }
 
 impl Shown {
-    /// No text.
+    /// An empty text.
     pub fn new(alloc: Global) -> Shown
         ensures { result ≡ [] }
     {
@@ -36,7 +37,7 @@ impl Shown {
         }
     }
 
-    /// Adds the text to octets, in UTF-8.
+    /// Appends the text to octets, in UTF-8.
     pub(crate) fn push_to(&self, octets: &mut Vec<u8>) -> Result<(), AllocError>
         ensures octets { OnOk result (octets.new.items ≡ octets.old.items ++ flat_map encode_utf8 self.now) }
         ensures visible { list_all is_visible self.now ≡ true }
@@ -48,7 +49,7 @@ impl Shown {
         Ok(())
     }
 
-    /// Adds a text, whoever wrote it: in place of each character that a terminal would obey or hide stands its code in hex.
+    /// Adds a text from any source. Each character that a terminal would obey or hide is replaced by its code in hex.
     pub fn push_visible(&mut self, text: &str) -> Result<(), AllocError>
         ensures { OnOk result (self.new ≡ self.old ++ flat_map shown (chars text.now)) }
     {
@@ -58,7 +59,7 @@ impl Shown {
         Ok(())
     }
 
-    /// Adds a text as `push_visible` does, in at most so many columns. Where it has more, a dot stands for the rest.
+    /// Adds a text as `push_visible` does, in at most `columns` columns. If it has more, a dot replaces the rest.
     pub(crate) fn push_within(&mut self, text: &str, columns: usize) -> Result<(), AllocError> {
         if columns_of(text) <= columns {
             return self.push_visible(text);
@@ -92,7 +93,7 @@ impl Shown {
         }
     }
 
-    // Adds what stands for a character that is hidden.
+    // Adds the code in hex that replaces a hidden character.
     fn push_escape(&mut self, code: u32) -> Result<(), AllocError>
         requires { code < 0x110000 }
         ensures { OnOk result (self.new ≡ self.old ++ escape code) }
@@ -109,7 +110,7 @@ impl Shown {
         }
     }
 
-    // Adds two digits of a number.
+    // Adds a number below 256 as two hex digits.
     fn push_pair(&mut self, number: u32) -> Result<(), AllocError>
         requires { number < 256 }
         ensures { OnOk result (self.new ≡ self.old ++ hex_pair number) }
@@ -118,7 +119,7 @@ impl Shown {
         self.push_known(hex_digit((number % 16) as u8))
     }
 
-    // Adds a character that may stand in what is printed.
+    // Adds a character that may be printed as it is.
     fn push_known(&mut self, letter: char) -> Result<(), AllocError>
         requires { is_visible letter ≡ true }
         ensures { OnOk result (self.new ≡ self.old ++ letter ∷ []) }
@@ -127,7 +128,7 @@ impl Shown {
     }
 }
 
-/// A digit of a number below sixteen.
+/// The hex digit of a number below sixteen.
 pub(crate) fn hex_digit(number: u8) -> char
     requires { number < 16 }
     ensures digit { result ≡ hex_digit number }
@@ -147,7 +148,7 @@ fn is_hidden(letter: char) -> bool
     letter.is_control() || is_mark(letter)
 }
 
-// Whether a character is a mark that a terminal hides, or that turns the direction of the text round it.
+// Whether a character is a mark that a terminal hides, or that turns the direction of the text around it.
 fn is_mark(letter: char) -> bool
     ensures { result ≡ is_mark letter }
 {
@@ -174,7 +175,7 @@ fn is_high_mark(letter: char) -> bool
         | '\u{1bca0}'..='\u{1bca3}' | '\u{1d173}'..='\u{1d17a}' | '\u{e0000}'..='\u{e0fff}')
 }
 
-/// How many columns a text takes where it is shown.
+/// How many columns a text takes when it is shown.
 pub(crate) fn columns_of(text: &str) -> usize {
     let mut columns = 0usize;
     for letter in text.chars() {

@@ -1,4 +1,4 @@
-//! A status, look by look, as tables.
+//! Shows a status as tables, look by look.
 use crate::columns::Rows;
 use crate::fields::{moment_in, text_in, value_of};
 use crate::page::{Page, Tone};
@@ -8,7 +8,7 @@ use crate::table::push_table;
 use json::Scratch;
 use std::alloc::{AllocError, Global};
 
-// How many transactions are shown that have ended.
+// How many of the transactions that have ended are shown.
 const ENDED: usize = 20;
 
 /// What is remembered between two looks at a station's status.
@@ -19,7 +19,7 @@ pub struct StatusView {
 }
 
 impl StatusView {
-    /// Nothing was looked at.
+    /// Without any look.
     pub fn new(alloc: Global) -> StatusView {
         StatusView {
             alloc,
@@ -27,8 +27,8 @@ impl StatusView {
         }
     }
 
-    /// Lays out the lines of a status, in so many columns. Rates are those since the last look. A line that isn't a JSON object
-    /// of a kind that is known is passed over.
+    /// Lays out the lines of a status in `width` columns. Rates are those since the last look. A line that isn't a JSON
+    /// object of a known kind is skipped.
     pub fn look(&mut self, lines: &str, width: usize) -> Result<Page, AllocError> {
         let mut tables = Tables::new(self.alloc)?;
         let mut next = Seen::new(self.alloc);
@@ -48,7 +48,7 @@ impl StatusView {
     }
 }
 
-// Takes a line into its table.
+// Adds a line to its table.
 fn take_line(
     alloc: Global,
     line: &str,
@@ -78,7 +78,7 @@ fn lay_out(alloc: Global, tables: &mut Tables, width: usize) -> Result<Page, All
     Ok(page)
 }
 
-// Lays out a table; of transactions that have ended the last ones, the last first.
+// Lays out a table; of the transactions that have ended only the last ones, the last first.
 fn lay_out_one(
     alloc: Global,
     page: &mut Page,

@@ -1,17 +1,17 @@
-//! Tables that are as wide as is asked.
+//! Lays out tables in a given width.
 use crate::columns::Column;
 use crate::page::{Page, Tone};
 use crate::rows::Row;
 use crate::shown::columns_of;
 use std::alloc::{AllocError, Global};
 
-// How many columns stand between two cells, and how few a cell keeps that is cut.
+// How many columns separate two cells, and how few a cell that is cut keeps.
 const GAP: usize = 2;
 
 const LEAST: usize = 12;
 
-/// Lays out a table below its title, in so many columns: what is too wide is cut in the last column. A table without rows is
-/// left out.
+/// Lays out a table below its title in `width` columns; if it is too wide, its last column is cut. A table without rows
+/// is left out.
 pub(crate) fn push_table(
     alloc: Global,
     page: &mut Page,
@@ -50,7 +50,7 @@ fn widths_of(alloc: Global, columns: &[Column], rows: &[Row]) -> Result<Vec<usiz
     Ok(widths)
 }
 
-// Cuts the last column so that all fit.
+// Cuts the last column so that all columns fit.
 fn fit(widths: &mut Vec<usize>, width: usize) {
     let mut total = 0usize;
     for one in widths.as_slice() {
@@ -100,7 +100,7 @@ fn push_row(
     page.end_line()
 }
 
-// Adds a cell, and the gap behind it where another follows.
+// Adds a cell, and a gap after it if another cell follows.
 fn push_cell(
     page: &mut Page,
     column: &Column,

@@ -1,4 +1,4 @@
-//! Events in words.
+//! Describes events in words.
 use crate::ends::end_tone;
 use crate::events::{Transaction, transaction_in};
 use crate::fields::text_in;
@@ -8,7 +8,7 @@ use crate::words::{INDICATIONS, KINDS, Said, Tint};
 use json::Value;
 use std::alloc::{AllocError, Global};
 
-/// Adds the moment of an event, and its user and its transaction where it has them.
+/// Adds the moment of an event, and its user and transaction if it has them.
 pub(crate) fn push_head(line: &mut String, value: &Value<'_>) -> Result<(), AllocError> {
     push_at(line, text_in(value, "at").unwrap_or("?"))?;
     if let Some(user) = text_in(value, "user") {
@@ -40,7 +40,7 @@ pub(crate) fn push_words(
     }
 }
 
-/// How an event is coloured.
+/// The tone in which an event is shown.
 pub(crate) fn tone_of(value: &Value<'_>) -> Tone {
     match said_of(value) {
         Some(said) => tone_by(said.tint, value),
@@ -57,7 +57,7 @@ fn tone_by(tint: Tint, value: &Value<'_>) -> Tone {
     }
 }
 
-// What is said of an event, where it is known.
+// The entry for an event in the lists of `words`, if it is known.
 fn said_of(value: &Value<'_>) -> Option<Said> {
     if is_indication(value) {
         said_in(INDICATIONS.as_slice(), name_of(value)?)

@@ -1,4 +1,4 @@
-//! What is said of each event.
+//! The words for each event.
 use crate::page::Tone;
 use crate::page::Tone::{Bad, Faint, Plain};
 use crate::parts::Part;
@@ -7,17 +7,17 @@ use crate::parts::Part::{
 };
 use crate::words::Tint::{Always, ByEnd, ByStatus};
 
-/// How an event is coloured.
+/// How the tone of an event is chosen.
 #[derive(Clone, Copy)]
 pub(crate) enum Tint {
     Always(Tone),
-    /// Good where the file is kept, and else bad.
+    /// Good if the file is kept, and else bad.
     ByEnd,
-    /// Bad where the store didn't keep the file.
+    /// Bad if the store didn't keep the file.
     ByStatus,
 }
 
-/// What is said of the events of this name.
+/// The tone and the words for the events of a name.
 #[derive(Clone, Copy)]
 pub(crate) struct Said {
     pub(crate) name: &'static str,
@@ -25,7 +25,7 @@ pub(crate) struct Said {
     pub(crate) parts: &'static [Part],
 }
 
-/// Indications, by their names.
+/// The entries for indications, by name.
 pub(crate) const INDICATIONS: [Said; 11] = [
     Said {
         name: "Transaction",
@@ -100,7 +100,7 @@ pub(crate) const INDICATIONS: [Said; 11] = [
     },
 ];
 
-/// Other events, by their kinds.
+/// The entries for other events, by kind.
 pub(crate) const KINDS: [Said; 9] = [
     Said {
         name: "start",

@@ -1,4 +1,4 @@
--- Meaning. Which texts a server reads as one word of a command, how a word stands in quotes, and ranges of numbers.
+-- Meaning. Which texts a server reads as one word of a command, how a word is quoted, and ranges of numbers.
 use Rattle.std.specs.Prelude.{◌≤◌, ◌==◌, ◌||◌, ◌&&◌, ◌/◌, ◌%◌, ◌+◌, ◌++◌, ◌∷◌, [], ℕ, Bool, false, not, List, if◌then◌else◌, nat_lt, length, codes, decimal, flat_map}
 use Rattle.std.specs.Char.{is_ascii_graphic}
 use Rattle.std.specs.List.{list_all}
@@ -15,15 +15,15 @@ is_word text = if length text == 0 then false else list_all is_inner text
 abbrev pub IsWithin : ℕ → ℕ → ℕ → Type 0
 IsWithin least most number = (least ≤ number) × (number ≤ most)
 
--- a quote or a backslash, which has a backslash before it in a word in quotes
+-- a quote or a backslash, which needs a backslash between quotes
 abbrev pub is_marked : ℕ → Bool
 is_marked octet = (octet == 34) || (octet == 92)
 
--- a character of ASCII that is no control character
+-- a printable ASCII character
 abbrev pub is_printable : ℕ → Bool
 is_printable octet = (octet == 32) || is_ascii_graphic octet
 
--- an octet that needs no quotes round its word: a printable one, and no space, hash, quote or backslash
+-- an octet that doesn't make quotes necessary: printable, and not a space, a hash, a quote or a backslash
 abbrev pub is_plain_octet : ℕ → Bool
 is_plain_octet octet = is_ascii_graphic octet && not ((octet == 35) || is_marked octet)
 
@@ -31,37 +31,37 @@ is_plain_octet octet = is_ascii_graphic octet && not ((octet == 35) || is_marked
 abbrev pub is_plain : List ℕ → Bool
 is_plain word = if length word == 0 then false else list_all is_plain_octet word
 
--- the digit of a number below sixteen
+-- the hex digit of a number below sixteen
 abbrev pub hex_digit : ℕ → ℕ
 hex_digit number = if nat_lt number 10 then 48 + number else 87 + number
 
--- what stands for an octet in a word in quotes
+-- an octet as it is written between quotes
 abbrev pub quoted_octet : ℕ → List ℕ
 quoted_octet octet = if is_marked octet then 92 ∷ octet ∷ []
     else if is_printable octet then octet ∷ []
     else 92 ∷ 120 ∷ hex_digit (octet / 16) ∷ hex_digit (octet % 16) ∷ []
 
--- a word as it stands in a command: as it is, or in quotes where it needs them
+-- a word as it is written in a command: in quotes if it needs them
 abbrev pub word_octets : List ℕ → List ℕ
 word_octets word = if is_plain word then word else 34 ∷ [] ++ (flat_map quoted_octet word ++ 34 ∷ [])
 
--- the last word where the receiver is to say what became of the file, with a space before it
+-- the last word if the receiver is asked to report what became of the file, with a space before it
 abbrev pub closure_octets : Bool → List ℕ
 closure_octets is_closed = if is_closed then codes " closure" else []
 
--- a class and an entity, with a space before each and behind both
+-- a class and an entity, with a space before each and after both
 abbrev pub numbers_octets : ℕ → ℕ → List ℕ
 numbers_octets class remote = codes " " ++ (decimal class ++ (codes " " ++ (decimal remote ++ codes " ")))
 
--- the front of the command: who sends, in which class, and to whom
+-- the beginning of the command: the user, the class and the receiver
 abbrev pub head_octets : List ℕ → ℕ → ℕ → List ℕ
 head_octets user class remote = codes "send " ++ (word_octets user ++ numbers_octets class remote)
 
--- the names of the file at both ends
+-- the source and the destination file name
 abbrev pub names_octets : List ℕ → List ℕ → List ℕ
 names_octets source target = word_octets source ++ (codes " " ++ word_octets target)
 
--- the command that gives a file to the outbox
+-- the command that puts a file in the outbox
 abbrev pub send_octets : List ℕ → ℕ → ℕ → List ℕ → List ℕ → Bool → List ℕ
 send_octets user class remote source target is_closed =
     head_octets user class remote ++ (names_octets source target ++ closure_octets is_closed)

@@ -1,4 +1,4 @@
-//! The options that the program has.
+//! The options of the program.
 use clap::{Arg, ArgAction, Command};
 use std::alloc::{AllocError, Global};
 
@@ -7,7 +7,7 @@ fn valued<'a>(alloc: Global, name: &'static str) -> Arg<'a> {
     Arg::new(alloc, name).long(name).action(ArgAction::Set)
 }
 
-/// A word that is there or not.
+/// An option without a value, which is present or absent.
 fn flag<'a>(alloc: Global, name: &'static str) -> Arg<'a> {
     Arg::new(alloc, name).long(name).action(ArgAction::SetTrue)
 }
@@ -36,7 +36,7 @@ fn with_options<'a>(alloc: Global, command: Command<'a>) -> Result<Command<'a>, 
         .arg(valued(alloc, "transaction"))
 }
 
-// The options of `send`, but for its user.
+// The options of `send`, except its user.
 fn with_send<'a>(alloc: Global, command: Command<'a>) -> Result<Command<'a>, AllocError> {
     command
         .arg(valued(alloc, "to"))?

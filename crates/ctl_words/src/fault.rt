@@ -1,9 +1,9 @@
 use std::alloc::AllocError;
 
-/// Why there is nothing to do.
+/// Why a command line isn't carried out.
 #[derive(Drop)]
 pub enum WordsFault {
-    /// A word is missing, unknown, given twice or out of range: the lines say which.
+    /// A word is missing, unknown, given twice or out of range; the text says which.
     Usage(String),
     /// The help was asked for.
     Help,

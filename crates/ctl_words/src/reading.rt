@@ -1,4 +1,4 @@
-//! What the matches of a command line say.
+//! Reads the matches of a command line.
 ghost use Rattle.std.specs.Prelude.{IfOk, IfSome};
 ghost use Rattle.ctl_words.specs.Commands.{IsWithin};
 
@@ -12,10 +12,10 @@ use clap::error::ErrorKind;
 use clap::{ArgMatches, Error};
 use std::alloc::{AllocError, Global};
 
-// The most seconds that a server is awaited.
+// The most seconds to wait for a server.
 const MOST_PATIENCE: u64 = 86_400;
 
-// The options of `status`, `follow`, `outbox` and `send`, and those of all.
+// The options of `status`, `follow`, `outbox` and `send`, and those of all commands.
 const STATUS_OPTIONS: [&str; 2] = ["json", "watch"];
 
 const FOLLOW_OPTIONS: [&str; 3] = ["json", "user", "transaction"];
@@ -36,7 +36,7 @@ const TASK_OPTIONS: [&str; 9] = [
     "wait",
 ];
 
-/// What a command line of the program says; its first word is the program's own name.
+/// Parses a command line of the program; its first word is the program's own name.
 pub fn ctl_words<'a>(alloc: Global, line: &'a [String]) -> Result<CtlWords<'a>, WordsFault>
     ensures patience { IfOk result (λ words. IfSome words.patience (IsWithin 0 86400)) }
     ensures width { IfOk result (λ words. IfSome words.width (IsWithin 40 1000)) }
@@ -48,7 +48,7 @@ pub fn ctl_words<'a>(alloc: Global, line: &'a [String]) -> Result<CtlWords<'a>, 
     }
 }
 
-// Why a command line is not taken.
+// The fault for an error of the parser.
 fn fault_of(alloc: Global, error: &Error) -> WordsFault {
     match error.kind() {
         ErrorKind::OutOfMemory => WordsFault::NoMemory,
@@ -58,7 +58,7 @@ fn fault_of(alloc: Global, error: &Error) -> WordsFault {
     }
 }
 
-// A usage fault with a text, where there was memory for it.
+// A usage fault with a text, unless memory for the text ran out.
 fn usage(text: Result<String, AllocError>) -> WordsFault {
     match text {
         Ok(text) => WordsFault::Usage(text),
@@ -66,7 +66,7 @@ fn usage(text: Result<String, AllocError>) -> WordsFault {
     }
 }
 
-// What the matches of a command line say.
+// The words that the matches of a command line give.
 fn words_in<'a>(alloc: Global, matches: &ArgMatches<'a>) -> Result<CtlWords<'a>, WordsFault>
     ensures patience { IfOk result (λ words. IfSome words.patience (IsWithin 0 86400)) }
     ensures width { IfOk result (λ words. IfSome words.width (IsWithin 40 1000)) }
@@ -103,7 +103,7 @@ fn colour_named(word: &str) -> Option<Colour> {
     }
 }
 
-// What is to be done, by the first word.
+// The task, by the first word.
 fn task_of<'a>(alloc: Global, matches: &ArgMatches<'a>) -> Result<Task<'a>, WordsFault> {
     match matches.get_strs("words") {
         None => input_task(alloc, matches),
@@ -126,7 +126,7 @@ fn task_by<'a>(
     }
 }
 
-// Commands come from the standard input.
+// The task of reading commands from the standard input.
 fn input_task<'a>(alloc: Global, matches: &ArgMatches<'a>) -> Result<Task<'a>, WordsFault> {
     only_options(alloc, matches, "the standard input", &[])?;
     Ok(Task::Input)
@@ -209,7 +209,7 @@ fn send_task<'a>(
     }
 }
 
-// The transaction of the option, where the line has it.
+// The transaction of the option, if it is given.
 fn transaction_asked(
     alloc: Global,
     matches: &ArgMatches<'_>,
@@ -239,7 +239,7 @@ fn decimal(word: &str) -> Option<u64> {
     word.parse::<u64>().ok()
 }
 
-// The number of an option, if the line has it.
+// The number of an option, if it is given.
 fn number_of(
     alloc: Global,
     matches: &ArgMatches<'_>,
@@ -260,7 +260,7 @@ fn number_of(
     }
 }
 
-// Refuses options that a command doesn't have.
+// Refuses the options that a command doesn't have.
 fn only_options(
     alloc: Global,
     matches: &ArgMatches<'_>,
@@ -275,7 +275,7 @@ fn only_options(
     Ok(())
 }
 
-// Whether a line has an option.
+// Whether an option is given.
 fn is_given(matches: &ArgMatches<'_>, option: &str) -> bool {
     if matches!(option, "json" | "watch" | "closure" | "wait") {
         matches.get_flag(option)

@@ -1,27 +1,27 @@
-//! The command that gives a file to the outbox.
+//! The command that puts a file in the outbox.
 ghost use Rattle.std.specs.Prelude.{◌≡◌, ◌++◌, ◌<◌, IfOk, OnOk, codes, flat_map};
 ghost use Rattle.std.specs.List.{list_all};
 ghost use Rattle.ctl_words.specs.Commands.{closure_octets, head_octets, hex_digit, is_marked, is_plain, is_plain_octet, is_printable, names_octets, numbers_octets, quoted_octet, send_octets, word_octets};
 
 use std::alloc::{AllocError, Global};
 
-/// What a `send` says.
+/// The operands of a `send`.
 #[derive(Clone, Copy)]
 pub struct SendCommand<'a> {
     pub user: &'a str,
     /// 1 or 2.
     pub class: u64,
-    /// The entity that receives.
+    /// The entity that receives the file.
     pub remote: u64,
-    /// The path of the file, as the server finds it.
+    /// The path of the file for the server.
     pub source: &'a str,
-    /// The name of the file at the receiver.
+    /// The destination file name.
     pub target: &'a str,
-    /// Whether the receiver is to say at the end what became of the file, in class 1 too.
+    /// Whether the receiver is asked to report at the end what became of the file, in class 1 too.
     pub is_closed: bool,
 }
 
-/// The text of a `send`, without its line feed: characters of ASCII alone, none of them a control character.
+/// The text of a `send`, without its line feed: printable ASCII characters only.
 pub fn send_command(alloc: Global, send: &SendCommand<'_>) -> Result<Vec<u8>, AllocError>
     ensures { IfOk result (λ command. command.items
         ≡ send_octets send.now.user.now send.now.class send.now.remote send.now.source.now send.now.target.now send.now.is_closed) }
@@ -33,7 +33,7 @@ pub fn send_command(alloc: Global, send: &SendCommand<'_>) -> Result<Vec<u8>, Al
     Ok(command)
 }
 
-// Adds who sends, in which class, and to whom.
+// Adds the user, the class and the receiver.
 fn push_head(
     alloc: Global,
     command: &mut Vec<u8>,
@@ -61,7 +61,7 @@ fn push_numbers(
     command.extend_from_slice(numbers.as_bytes())
 }
 
-// Adds the names of the file at both ends.
+// Adds the source and the destination file name.
 fn push_names(command: &mut Vec<u8>, source: &str, target: &str) -> Result<(), AllocError>
     ensures { OnOk result (command.new.items ≡ command.old.items ++ names_octets source.now target.now) }
 {
@@ -70,14 +70,14 @@ fn push_names(command: &mut Vec<u8>, source: &str, target: &str) -> Result<(), A
     push_word(command, target.as_bytes())
 }
 
-// The last word, where the receiver is to say what became of the file.
+// The last word, if the receiver is asked to report what became of the file.
 fn closure_word(is_closed: bool) -> &'static [u8]
     ensures { result.now ≡ closure_octets is_closed }
 {
     if is_closed { b" closure" } else { b"" }
 }
 
-// Adds a word: as it is, or in quotes where it needs them.
+// Adds a word, in quotes if it needs them.
 fn push_word(command: &mut Vec<u8>, word: &[u8]) -> Result<(), AllocError>
     ensures { OnOk result (command.new.items ≡ command.old.items ++ word_octets word.now) }
 {
@@ -89,7 +89,7 @@ fn push_word(command: &mut Vec<u8>, word: &[u8]) -> Result<(), AllocError>
     command.extend_from_slice(b"\"")
 }
 
-// Adds what stands between the quotes of a word.
+// Adds the text between a word's quotes.
 fn push_inner(command: &mut Vec<u8>, word: &[u8]) -> Result<(), AllocError>
     ensures { OnOk result (command.new.items ≡ command.old.items ++ flat_map quoted_octet word.now) }
 {
@@ -99,7 +99,7 @@ fn push_inner(command: &mut Vec<u8>, word: &[u8]) -> Result<(), AllocError>
     Ok(())
 }
 
-// Adds what stands for an octet between quotes.
+// Adds an octet as it is written between quotes.
 fn push_octet(command: &mut Vec<u8>, octet: u8) -> Result<(), AllocError>
     ensures { OnOk result (command.new.items ≡ command.old.items ++ quoted_octet octet) }
 {
@@ -112,7 +112,7 @@ fn push_octet(command: &mut Vec<u8>, octet: u8) -> Result<(), AllocError>
     }
 }
 
-// The digit of a number below sixteen.
+// The hex digit of a number below sixteen.
 fn hex_digit(number: u8) -> u8
     requires { number < 16 }
     ensures { result ≡ hex_digit number }
@@ -135,28 +135,28 @@ fn is_plain(word: &[u8]) -> bool
     }
 }
 
-// Whether no octet needs quotes round its word.
+// Whether no octet of a word makes quotes necessary.
 fn are_plain(word: &[u8]) -> bool
     ensures { result ≡ list_all is_plain_octet word.now }
 {
     word.iter().all(|octet| is_plain_octet(*octet))
 }
 
-// Whether an octet needs no quotes round its word.
+// Whether an octet doesn't make quotes necessary.
 fn is_plain_octet(octet: u8) -> bool
     ensures { result ≡ is_plain_octet octet }
 {
     octet.is_ascii_graphic() && !(octet == b'#' || is_marked(octet))
 }
 
-// Whether an octet is a character of ASCII and no control character.
+// Whether an octet is a printable ASCII character.
 fn is_printable(octet: u8) -> bool
     ensures { result ≡ is_printable octet }
 {
     octet == b' ' || octet.is_ascii_graphic()
 }
 
-// Whether an octet has a backslash before it between quotes.
+// Whether an octet needs a backslash between quotes.
 fn is_marked(octet: u8) -> bool
     ensures { result ≡ is_marked octet }
 {

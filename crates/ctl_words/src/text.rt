@@ -1,12 +1,12 @@
-//! The text of a command.
+//! Makes the text of a command.
 ghost use Rattle.std.specs.Prelude.{◌≡◌, IfOk, IfSome, codes, is_some, string_bytes};
 ghost use Rattle.std.specs.List.{join_by, list_all};
 ghost use Rattle.ctl_words.specs.Commands.{is_inner, is_word};
 
 use std::alloc::{AllocError, Global};
 
-/// The text of a command with these words: a space between each two. None where one of them is empty, or has a space or a line
-/// feed, so that a server would read it as other words.
+/// The text of a command with these words, separated by spaces. `None` if one of them is empty, or has a space or a
+/// line feed, so that a server would read it as other words.
 pub fn command_text(alloc: Global, words: &[&str]) -> Result<Option<String>, AllocError>
     ensures text { IfOk result (λ found. IfSome found
         (λ text. string_bytes text ≡ join_by (λ word. word.now) (codes " ") words.now)) }

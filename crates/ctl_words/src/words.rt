@@ -1,12 +1,12 @@
-/// What a command line says.
+/// What a command line asks for.
 #[derive(Drop)]
 pub struct CtlWords<'a> {
-    /// The path of the control socket, where the line has it.
+    /// The path of the control socket, if the line gives one.
     pub control: Option<&'a str>,
-    /// How many seconds a server is awaited, where the line says so.
+    /// How many seconds to wait for a server, if the line says so.
     pub patience: Option<u64>,
     pub colour: Colour,
-    /// How many columns a table may have, where the line says so: 40 to 1,000.
+    /// How many columns a table may have, if the line says so: 40 to 1,000.
     pub width: Option<u64>,
     pub task: Task<'a>,
 }
@@ -20,39 +20,39 @@ pub enum Colour {
     Never,
 }
 
-/// What is to be done.
+/// The task of a command line.
 #[derive(Drop)]
 pub enum Task<'a> {
-    /// Commands come from the standard input.
+    /// Send the commands of the standard input.
     Input,
-    /// One command, as the server reads it.
+    /// Send one command, in the server's form.
     Command(String),
     Status(StatusWords),
     Follow(FollowWords<'a>),
-    /// The files that wait in the outbox are shown.
+    /// Show the files that wait in the outbox.
     Outbox(OutboxWords),
     Send(SendWords<'a>),
 }
 
-/// How the status is looked at.
+/// How the status is shown.
 #[derive(Clone, Copy)]
 pub struct StatusWords {
-    /// The lines as they come.
+    /// Whether the lines are printed as they are sent.
     pub json: bool,
-    /// Again each second.
+    /// Whether it is shown again each second.
     pub watch: bool,
 }
 
 /// Which events are followed, and how they are printed.
 #[derive(Clone, Copy)]
 pub struct FollowWords<'a> {
-    /// The events as they come.
+    /// Whether the events are printed as they are sent.
     pub json: bool,
     pub user: Option<&'a str>,
     pub transaction: Option<TransactionWord>,
 }
 
-/// The name of a transaction.
+/// A transaction ID.
 #[derive(Clone, Copy)]
 pub struct TransactionWord {
     pub source: u64,
@@ -62,24 +62,24 @@ pub struct TransactionWord {
 /// How the outbox is shown.
 #[derive(Clone, Copy)]
 pub struct OutboxWords {
-    /// The lines as they come.
+    /// Whether the lines are printed as they are sent.
     pub json: bool,
 }
 
 /// Which files are sent, and how.
 #[derive(Drop)]
 pub struct SendWords<'a> {
-    /// The entity that receives.
+    /// The entity that receives the files.
     pub remote: u64,
-    /// The user who sends, where the line has it.
+    /// The user whose files they are, if the line says so.
     pub user: Option<&'a str>,
     /// 1 or 2.
     pub class: u64,
-    /// Whether the receiver is to say at the end what became of a file, in class 1 too.
+    /// Whether the receiver is asked to report at the end what became of a file, in class 1 too.
     pub is_closed: bool,
     /// A folder at the receiver.
     pub into: Option<&'a str>,
-    /// Whether the end of each file is awaited.
+    /// Whether to wait for the end of each file.
     pub wait: bool,
     /// The paths of the files: one or more.
     pub files: Vec<&'a str>,

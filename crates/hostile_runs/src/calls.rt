@@ -1,4 +1,4 @@
-//! Calls beside the entities, each made once more where it had no memory.
+//! Calls besides those of the entities, each made once more if memory ran out.
 
 use crate::datagrams::GOOD;
 use crate::fault::Fault;
@@ -12,7 +12,7 @@ use pdu_codec::{DecodeFault, Pdu, decode, encode};
 use std::alloc::{AllocError, Global};
 use timer_list::TimerList;
 
-/// Makes them all.
+/// Makes all of the calls.
 pub(crate) fn make_all(alloc: Global, transcript: &mut Transcript) -> Result<(), Fault> {
     for octets in GOOD {
         read_and_write(alloc, transcript, octets)?;
@@ -27,7 +27,7 @@ pub(crate) fn make_all(alloc: Global, transcript: &mut Transcript) -> Result<(),
     copy_gaps(alloc, transcript)
 }
 
-// A datagram is read, and written again.
+// Reads a datagram, and writes it again.
 fn read_and_write(alloc: Global, transcript: &mut Transcript, octets: &[u8]) -> Result<(), Fault> {
     let pdu = match decode(alloc, octets) {
         Err(DecodeFault::NoMemory) => {
@@ -95,7 +95,7 @@ check_limit = 2
 checksum = "null"
 "#;
 
-// A configuration is read; whether there was memory for it.
+// Reads a configuration; answers whether there was memory for it.
 fn configure(alloc: Global, transcript: &mut Transcript) -> Result<bool, Fault> {
     match read_config(alloc, CONFIG) {
         Ok(config) if config.users() == 2 && config.remotes() == 2 => {
@@ -113,7 +113,7 @@ fn configure(alloc: Global, transcript: &mut Transcript) -> Result<bool, Fault> 
 // How many timers are armed.
 const TIMERS: u32 = 20;
 
-// Timers are armed in one list, and come due.
+// Arms timers in one list, until they come due.
 fn arm_timers(alloc: Global, transcript: &mut Transcript) -> Result<(), Fault> {
     let mut timers = TimerList::new(alloc);
     for stamp in 0..TIMERS {
@@ -140,7 +140,7 @@ fn arm_timers(alloc: Global, transcript: &mut Transcript) -> Result<(), Fault> {
     Ok(())
 }
 
-// Segments are read in a word by a reader that has room for so many.
+// How many segments a reader of words has room for.
 const SEGMENTS: u32 = 3;
 
 fn read_word(alloc: Global, transcript: &mut Transcript) -> Result<bool, Fault> {
@@ -162,7 +162,7 @@ fn read_word(alloc: Global, transcript: &mut Transcript) -> Result<bool, Fault> 
     Ok(true)
 }
 
-// Offsets are copied.
+// Copies a set of offsets.
 fn copy_gaps(alloc: Global, transcript: &mut Transcript) -> Result<(), Fault> {
     let made = Gaps::with_room(alloc, 2);
     let mut gaps = made.or_else(|_error| Gaps::with_room(alloc, 2))?;

@@ -1,4 +1,4 @@
-//! Datagrams that were changed as if by lot, through the reader of octets and through an entity.
+//! Datagrams with pseudo-random changes, read as PDUs and delivered to an entity.
 ghost use Rattle.std.specs.Prelude.{◌≡◌};
 
 use crate::datagrams::GOOD;
@@ -12,19 +12,19 @@ use pdu_codec::{Pdu, decode, encode};
 use std::alloc::{AllocError, Global};
 use world_core::{EntityRefusal, Request, RouteRefusal, World, WorldEvent};
 
-// The faults of reading that there are, but for want of memory.
+// The faults of reading, except running out of memory.
 const FAULTS: &[u8] = &[1, 2, 3, 5, 6, 7, 8];
 
-// The refusals that are to be seen of datagrams: the key's transaction is none or old, the lane is busy, the octets are no PDU,
-// and where they go to is none. The others that may be.
+// The refusals of datagrams that have to come up: no or an old transaction, a busy lane, octets that are not a PDU, and
+// no destination. After them, those that may come up.
 const REFUSALS: &[u8] = &[1, 2, 3, 20, 21, 22, 23];
 
 const RARE_REFUSALS: &[u8] = &[4, 8, 10, 13];
 
-// How many datagrams an entity gets before another begins.
+// How many datagrams an entity receives before it is replaced by a new one.
 const TURNS: u32 = 200;
 
-/// Reads so many. One that is read has to be read again from what is written for it.
+/// Reads this many datagrams. Each that can be read must be read as the same PDU from its encoding.
 pub(crate) fn read_all(alloc: Global, count: u32) -> Result<Seen, Fault> {
     let mut lots = Lots::new();
     let mut seen = Seen::new(FAULTS, &[]);
@@ -48,7 +48,8 @@ fn is_spelled(alloc: Global, pdu: &Pdu) -> Result<bool, AllocError> {
     }
 }
 
-/// Has so many come to entities. Those that are no PDU are to be refused with the fault of reading, and no other.
+/// Delivers this many datagrams to entities. Those that are not PDUs must be refused with the fault of reading, and no
+/// other.
 pub(crate) fn deliver_all(alloc: Global, count: u32) -> Result<Seen, Fault> {
     let mut lots = Lots::new();
     let mut seen = Seen::new(REFUSALS, RARE_REFUSALS);
@@ -86,7 +87,7 @@ fn sending(alloc: Global) -> Result<World, Fault> {
     Ok(world)
 }
 
-// A datagram comes; a file that is whole is kept, and users take their indications.
+// Delivers a datagram; a whole file is kept, and users take their indications.
 fn deliver(
     alloc: Global,
     seen: &mut Seen,
@@ -117,7 +118,7 @@ fn store(world: &mut World, done: &Done) {
     }
 }
 
-// A user takes all that waits.
+// Has a user take all bundles that wait.
 fn while_any(world: &mut World, user: usize) {
     for _ in 0..8 {
         if user >= world.users() || world.take(user).is_none() {
@@ -126,7 +127,7 @@ fn while_any(world: &mut World, user: usize) {
     }
 }
 
-// A good datagram, changed up to three times.
+// A good datagram with up to three changes.
 fn draw(lots: &mut Lots, octets: &mut Vec<u8>) -> Result<(), AllocError> {
     octets.clear();
     let place = lots.below(GOOD.len());
@@ -139,10 +140,10 @@ fn draw(lots: &mut Lots, octets: &mut Vec<u8>) -> Result<(), AllocError> {
     Ok(())
 }
 
-// Octets that end a range.
+// Octets at the ends of ranges.
 const EDGES: [u8; 5] = [0x00, 0x01, 0x7f, 0x80, 0xff];
 
-// The edge at a place.
+// The edge at an index.
 fn edge(place: usize) -> u8 {
     EDGES.get(place).copied().unwrap_or(0)
 }
@@ -177,7 +178,7 @@ fn flip(octets: &mut Vec<u8>, place: usize, bits: u8) {
     }
 }
 
-// Has it go the other way: the direction in its first octet, and the IDs of both ends.
+// Turns the datagram around: the direction in its first octet, and the IDs of both ends.
 fn turn(octets: &mut Vec<u8>) {
     flip(octets, 0, 8);
     if octets.len() > 6 {
@@ -185,7 +186,7 @@ fn turn(octets: &mut Vec<u8>) {
     }
 }
 
-// Puts a length of nothing, where a file's name may begin.
+// Puts a length of 0 where a file's name may begin.
 fn name(octets: &mut Vec<u8>, place: usize) {
     put(octets, 13 + place % 2, 0);
 }
@@ -196,7 +197,7 @@ fn put(octets: &mut Vec<u8>, place: usize, other: u8) {
     }
 }
 
-// Makes the length of a datagram's data field fit its octets, where each ID and the sequence number has one octet.
+// Makes the data field length fit the datagram's octets, where each ID and the sequence number has one octet.
 fn fit(octets: &mut Vec<u8>) {
     if let Some(length) = octets.len().checked_sub(7) {
         put(octets, 1, (length / 256 % 256) as u8);

@@ -8,17 +8,17 @@ use std::num::ParseIntError;
 /// Why a run does not come to its end.
 #[derive(Clone, Copy, Debug)]
 pub(crate) enum Fault {
-    /// The program wants `memory`, or `mutate` and a number.
+    /// The program takes `memory`, or `mutate` and a number.
     Usage,
     /// Memory ran out twice.
     NoMemory,
-    /// The program's surroundings fail it.
+    /// A call of the system failed.
     Surroundings,
-    /// A line is none that is played here.
+    /// A script's line can't be played here.
     BadLine,
-    /// A worked datagram is no PDU.
+    /// A worked datagram is not a PDU.
     Decode(DecodeFault),
-    /// A configuration is none.
+    /// A configuration is not taken.
     Config(ConfigFault),
 }
 

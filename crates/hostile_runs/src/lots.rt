@@ -1,4 +1,4 @@
-/// Numbers as if by lot, the same in each run.
+/// A pseudo-random sequence of numbers, the same in each run.
 #[derive(Clone, Copy)]
 pub(crate) struct Lots {
     state: u64,
@@ -19,7 +19,7 @@ impl Lots {
         (self.state >> 32) as u32
     }
 
-    /// A number below another, or zero where there is none.
+    /// A number below `count`, or zero if that is zero.
     pub(crate) fn below(&mut self, count: usize) -> usize {
         if count == 0 {
             0
@@ -28,7 +28,7 @@ impl Lots {
         }
     }
 
-    /// Any octet.
+    /// A random octet.
     pub(crate) fn octet(&mut self) -> u8 {
         (self.draw() % 256) as u8
     }

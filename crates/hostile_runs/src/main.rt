@@ -1,8 +1,9 @@
-//! What becomes of the calls of the entities where memory runs out, and of datagrams that were changed as if by lot.
+//! How the entities behave when memory runs out, and when they receive datagrams with pseudo-random changes.
 //!
-//! `memory` prints each answer of worked transactions, and of calls beside them, under a title of its own; a call that has no
-//! memory is made once more, and both answers are printed. `tests/memory.py` runs that with each allocation refused in turn.
-//! `mutate N` reads N changed datagrams, and delivers them. Without words the program does both, the second for a few.
+//! `memory` prints each answer of worked transactions, and of other calls, under its title; a call that runs out of
+//! memory is made once more, and both answers are printed. `tests/memory.py` runs that with each allocation refused in
+//! turn. `mutate N` reads N changed datagrams, and delivers them. Without arguments the program does both, the second
+//! with a few datagrams.
 #![tactic(auto)]
 
 mod calls;
@@ -23,7 +24,7 @@ use std::sync::Wait;
 use std::thread::Threads;
 use transcript::Transcript;
 
-/// What is run.
+/// The runs of the program.
 #[derive(Clone, Copy)]
 enum Wanted {
     Memory,
@@ -31,7 +32,7 @@ enum Wanted {
     Both,
 }
 
-// How many datagrams are changed where no number is named.
+// How many datagrams are changed if no number is given.
 const FEW: u32 = 20_000;
 
 fn main(rt: HostRuntime) -> Result<(), Fault> {
@@ -49,7 +50,7 @@ fn main(rt: HostRuntime) -> Result<(), Fault> {
     }
 }
 
-// What the program's arguments name.
+// The run that the program's arguments ask for.
 fn read_words(rt: &HostRuntime) -> Result<Wanted, Fault> {
     let mut words = env::args(rt)?.skip(1);
     let Some(word) = words.next() else {
@@ -65,7 +66,7 @@ fn read_words(rt: &HostRuntime) -> Result<Wanted, Fault> {
     }
 }
 
-// Prints what is answered, to each call.
+// Prints the answer to each call.
 fn print_answers<R: Threads + Wait + AllocGlobal + Print + Copy + Send + Sync>(
     rt: R,
 ) -> Result<(), Fault> {
@@ -86,7 +87,7 @@ fn answer_all<R: Threads + Wait + AllocGlobal + Copy + Send + Sync>(
     calls::make_all(alloc, transcript)
 }
 
-// Prints what is seen of changed datagrams.
+// Prints what came of changed datagrams.
 fn print_seen<R: AllocGlobal + Print>(rt: &R, count: u32) -> Result<(), Fault> {
     let alloc = rt.alloc();
     let mut text = String::new(alloc);

@@ -1,12 +1,12 @@
 use std::alloc::AllocError;
 
-// How many numbers of faults and refusals there are room for.
+// How many numbers of faults and refusals there is room for.
 const NUMBERS: usize = 32;
 
 /// What came of datagrams.
 #[derive(Clone, Copy)]
 pub(crate) struct Seen {
-    /// The numbers that are to be seen, and those that may be.
+    /// The numbers that have to come up, and those that may.
     wanted: &'static [u8],
     allowed: &'static [u8],
     times: [u64; NUMBERS],
@@ -15,7 +15,7 @@ pub(crate) struct Seen {
 }
 
 impl Seen {
-    /// Nothing came yet.
+    /// Without any datagram so far.
     pub(crate) fn new(wanted: &'static [u8], allowed: &'static [u8]) -> Seen {
         Seen {
             wanted,
@@ -26,7 +26,7 @@ impl Seen {
         }
     }
 
-    /// A datagram was taken, and it was right that it was.
+    /// Counts a datagram that was taken, and whether that is right.
     pub(crate) fn take(&mut self, is_right: bool) {
         self.taken = self.taken.saturating_add(1);
         if !is_right {
@@ -34,7 +34,7 @@ impl Seen {
         }
     }
 
-    /// A datagram met the fault or the refusal with this number, and it was right that it did.
+    /// Counts a datagram that met the fault or the refusal with this number, and whether that is right.
     pub(crate) fn refuse(&mut self, number: u8, is_right: bool) {
         if let Some(times) = self.times.get_mut(number as usize) {
             *times = times.saturating_add(1);
@@ -51,7 +51,8 @@ impl Seen {
         }
     }
 
-    /// Adds a line: whether all that came may come, and all that is to come did; if not, how often each number came.
+    /// Adds a line: whether all that came up may, and all that has to come up did; if not, how often each number came
+    /// up.
     pub(crate) fn push_verdict(&self, text: &mut String) -> Result<(), AllocError> {
         if self.wrong == 0
             && self.taken > 0

@@ -1,4 +1,4 @@
-//! Files come to the entity that threads share: two in one thread, event by event, then one through a worker.
+//! Files for a shared entity: two in one thread, event by event, then one through a worker.
 ghost use Rattle.shared_entity.specs.Opening.{AreQueuesFor};
 
 use crate::fault::Fault;
@@ -17,10 +17,10 @@ use std::thread::Threads;
 use txn_events::Refusal;
 use user_queues::{Queues, UserPort};
 
-/// What an entity answers whose gate has the lane step.
+/// The answer of an entity whose gate has the lane step.
 pub(crate) type Answered = Result<Result<Done, Refused>, EntityRefusal>;
 
-// The Metadata and the EOF of an empty file in class 1, under two numbers: each file has a lane of its own.
+// The Metadata and the EOF of an empty file in class 1, with two numbers: each file has a lane of its own.
 const EMPTY_FILES: [(&str, &[u8]); 4] = [
     (
         "deliver Metadata of 1 5",
@@ -43,7 +43,7 @@ const EMPTY_FILES: [(&str, &[u8]); 4] = [
 // How many bundles the first user may take, and one more.
 const TAKES: u32 = 8;
 
-/// Opens queues, and an entity over them, which gets events of files.
+/// Opens queues, and an entity with them, and delivers files to it.
 pub(crate) fn play<R: Threads + Wait + Copy + Send + Sync>(
     rt: R,
     alloc: Global,
@@ -60,7 +60,7 @@ pub(crate) fn play<R: Threads + Wait + Copy + Send + Sync>(
     Ok(())
 }
 
-// An entity over the queues of the reference configuration; whether there was memory for both.
+// Opens an entity with the queues of the reference configuration; answers whether there was memory for both.
 fn open_once<R: Threads + Wait + Copy + Send + Sync>(
     rt: R,
     alloc: Global,
@@ -73,7 +73,7 @@ fn open_once<R: Threads + Wait + Copy + Send + Sync>(
     play_named::<Brand, R>(rt, alloc, transcript, config, queues)
 }
 
-// Opens it over queues that have names of their own, has it play, and tells whether there was memory.
+// Opens an entity with named queues, and plays; answers whether there was memory.
 fn play_named<N: Names + Send + Sync, R: Threads + Wait + Copy + Send + Sync>(
     rt: R,
     alloc: Global,
@@ -98,7 +98,7 @@ fn play_named<N: Names + Send + Sync, R: Threads + Wait + Copy + Send + Sync>(
     }
 }
 
-// Both files come, and the first is kept.
+// Delivers both files, of which the first is kept.
 fn deliver_all<N: Names, R: Wait + Copy>(
     rt: &R,
     transcript: &mut Transcript,
@@ -150,7 +150,7 @@ fn note_stored<N: Names, R: Wait + Copy>(
     transcript.note_answer("stored 1 5", false, &answer)
 }
 
-/// The answer as an entity of one thread gives it.
+/// The answer, in the form of a one-thread entity.
 pub(crate) fn flat(answer: Answered) -> Result<Done, EntityRefusal> {
     match answer {
         Ok(Ok(done)) => Ok(done),
@@ -159,7 +159,7 @@ pub(crate) fn flat(answer: Answered) -> Result<Done, EntityRefusal> {
     }
 }
 
-// The first user takes all that waits.
+// Has the first user take all bundles that wait.
 fn take_all<R: Wait>(
     rt: &R,
     transcript: &mut Transcript,

@@ -1,6 +1,6 @@
 //! Worked transactions, as the lines of scripts.
 
-// A file of three octets comes in class 1, and is kept.
+// A file of three octets is received in class 1, and kept.
 const UNACKNOWLEDGED: &[&str] = &[
     "pdu 24000a0001050207000000000301610162",
     "pdu 3400070001050200000000616263",
@@ -13,7 +13,7 @@ const UNACKNOWLEDGED: &[&str] = &[
     "take alice",
 ];
 
-// A file of three octets comes in class 2, and its Finished is not acknowledged.
+// A file of three octets is received in class 2, and its Finished is not acknowledged.
 const ACKNOWLEDGED: &[&str] = &[
     "pdu 20000a0001050207000000000301610162",
     "pdu 3000070001050200000000616263",
@@ -29,7 +29,7 @@ const ACKNOWLEDGED: &[&str] = &[
     "pdu 20000a0001050204006162630000000003",
 ];
 
-// A file is put in class 2, and a part of it is asked for again.
+// A file is put in class 2, and a segment of it is requested again.
 const PUT: &[&str] = &[
     "put alice 0 2 1 a b 616263",
     "pump 2 4",
@@ -46,5 +46,5 @@ const PUT: &[&str] = &[
     "take alice",
 ];
 
-/// All of them, each for an entity of its own.
+/// All transactions, each for an entity of its own.
 pub(crate) const ALL: [&[&str]; 3] = [UNACKNOWLEDGED, ACKNOWLEDGED, PUT];

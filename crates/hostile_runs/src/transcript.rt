@@ -5,10 +5,10 @@ use std::alloc::{AllocError, Global};
 use txn_events::Refusal;
 use world_core::EntityRefusal;
 
-// Room for all that is noted, so that noting takes no memory of its own.
+// Room for all notes, so that noting allocates nothing.
 const ROOM: usize = 65_536;
 
-/// What was answered, each answer under a title. Where memory runs out for the text of an answer, it is made once more.
+/// The answers, each under a title. If memory runs out for the text of an answer, the text is made once more.
 #[derive(Drop)]
 pub(crate) struct Transcript {
     alloc: Global,
@@ -16,14 +16,14 @@ pub(crate) struct Transcript {
 }
 
 impl Transcript {
-    /// Nothing was answered.
+    /// An empty transcript.
     pub(crate) fn new(alloc: Global) -> Result<Transcript, AllocError> {
         let made = String::with_capacity(alloc, ROOM);
         let text = made.or_else(|_error| String::with_capacity(alloc, ROOM))?;
         Ok(Transcript { alloc, text })
     }
 
-    /// All of it.
+    /// The whole transcript.
     pub(crate) fn text(&self) -> &str {
         self.text.as_str()
     }
@@ -37,13 +37,13 @@ impl Transcript {
         self.text.push_str("\n")
     }
 
-    /// Notes whether a call had the memory that it needs, and tells it.
+    /// Notes whether a call had the memory that it needs; answers the same.
     pub(crate) fn note_made(&mut self, title: &str, made: bool) -> Result<bool, AllocError> {
         self.note(title, if made { "ok" } else { "no memory" })?;
         Ok(made)
     }
 
-    /// Notes an entity's answer to an event, and tells whether it had the memory that it needs.
+    /// Notes an entity's answer to an event; answers whether there was enough memory.
     pub(crate) fn note_answer(
         &mut self,
         title: &str,
@@ -86,7 +86,7 @@ fn taken_text(alloc: Global, taken: &Option<Bundle>) -> Result<String, AllocErro
     Ok(text)
 }
 
-/// Whether an entity says that there was no memory for an event.
+/// Whether an entity answers that memory for an event ran out.
 pub(crate) fn is_no_memory(answer: &Result<Done, EntityRefusal>) -> bool {
     match answer {
         Err(EntityRefusal::Lane(refused)) => matches!(refused.why, Refusal::NoMemory),

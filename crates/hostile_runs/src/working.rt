@@ -1,4 +1,4 @@
-//! A datagram goes through an intake, and through a worker.
+//! A datagram that goes through an intake and a worker.
 ghost use Rattle.std.specs.Prelude.{◌≡◌};
 
 use crate::fault::Fault;
@@ -12,10 +12,10 @@ use std::alloc::{AllocError, Global};
 use std::sync::Wait;
 use std::thread::Threads;
 
-// The Metadata of a file of three octets in class 1, in the lane of the file that was kept before.
+// The Metadata of a file of three octets in class 1, for the lane of the file that was kept before.
 const METADATA: &[u8] = b"\x24\x00\x0a\x00\x01\x07\x02\x07\x00\x00\x00\x00\x03\x01\x61\x01\x62";
 
-/// Keeps the answer to the last datagram, without memory of its own.
+/// Keeps the answer to the last datagram, without allocating.
 #[derive(Drop)]
 struct Slot {
     answer: Option<Answered>,
@@ -39,7 +39,7 @@ fn one_slot(alloc: Global) -> Result<Vec<Slot>, AllocError> {
     Ok(slots)
 }
 
-/// Notes whether an intake takes a datagram: one that waits for a worker, and one that no worker can receive.
+/// Notes whether an intake takes a datagram: one that waits for a worker, and one that no worker can receive any more.
 pub(crate) fn note_sent<R: Wait>(
     rt: &R,
     alloc: Global,
@@ -82,7 +82,7 @@ fn note_send(
     }
 }
 
-// An intake in which the datagram waits, and to which no other can come.
+// An intake in which the datagram waits, and to which no other can be sent.
 fn filled<R: Wait>(rt: &R, alloc: Global) -> Result<IntakeEnd, Fault> {
     let made = Intake::new(alloc, 1);
     let (send, end) = made.or_else(|_error| Intake::new(alloc, 1))?;
@@ -92,7 +92,8 @@ fn filled<R: Wait>(rt: &R, alloc: Global) -> Result<IntakeEnd, Fault> {
     Ok(end)
 }
 
-/// A worker brings the datagram to its lane. A thread that finds no memory is not started, which is reported as such.
+/// Has a worker bring the datagram to its lane. A thread that can't be started because memory ran out is reported as
+/// such.
 pub(crate) fn carry<N: Names + Send + Sync, R: Threads + Wait + Copy + Send + Sync>(
     rt: &R,
     alloc: Global,
@@ -123,7 +124,7 @@ fn carry_once<N: Names + Send + Sync, R: Threads + Wait + Copy + Send + Sync>(
     }
 }
 
-// What the worker's lane answered.
+// Notes the answer of the worker's lane.
 fn note_back(transcript: &mut Transcript, back: Vec<Slot>) -> Result<bool, Fault> {
     for slot in back {
         if let Some(answer) = slot.answer {

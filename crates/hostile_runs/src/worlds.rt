@@ -1,4 +1,4 @@
-//! Worked transactions through the entity of one thread.
+//! Worked transactions with a one-thread entity.
 ghost use Rattle.std.specs.Prelude.{◌≡◌};
 ghost use Rattle.world_core.specs.Worlds.{MayCome};
 
@@ -9,7 +9,7 @@ use script_lines::{Command, command_of};
 use std::alloc::{AllocError, Global};
 use world_core::{Request, World, WorldEvent};
 
-/// Tells an entity what each of these lines says.
+/// Carries out each of these lines with an entity.
 pub(crate) fn play(
     alloc: Global,
     transcript: &mut Transcript,
@@ -31,7 +31,7 @@ pub(crate) fn reference(alloc: Global) -> Result<Config, AllocError> {
     Config::reference(alloc).or_else(|_error| Config::reference(alloc))
 }
 
-// An entity to which nothing has happened.
+// A new entity.
 fn open(alloc: Global, transcript: &mut Transcript) -> Result<World, AllocError> {
     if let Some(world) = open_once(alloc, transcript)? {
         return Ok(world);
@@ -53,7 +53,7 @@ fn read(alloc: Global, line: &str) -> Result<Option<Command>, AllocError> {
     command.or_else(|_error| command_of(alloc, line.as_bytes()))
 }
 
-// Tells the entity of an event, and once more where it had no memory.
+// Passes an event to the entity, and once more if memory ran out.
 fn tell(
     transcript: &mut Transcript,
     world: &mut World,

@@ -1,4 +1,4 @@
--- Meaning. What single words of a line write.
+-- Meaning. Single words of a line, read as operands.
 use Rattle.std.specs.Prelude.{ℕ, ◌-◌, ◌^◌, ◌==◌, nat_lt, if◌then◌else◌, Bool, true, false, List, [], ◌∷◌, Option, Some, None, codes, option_and_then}
 use Rattle.std.specs.List.{list_all}
 use Rattle.std.specs.Str.{bytes_eq}
@@ -17,18 +17,18 @@ o >>= f = option_and_then f o
 abbrev pub number_of : List ℕ → Option ℕ
 number_of word = decimal_of (2 ^ 64 - 1) word
 
--- a transaction, by its two numbers
+-- a transaction ID, from its two numbers
 abbrev pub key_from : List ℕ → List ℕ → Option TxnKey
 key_from source seq = do
   source_number ← number_of source
   seq_number ← number_of seq
   Some (record { source = record { 0 = source_number }; seq = seq_number })
 
--- a word of ASCII
+-- a name: a word of ASCII
 abbrev pub name_of : List ℕ → Option (List ℕ)
 name_of word = if list_all (λ octet. nat_lt octet 128) word then Some word else None
 
--- a class, by its number
+-- a class, from its number
 abbrev pub class_by : ℕ → Option Class
 class_by number =
     if number == 1 then Some One
@@ -38,13 +38,13 @@ class_by number =
 abbrev pub class_of : List ℕ → Option Class
 class_of word = option_and_then class_by (decimal_of 2 word)
 
--- whether closure is asked for, by what stands behind all else of a put: nothing, or the one word that asks
+-- whether a put asks for closure, by the words after its operands: none, or the one word `closure`
 abbrev pub closure_of : List (List ℕ) → Option Bool
 closure_of [] = Some false
 closure_of (word ∷ []) = if bytes_eq word (codes "closure") then Some true else None
 closure_of words = None
 
--- what the first word asks for, of a transaction
+-- the request of a transaction that the first word of a line asks for
 abbrev pub request_for : List ℕ → TxnKey → Option Request
 request_for kind key =
     if bytes_eq kind (codes "cancel") then Some (requests.Cancel key)

@@ -1,4 +1,4 @@
-//! The words of a line, taken one after the other, and what those say that several kinds of lines have.
+//! Splits a line into words in order, and reads the operands that several kinds of lines share.
 #![tactic(auto)]
 
 mod operands;

@@ -1,4 +1,4 @@
-//! What single words of a line write.
+//! Single words of a line, read as operands.
 ghost use Rattle.std.specs.Prelude.{◌≡◌, nat_lt};
 ghost use Rattle.std.specs.List.{list_all};
 ghost use Rattle.std.specs.Option.{option_copied};
@@ -9,14 +9,14 @@ use crate::words::{Rest, decimal, next_word};
 use cfdp_types::{Class, EntityId, TxnKey};
 use entity_routing::Request;
 
-/// A number of 64 bits.
+/// A number of at most 64 bits, in decimal.
 pub fn number_of(word: &[u8]) -> Option<u64>
     ensures { result ≡ number_of word.now }
 {
     decimal(word, u64::MAX)
 }
 
-/// A transaction, by its two numbers.
+/// A transaction ID, from its two numbers: source entity and sequence number.
 pub fn key_from(source: &[u8], seq: &[u8]) -> Option<TxnKey>
     ensures { result ≡ key_from source.now seq.now }
 {
@@ -31,14 +31,14 @@ fn is_ascii(word: &[u8]) -> bool
     word.iter().all(|octet| *octet < 128)
 }
 
-/// A word of ASCII.
+/// The word as a name, if it is ASCII.
 pub fn name_of(word: &[u8]) -> Option<&[u8]>
     ensures { option_copied result ≡ name_of word.now }
 {
     if is_ascii(word) { Some(word) } else { None }
 }
 
-/// A class, by its number.
+/// A class, from its number: 1 or 2.
 pub fn class_of(word: &[u8]) -> Option<Class>
     ensures { result ≡ class_of word.now }
 {
@@ -49,8 +49,8 @@ pub fn class_of(word: &[u8]) -> Option<Class>
     }
 }
 
-/// Whether closure is asked for, by what stands behind all else of a put; nothing where that is anything but the one word
-/// `closure`.
+/// Whether a put asks for closure, by the words after its operands: true for the single word `closure`, false for no
+/// word, and `None` for anything else.
 pub fn closure_of(rest: Rest<'_>) -> Option<bool>
     ensures { result ≡ closure_of (words_left (option_copied rest.entry)) }
 {
@@ -63,7 +63,7 @@ pub fn closure_of(rest: Rest<'_>) -> Option<bool>
     }
 }
 
-/// What the first word asks for, of a transaction.
+/// The request of a transaction that the first word of a line asks for; `None` for a word that is no request.
 pub fn request_for(kind: &[u8], key: TxnKey) -> Option<Request>
     ensures { result ≡ request_for kind.now key }
 {

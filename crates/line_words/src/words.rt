@@ -1,14 +1,14 @@
-//! The words of a line, taken one after the other.
+//! Splits a line into words in order.
 ghost use Rattle.std.specs.Prelude.{◌≡◌, [], ◌∷◌, MatchOption, SomeIff};
 ghost use Rattle.std.specs.Option.{option_copied};
 ghost use Rattle.line_words.specs.Words.{words_of, decimal_of, words_left, only_word, IsDigitOf, value_with};
 
 use memchr::memchr;
 
-/// What is left of a line: nothing after its last word.
+/// The rest of a line; `None` after its last word.
 pub type Rest<'a> = Option<&'a [u8]>;
 
-/// The first word of a text, and what stands after the space that ends it.
+/// The first word of a text, and the rest after the space that ends it.
 pub fn split_word(text: &[u8]) -> (&[u8], Rest<'_>)
     ensures { words_of text.now ≡ result.0.now ∷ words_left (option_copied result.1) }
 {
@@ -37,7 +37,7 @@ pub fn last_word(rest: Rest<'_>) -> Option<&[u8]>
     Some(word)
 }
 
-/// The number that a word writes in decimal digits, if it is no more than the limit.
+/// The number that a word writes in decimal digits, if it is at most `limit`.
 pub fn decimal(word: &[u8], limit: u64) -> Option<u64>
     ensures { result ≡ decimal_of limit word.now }
 {
@@ -51,7 +51,7 @@ pub fn decimal(word: &[u8], limit: u64) -> Option<u64>
     Some(value)
 }
 
-// The number with one digit more.
+// Appends one decimal digit to a number.
 fn with_digit(value: u64, digit: u8, limit: u64) -> Option<u64>
     ensures { SomeIff result (IsDigitOf limit value digit) (value_with value digit) }
 {

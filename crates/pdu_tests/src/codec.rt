@@ -7,8 +7,8 @@ mod vectors;
 
 use vectors::{FAULTS, READ_AS, WRITTEN};
 
-// Its direction, class, octets of an ID and of the sequence number, its source, sequence number and
-// destination, and whether it has the large file flag.
+// A header's direction and class, the octets of an ID and of the sequence number, its source, sequence number and
+// destination, and its large file flag.
 fn header_text(alloc: Global, header: &Header) -> Result<String, AllocError> {
     let mut text = String::new(alloc);
     write!(text, "{:?} {:?} ", header.direction, header.class)?;
@@ -37,13 +37,13 @@ fn has_texts(alloc: Global, pdu: &Pdu, header: &str, body: &str) -> bool {
         && is_text(format!(in alloc; "{:?}", pdu.body()), body)
 }
 
-// Whether this is written for a PDU.
+// Whether a PDU is written as these octets.
 fn is_written(alloc: Global, pdu: &Pdu, octets: &[u8]) -> bool {
     let mut out = Vec::new(alloc);
     encode(pdu, &mut out).is_ok() && out.as_slice() == octets
 }
 
-// Whether octets are read as a PDU of this header and body, and written for it.
+// Whether octets are read as a PDU with this header and body, and written for it again.
 fn is_read(alloc: Global, octets: &[u8], header: &str, body: &str) -> bool {
     match decode(alloc, octets) {
         Ok(pdu) => has_texts(alloc, &pdu, header, body) && is_written(alloc, &pdu, octets),
@@ -61,7 +61,7 @@ fn what_is_written_is_read(rt: HostRuntime) {
     }
 }
 
-// Whether plain octets are written for the PDU that others are read as.
+// Whether octets are read as a PDU that is written as other, plain octets.
 fn is_written_so(alloc: Global, octets: &[u8], plain: &[u8]) -> bool {
     match decode(alloc, octets) {
         Ok(pdu) => is_written(alloc, &pdu, plain),
@@ -94,7 +94,7 @@ fn faults(rt: HostRuntime) {
     }
 }
 
-// What is sent of two files that are received, one in each class, and of one that is put.
+// The PDUs that are sent for two received files, one in each class, and for one that is put.
 const SENT: [&[u8]; 16] = [
     b"\x24\x00\x0a\x00\x01\x05\x02\x07\x00\x00\x00\x00\x03\x01\x61\x01\x62",
     b"\x34\x00\x07\x00\x01\x05\x02\x00\x00\x00\x00\x61\x62\x63",
@@ -114,10 +114,10 @@ const SENT: [&[u8]; 16] = [
     b"\x20\x00\x03\x00\x02\x04\x01\x06\x51\x02",
 ];
 
-// The octets of their fixed header.
+// How many octets their fixed header has.
 const HEADER: usize = 7;
 
-// Whether octets are too short for their header, or else of another length than it says, wherever they are cut.
+// Whether octets, cut at any place, are too short for their header or have another length than it says.
 fn is_refused_cut(alloc: Global, octets: &[u8]) -> bool {
     for length in 0..octets.len() {
         let fault = if length < HEADER {

@@ -6,7 +6,8 @@ fn numbers(rt: HostRuntime) {
     assert!(rt; DecodeFault::TooShort.number() == 1 && DecodeFault::NoMemory.number() == 9);
 }
 
-// Whether a header is of File Data, and says of segment metadata; octets of an ID and of a sequence number.
+// Whether a header is of File Data, whether it announces segment metadata, and the octets of an ID and of a sequence
+// number.
 fn shown(first: u8, lengths: u8) -> (bool, bool, u8, u8) {
     let header = FixedHeader {
         first,

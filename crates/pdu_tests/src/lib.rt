@@ -1,4 +1,4 @@
-//! PDUs as values and as octets, as callers see them: one vector for each kind, length and fault.
+//! PDUs as values and as octets, as callers see them: one test vector for each kind, length and fault.
 #![tactic(auto)]
 
 #[cfg(test)]

@@ -53,7 +53,7 @@ const HEADER: Header = Header {
     destination: EntityId(2),
 };
 
-// Whether a PDU goes toward the sender, and has the header.
+// Whether a PDU goes toward the sender, and has this header.
 fn is_back(pdu: Pdu) -> bool {
     pdu.is_toward_sender() && *pdu.header() == HEADER
 }
@@ -87,7 +87,7 @@ fn nak(alloc: Global) -> bool {
     is_back(Pdu::nak(HEADER, nak))
 }
 
-// The checksum and the size of the file that an EOF ends.
+// The checksum and the file size of an EOF.
 fn ended(pdu: &Pdu) -> Option<(u32, u64)> {
     match pdu.body() {
         Body::Eof(eof) => Some((eof.checksum, eof.size)),

@@ -11,16 +11,16 @@ use Rattle.timer_list.specs.Timers.{is_for, moment_after}
 use Rattle.program_agenda.specs.declared.resting.Resting.{Resting}
 use Rattle.program_agenda.specs.Places.{at_place, without_place}
 
--- where the timer of a transaction and kind rests
+-- the place of the resting timer of a transaction and kind
 abbrev pub resting_place : TxnKey → TimerKind → List Resting → Option ℕ
 resting_place key kind resting = position (λ one. is_for key kind one.timer) resting
 
--- a timer that a step arms anew or disarms rests no more
+-- the list without the timer that an operation arms anew or disarms
 abbrev pub superseded : TimerOp → List Resting → List Resting
 superseded (op.Arm key kind stamp ms) resting = without_place (resting_place key kind resting) resting
 superseded (op.Disarm key kind stamp) resting = without_place (resting_place key kind resting) resting
 
--- where the first timer rests whose link goes to a remote entity
+-- the place of the first resting timer of a link
 abbrev pub link_place : ℕ → List Resting → Option ℕ
 link_place remote resting = position (λ one. one.remote == remote) resting
 
@@ -31,7 +31,7 @@ next_resting remote resting = option_map (λ one. one.timer) (at_place (link_pla
 abbrev pub without_next : ℕ → List Resting → List Resting
 without_next remote resting = without_place (link_place remote resting) resting
 
--- when a timer expires behind a release: silence counts from there on, and all else keeps its deadline
+-- a timer's deadline after a release: silence counts anew from the release, and every other timer keeps its deadline
 abbrev pub deadline_by : TimerKind → ℕ → ℕ → ℕ → ℕ
 deadline_by timer_kind.Inactivity deadline released silence = max deadline (moment_after released silence)
 deadline_by kind deadline released silence = deadline

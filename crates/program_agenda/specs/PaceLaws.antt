@@ -1,9 +1,9 @@
--- Meaning. What a pace keeps of whatever leaves by it.
+-- Meaning. What a pace guarantees of the octets that leave by it.
 use Rattle.std.specs.Prelude.{◌≡◌, ℕ, ◌+◌, ◌*◌, ◌^◌, ◌<◌, ◌≤◌, ◌-◌, ◌&&◌, nat_le, max, true, if◌then◌else◌, List, [], ◌∷◌, Some}
 use Rattle.program_agenda.specs.declared.pace.Pace.{Pace}
 use Rattle.program_agenda.specs.Paces.{is_free, spent}
 
--- so many octets left at a moment, in milliseconds
+-- octets that left at a moment, in milliseconds
 pub record Departure : Type 0 where
   pub at : ℕ
   pub octets : ℕ
@@ -13,12 +13,12 @@ abbrev pub paced : Pace → List Departure → Pace
 paced pace [] = pace
 paced pace (departure ∷ earlier) = spent departure.octets departure.at (paced pace earlier)
 
--- each left at a moment at which something might leave
+-- each departure was at a moment at which the pace was free
 abbrev pub IsPaced : Pace → List Departure → Type 0
 IsPaced pace [] = Unit {0}
 IsPaced pace (departure ∷ earlier) = (is_free departure.at (paced pace earlier) ≡ true) × IsPaced pace earlier
 
--- none of them is larger
+-- no departure is of more octets
 abbrev pub AreAtMost : ℕ → List Departure → Type 0
 AreAtMost most [] = Unit {0}
 AreAtMost most (departure ∷ earlier) = (departure.octets ≤ most) × AreAtMost most earlier

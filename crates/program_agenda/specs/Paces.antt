@@ -1,25 +1,25 @@
--- Meaning. How fast octets may leave.
+-- Meaning. Limits on how fast octets leave.
 use Rattle.std.specs.Prelude.{ℕ, ◌+◌, ◌-◌, ◌*◌, ◌/◌, min, max, Bool, nat_le, Option, Some, None}
 use Rattle.std.specs.Int.{div_ceil}
 use Rattle.program_agenda.specs.declared.pace.Pace.{Pace}
 
--- a number, or the last that 64 bits hold
+-- a number, or the greatest of 64 bits if that is less
 abbrev pub told : ℕ → ℕ
 told number = min number 18446744073709551615
 
--- the time of all that left is over at a moment of milliseconds
+-- octets may leave at this moment, in milliseconds: the time of all that left is over
 abbrev pub is_free : ℕ → Pace → Bool
 is_free now pace = nat_le pace.over_at (told (now * 1000000))
 
--- the first moment of milliseconds at which it is
+-- the first such moment
 abbrev pub free_moment : Pace → ℕ
 free_moment pace = told (pace.over_at + 999999) / 1000000
 
--- how long octets take at a limit of so many a second, in nanoseconds, rounded up
+-- how long octets take at a limit in octets a second, in nanoseconds, rounded up
 abbrev pub time_of : ℕ → ℕ → ℕ
 time_of octets limit = div_ceil (told (octets * 1000000000)) (max limit 1)
 
--- octets that leave take their time behind all that left before, or behind the moment ten milliseconds ago
+-- octets that leave take up their time after that of all that left before, or after the moment ten milliseconds ago
 abbrev pub spent_by : Option ℕ → ℕ → ℕ → Pace → Pace
 spent_by None octets now pace = pace
 spent_by (Some limit) octets now pace =

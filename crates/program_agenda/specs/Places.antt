@@ -2,7 +2,7 @@
 use Rattle.std.specs.Prelude.{ℕ, List, ◌++◌, Option, Some, None, slice_get, option_to_list}
 use Rattle.std.specs.List.{remove}
 
--- what stands at a place, and the list without it, and the list with it behind all others
+-- the item at a place, the list without it, and the list with it moved to the end
 abbrev pub at_place : {A : Type 0} → Option ℕ → List A → Option A
 at_place None items = None
 at_place (Some place) items = slice_get items place

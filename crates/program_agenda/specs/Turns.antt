@@ -1,4 +1,4 @@
--- Meaning. What a program has to do by itself: timers that expire, files that are under way, deposits that wait.
+-- Meaning. The work that a program does without an event from outside: expired timers, files that are sent, deposits.
 use Rattle.std.specs.Prelude.{ℕ, Bool, nat_le, min, fold, map, set, List, [], ◌∷◌, ◌++◌, Option, Some, None, position, option_map}
 use Rattle.cfdp_types.specs.declared.key.TxnKey.{TxnKey}
 use Rattle.timer_list.specs.declared.armed.Armed.{Armed}
@@ -9,29 +9,29 @@ use Rattle.program_agenda.specs.declared.sending.Sending.{Sending}
 
 -- ---- places
 
--- the list with another item at a place
+-- the list with another item at this place
 abbrev pub written_at : {A : Type 0} → Option ℕ → A → List A → List A
 written_at None item items = items
 written_at (Some place) item items = set items place item
 
--- ---- files under way
+-- ---- files that are being sent
 
--- a file is not at rest at the moment
+-- a file doesn't rest at the moment
 abbrev pub is_awake : ℕ → Sending → Bool
 is_awake now sending = nat_le sending.rests_until now
 
--- a file is of a transaction
+-- a file is this transaction's
 abbrev pub is_of : TxnKey → Sending → Bool
 is_of key sending = is_key key sending.key
 
--- where the first file stands that is not at rest, and where that of a transaction does
+-- the place of the first file that doesn't rest, and that of a transaction's file
 abbrev pub awake_place : ℕ → List Sending → Option ℕ
 awake_place now sendings = position (is_awake now) sendings
 
 abbrev pub key_place : TxnKey → List Sending → Option ℕ
 key_place key sendings = position (is_of key) sendings
 
--- the transaction of the first file that is not at rest, and the list in which that file has gone behind all others
+-- the transaction of the first file that doesn't rest, and the list with that file moved to the end
 abbrev pub next_key : ℕ → List Sending → Option TxnKey
 next_key now sendings = option_map (λ sending. sending.key) (at_place (awake_place now sendings) sendings)
 
@@ -42,19 +42,19 @@ turned now sendings = turned_at (awake_place now sendings) sendings
 abbrev pub rested : TxnKey → ℕ → List Sending → List Sending
 rested key until sendings = written_at (key_place key sendings) (record { key = key; rests_until = until }) sendings
 
--- the file of a transaction is not under way any more
+-- the file of a transaction is no longer being sent
 abbrev pub forgotten : TxnKey → List Sending → List Sending
 forgotten key sendings = without_place (key_place key sendings) sendings
 
--- one more file is under way, behind all others
+-- one more file is being sent, after all others
 abbrev pub begun : TxnKey → List Sending → List Sending
 begun key sendings = sendings ++ record { key = key; rests_until = 0 } ∷ []
 
--- the first moment at which a file is not at rest, or the last that 64 bits hold
+-- the first moment at which a file doesn't rest, or the greatest of 64 bits
 abbrev pub least_rest : List Sending → ℕ
 least_rest sendings = fold (λ least sending. min least sending.rests_until) 18446744073709551615 sendings
 
--- a file rests no more, and none of a list does
+-- a file that no longer rests, and a list without any that rests
 abbrev pub woken_one : Sending → Sending
 woken_one sending = record sending { rests_until = 0 }
 
@@ -63,7 +63,7 @@ woken sendings = map woken_one sendings
 
 -- ---- deposits
 
--- the first of a list, and what is behind it
+-- the first item of a list, and the others
 abbrev pub front_of : {D : Type 0} → List D → Option D
 front_of [] = None
 front_of (first ∷ rest) = Some first
@@ -74,8 +74,8 @@ behind_front (first ∷ rest) = rest
 
 -- ---- the whole
 
--- timers in the order in which they were armed, those that rest as they expired, files in the order of their turns, deposits as
--- they came
+-- the timers that run, in the order in which they were armed; those that rest, in the order in which they expired;
+-- files, in the order of their turns; deposits, in the order in which they came
 pub record AgendaValue (D : Type 0) : Type 0 where
   pub timers : List Armed
   pub resting : List Resting

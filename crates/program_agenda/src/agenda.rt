@@ -12,8 +12,9 @@ use std::collections::VecDeque;
 use std::marker::Model;
 use timer_list::{Armed, TimerList};
 
-/// What a program has to do by itself: timers that expire, files that are under way, deposits that wait; and the timers that
-/// rest since the link to their remote entity is held. Contracts see the four lists.
+/// The work that a program has to do without an event from outside: timers that expire, files that are being sent, and
+/// deposits that wait; also the timers that rest because the link to their remote entity is held. Contracts see the
+/// four lists.
 #[derive(Drop)]
 pub struct Agenda<D: Drop> {
     timers: TimerList,
@@ -31,7 +32,7 @@ impl<D: Drop> Model for Agenda<D> {
 }
 
 impl<D: Drop> Agenda<D> {
-    /// Nothing is to be done.
+    /// An empty agenda.
     pub fn new(alloc: Global) -> Agenda<D>
         ensures { result ≡ record { timers = []; resting = []; sendings = []; deposits = [] } }
     {
@@ -43,7 +44,7 @@ impl<D: Drop> Agenda<D> {
         }
     }
 
-    /// Takes out the first timer that has expired at a moment.
+    /// Takes out the first timer that has expired at this moment.
     pub fn due(&mut self, now: u64) -> Option<Armed>
         ensures timer { result ≡ first_due now self.old.timers }
         ensures left { self.new ≡ record self.old { timers = without_due now self.old.timers } }
@@ -51,7 +52,7 @@ impl<D: Drop> Agenda<D> {
         self.timers.due(now)
     }
 
-    /// The transaction of the first file that is not at rest, which goes behind all others.
+    /// The transaction of the first file that doesn't rest; that file's next turn is after all others.
     pub fn next_sending(&mut self, now: u64) -> Option<TxnKey>
         ensures key { result ≡ next_key now self.old.sendings }
         ensures left { self.new ≡ record self.old { sendings = turned now self.old.sendings } }
@@ -67,7 +68,8 @@ impl<D: Drop> Agenda<D> {
         self.deposits.pop_front()
     }
 
-    /// Does to the timers what a step of this moment says. What it arms anew or disarms rests no more.
+    /// Arms and disarms timers as an operation of a step at this moment says. A resting timer that it arms anew or
+    /// disarms is dropped.
     pub fn apply(&mut self, operation: TimerOp, at: u64) -> Result<(), AllocError>
         ensures ok { OnOk result (self.new ≡ record self.old {
           timers = after operation at self.old.timers;
@@ -80,7 +82,8 @@ impl<D: Drop> Agenda<D> {
         Ok(())
     }
 
-    /// A timer that was taken out rests until its link is released, behind all others. It is given back for want of memory.
+    /// Lets a timer that was taken out rest until its link is released, after all others. If memory runs out, the timer
+    /// is returned.
     pub fn lay_by(&mut self, remote: usize, timer: Armed) -> Result<(), Armed>
         ensures ok { OnOk result (self.new ≡ record self.old {
           resting = self.old.resting ++ record { remote = remote; timer = timer } ∷ [];
@@ -91,7 +94,7 @@ impl<D: Drop> Agenda<D> {
         self.resting.add(remote, timer)
     }
 
-    /// Takes out the first timer that rests for a remote entity.
+    /// Takes out the first resting timer of a remote entity.
     pub fn next_resting(&mut self, remote: usize) -> Option<Armed>
         ensures timer { result ≡ next_resting remote self.old.resting }
         ensures left { self.new ≡ record self.old { resting = without_next remote self.old.resting } }
@@ -99,14 +102,15 @@ impl<D: Drop> Agenda<D> {
         self.resting.next(remote)
     }
 
-    /// No file rests any more.
+    /// Wakes all files that rest.
     pub fn wake_all(&mut self)
         ensures { self.new ≡ record self.old { sendings = woken self.old.sendings } }
     {
         self.sendings.wake_all();
     }
 
-    /// A timer that was taken out runs again, as the last one. It is given back where it runs already, or for want of memory.
+    /// Puts a timer that was taken out after all others that run. It is returned if it runs already, or if memory runs
+    /// out.
     pub fn put_back(&mut self, timer: Armed) -> Result<(), Armed>
         ensures ok { OnOk result (self.new ≡ record self.old { timers = self.old.timers ++ timer ∷ [] }) }
         ensures given_back { IfErr result (λ back. back ≡ timer) }
@@ -115,14 +119,14 @@ impl<D: Drop> Agenda<D> {
         self.timers.put_back(timer)
     }
 
-    /// Makes room for one file more that is under way.
+    /// Reserves memory for one more file.
     pub fn reserve(&mut self) -> Result<(), AllocError>
         ensures { self.new ≡ self.old }
     {
         self.sendings.reserve()
     }
 
-    /// One more file is under way, behind all others.
+    /// Adds a transaction whose file is to be sent, after all others.
     pub fn begin(&mut self, key: TxnKey) -> Result<(), AllocError>
         ensures ok { OnOk result (self.new ≡ record self.old { sendings = begun key self.old.sendings }) }
         ensures err { OnErr result (self.new ≡ self.old) }
@@ -130,21 +134,21 @@ impl<D: Drop> Agenda<D> {
         self.sendings.begin(key)
     }
 
-    /// The file of a transaction rests until a moment.
+    /// Lets the file of a transaction rest until a moment.
     pub fn rest(&mut self, key: TxnKey, until: u64)
         ensures { self.new ≡ record self.old { sendings = rested key until self.old.sendings } }
     {
         self.sendings.rest(key, until);
     }
 
-    /// The file of a transaction is not under way any more.
+    /// Removes the file of a transaction: it is no longer being sent.
     pub fn forget(&mut self, key: TxnKey)
         ensures { self.new ≡ record self.old { sendings = forgotten key self.old.sendings } }
     {
         self.sendings.forget(key);
     }
 
-    /// A deposit waits, behind all others. It is given back for want of memory.
+    /// Appends a deposit. It is returned if memory runs out.
     pub fn keep(&mut self, deposit: D) -> Result<(), D>
         ensures ok { OnOk result (self.new ≡ record self.old { deposits = self.old.deposits ++ deposit ∷ [] }) }
         ensures given_back { IfErr result (λ back. back ≡ deposit) }
@@ -170,7 +174,7 @@ impl<D: Drop> Agenda<D> {
         self.timers.soonest()
     }
 
-    /// The first moment at which a file is not at rest, or the last that 64 bits hold where none is under way.
+    /// The first moment at which a file doesn't rest, or the greatest of 64 bits if no file is being sent.
     pub fn soonest_sending(&self) -> u64
         ensures { result ≡ least_rest self.now.sendings }
     {

@@ -1,30 +1,30 @@
-//! What becomes of what an entity refused.
+//! What becomes of work that an entity refused.
 ghost use Rattle.std.specs.Prelude.{◌≡◌};
 ghost use Rattle.program_agenda.specs.Fates.{fate_of_retry, fate_of_pump};
 
-/// What a refusal says of what was to be done.
+/// What a refusal means for the work that was refused.
 #[derive(Clone, Copy, Debug, PartialEq, Eq)]
 pub enum Obstacle {
-    /// It passes by, as want of memory does, and a full queue.
+    /// It is temporary, such as running out of memory or a full queue.
     Passing,
-    /// It lasts until something comes for the transaction.
+    /// It lasts until an event comes for the transaction.
     Lasting,
-    /// Nothing more can come of the transaction.
+    /// The transaction can make no more progress.
     Final,
 }
 
-/// What becomes of what an entity refused.
+/// What becomes of work that an entity refused.
 #[derive(Clone, Copy, Debug, PartialEq, Eq)]
 pub enum Fate {
     /// It is tried again soon.
     Again,
-    /// It is tried again once something has come for its transaction.
+    /// It is tried again after the next event of its transaction.
     Awaits,
-    /// Nothing more comes of it.
+    /// It is dropped.
     Over,
 }
 
-/// What becomes of a timer that expired, or of a deposit.
+/// What becomes of a timer that expired, or of a deposit, when the entity refuses it.
 pub fn fate_of_retry(obstacle: Obstacle) -> Fate
     ensures { result ≡ fate_of_retry obstacle }
 {
@@ -34,7 +34,7 @@ pub fn fate_of_retry(obstacle: Obstacle) -> Fate
     }
 }
 
-/// What becomes of a file that is under way where nothing of it could be sent.
+/// What becomes of a file that is being sent, when the entity refuses to send its next segments.
 pub fn fate_of_pump(obstacle: Obstacle) -> Fate
     ensures { result ≡ fate_of_pump obstacle }
 {

@@ -1,5 +1,5 @@
-//! What the main thread of a program has to do by itself: timers that expire, files that are under way, deposits that wait; and
-//! what rests while a link is held.
+//! The work that the main thread of a program has to do without an event from outside: timers that expire, files that
+//! are being sent, deposits that wait; and the timers that rest while a link is held.
 #![tactic(auto)]
 
 mod agenda;

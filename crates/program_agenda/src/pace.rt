@@ -1,47 +1,48 @@
-//! How fast octets may leave.
+//! Limits how fast octets leave.
 ghost use Rattle.std.specs.Prelude.{◌≡◌};
 ghost use Rattle.program_agenda.specs.Paces.{is_free, free_moment, spent};
 
-// How long before now what wasn't used may still be used, in milliseconds: moments are no finer, and waits are longer.
+// For how many milliseconds unused time may still be used: clock readings are no finer, and waits take longer than
+// asked.
 const SLACK_MS: u64 = 10;
 
 const NANOSECONDS_A_MILLISECOND: u64 = 1_000_000;
 
 const NANOSECONDS_A_SECOND: u64 = 1_000_000_000;
 
-/// How fast octets may leave. What leaves takes its time at the limit, and nothing leaves before the time of all that left
-/// is over.
+/// Limits how fast octets leave. Octets that leave take up their time at the limit, and nothing leaves before the time
+/// of all that left is over.
 #[derive(Clone, Copy, Debug, PartialEq, Eq)]
 pub struct Pace {
-    /// The octets that may leave in a second, where that is limited.
+    /// The octets that may leave in a second, if that is limited.
     pub limit: Option<u64>,
     /// The moment at which the time of all that left is over, in nanoseconds.
     pub over_at: u64,
 }
 
 impl Pace {
-    /// Nothing left so far.
+    /// A pace by which nothing has left.
     pub fn new(limit: Option<u64>) -> Pace
         ensures { result ≡ record { limit = limit; over_at = 0 } }
     {
         Pace { limit, over_at: 0 }
     }
 
-    /// Whether something may leave at this moment, in milliseconds.
+    /// Whether octets may leave at this moment, in milliseconds.
     pub fn is_free(&self, now: u64) -> bool
         ensures { result ≡ is_free now self.now }
     {
         self.over_at <= now.saturating_mul(NANOSECONDS_A_MILLISECOND)
     }
 
-    /// A moment at which something may leave, in milliseconds.
+    /// The first moment at which octets may leave, in milliseconds.
     pub fn free_moment(&self) -> u64
         ensures { result ≡ free_moment self.now }
     {
         self.over_at.saturating_add(NANOSECONDS_A_MILLISECOND - 1) / NANOSECONDS_A_MILLISECOND
     }
 
-    /// The pace after so many octets left at this moment, in milliseconds.
+    /// The pace after this many octets left at this moment, in milliseconds.
     pub fn spend(self, octets: u64, now: u64) -> Pace
         ensures { result ≡ spent octets now self }
     {

@@ -10,7 +10,7 @@ use timer_list::Armed;
 /// A timer that expired while its link was held.
 #[derive(Clone, Copy, Debug, PartialEq, Eq)]
 pub struct Resting {
-    /// The remote entity at the link's other end, by its place in the configuration.
+    /// The number in the configuration of the remote entity at the link's other end.
     pub remote: usize,
     pub timer: Armed,
 }
@@ -31,7 +31,7 @@ impl Model for RestingTimers {
 }
 
 impl RestingTimers {
-    /// No timer rests.
+    /// An empty list.
     pub fn new(alloc: Global) -> RestingTimers
         ensures { result ≡ [] }
     {
@@ -40,7 +40,7 @@ impl RestingTimers {
         }
     }
 
-    /// A timer that expired rests, behind all others. It is given back for want of memory.
+    /// Appends a timer that expired. It is returned if memory runs out.
     pub fn add(&mut self, remote: usize, timer: Armed) -> Result<(), Armed>
         ensures ok { OnOk result (self.new ≡ self.old ++ record { remote = remote; timer = timer } ∷ []) }
         ensures given_back { IfErr result (λ back. back ≡ timer) }
@@ -52,7 +52,7 @@ impl RestingTimers {
         }
     }
 
-    /// The timer that a step arms anew or disarms rests no more.
+    /// Drops the resting timer that an operation of a step arms anew or disarms, if there is one.
     pub fn supersede(&mut self, operation: TimerOp)
         ensures { self.new ≡ superseded operation self.old }
     {
@@ -62,7 +62,7 @@ impl RestingTimers {
         }
     }
 
-    /// Takes out the first timer that rests for a remote entity.
+    /// Takes out the first resting timer of a remote entity.
     pub fn next(&mut self, remote: usize) -> Option<Armed>
         ensures timer { result ≡ next_resting remote self.old }
         ensures left { self.new ≡ without_next remote self.old }
@@ -72,7 +72,7 @@ impl RestingTimers {
     }
 }
 
-// Where the timer of a transaction and kind rests.
+// The place of the resting timer of a transaction and kind.
 fn resting_place(timers: &[Resting], key: TxnKey, kind: TimerKind) -> Option<usize>
     ensures place { result ≡ resting_place key kind timers.now }
     ensures range { IfSome result (λ place. place < length timers.now) }
@@ -80,7 +80,7 @@ fn resting_place(timers: &[Resting], key: TxnKey, kind: TimerKind) -> Option<usi
     timers.iter().position(|resting| key == resting.timer.key && kind == resting.timer.kind)
 }
 
-// Where the first timer rests whose link goes to a remote entity.
+// The place of the first resting timer of a link.
 fn link_place(timers: &[Resting], remote: usize) -> Option<usize>
     ensures place { result ≡ link_place remote timers.now }
     ensures range { IfSome result (λ place. place < length timers.now) }
@@ -88,8 +88,8 @@ fn link_place(timers: &[Resting], remote: usize) -> Option<usize>
     timers.iter().position(|resting| resting.remote == remote)
 }
 
-/// When a timer expires whose link was released at a moment. Silence counts from the release on, for as long as a remote
-/// entity may be silent; every other timer keeps its deadline. All in milliseconds.
+/// The deadline of a timer after its link was released. For the inactivity timer, the silence counts anew from the
+/// release; every other timer keeps its deadline. All in milliseconds.
 pub fn deadline_behind(timer: Armed, released: u64, silence: u64) -> u64
     ensures { result ≡ deadline_behind timer released silence }
 {

@@ -6,7 +6,7 @@ use cfdp_types::TxnKey;
 use std::alloc::{AllocError, Global};
 use std::marker::Model;
 
-/// The files that are under way, each of which has its turn. Contracts see the list of them, in the order of their turns.
+/// The files that are being sent, which take turns. Contracts see the list of them, in the order of their turns.
 #[derive(Drop)]
 pub struct Rotation {
     sendings: Vec<Sending>,
@@ -22,7 +22,7 @@ impl Model for Rotation {
 }
 
 impl Rotation {
-    /// No file is under way.
+    /// An empty list.
     pub fn new(alloc: Global) -> Rotation
         ensures { result ≡ [] }
     {
@@ -31,14 +31,14 @@ impl Rotation {
         }
     }
 
-    /// Makes room for one file more.
+    /// Reserves memory for one more file.
     pub fn reserve(&mut self) -> Result<(), AllocError>
         ensures { self.new ≡ self.old }
     {
         self.sendings.reserve(1)
     }
 
-    /// One more file is under way, behind all others.
+    /// Adds a transaction whose file is to be sent, after all others.
     pub fn begin(&mut self, key: TxnKey) -> Result<(), AllocError>
         ensures ok { OnOk result (self.new ≡ begun key self.old) }
         ensures err { OnErr result (self.new ≡ self.old) }
@@ -52,7 +52,7 @@ impl Rotation {
         }
     }
 
-    /// Puts the first file that is not at rest behind all others, and gives its transaction.
+    /// The transaction of the first file that doesn't rest; that file's next turn is after all others.
     pub fn next(&mut self, now: u64) -> Option<TxnKey>
         ensures next { result ≡ next_key now self.old }
         ensures order { self.new ≡ turned now self.old }
@@ -63,7 +63,7 @@ impl Rotation {
         Some(sending.key)
     }
 
-    /// The file of a transaction rests until a moment.
+    /// Lets the file of a transaction rest until a moment.
     pub fn rest(&mut self, key: TxnKey, until: u64)
         ensures { self.new ≡ rested key until self.old }
     {
@@ -75,14 +75,14 @@ impl Rotation {
         }
     }
 
-    /// No file rests any more.
+    /// Wakes all files that rest.
     pub fn wake_all(&mut self)
         ensures { self.new ≡ woken self.old }
     {
         wake_each(&mut self.sendings);
     }
 
-    /// The file of a transaction is not under way any more.
+    /// Removes the file of a transaction: it is no longer being sent.
     pub fn forget(&mut self, key: TxnKey)
         ensures { self.new ≡ forgotten key self.old }
     {
@@ -91,7 +91,7 @@ impl Rotation {
         }
     }
 
-    /// The first moment at which a file is not at rest, or the last that 64 bits hold where none is under way.
+    /// The first moment at which a file doesn't rest, or the greatest of 64 bits if no file is being sent.
     pub fn soonest(&self) -> u64
         ensures { result ≡ least_rest self.now }
     {
@@ -101,7 +101,7 @@ impl Rotation {
     }
 }
 
-// Where the first file that is not at rest stands.
+// The place of the first file that doesn't rest.
 fn awake_place(sendings: &[Sending], now: u64) -> Option<usize>
     ensures place { result ≡ awake_place now sendings.now }
     ensures range { IfSome result (λ place. place < length sendings.now) }
@@ -111,7 +111,7 @@ fn awake_place(sendings: &[Sending], now: u64) -> Option<usize>
         .position(|sending| sending.rests_until <= now)
 }
 
-// Where the file of a transaction stands.
+// The place of the file of a transaction.
 fn key_place(sendings: &[Sending], key: TxnKey) -> Option<usize>
     ensures place { result ≡ key_place key sendings.now }
     ensures range { IfSome result (λ place. place < length sendings.now) }

@@ -1,10 +1,10 @@
 use cfdp_types::TxnKey;
 
-/// A file that is under way.
+/// A file that is being sent.
 #[derive(Clone, Copy, Debug, PartialEq, Eq)]
 pub struct Sending {
     /// The transaction that sends it.
     pub key: TxnKey,
-    /// The moment before which nothing of it is sent, in the caller's milliseconds.
+    /// The moment before which none of its segments is sent, in the caller's milliseconds.
     pub rests_until: u64,
 }

@@ -1,4 +1,4 @@
-//! The two threads of one client.
+//! The two threads that serve a client.
 use crate::reading::read_commands;
 use crate::writing::write_answers;
 use entity_config::Config;
@@ -14,7 +14,7 @@ use std::thread;
 use std::thread::Threads;
 use std::time::Clock;
 
-/// Serves the client of a seat until it leaves: this thread reads, and another one writes.
+/// Serves the client of a seat until it leaves: this thread reads, and a second one writes.
 pub(crate) fn serve_client<'x, R: Threads + Wait + Clock + Sync, F: FileReader>(
     rt: &'x R,
     alloc: Global,

@@ -1,15 +1,15 @@
-//! Whether somebody listens at a Unix socket.
+//! Finds out whether a server listens at a Unix socket.
 use libc::net as c;
 use std::net::Net;
 use std::os::fd::AsRawFd;
 use std::os::unix::net::UnixStream;
 
-// The kind of such an address, and how many octets its path has at most.
+// The family of a Unix address, and how many octets its path may have.
 const UNIX: u16 = 1;
 
 const PATH_OCTETS: usize = 107;
 
-/// What is known of a path at which somebody may listen.
+/// What is known of a path where a server may listen.
 #[derive(Clone, Copy, Debug, PartialEq, Eq)]
 pub(crate) enum Probed {
     Listens,
@@ -17,7 +17,7 @@ pub(crate) enum Probed {
     Unknown,
 }
 
-/// Connects to a path and leaves again. It never waits: where the queue of those who listen is full, somebody listens.
+/// Connects to a path and leaves again, without ever waiting: a full queue of connections shows that a server listens.
 pub(crate) fn probe<R: Net>(rt: &R, path: &str) -> Probed {
     let path = path.as_bytes();
     if path.len() > PATH_OCTETS {
@@ -34,7 +34,7 @@ pub(crate) fn probe<R: Net>(rt: &R, path: &str) -> Probed {
     address[..2].copy_from_slice(&UNIX.to_ne_bytes());
     address[2..2 + path.len()].copy_from_slice(path);
     let length = path.len() as u32 + 3;
-    // the call reads the first octets of the address, and changes nothing of the program's
+    // the call reads the first octets of the address, and changes none of the program's memory
     if unsafe { c::connect(socket.as_raw_fd(), &address, length) } == 0 {
         return Probed::Listens;
     }

@@ -1,4 +1,4 @@
-//! What one client asks.
+//! Reads one client's commands.
 use entity_config::Config;
 use program_desk::{Desk, Said, said_by};
 use program_seats::{Asker, Seats};
@@ -11,10 +11,9 @@ use std::time::Clock;
 /// How many octets a command may have, its line feed included.
 pub const COMMAND_OCTETS: u64 = 131_072;
 
-/// Leaves what a client's lines say at the desk, one at a time: the next is read once the one before was answered. The file of a
-/// Put is read here, so this client alone waits for it. It ends where the
-/// lines do, where reading fails or a line is too long, where there is no memory for a line, and where the client's way or
-/// the desk is closed. Half a line at the end is no command.
+/// Leaves a client's commands at the desk, one at a time: the next is read once the one before was answered. The file
+/// of a Put is read here, so only this client waits for it. Returns when the lines end, reading fails, a line is too
+/// long, memory runs out, or the client's way or the desk is closed. A last line without a line feed is not a command.
 pub(crate) fn read_commands<R: Wait + Clock, F: FileReader, B: BufRead + Drop>(
     rt: &R,
     alloc: Global,
@@ -47,7 +46,7 @@ pub(crate) fn read_commands<R: Wait + Clock, F: FileReader, B: BufRead + Drop>(
     }
 }
 
-// Leaves what one line says and waits for its answer; whether more may be read.
+// Leaves one parsed line and waits for its answer; answers whether more may be read.
 fn ask<R: Wait>(rt: &R, asker: Asker, said: Said, desk: &Desk, seats: &Seats) -> bool {
     seats.ask(rt, asker) && desk.leave_line(rt, said, Some(asker)) && seats.wait_answer(rt, asker)
 }

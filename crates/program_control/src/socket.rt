@@ -1,4 +1,4 @@
-//! The socket itself: its file, who comes in, and its end.
+//! The socket: its file, the clients it lets in, and its end.
 use crate::client::serve_client;
 use crate::probing::{Probed, probe};
 use entity_config::Config;
@@ -19,16 +19,16 @@ use std::thread::Threads;
 use std::time::{Clock, Duration};
 use std::{fs, io, thread};
 
-// Who may connect: the owner alone.
+// The file's permissions: only the owner may connect.
 const OWNER_ALONE: u32 = 0o600;
 
-// How many clients may wait to come in.
+// How many clients may wait to be let in.
 const WAITING: i32 = 16;
 
-// How many paths are tried beside the one that is wanted.
+// How many temporary paths next to the wanted one are tried.
 const BESIDE: u64 = 100;
 
-// How long the thread that lets clients in rests where that fails.
+// How many milliseconds the thread that lets clients in waits after a failure.
 const REST_MILLIS: u64 = 20;
 
 /// Why there is no control socket.
@@ -36,9 +36,9 @@ const REST_MILLIS: u64 = 20;
 pub enum ControlFault {
     /// Another server answers there.
     Live,
-    /// Something lies there that is no socket.
+    /// The path is taken by a file that isn't a socket.
     NotSocket,
-    /// The system refuses it.
+    /// A call of the system failed.
     System,
 }
 
@@ -46,16 +46,16 @@ pub enum ControlFault {
 #[derive(Drop)]
 pub struct ControlSocket {
     listener: UnixListener,
-    // another handle of the same socket, by which it is shut
+    // another handle of the same socket, for shutting it down
     shutter: UnixStream,
-    // of the file: another server may have put one of its own there
+    // the file's identity: another server may have put its own file there
     device: u64,
     node: u64,
 }
 
 impl ControlSocket {
-    /// Makes the socket's file, with the owner's rights alone before anyone can connect. The file of a server that is gone is
-    /// replaced. Of servers that start at the same time one gets the path.
+    /// Makes the socket's file, which gets the owner's permissions before anyone can connect. The file of a server that
+    /// is gone is replaced. Of several servers that start at the same time, one gets the path.
     pub fn open<R: Files + Net>(
         rt: &R,
         alloc: Global,
@@ -68,8 +68,8 @@ impl ControlSocket {
         Ok(socket)
     }
 
-    /// Lets clients in, each at a free seat, until the seats are closed. It returns once all have left. What their lines say is
-    /// read by a configuration, and the files of their Puts by `files`.
+    /// Lets clients in, each at a free seat, until the seats are closed, and returns once all have left. Their lines
+    /// are parsed by `config`, and the files of their Puts read by `files`.
     pub fn run<R: Threads + Wait + Clock + Sync, F: FileReader + Sync>(
         &self,
         rt: &R,
@@ -106,7 +106,8 @@ impl ControlSocket {
         });
     }
 
-    /// Lets nobody in any more, and all who sit leave: what was answered is still sent, as far as they take it at once.
+    /// Lets nobody in any more, and makes all clients leave: answers that wait are still sent, as far as they are taken
+    /// at once.
     pub fn close<R: Files + Wait + Clock>(&self, rt: &R, path: &str, seats: &Seats) {
         seats.close(rt);
         let _as_it_may = self.shutter.shutdown(Shutdown::Both);
@@ -114,7 +115,7 @@ impl ControlSocket {
         seats.finish(rt);
     }
 
-    /// Takes the socket's file away, if it is still the one at its path.
+    /// Removes the socket's file, if the one at its path is still this socket's.
     pub fn leave<R: Files>(&self, rt: &R, path: &str) {
         if self.is_at(rt, path) {
             let _gone = fs::remove_file(rt, path);
@@ -130,8 +131,8 @@ impl ControlSocket {
     }
 }
 
-// Gives a socket that listens at a path of its own the path that is wanted. One server at a time replaces a stale file: the one
-// that has the guard's path meanwhile.
+// Gives a socket that listens at a temporary path the wanted one. Only one server at a time replaces a stale file: the
+// one that has the guard's path meanwhile.
 fn place<R: Files + Net>(rt: &R, alloc: Global, own: &str, path: &str) -> Result<(), ControlFault> {
     if !is_stale(rt, path)? {
         return link(rt, own, path);
@@ -145,7 +146,7 @@ fn place<R: Files + Net>(rt: &R, alloc: Global, own: &str, path: &str) -> Result
     placed
 }
 
-// Gives a socket a path, in place of a stale file if one lies there.
+// Gives a socket a path, replacing a stale file if there is one.
 fn replace<R: Files + Net>(rt: &R, own: &str, path: &str) -> Result<(), ControlFault> {
     if is_stale(rt, path)? && fs::remove_file(rt, path).is_err() {
         return Err(ControlFault::System);
@@ -153,7 +154,7 @@ fn replace<R: Files + Net>(rt: &R, own: &str, path: &str) -> Result<(), ControlF
     link(rt, own, path)
 }
 
-// Gives a socket one path more, where no file is.
+// Gives a socket another path, where no file may exist.
 fn link<R: Files>(rt: &R, own: &str, path: &str) -> Result<(), ControlFault> {
     match fs::hard_link(rt, own, path) {
         Ok(()) => Ok(()),
@@ -162,7 +163,7 @@ fn link<R: Files>(rt: &R, own: &str, path: &str) -> Result<(), ControlFault> {
     }
 }
 
-// Whether a socket is at a path at which nobody listens; not where no file is.
+// Whether the path has a socket where nobody listens; false without a file.
 fn is_stale<R: Files + Net>(rt: &R, path: &str) -> Result<bool, ControlFault> {
     let found = match fs::symlink_metadata(rt, path) {
         Ok(found) => found,
@@ -179,7 +180,7 @@ fn is_stale<R: Files + Net>(rt: &R, path: &str) -> Result<bool, ControlFault> {
     }
 }
 
-// Makes a socket at a path beside the one that is wanted, at which clients can connect; the path too.
+// Opens a socket at a temporary path next to the wanted one, where clients can connect; answers the path, too.
 fn open_beside<R: Files + Net>(
     rt: &R,
     alloc: Global,
@@ -196,7 +197,7 @@ fn open_beside<R: Files + Net>(
     Err(ErrorKind::AddrInUse.into())
 }
 
-// Makes a socket: its file, its rights, and only then lets clients connect.
+// Opens a socket: makes its file, sets its permissions, and only then lets clients connect.
 fn open_new<R: Files + Net>(rt: &R, path: &str) -> io::Result<ControlSocket> {
     let address = SocketAddr::from_pathname(path)?;
     let socket = rt.unix_socket()?;

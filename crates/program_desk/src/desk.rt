@@ -1,4 +1,4 @@
-//! Where other threads leave what the main thread has to do.
+//! The desk, where other threads leave work for the main thread.
 use crate::said::Said;
 use crate::step::{Step, Urgency};
 use crate::trays::{AskedLine, LinesEnd, Rest, Trays};
@@ -12,41 +12,41 @@ use std::time::{Clock, Duration};
 // How long the main thread naps before it sleeps, in milliseconds.
 const NAP_MS: u64 = 1;
 
-/// What the main thread finds of the commands.
+/// What the main thread gets when it asks for a line.
 #[derive(Drop)]
 pub enum NextLine {
-    /// A line, and whose it is.
+    /// A line, and the client that it came from.
     Line(AskedLine),
-    /// None so far.
+    /// No line so far.
     Awaited,
-    /// None will come any more.
+    /// No more lines will come.
     End,
-    /// There was no memory for a line.
+    /// Memory for a line ran out.
     NoMemory,
     /// Workers could not be started.
     Deserted,
 }
 
-/// Where other threads leave what the main thread has to do: lines of commands, what is left of steps that workers made, and
-/// files that were read. Room for lines and steps is made when it is opened. A thread that leaves one waits for room, until the
-/// desk is closed.
+/// Where other threads leave work for the main thread: lines of commands, the rest of the steps that workers made, and
+/// files that were read. Memory for lines and steps is reserved at the start. A thread that leaves a line or a step
+/// waits while there is no room, until the desk is closed.
 #[derive(Drop)]
 pub struct Desk {
     pub(crate) trays: Mutex<Trays>,
-    /// Something came for the main thread.
+    /// Notified when work came for the main thread.
     pub(crate) came: Condvar,
-    /// There is room for a line or a step again.
+    /// Notified when there is room for a line or a step again.
     room: Condvar,
-    /// A file is to be read.
+    /// Notified when a file is to be read.
     pub(crate) wants: Condvar,
-    /// As in the trays, for those who look often and must not wait for the lock.
+    /// The same as in the trays, for threads that ask often and must not wait for the lock.
     is_closed: AtomicBool,
     step_room: usize,
     line_room: usize,
 }
 
 impl Desk {
-    /// An empty desk with room for so many steps and lines.
+    /// An empty desk with room for this many steps and lines.
     pub fn new(alloc: Global, step_room: usize, line_room: usize) -> Result<Desk, AllocError> {
         Ok(Desk {
             trays: Mutex::new(Trays::new(alloc, step_room, line_room)?),
@@ -59,12 +59,13 @@ impl Desk {
         })
     }
 
-    /// How many steps there is room for.
+    /// How many steps have room.
     pub fn step_room(&self) -> usize {
         self.step_room
     }
 
-    /// Leaves what a line says, for the client that waits for its answer where it came from one; whether more are wanted.
+    /// Leaves a parsed line, with the client that awaits its answer, if it came from one; answers whether more lines
+    /// are wanted.
     pub fn leave_line<R: Wait>(&self, rt: &R, said: Said, asker: Option<Asker>) -> bool {
         let mut trays = self.trays.lock(rt);
         for _ in rt.forever() {
@@ -84,17 +85,19 @@ impl Desk {
         true
     }
 
-    /// No more lines come. What was said first of how they ended stays.
+    /// Notes that no more lines come. The first reason that was noted stays.
     pub fn end_lines<R: Wait>(&self, rt: &R) {
         self.end_with(rt, LinesEnd::Over);
     }
 
-    /// No more lines come, since there was no memory for one. It is reported once all lines before it were taken.
+    /// Notes that no more lines come because memory for one ran out. That is reported once all lines before it were
+    /// taken.
     pub fn fail_lines<R: Wait>(&self, rt: &R) {
         self.end_with(rt, LinesEnd::NoMemory);
     }
 
-    /// Workers could not be started. Reported once all earlier lines were taken, unless no more lines come anyway.
+    /// Notes that workers could not be started. Reported once all earlier lines were taken, unless no more lines come
+    /// anyway.
     pub fn desert<R: Wait>(&self, rt: &R) {
         self.end_with(rt, LinesEnd::Deserted);
     }
@@ -108,8 +111,8 @@ impl Desk {
         self.came.notify_one();
     }
 
-    /// Leaves a step, or lets it go where the desk is closed. The main thread is woken where the step can't wait until it
-    /// would wake, or where the desk is half full.
+    /// Leaves a step, or drops it if the desk is closed. The main thread is woken if it would wake too late for the
+    /// step, or if the desk is half full.
     pub fn leave_step<R: Wait>(&self, rt: &R, step: Step, urgency: Urgency) {
         let soonest = step.soonest();
         let mut trays = self.trays.lock(rt);
@@ -134,8 +137,8 @@ impl Desk {
         }
     }
 
-    /// Gives the steps that were left in place of what `steps` holds. That should be empty, with as much room as the desk
-    /// has, which then is the desk's.
+    /// Moves the steps that were left into `steps`, in place of its content. `steps` should be empty, with as much room
+    /// as the desk has; the desk then uses its memory.
     pub fn take_steps<R: Wait>(&self, rt: &R, steps: &mut Vec<Step>) {
         let mut trays = self.trays.lock(rt);
         let was_full = trays.steps.len() >= self.step_room;
@@ -165,8 +168,8 @@ impl Desk {
         next
     }
 
-    /// Rests until something is left that wakes, or the moment `until` is there; not at all where something is there that
-    /// can't wait. It naps first, for a millisecond, in which steps gather that can wait so long.
+    /// Waits until urgent work is left or the moment `until` comes; returns at once if urgent work is there. First it
+    /// naps for a millisecond, in which steps that can wait that long gather.
     pub fn wait<R: Wait + Clock>(&self, rt: &R, now: u64, until: u64) {
         if until <= now || !self.nap(rt) {
             return;
@@ -182,7 +185,7 @@ impl Desk {
         trays.rest = Rest::Awake;
     }
 
-    // Naps, unless something is there that can't wait; whether nothing is there after it.
+    // Naps, unless work is there that can't wait; answers whether there is still no work after it.
     fn nap<R: Wait + Clock>(&self, rt: &R) -> bool {
         let mut trays = self.trays.lock(rt);
         if trays.has_something_urgent() {
@@ -195,7 +198,7 @@ impl Desk {
         !trays.has_something()
     }
 
-    /// Nothing is wanted any more: whoever waits for room goes on.
+    /// Closes the desk: no more work is wanted, and threads that wait for room go on.
     pub fn close<R: Wait>(&self, rt: &R) {
         self.is_closed.store(true, Ordering::SeqCst);
         self.trays.lock(rt).is_closed = true;
@@ -203,7 +206,7 @@ impl Desk {
         self.wants.notify_all();
     }
 
-    /// Whether nothing is wanted any more. It waits for no lock.
+    /// Whether the desk is closed. Takes no lock.
     pub fn is_closed(&self) -> bool {
         self.is_closed.load(Ordering::SeqCst)
     }

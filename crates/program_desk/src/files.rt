@@ -1,4 +1,4 @@
-//! Files that are to be sent are read by other threads than the main one, which waits for none of them.
+//! Files to be sent are read by threads other than the main one, which never waits for a file.
 use crate::clock::wall_moment;
 use crate::desk::Desk;
 use cfdp_types::Octets;
@@ -15,12 +15,12 @@ pub struct Reading {
     pub path: Octets,
     /// Since when, in milliseconds since 1970.
     pub since: u64,
-    /// Which of all readings it is.
+    /// The number of this reading among all.
     pub(crate) number: u64,
 }
 
 impl Desk {
-    /// Reads a file that is to be sent. `readings` has it meanwhile.
+    /// Reads a file to be sent, and lists it in `readings` meanwhile.
     pub(crate) fn read_file<R: Wait + Clock, F: FileReader>(
         &self,
         rt: &R,
@@ -34,7 +34,7 @@ impl Desk {
         file
     }
 
-    // A file is being read from now on; the number of the reading.
+    // Lists a file as being read; answers the number of the reading.
     fn begin_reading<R: Wait + Clock>(&self, rt: &R, path: &Octets) -> Result<u64, AllocError> {
         let (path, since) = (path.copy()?, wall_moment(rt));
         let mut trays = self.trays.lock(rt);
@@ -48,7 +48,7 @@ impl Desk {
         Ok(number)
     }
 
-    // A file is no longer being read.
+    // Ends the listing of a file as being read.
     fn end_reading<R: Wait>(&self, rt: &R, number: u64) {
         let mut trays = self.trays.lock(rt);
         if let Some(place) = place_of(trays.readings.as_slice(), number)
@@ -72,13 +72,13 @@ impl Desk {
         Ok(copies)
     }
 
-    /// Has the thread of `read_files` read a file. `take_file` gives it then. One file is wanted at a time.
+    /// Asks the thread of `read_files` for a file, which `take_file` then gives. Only one file may be wanted at a time.
     pub fn want_file<R: Wait>(&self, rt: &R, path: Octets) {
         self.trays.lock(rt).wanted = Some(path);
         self.wants.notify_one();
     }
 
-    // Waits for a file that is wanted; none is any more once the desk is closed.
+    // Waits for a file that is wanted; `None` once the desk is closed.
     fn next_wanted<R: Wait>(&self, rt: &R) -> Option<Octets> {
         let mut trays = self.trays.lock(rt);
         for _ in rt.forever() {
@@ -99,13 +99,13 @@ impl Desk {
         self.came.notify_one();
     }
 
-    /// Takes the file that was wanted, once it was read, or why it can't be.
+    /// Takes the file that was wanted, once it was read, or the fault if it can't be read.
     pub fn take_file<R: Wait>(&self, rt: &R) -> Option<Result<Octets, ProgramFault>> {
         self.trays.lock(rt).file.take()
     }
 }
 
-/// Reads one wanted file after the other, until the desk is closed.
+/// Reads wanted files, one at a time, until the desk is closed.
 pub fn read_files<R: Wait + Clock, F: FileReader>(rt: &R, alloc: Global, files: &F, desk: &Desk) {
     for _ in rt.forever() {
         let Some(path) = desk.next_wanted(rt) else {
@@ -116,7 +116,7 @@ pub fn read_files<R: Wait + Clock, F: FileReader>(rt: &R, alloc: Global, files: 
     }
 }
 
-// The octets of a file. A path that is no text names none.
+// The octets of a file. A path that is not UTF-8 can't be read.
 fn load<F: FileReader>(alloc: Global, files: &F, path: &[u8]) -> Result<Octets, ProgramFault> {
     match str::from_utf8(path) {
         Ok(path) => files.load(alloc, path),
@@ -124,7 +124,7 @@ fn load<F: FileReader>(alloc: Global, files: &F, path: &[u8]) -> Result<Octets, 
     }
 }
 
-// Where the reading with a number stands.
+// The place of the reading with this number.
 fn place_of(readings: &[Reading], number: u64) -> Option<usize> {
     for (place, reading) in readings.iter().enumerate() {
         if reading.number == number {

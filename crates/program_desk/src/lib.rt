@@ -1,5 +1,5 @@
-//! What passes between the threads of a program: what lines of commands say, what is to be done after a step, and files that
-//! were read.
+//! What passes between the threads of a program: parsed lines of commands, the rest of the steps, and files that were
+//! read.
 #![tactic(auto)]
 
 mod clock;

@@ -1,4 +1,4 @@
-//! What comes from outside: lines of commands.
+//! Reads lines of commands.
 use crate::desk::Desk;
 use crate::said::{Said, said_by};
 use entity_config::Config;
@@ -10,8 +10,8 @@ use std::io::{BufRead, ErrorKind};
 use std::sync::Wait;
 use std::time::Clock;
 
-/// Leaves what the lines of commands say at the desk, until `quit`, the end of the input, a fault of the reader, or until the
-/// desk is closed. The file of a Put is read before the next line.
+/// Reads lines of commands and leaves them parsed at the desk, until `quit`, the end of the input, a fault of the
+/// reader, or until the desk is closed. The file of a Put is read before the next line.
 pub fn read_lines<R: Wait + Clock, F: FileReader, B: BufRead>(
     rt: &R,
     alloc: Global,
@@ -40,7 +40,7 @@ pub fn read_lines<R: Wait + Clock, F: FileReader, B: BufRead>(
     desk.end_lines(rt);
 }
 
-// Leaves one line; whether more are to be read.
+// Leaves one line; answers whether more are to be read.
 fn leave_line<R: Wait + Clock, F: FileReader>(
     rt: &R,
     alloc: Global,
@@ -53,7 +53,7 @@ fn leave_line<R: Wait + Clock, F: FileReader>(
     desk.leave_line(rt, said, None) && line != b"quit".as_slice()
 }
 
-// Reads past the next line feed; whether there was one.
+// Skips to after the next line feed; answers whether there was one.
 fn skip_line<R: Wait, B: BufRead>(rt: &R, reader: &mut B) -> bool {
     let mut interruptions = 0u32;
     for _ in rt.forever() {

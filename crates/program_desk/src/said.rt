@@ -1,4 +1,4 @@
-//! What a line of commands says.
+//! A line of commands, parsed.
 ghost use Rattle.program_desk.specs.Says.{IsSaidBy};
 
 use crate::desk::Desk;
@@ -10,20 +10,21 @@ use std::alloc::{AllocError, Global};
 use std::sync::Wait;
 use std::time::Clock;
 
-/// What a line of commands says.
+/// A line of commands, parsed, with the file of a Put.
 #[derive(Drop)]
 pub enum Said {
     /// A command other than a Put.
     Command(Command),
-    /// A Put, and its file, or why that can't be read.
+    /// A Put, with its file, or the fault if that can't be read.
     Put(PutCommand, Result<Octets, ProgramFault>),
-    /// The line is no command.
+    /// The line is not a command.
     Nothing,
-    /// There was no memory for reading the line.
+    /// Memory for the line ran out.
     NoMemory,
 }
 
-/// Reads what a line says, by a configuration, and the file of a Put. The desk shows meanwhile that this file is being read.
+/// Parses a line by a configuration, and reads the file of a Put. The desk shows meanwhile that this file is being
+/// read.
 pub fn said_by<R: Wait + Clock, F: FileReader>(
     rt: &R,
     alloc: Global,

@@ -5,7 +5,7 @@ use cfdp_types::{Deposit, TimerOp, TxnKey};
 use lane_table::Done;
 use txn_events::TimerOps;
 
-/// How soon the main thread has to look at a step.
+/// How soon the main thread has to handle a step.
 #[derive(Clone, Copy, Debug, PartialEq, Eq)]
 pub enum Urgency {
     /// At once.
@@ -16,21 +16,21 @@ pub enum Urgency {
     WithItsTimers,
 }
 
-/// What is left to be done after a step of a lane, once its PDUs are sent.
+/// The rest of a lane's step, once its PDUs are sent.
 #[derive(Debug, Drop)]
 pub struct Step {
-    /// The transaction that the step is of.
+    /// The transaction of the step.
     pub key: TxnKey,
-    /// What the step does to the timers of its transaction, in order.
+    /// The operations on the transaction's timers, in order.
     pub timers: TimerOps,
-    /// A received file that is to be stored.
+    /// A received file to be stored.
     pub deposit: Option<Deposit>,
-    /// The moment of the step, in milliseconds: its timers run from then on.
+    /// The moment of the step, in milliseconds; the timers that it arms run from then on.
     pub at: u64,
 }
 
 impl Step {
-    /// What is left of a step that was made at a moment.
+    /// The rest of a step made at this moment.
     pub fn of(done: Done, at: u64) -> Step
         ensures { result ≡ record { key = done.key; timers = done.timers; deposit = done.deposit; at = at } }
     {
@@ -48,7 +48,7 @@ impl Step {
         }
     }
 
-    /// The first moment at which a timer that the step arms expires, or the last that 64 bits hold where it arms none.
+    /// The first moment at which a timer that the step arms expires, or the greatest of 64 bits if it arms none.
     pub fn soonest(&self) -> u64
         ensures { result ≡ soonest_of self.now.at self.now.timers }
     {
@@ -56,7 +56,7 @@ impl Step {
     }
 }
 
-// The first moment at which one of the timers expires that operations of a moment arm.
+// The first moment at which a timer expires that these operations, at a moment, arm.
 fn soonest_in(at: u64, operations: &[TimerOp]) -> u64
     ensures { result ≡ soonest_of at operations.now }
 {
@@ -66,7 +66,7 @@ fn soonest_in(at: u64, operations: &[TimerOp]) -> u64
     }
 }
 
-// The moment at which an operation's timer expires, if that comes before another moment.
+// The moment at which an operation's timer expires, or another moment if that is sooner.
 fn soonest_with(at: u64, operation: &TimerOp, other: u64) -> u64
     ensures { result ≡ soonest_with at operation.now other }
 {

@@ -1,4 +1,4 @@
-//! What lies between the threads, under one lock.
+//! The work between the threads, behind one lock.
 use crate::files::Reading;
 use crate::said::Said;
 use crate::step::{Step, Urgency};
@@ -8,59 +8,59 @@ use program_start::ProgramFault;
 use std::alloc::{AllocError, Global};
 use std::collections::VecDeque;
 
-/// A line of commands, and whose it is.
+/// A line of commands, and its client.
 #[derive(Drop)]
 pub struct AskedLine {
     pub said: Said,
-    /// The client that waits for its answer, where it came from one.
+    /// The client that awaits the answer, if the line came from one.
     pub asker: Option<Asker>,
 }
 
-/// How the lines ended.
+/// Whether more lines come, and if not, why.
 #[derive(Clone, Copy, Debug, PartialEq, Eq)]
 pub(crate) enum LinesEnd {
     /// More may come.
     Open,
-    /// None is left to be read.
+    /// No line is left to be read.
     Over,
-    /// There was no memory for one.
+    /// Memory for a line ran out.
     NoMemory,
-    /// Nobody brings datagrams to their lanes any more.
+    /// Workers could not be started, so nobody brings datagrams to their lanes.
     Deserted,
 }
 
-/// How the main thread waits, and so what wakes it.
+/// How the main thread waits, and so which work wakes it.
 #[derive(Clone, Copy, Debug, PartialEq, Eq)]
 pub(crate) enum Rest {
     /// It works, or somebody has woken it.
     Awake,
-    /// For a millisecond at most: only what can't wait so long wakes it.
+    /// For a millisecond at most: only work that can't wait that long wakes it.
     Naps,
-    /// Until a moment: what has to be done before then wakes it.
+    /// Until a moment: work that is due before then wakes it.
     SleepsUntil(u64),
 }
 
-/// What lies between the threads.
+/// The work between the threads.
 #[derive(Drop)]
 pub(crate) struct Trays {
     pub(crate) lines: VecDeque<AskedLine>,
     pub(crate) lines_end: LinesEnd,
     pub(crate) steps: Vec<Step>,
-    /// Whether one of the steps can't wait for a millisecond.
+    /// Whether a step can't wait for a millisecond.
     pub(crate) has_urgent_step: bool,
-    /// The files that are being read, and how many were before.
+    /// The files that are being read, and how many readings there were before.
     pub(crate) readings: Vec<Reading>,
     pub(crate) next_reading: u64,
-    /// The path of a file that is to be read.
+    /// The path of the file that is wanted.
     pub(crate) wanted: Option<Octets>,
-    /// The file that was wanted, or why it can't be read.
+    /// The file that was wanted, or the fault if it can't be read.
     pub(crate) file: Option<Result<Octets, ProgramFault>>,
     pub(crate) is_closed: bool,
     pub(crate) rest: Rest,
 }
 
 impl Trays {
-    /// Empty trays with room for so many steps and lines.
+    /// Empty trays with room for this many steps and lines.
     pub(crate) fn new(alloc: Global, steps: usize, lines: usize) -> Result<Trays, AllocError> {
         Ok(Trays {
             lines: VecDeque::with_capacity(alloc, lines)?,
@@ -76,12 +76,12 @@ impl Trays {
         })
     }
 
-    /// Whether the main thread has something to look at.
+    /// Whether there is work for the main thread.
     pub(crate) fn has_something(&self) -> bool {
         !self.steps.is_empty() || self.has_something_urgent()
     }
 
-    /// Whether the main thread has something to look at that can't wait for a millisecond.
+    /// Whether there is work for the main thread that can't wait for a millisecond.
     pub(crate) fn has_something_urgent(&self) -> bool {
         self.has_urgent_step
             || !self.lines.is_empty()
@@ -89,8 +89,8 @@ impl Trays {
             || self.file.is_some()
     }
 
-    /// Whether the main thread has to be woken for a step that was left. The first who wakes it leaves it awake, so that
-    /// nobody else does.
+    /// Whether the main thread has to be woken for a step that was left. It then counts as awake, so that nobody else
+    /// wakes it.
     pub(crate) fn takes_waking(&mut self, step: Urgency, soonest: u64, is_half_full: bool) -> bool {
         let wakes = match self.rest {
             Rest::Awake => false,

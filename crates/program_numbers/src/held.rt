@@ -1,4 +1,4 @@
-//! Numbers that one program holds.
+//! Transaction numbers that one program holds.
 ghost use Rattle.std.specs.Prelude.{◌≡◌, ◌/◌, max, OnErr, OnOk};
 ghost use Rattle.number_file.specs.Rounds.{cover_of, given};
 ghost use Rattle.number_file.specs.declared.rounds.Cover.TheVariants as cover;
@@ -12,22 +12,23 @@ use std::alloc::Global;
 use std::net::Net;
 use std::rt::Files;
 
-// How many rounds are covered at once: one where few Puts follow or numbers are short, so that a restart uses up few of them.
+// How many rounds are covered at a time if few Puts are expected or numbers are short, so that a restart uses up few of
+// them.
 const FEW_ROUNDS: u64 = 1;
 
 const MANY_ROUNDS: u64 = 64;
 
-// How many octets a short number has.
+// Up to this many octets, a number counts as short.
 const SHORT_NUMBER: u8 = 2;
 
-/// How many Puts a run has.
+/// How many Puts a run makes.
 #[derive(Clone, Copy, Debug, PartialEq, Eq)]
 pub enum Puts {
     One,
     Many,
 }
 
-/// The numbers of a run, which a file keeps and which no other program uses meanwhile.
+/// The transaction numbers of a run, kept in a file that no other program uses meanwhile.
 #[derive(Drop)]
 pub struct HeldNumbers {
     /// The file that keeps them.
@@ -37,9 +38,9 @@ pub struct HeldNumbers {
 }
 
 impl HeldNumbers {
-    /// Numbers by the file at a path, from the configuration's first round or the file's on, whichever is higher: that becomes
-    /// the configuration's first. It ends in a fault where the file says no number, can't be read or written, or where another
-    /// program holds it.
+    /// Opens the file at a path. Numbers begin at the configuration's first round or the file's, whichever is higher,
+    /// which becomes the configuration's first. Fails if the file has no number, can't be read or written, or is held
+    /// by another program.
     pub fn open<R: Files + Net>(
         rt: &R,
         alloc: Global,
@@ -66,14 +67,14 @@ impl HeldNumbers {
         }
     }
 
-    /// Sees that the number of the next Put is covered.
+    /// Makes the file cover the number of the next Put.
     pub fn cover<R: Files>(&mut self, rt: &R) -> Result<(), ProgramFault>
         ensures { OnOk result (cover_of self.new.file.rounds ≡ cover.Covered) }
     {
         self.file.cover(rt).map_err(|_| ProgramFault::Numbers)
     }
 
-    /// A Put opened this transaction.
+    /// Notes that a Put opened this transaction.
     pub fn note_put(&mut self, key: TxnKey)
         ensures { self.new.file.rounds ≡ given (key.seq / max self.old.file.rounds.width 1) self.old.file.rounds }
     {
@@ -81,13 +82,13 @@ impl HeldNumbers {
         self.file.note_given(key.seq / width);
     }
 
-    /// Lets the file go.
+    /// Releases the file.
     pub fn leave<R: Files>(&self, rt: &R) {
         self.hold.leave(rt, self.hold_path.as_str());
     }
 }
 
-// Opens the file, and has the configuration begin where it says.
+// Opens the file, and sets the configuration's first round.
 fn open_file<R: Files>(
     rt: &R,
     alloc: Global,

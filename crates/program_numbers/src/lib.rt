@@ -1,4 +1,4 @@
-//! The numbers of a program's run, by a file.
+//! The transaction numbers of a program's run, kept in a file.
 #![tactic(auto)]
 
 mod held;

@@ -13,7 +13,7 @@ pub record OutboxValue : Type 0 where
 
 -- ---- places
 
--- what stands at a place, and the list without it
+-- the item at a place, and the list without it
 abbrev pub at_place : {A : Type 0} → Option ℕ → List A → Option A
 at_place None items = None
 at_place (Some place) items = slice_get items place
@@ -22,11 +22,11 @@ abbrev pub without_place : {A : Type 0} → Option ℕ → List A → List A
 without_place None items = items
 without_place (Some place) items = remove items place
 
--- nothing goes to an entity, by the list of those that are held
+-- the link to an entity is held
 abbrev pub is_held : List EntityId → EntityId → Bool
 is_held held destination = list_any (λ id. id.0 == destination.0) held
 
--- a file is a user's, and its entity isn't held
+-- a file is this user's, and the link to its entity isn't held
 abbrev pub is_free : List EntityId → ℕ → Waiting → Bool
 is_free held user file = (file.user == user) && not (is_held held file.file.destination)
 
@@ -34,7 +34,7 @@ is_free held user file = (file.user == user) && not (is_held held file.file.dest
 abbrev pub has_number : ℕ → Waiting → Bool
 has_number number file = file.number == number
 
--- a user's lane is idle, by a list that has each user's word
+-- a user has an idle lane, by the list with an entry for each user
 abbrev pub is_idle : List Bool → ℕ → Bool
 is_idle idle user = said (slice_get idle user)
   where
@@ -42,34 +42,34 @@ is_idle idle user = said (slice_get idle user)
     said None = false
     said (Some word) = word
 
--- a user has a file that can go
+-- a user has an idle lane and a file that can be sent
 abbrev pub can_go : List Bool → List EntityId → List Waiting → ℕ → Bool
 can_go idle held waiting user = is_idle idle user && list_any (is_free held user) waiting
 
--- whose turn it is: the place of the first user who has a file that can go
+-- whose turn it is: the place of the first user who has a file that can be sent
 abbrev pub turn_place : List Bool → List EntityId → OutboxValue → Option ℕ
 turn_place idle held outbox = position (can_go idle held outbox.waiting) outbox.turns
 
--- ---- what comes of each call
+-- ---- the effect of each call
 
--- one more file waits, behind all others
+-- one more file waits, after all others
 abbrev pub queued : ℕ → OutboxFile → OutboxValue → OutboxValue
 queued user file outbox = record outbox {
   waiting = outbox.waiting ++ record { number = outbox.next; user = user; file = file } ∷ [];
   next = outbox.next + 1;
 }
 
--- the first file of a user whose entity isn't held, where it stands
+-- the place of a user's first file to an entity whose link isn't held
 abbrev pub place_of_user : List EntityId → Option ℕ → List Waiting → Option ℕ
 place_of_user held None waiting = None
 place_of_user held (Some user) waiting = position (is_free held user) waiting
 
--- the place of the file that goes: such a file of the user whose turn it is
+-- the place of the file to be sent: such a file of the user whose turn it is
 abbrev pub going_place : List Bool → List EntityId → OutboxValue → Option ℕ
 going_place idle held outbox =
     place_of_user held (at_place (turn_place idle held outbox) outbox.turns) outbox.waiting
 
--- the file that goes; that user's next turn is behind all others
+-- the file to be sent, and the outbox without it; that user's next turn is after all others
 abbrev pub going : List Bool → List EntityId → OutboxValue → Option Waiting
 going idle held outbox = at_place (going_place idle held outbox) outbox.waiting
 
@@ -79,7 +79,7 @@ after_going idle held outbox = record outbox {
   turns = without_place (turn_place idle held outbox) outbox.turns ++ option_to_list (at_place (turn_place idle held outbox) outbox.turns);
 }
 
--- a file with a number waits no more
+-- the place of the file with this number, and the outbox without it
 abbrev pub number_place : ℕ → OutboxValue → Option ℕ
 number_place number outbox = position (has_number number) outbox.waiting
 

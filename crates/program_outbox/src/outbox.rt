@@ -9,17 +9,17 @@ use std::marker::Model;
 /// How many files may wait.
 pub const MOST_FILES: usize = 1_024;
 
-/// A file that is to be sent: it is read when its turn comes.
+/// A file to be sent. It is read when its turn comes.
 #[derive(Debug, Drop)]
 pub struct OutboxFile {
     pub class: Class,
     pub destination: EntityId,
-    /// Its path, which is its name at the sender.
+    /// The path of the file, and its source file name.
     pub source: Octets,
-    /// Its name at the receiver.
+    /// Its destination file name.
     pub destination_name: Octets,
     pub closure: bool,
-    /// When it was given, in milliseconds since the start of 1970.
+    /// When it was put in the outbox, in milliseconds since the start of 1970.
     pub since: u64,
 }
 
@@ -28,21 +28,21 @@ pub struct OutboxFile {
 pub struct Waiting {
     /// Its number in the outbox.
     pub number: u64,
-    /// Whose it is, by the place in the configuration.
+    /// Its user's number in the configuration.
     pub user: usize,
     pub file: OutboxFile,
 }
 
-/// Why a file can't wait.
+/// Why a file isn't taken into the outbox.
 #[derive(Clone, Copy, Debug, PartialEq, Eq)]
 pub enum OutboxFault {
-    /// `MOST_FILES` wait, or no number is left.
+    /// `MOST_FILES` wait already, or the numbers are used up.
     Full,
     NoMemory,
 }
 
-/// Files that wait until a sending lane of their user is idle, and whose turn it is. Contracts see the files in the order in
-/// which they came, and the users in the order of their turns.
+/// Files that wait until a sending lane of their user is idle, and whose turn it is. Contracts see the files in the
+/// order in which they came, and the users in the order of their turns.
 #[derive(Drop)]
 pub struct Outbox {
     waiting: Vec<Waiting>,
@@ -59,7 +59,7 @@ impl Model for Outbox {
 }
 
 impl Outbox {
-    /// No file waits.
+    /// An empty outbox.
     pub fn new(alloc: Global, users: usize) -> Result<Outbox, AllocError>
         ensures waiting { IfOk result (λ outbox. outbox.waiting ≡ []) }
         ensures turns { IfOk result (λ outbox. length outbox.turns ≡ users) }
@@ -76,7 +76,7 @@ impl Outbox {
         })
     }
 
-    /// Takes a file of a user, behind all others; its number.
+    /// Puts a user's file after all others; answers its number.
     pub fn push(&mut self, user: usize, file: OutboxFile) -> Result<u64, OutboxFault>
         ensures ok { IfOk result (λ number. (number ≡ self.old.next) × (self.new ≡ queued user file self.old)) }
         ensures err { OnErr result (self.new ≡ self.old) }
@@ -96,8 +96,9 @@ impl Outbox {
         }
     }
 
-    /// The file that goes, where each user's word in `idle` says whether a lane is idle, and nothing goes to the entities in
-    /// `held`: the first file for another entity of the user whose turn it is, who then waits behind all others.
+    /// Takes out the next file to be sent. `idle` says for each user whether a lane is idle; nothing goes to the
+    /// entities in `held`. It is the first file to another entity of the user whose turn it is; that user's next turn
+    /// is after all others.
     pub fn take(&mut self, idle: &[bool], held: &[EntityId]) -> Option<Waiting>
         ensures file { result ≡ going idle.now held.now self.old }
         ensures rest { self.new ≡ after_going idle.now held.now self.old }
@@ -109,7 +110,7 @@ impl Outbox {
         Some(self.waiting.remove(place))
     }
 
-    /// Takes out the file with a number, which waits no more.
+    /// Takes out the file with this number, without sending it.
     pub fn withdraw(&mut self, number: u64) -> Option<Waiting>
         ensures file { result ≡ at_place (number_place number self.old) self.old.waiting }
         ensures rest { self.new ≡ withdrawn number self.old }
@@ -126,7 +127,7 @@ impl Outbox {
     }
 }
 
-// Whether a user's word says that a lane is idle.
+// Whether a user has an idle lane.
 fn is_idle(idle: &[bool], user: usize) -> bool
     ensures { result ≡ is_idle idle.now user }
 {
@@ -136,35 +137,35 @@ fn is_idle(idle: &[bool], user: usize) -> bool
     }
 }
 
-// Whether nothing goes to an entity.
+// Whether the link to an entity is held.
 fn is_held(held: &[EntityId], destination: EntityId) -> bool
     ensures { result ≡ is_held held.now destination }
 {
     held.iter().any(|id| id.0 == destination.0)
 }
 
-// Whether a file is a user's, and its entity isn't held.
+// Whether a file is this user's, and the link to its entity isn't held.
 fn is_free(held: &[EntityId], user: usize, one: &Waiting) -> bool
     ensures { result ≡ is_free held.now user one.now }
 {
     one.user == user && !is_held(held, one.file.destination)
 }
 
-// Whether a user has a file that can go.
+// Whether a user has an idle lane and a file that can be sent.
 fn can_go(idle: &[bool], held: &[EntityId], waiting: &[Waiting], user: usize) -> bool
     ensures { result ≡ can_go idle.now held.now waiting.now user }
 {
     is_idle(idle, user) && has_file(waiting, held, user)
 }
 
-// Whether a file of a user waits whose entity isn't held.
+// Whether a user has a file to an entity whose link isn't held.
 fn has_file(waiting: &[Waiting], held: &[EntityId], user: usize) -> bool
     ensures { result ≡ list_any (is_free held.now user) waiting.now }
 {
     waiting.iter().any(|one| is_free(held, user, one))
 }
 
-// The place of the first user who has a file that can go.
+// The place of the first user who has a file that can be sent.
 fn turn_place(
     turns: &[usize],
     waiting: &[Waiting],
@@ -179,7 +180,7 @@ fn turn_place(
         .position(|user| can_go(idle, held, waiting, *user))
 }
 
-// Where the first file of a user stands whose entity isn't held.
+// The place of a user's first file to an entity whose link isn't held.
 fn place_of(waiting: &[Waiting], held: &[EntityId], user: usize) -> Option<usize>
     ensures place { result ≡ position (is_free held.now user) waiting.now }
     ensures range { IfSome result (λ place. place < length waiting.now) }
@@ -187,7 +188,7 @@ fn place_of(waiting: &[Waiting], held: &[EntityId], user: usize) -> Option<usize
     waiting.iter().position(|one| is_free(held, user, one))
 }
 
-// Where the file with a number stands.
+// The place of the file with this number.
 fn number_place(waiting: &[Waiting], number: u64) -> Option<usize>
     ensures place { result ≡ position (has_number number) waiting.now }
     ensures range { IfSome result (λ place. place < length waiting.now) }

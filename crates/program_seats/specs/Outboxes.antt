@@ -12,17 +12,17 @@ pub record OutboxValue : Type 0 where
 abbrev pub empty : OutboxValue
 empty = record { waiting = []; way = Open }
 
--- nothing is sent any more, and what waited is let go
+-- nothing is sent any more, and what waited is dropped
 abbrev pub cut_off : OutboxValue
 cut_off = record { waiting = []; way = Cut }
 
--- a text stands behind what waits, within the room
+-- a text is appended to what waits, within the room
 pub record Takes (room : ℕ) (text : List ℕ) (old new : OutboxValue) : Type 0 where
   pub was_open : old.way ≡ Open
   pub has_room : length old.waiting + length text ≤ room
   pub new_is : new ≡ record { waiting = old.waiting ++ text; way = Open }
 
--- a text is not taken: an open way is cut, for want of room or of memory, and another way stays as it is
+-- a text is not taken: an open way is cut, since room or memory ran out, and any other way stays as it is
 abbrev pub Refuses : OutboxValue → OutboxValue → Type 0
 Refuses old new = by_way old.way
   where
@@ -30,7 +30,7 @@ Refuses old new = by_way old.way
     by_way Open = new ≡ cut_off
     by_way way = new ≡ old
 
--- what a call does that puts a text, by whether it was taken
+-- putting a text, by whether it was taken
 abbrev pub IsPut : ℕ → List ℕ → OutboxValue → Bool → OutboxValue → Type 0
 IsPut room text old true new = Takes room text old new
 IsPut room text old false new = Refuses old new

@@ -5,8 +5,8 @@ use Rattle.program_seats.specs.declared.outbox.Way.TheVariants.{Open}
 use Rattle.program_seats.specs.declared.seat.Given.{Given}
 use Rattle.program_seats.specs.declared.seat.Given.TheVariants.{Taken, Dropped, Gone}
 
--- how many clients have sat there; whether one sits there, reads events too, and waits for an answer; whether nobody may sit down
--- any more; what is on its way to the client
+-- how many clients have sat there; whether one sits there, follows events, and awaits an answer; whether nobody may sit
+-- down any more; what is on its way to the client
 pub record SeatValue : Type 0 where
   pub visits : ℕ
   pub is_taken : Bool
@@ -27,7 +27,7 @@ is_here visit seat = seat.is_taken && (seat.visits == visit)
 abbrev pub may_sit : SeatValue → Bool
 may_sit seat = not (seat.is_closed || seat.is_taken)
 
--- the next client has sat down, to whom nothing of the one before goes
+-- the next client has sat down, with nothing of the one before
 abbrev pub sat : SeatValue → SeatValue
 sat seat = record seat {
   visits = seat.visits + 1;
@@ -49,27 +49,27 @@ closing seat = record seat { is_asking = false; outbox = ended seat.outbox }
 abbrev pub left : SeatValue → SeatValue
 left seat = record seat { is_taken = false; follows = false; is_asking = false; outbox = cut_off }
 
--- the client has asked, and gets an answer where its way is open
+-- the client has asked, and will be answered if its way is open
 abbrev pub asked : ℕ → SeatValue → Bool → SeatValue → Type 0
 asked visit old true new =
     (is_here visit old ≡ true) × ((old.outbox.way ≡ Open) × (new ≡ record old { is_asking = true }))
 asked visit old false new =
     ((is_here visit old ≡ false) ⊎ (old.outbox.way ≢ Open)) × (new ≡ old)
 
--- the client reads events too, where the visit lasts
+-- events are sent to the client, too, if the visit lasts
 abbrev pub followed : ℕ → SeatValue → SeatValue
 followed visit seat = if is_here visit seat then record seat { follows = true } else seat
 
 -- ---- texts
 
--- a text stands behind what waits, within the room
+-- a text is appended to what waits, within the room
 pub record IsBehind (room : ℕ) (text : List ℕ) (old new : SeatValue) : Type 0 where
   pub was_open : old.outbox.way ≡ Open
   pub has_room : length old.outbox.waiting + length text ≤ room
   pub new_is : new ≡ record old { outbox = record { waiting = old.outbox.waiting ++ text; way = Open } }
 
--- a text for whoever sits there: it stands behind what waits, or the client is cut off for want of room or memory, or the way
--- isn't open and nothing happens
+-- a text for the client that sits there: it is appended to what waits, or the client is cut off since room or memory
+-- ran out, or the way isn't open and nothing happens
 abbrev pub IsSent : ℕ → List ℕ → SeatValue → Given → SeatValue → Type 0
 IsSent room text old Taken new = IsBehind room text old new
 IsSent room text old Dropped new = (old.outbox.way ≡ Open) × (new ≡ cut old)
@@ -79,7 +79,7 @@ IsSent room text old Gone new = (old.outbox.way ≢ Open) × (new ≡ old)
 abbrev pub IsGone : SeatValue → Given → SeatValue → Type 0
 IsGone old given new = (given ≡ Gone) × (new ≡ old)
 
--- a text for a visit: where that is over, nothing happens
+-- a text for a visit: after the visit, nothing happens
 abbrev pub IsSentTo : ℕ → List ℕ → ℕ → SeatValue → Given → SeatValue → Type 0
 IsSentTo room text visit old given new = by_here (is_here visit old)
   where
@@ -95,7 +95,7 @@ IsAnswered room text visit old given new = by_here (is_here visit old)
     by_here true = IsSent room text (record old { is_asking = false }) given new
     by_here false = IsGone old given new
 
--- an event: where the client doesn't read events, nothing happens
+-- an event: if the client doesn't follow events, nothing happens
 abbrev pub IsTold : ℕ → List ℕ → SeatValue → Given → SeatValue → Type 0
 IsTold room text old given new = by_following old.follows
   where

@@ -1,5 +1,5 @@
-//! The seats of a control socket's clients: what waits to be sent to each, and whose turn an answer belongs to. The thread that
-//! answers never waits for a client.
+//! The seats of a control socket's clients: the text that waits for each client, and which client an answer belongs to.
+//! The thread that answers never waits for a client.
 #![tactic(auto)]
 
 mod asker;

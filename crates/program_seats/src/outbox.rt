@@ -5,18 +5,18 @@ use std::alloc::Global;
 use std::marker::Model;
 use std::mem;
 
-/// Whether text can still go to a client.
+/// Whether text can still be sent to a client.
 #[derive(Clone, Copy, Debug, PartialEq, Eq)]
 pub enum Way {
-    /// More may come.
+    /// More text is taken.
     Open,
-    /// What waits is still sent, and nothing more is taken.
+    /// The text that waits is still sent, and no more is taken.
     Ending,
     /// Nothing is sent any more.
     Cut,
 }
 
-/// Text on its way to one client, of which at most `ROOM` octets wait. Contracts see what waits and the way.
+/// Text on its way to one client; at most `ROOM` octets wait. Contracts see what waits and the way.
 #[derive(Debug, Drop)]
 pub struct Outbox<const ROOM: usize> {
     pending: Vec<u8>,
@@ -37,7 +37,7 @@ impl<const ROOM: usize> Model for Outbox<ROOM> {
 impl<const ROOM: usize> Outbox<ROOM> {
     ghost use Rattle.program_seats.specs.Outboxes.{empty, cut_off, ended, IsPut};
 
-    /// Nothing waits, and the way is open.
+    /// An empty outbox, whose way is open.
     pub fn new(alloc: Global) -> Outbox<ROOM>
         ensures { result ≡ empty }
     {
@@ -47,7 +47,7 @@ impl<const ROOM: usize> Outbox<ROOM> {
         }
     }
 
-    /// Whether text can still go.
+    /// Whether text can still be sent.
     pub fn way(&self) -> Way
         ensures way { result ≡ self.now.way }
         ensures within { length self.now.waiting ≤ ROOM }
@@ -62,8 +62,8 @@ impl<const ROOM: usize> Outbox<ROOM> {
         self.pending.is_empty()
     }
 
-    /// Puts a text behind what waits; whether it was taken. An open way is cut where there is no room or no memory for the
-    /// text, and what waited is let go.
+    /// Appends a text to what waits; answers whether it was taken. If an open way has no room or memory for it, the way
+    /// is cut and what waited is dropped.
     pub fn put(&mut self, text: &[u8]) -> bool
         ensures { IsPut ROOM text.now self.old result self.new }
     {
@@ -77,7 +77,7 @@ impl<const ROOM: usize> Outbox<ROOM> {
         false
     }
 
-    /// Gives what waits in place of what `texts` holds; nothing waits then. The room of `texts` is used again.
+    /// Moves what waits into `texts`, in place of its content, and reuses the memory of `texts`.
     pub fn take(&mut self, texts: &mut Vec<u8>)
         ensures given { texts.new.items ≡ self.old.waiting }
         ensures rest { self.new ≡ record { waiting = []; way = self.old.way } }
@@ -86,7 +86,7 @@ impl<const ROOM: usize> Outbox<ROOM> {
         mem::swap(&mut self.pending, texts);
     }
 
-    /// Nothing more is taken. What waits is still sent, and a way that was cut stays cut.
+    /// Takes no more text. What waits is still sent, and a way that was cut stays cut.
     pub fn end(&mut self)
         ensures { self.new ≡ ended self.old }
     {
@@ -95,7 +95,7 @@ impl<const ROOM: usize> Outbox<ROOM> {
         }
     }
 
-    /// Nothing is sent any more, and what waited is let go.
+    /// Sends nothing more, and drops what waited.
     pub fn cut(&mut self)
         ensures { self.new ≡ cut_off }
     {

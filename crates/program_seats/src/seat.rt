@@ -1,4 +1,4 @@
-//! What one seat holds.
+//! The state of one seat.
 ghost use Rattle.std.specs.Prelude.{◌≡◌, ◌↔◌, ◌⊎◌, [], IfSome, IfNone, IsFalse, false, true};
 ghost use Rattle.program_seats.specs.Seating.{IsAnswered, IsSent, IsSentTo, IsTold, asked, closing, cut, followed, free_seat, is_here, left, may_sit, sat};
 
@@ -15,20 +15,20 @@ pub enum Given {
     Taken,
     /// There was no room or no memory for it, and the client was cut off.
     Dropped,
-    /// The client is not there, or takes nothing more. Nothing happened.
+    /// The client has left or takes no more. Nothing happened.
     Gone,
 }
 
-/// What one seat holds, under its lock. Contracts see all but the stream itself.
+/// The state of one seat, behind its lock. Contracts see all but the stream itself.
 #[derive(Drop)]
 pub struct Seat<const ROOM: usize> {
     /// How many clients have sat here.
     visits: u64,
-    /// The client's stream, while one sits here.
+    /// The client's stream, while a client sits here.
     stream: Option<UnixStream>,
-    /// Whether the client reads events too.
+    /// Whether events are sent to the client, too.
     follows: bool,
-    /// Whether a command of the client waits for its answer.
+    /// Whether a command of the client awaits its answer.
     is_asking: bool,
     /// Whether nobody may sit down any more.
     is_closed: bool,
@@ -52,7 +52,7 @@ impl<const ROOM: usize> Model for Seat<ROOM> {
 }
 
 impl<const ROOM: usize> Seat<ROOM> {
-    /// Nobody has sat here.
+    /// A free seat that nobody has used.
     pub fn new(alloc: Global) -> Seat<ROOM>
         ensures { result ≡ free_seat }
     {
@@ -73,14 +73,14 @@ impl<const ROOM: usize> Seat<ROOM> {
         self.stream.is_some()
     }
 
-    /// Whether the client reads events too.
+    /// Whether events are sent to the client, too.
     pub fn follows(&self) -> bool
         ensures { result ≡ self.now.follows }
     {
         self.follows
     }
 
-    /// Whether a command of the client waits for its answer.
+    /// Whether a command of the client awaits its answer.
     pub fn is_asking(&self) -> bool
         ensures { result ≡ self.now.is_asking }
     {
@@ -94,14 +94,14 @@ impl<const ROOM: usize> Seat<ROOM> {
         self.is_closed
     }
 
-    /// Whether text can still go to the client.
+    /// Whether text can still be sent to the client.
     pub fn way(&self) -> Way
         ensures { result ≡ self.now.outbox.way }
     {
         self.outbox.way()
     }
 
-    /// Whether a visit still lasts.
+    /// Whether this visit's client still sits here.
     pub fn is_here(&self, visit: u64) -> bool
         ensures { result ≡ is_here visit self.now }
     {
@@ -115,8 +115,8 @@ impl<const ROOM: usize> Seat<ROOM> {
         !(self.is_closed || self.stream.is_some())
     }
 
-    /// Lets a client sit down, to whom nothing of the one before goes; the number of the visit, or none where the seat is taken or
-    /// closed, or had a client for each number.
+    /// Lets a client sit down, with nothing of the one before, and answers the visit's number; none where the seat is
+    /// taken or closed, or the visit numbers are used up.
     pub fn sit(&mut self, alloc: Global, stream: UnixStream) -> Option<u64>
         ensures number { IfSome result (λ visit. visit ≡ self.new.visits) }
         ensures was_free { IfSome result (λ _. may_sit self.old ≡ true) }
@@ -135,7 +135,7 @@ impl<const ROOM: usize> Seat<ROOM> {
         Some(self.visits)
     }
 
-    /// A command of a visit is about to wait for its answer; not where the client has left or takes nothing more.
+    /// Notes that a visit's command will await its answer; false where the client has left or takes no more text.
     pub fn ask(&mut self, visit: u64) -> bool
         ensures { asked visit self.old result self.new }
     {
@@ -146,7 +146,7 @@ impl<const ROOM: usize> Seat<ROOM> {
         true
     }
 
-    /// Answers the command of a visit, and the client may ask again. An answer that comes late changes nothing.
+    /// Answers a visit's command; the client may then ask again. An answer after the visit changes nothing.
     pub fn answer(&mut self, visit: u64, text: &[u8]) -> Given
         ensures { IsAnswered ROOM text.now visit self.old result self.new }
     {
@@ -157,7 +157,7 @@ impl<const ROOM: usize> Seat<ROOM> {
         self.put(text)
     }
 
-    /// Sends a text to a visit, beside its answers.
+    /// Sends a text to a visit, besides its answers.
     pub fn send(&mut self, visit: u64, text: &[u8]) -> Given
         ensures { IsSentTo ROOM text.now visit self.old result self.new }
     {
@@ -167,7 +167,7 @@ impl<const ROOM: usize> Seat<ROOM> {
         self.put(text)
     }
 
-    /// Sends a text to the client if it reads events too.
+    /// Sends a text to the client if it follows events.
     pub fn tell(&mut self, text: &[u8]) -> Given
         ensures { IsTold ROOM text.now self.old result self.new }
     {
@@ -177,7 +177,7 @@ impl<const ROOM: usize> Seat<ROOM> {
         self.put(text)
     }
 
-    // Puts a text behind what waits. A client for which there is no room is cut off.
+    // Appends a text to what waits. A client without room for it is cut off.
     fn put(&mut self, text: &[u8]) -> Given
         ensures { IsSent ROOM text.now self.old result self.new }
     {
@@ -191,7 +191,7 @@ impl<const ROOM: usize> Seat<ROOM> {
         Given::Dropped
     }
 
-    /// The client reads events too from now on, where the visit lasts.
+    /// Sends events to the client, too, from now on, if the visit lasts.
     pub fn follow(&mut self, visit: u64)
         ensures { self.new ≡ followed visit self.old }
     {
@@ -200,7 +200,7 @@ impl<const ROOM: usize> Seat<ROOM> {
         }
     }
 
-    /// Gives what waits in place of what `texts` holds; nothing waits then.
+    /// Moves what waits into `texts`, in place of its content.
     pub fn take(&mut self, texts: &mut Vec<u8>)
         ensures given { texts.new.items ≡ self.old.outbox.waiting }
         ensures rest { self.new ≡ record self.old { outbox = record { waiting = []; way = self.old.outbox.way } } }
@@ -215,7 +215,7 @@ impl<const ROOM: usize> Seat<ROOM> {
         !self.outbox.is_empty()
     }
 
-    /// Cuts the client off: nothing is sent or read any more.
+    /// Cuts the client off: nothing more is sent to it or read from it.
     pub fn cut(&mut self)
         ensures { self.new ≡ cut self.old }
     {
@@ -224,7 +224,7 @@ impl<const ROOM: usize> Seat<ROOM> {
         self.shut(Shutdown::Both);
     }
 
-    /// Nothing more is read from the client; what waits is still sent.
+    /// Reads no more from the client; what waits is still sent.
     pub fn end(&mut self)
         ensures { self.new ≡ closing self.old }
     {
@@ -232,7 +232,7 @@ impl<const ROOM: usize> Seat<ROOM> {
         self.is_asking = false;
     }
 
-    /// Nobody may sit down any more, nothing more is read from the client, and what waits is still sent.
+    /// Closes the seat: nobody may sit down any more, no more is read from the client, and what waits is still sent.
     pub fn close(&mut self)
         ensures { self.new ≡ record (closing self.old) { is_closed = true } }
     {
@@ -247,7 +247,7 @@ impl<const ROOM: usize> Seat<ROOM> {
         }
     }
 
-    /// The client has left, and the next one may sit down.
+    /// Frees the seat: the client has left, and the next one may sit down.
     pub fn leave(&mut self)
         ensures { self.new ≡ left self.old }
     {

@@ -1,4 +1,4 @@
-//! All seats, each under a lock of its own.
+//! All seats, each with its own lock.
 use crate::asker::Asker;
 use crate::outbox::Way;
 use crate::seat::{Given, Seat};
@@ -14,18 +14,18 @@ pub const SEATS: usize = 16;
 /// How many octets may wait for one client.
 pub const TEXT_OCTETS: usize = 8 * 1024 * 1024;
 
-/// How many milliseconds the clients may take, at the end, for what waits for them.
+/// How many milliseconds the clients have at the end to take what waits for them.
 pub const LAST_MS: u64 = 200;
 
-// A seat, and what wakes those that wait for a change of it.
+// A seat, and what wakes the threads that wait for a change of it.
 #[derive(Drop)]
 struct Place {
     seat: Mutex<Seat<TEXT_OCTETS>>,
     changed: Condvar,
 }
 
-/// The seats of clients. The thread that answers never waits for a client. Each call does to a seat, under its lock, what the
-/// call of `Seat` says that it makes.
+/// The seats of clients. The thread that answers never waits for a client. Each change of a seat is made by a method of
+/// `Seat`, under the seat's lock.
 #[derive(Drop)]
 pub struct Seats {
     alloc: Global,
@@ -50,12 +50,12 @@ impl Seats {
         })
     }
 
-    /// How many clients were cut off since they didn't read what was sent.
+    /// How many clients were cut off because they didn't read.
     pub fn dropped(&self) -> u64 {
         self.dropped.load(Ordering::Relaxed)
     }
 
-    /// How many clients sit.
+    /// How many seats are taken.
     pub fn taken<R: Wait>(&self, rt: &R) -> usize {
         let mut count = 0usize;
         for place in &self.places {
@@ -70,7 +70,7 @@ impl Seats {
         let _before = self.dropped.fetch_add(1, Ordering::Relaxed);
     }
 
-    /// Lets a client sit down, where a seat is free. The stream is another handle of the client's.
+    /// Lets a client sit down, if a seat is free. The stream is a second handle of the client's.
     pub fn sit<R: Wait>(&self, rt: &R, stream: &UnixStream) -> Option<Asker> {
         for (number, place) in self.places.iter().enumerate() {
             let mut seat = place.seat.lock(rt);
@@ -87,7 +87,7 @@ impl Seats {
         None
     }
 
-    /// The client has left, and its seat is free.
+    /// Frees the client's seat.
     pub fn leave<R: Wait>(&self, rt: &R, asker: Asker) {
         if let Some(place) = self.places.get(asker.seat) {
             let mut seat = place.seat.lock(rt);
@@ -99,7 +99,7 @@ impl Seats {
         }
     }
 
-    /// A command of the client's is about to be left at the desk.
+    /// Notes that the client's command is about to be left at the desk; false if the client has left or takes no more.
     pub fn ask<R: Wait>(&self, rt: &R, asker: Asker) -> bool {
         match self.places.get(asker.seat) {
             Some(place) => {
@@ -110,7 +110,7 @@ impl Seats {
         }
     }
 
-    /// Waits until the client's command was answered; whether more may be read from it.
+    /// Waits until the client's command is answered; answers whether more may be read from the client.
     pub fn wait_answer<R: Wait>(&self, rt: &R, asker: Asker) -> bool {
         let Some(place) = self.places.get(asker.seat) else {
             return false;
@@ -128,7 +128,8 @@ impl Seats {
         false
     }
 
-    // Wakes the thread that writes to a client, and counts a client that was cut off; whether the text was taken.
+    // Wakes the thread that writes to a client, and counts a client that was cut off; answers whether the text was
+    // taken.
     fn note_given(&self, place: &Place, given: Given) -> bool {
         match given {
             Given::Gone => return false,
@@ -139,7 +140,8 @@ impl Seats {
         given == Given::Taken
     }
 
-    /// Answers a client's command; whether the client is still there and there was room. Where it is not, nothing happens.
+    /// Answers a client's command; false if the client has left, or was cut off because there was no room for the
+    /// answer.
     pub fn answer<R: Wait>(&self, rt: &R, asker: Asker, text: &[u8]) -> bool {
         match self.places.get(asker.seat) {
             Some(place) => {
@@ -150,14 +152,14 @@ impl Seats {
         }
     }
 
-    /// The client reads events too from now on.
+    /// Sends events to the client, too, from now on.
     pub fn follow<R: Wait>(&self, rt: &R, asker: Asker) {
         if let Some(place) = self.places.get(asker.seat) {
             place.seat.lock(rt).follow(asker.visit);
         }
     }
 
-    /// Whether anyone reads events too.
+    /// Whether any client follows events.
     pub fn has_followers<R: Wait>(&self, rt: &R) -> bool {
         for place in &self.places {
             if place.seat.lock(rt).follows() {
@@ -167,7 +169,7 @@ impl Seats {
         false
     }
 
-    /// Sends a text, of whole lines, to all who follow. A client for which there is no room is cut off.
+    /// Sends a text, of whole lines, to all clients that follow events. A client without room for it is cut off.
     pub fn tell<R: Wait>(&self, rt: &R, text: &[u8]) {
         for place in &self.places {
             let given = place.seat.lock(rt).tell(text);
@@ -175,7 +177,7 @@ impl Seats {
         }
     }
 
-    /// Sends a text, of whole lines, to one client, beside its answers. Where there is no room for it, the client is cut off.
+    /// Sends a text, of whole lines, to one client, besides its answers. A client without room for it is cut off.
     pub fn send<R: Wait>(&self, rt: &R, asker: Asker, text: &[u8]) {
         if let Some(place) = self.places.get(asker.seat) {
             let given = place.seat.lock(rt).send(asker.visit, text);
@@ -183,8 +185,7 @@ impl Seats {
         }
     }
 
-    /// Waits until something is there to be sent, and gives it in place of what `texts` holds; not where nothing more
-    /// will be.
+    /// Waits for text to send, and moves it into `texts` in place of its content; false where no more will come.
     pub fn take<R: Wait>(&self, rt: &R, asker: Asker, texts: &mut Vec<u8>) -> bool {
         let Some(place) = self.places.get(asker.seat) else {
             return false;
@@ -206,7 +207,7 @@ impl Seats {
         false
     }
 
-    /// Nothing more is read from the client: what waits for it is still sent.
+    /// Reads no more from the client; what waits for it is still sent.
     pub fn end<R: Wait>(&self, rt: &R, asker: Asker) {
         if let Some(place) = self.places.get(asker.seat) {
             let mut seat = place.seat.lock(rt);
@@ -218,7 +219,7 @@ impl Seats {
         }
     }
 
-    /// The client can't be written to: it is cut off.
+    /// Cuts off a client that can't be written to.
     pub fn cut<R: Wait>(&self, rt: &R, asker: Asker) {
         if let Some(place) = self.places.get(asker.seat) {
             let mut seat = place.seat.lock(rt);
@@ -240,8 +241,8 @@ impl Seats {
         true
     }
 
-    /// Nobody may sit down any more, nothing more is read from those who sit, and what waits for them is sent: by `finish`
-    /// they are cut off.
+    /// Lets nobody sit down any more, and reads no more from the clients. What waits for them is still sent, until
+    /// `finish` cuts them off.
     pub fn close<R: Wait>(&self, rt: &R) {
         for place in &self.places {
             place.seat.lock(rt).close();
@@ -249,7 +250,7 @@ impl Seats {
         }
     }
 
-    /// Gives the clients `LAST_MS` to take what waits for them, and then cuts them off. All streams are shut then.
+    /// Gives the clients `LAST_MS` to take what waits for them, and then cuts them off. All streams are then shut down.
     pub fn finish<R: Wait + Clock>(&self, rt: &R) {
         let begun = rt.monotonic().unwrap_or(Duration::ZERO);
         let end = begun.saturating_add(Duration::from_millis(LAST_MS));

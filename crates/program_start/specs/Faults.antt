@@ -1,11 +1,11 @@
--- Meaning. What a program prints where it ends before its work is done.
+-- Meaning. What a program prints if it ends before its work is done.
 use Rattle.std.specs.Prelude.{ℕ, List, ◌++◌, codes, decimal}
 use Rattle.txn_events.specs.Refusal as lanes
 use Rattle.entity_routing.specs.Refusal as entities
 use Rattle.program_start.specs.declared.fault.ProgramFault.{ProgramFault}
 use Rattle.program_start.specs.declared.fault.ProgramFault.TheVariants as fault
 
--- the words of a fault, without its numbers
+-- the text of a fault, without its numbers
 abbrev pub plain_text : ProgramFault → List ℕ
 plain_text fault.Usage = codes "usage"
 plain_text fault.Read = codes "read fault"
@@ -19,11 +19,11 @@ plain_text (fault.Refused why) = codes "refused"
 plain_text (fault.NotRouted why) = codes "refused"
 plain_text fault.WrongLane = codes "refused"
 
--- the number and the name of a refusal, each behind a space
+-- the number and the name of a refusal, each after a space
 abbrev pub refusal_text : ℕ → List ℕ → List ℕ
 refusal_text number name = codes " " ++ (decimal number ++ (codes " " ++ name))
 
--- its numbers and names, each behind a space
+-- a fault's numbers and names, each after a space
 abbrev pub numbers_text : ProgramFault → List ℕ
 numbers_text (fault.Config number) = codes " " ++ decimal number
 numbers_text (fault.Refused why) = refusal_text (lanes.refusal_number why) (lanes.refusal_name why)

@@ -1,4 +1,4 @@
-//! What a fault of a program means, for a person who reads it.
+//! Explains a program's faults to a person.
 use crate::fault::ProgramFault;
 use crate::files::read_configuration;
 use entity_config::{ConfigFault, Key};
@@ -10,7 +10,7 @@ use std::io::Write;
 use std::net::{Net, UdpSocket};
 use std::rt::Files;
 
-/// What a program was started with, as far as its faults speak of it.
+/// What a program was started with, as far as explanations mention it.
 #[derive(Clone, Copy)]
 pub struct Started<'a> {
     /// The path of the configuration's file.
@@ -19,13 +19,14 @@ pub struct Started<'a> {
     pub bind: &'a str,
     /// The path of the control socket.
     pub control: Option<&'a str>,
-    /// The path of the file of numbers.
+    /// The path of the file that keeps where transaction numbers begin.
     pub numbers: Option<&'a str>,
-    /// The path of the file that is sent.
+    /// The path of the file to be sent.
     pub source: Option<&'a str>,
 }
 
-/// Adds a line on a fault, where there is more to say than its name. What it speaks of is tried once more.
+/// Adds a line that explains a fault, if there is more to say than its name. To find that out, the failed call is made
+/// again.
 pub fn push_explanation<R: Net + Files>(
     rt: &R,
     alloc: Global,
@@ -42,13 +43,13 @@ pub fn push_explanation<R: Net + Files>(
     }
 }
 
-/// Prints an explanation. What the errors' writer doesn't take is lost.
+/// Prints an explanation. What the writer doesn't take is lost.
 pub fn tell_explanation<E: Write>(errors: &mut E, text: &str) {
     let _told = write_whole(errors, text.as_bytes());
     let _flushed = errors.flush();
 }
 
-// Which file can't be read, and why: the configuration is looked at first, as it is read first.
+// Adds which file can't be read, and why: the configuration is tried first, since it is read first.
 fn push_read<R: Files>(rt: &R, text: &mut String, started: &Started<'_>) -> Result<(), AllocError> {
     let before = text.len();
     push_unread(rt, text, started.config)?;
@@ -64,7 +65,8 @@ fn push_read<R: Files>(rt: &R, text: &mut String, started: &Started<'_>) -> Resu
     }
 }
 
-// Adds why a file can't be read; nothing where it can. What may wait for somebody to write, as a pipe, isn't opened.
+// Adds why a file can't be read; nothing if it can be. A pipe or the like is not opened, since that might wait for a
+// writer.
 fn push_unread<R: Files>(rt: &R, text: &mut String, path: &str) -> Result<(), AllocError> {
     match fs::metadata(rt, path) {
         Err(error) => writeln!(text, "{path}: {error}"),
@@ -77,7 +79,7 @@ fn push_unread<R: Files>(rt: &R, text: &mut String, path: &str) -> Result<(), Al
     }
 }
 
-// Whether a file can be read a second time, and says the same then.
+// Whether a path is a plain file, which has the same content when it is read again.
 fn is_plain<R: Files>(rt: &R, path: &str) -> bool {
     match fs::metadata(rt, path) {
         Ok(found) => found.is_file(),
@@ -85,7 +87,7 @@ fn is_plain<R: Files>(rt: &R, path: &str) -> bool {
     }
 }
 
-// What is wrong with a configuration, and what is allowed.
+// Adds what is wrong with a configuration, and which values are allowed.
 fn push_config<R: Files>(
     rt: &R,
     alloc: Global,
@@ -107,7 +109,7 @@ fn push_config<R: Files>(
     }
 }
 
-// Why a socket can't be opened.
+// Adds why a socket can't be opened.
 fn push_bind<R: Net>(rt: &R, text: &mut String, started: &Started<'_>) -> Result<(), AllocError> {
     match (UdpSocket::bind(rt, started.bind), started.control) {
         (Err(error), _) => writeln!(text, "{}: {error}", started.bind),
@@ -129,7 +131,7 @@ fn push_numbers(text: &mut String, path: Option<&str>) -> Result<(), AllocError>
     }
 }
 
-// What the value of a key may be.
+// Which values are allowed for a key.
 fn allowed_at(key: Key) -> &'static str {
     match key {
         Key::Id => "; allowed: 0 to 9223372036854775807, in `id_octets` octets",
@@ -155,7 +157,7 @@ fn allowed_at(key: Key) -> &'static str {
     }
 }
 
-// What helps against a fault.
+// How to repair a fault of a configuration.
 fn remedy(fault: ConfigFault) -> &'static str {
     match fault {
         ConfigFault::BadToml => "; look for a missing quote or bracket, or a key that stands twice",

@@ -1,4 +1,4 @@
-//! Why a program ends before its work is done, and how it says so.
+//! Why a program ends before its work is done, and how it reports that.
 ghost use Rattle.std.specs.Prelude.{◌≡◌, ◌++◌, OnOk, codes};
 ghost use Rattle.std.specs.String.{string_bytes};
 ghost use Rattle.program_start.specs.Faults.{plain_text, refusal_text, fault_line};
@@ -12,27 +12,28 @@ use txn_events::Refusal;
 /// Why a program ends before its work is done.
 #[derive(Clone, Copy, Debug, PartialEq, Eq)]
 pub enum ProgramFault {
-    /// The command line is none that the program takes.
+    /// The program doesn't take such a command line.
     Usage,
     /// A file can't be read.
     Read,
-    /// The configuration is not taken, with the number of its fault.
+    /// The configuration is not taken; the number is its fault's.
     Config(u8),
     /// The socket can't be opened at its address.
     Bind,
-    /// The file of numbers says none, can't be read or written, or another program uses it; or no number is left.
+    /// The file of numbers has no number, can't be read or written, or is in use by another program; or the numbers are
+    /// used up.
     Numbers,
     /// A thread can't be started.
     Start,
-    /// The output takes no more.
+    /// The output can't be written.
     Write,
     /// Memory ran out.
     NoMemory,
-    /// The lane refuses what the program was started for.
+    /// The lane refuses the event that the program was started for.
     Refused(Refusal),
-    /// The configuration has no lane for it.
+    /// The configuration has no lane for that event.
     NotRouted(RouteRefusal),
-    /// What lies behind the lane's lock is another lane.
+    /// The lane behind the lock is another one.
     WrongLane,
 }
 
@@ -47,7 +48,7 @@ impl From<AllocError> for ProgramFault {
     }
 }
 
-// The text of a fault that has no number.
+// The text of a fault, without its numbers.
 fn plain_text(fault: &ProgramFault) -> &'static str
     ensures { result.now ≡ plain_text fault.now }
 {
@@ -88,7 +89,7 @@ fn push_refusal(text: &mut String, program: &str, number: u8, name: &str) -> Res
     writeln!(text, "{program}: refused {number} {name}")
 }
 
-/// Prints that line, or in its place that memory ran out where it did. What the errors' writer doesn't take is lost.
+/// Prints that line, or that memory ran out if it does. What the writer doesn't take is lost.
 pub fn tell_fault<E: Write>(alloc: Global, errors: &mut E, program: &str, fault: &ProgramFault) {
     let mut text = String::new(alloc);
     let _told = match push_fault(&mut text, program, fault) {
@@ -98,7 +99,7 @@ pub fn tell_fault<E: Write>(alloc: Global, errors: &mut E, program: &str, fault:
     let _flushed = errors.flush();
 }
 
-/// Prints a text, all of it and at once.
+/// Prints a whole text at once.
 pub fn print<W: Write>(writer: &mut W, text: &str) -> Result<(), ProgramFault> {
     if text.is_empty() {
         return Ok(());
@@ -109,7 +110,7 @@ pub fn print<W: Write>(writer: &mut W, text: &str) -> Result<(), ProgramFault> {
     Ok(())
 }
 
-// Prints that memory ran out, without taking any.
+// Prints that memory ran out, without allocating.
 fn write_plainly<E: Write>(errors: &mut E, program: &str) -> Result<(), script_io::ReplayFault> {
     write_whole(errors, program.as_bytes())?;
     write_whole(errors, b": no memory\n")

@@ -1,4 +1,4 @@
-//! Files that a program reads when it starts, and those that it sends.
+//! Reads the files that a program needs at its start, and those that it sends.
 ghost use Rattle.std.specs.Prelude.{◌≡◌, ◌≤◌, ◌+◌, IfOk, vec_len};
 
 use crate::fault::ProgramFault;
@@ -11,7 +11,7 @@ use std::io::{ErrorKind, Read};
 use std::rt::Files;
 use std::{fs, io};
 
-// What a failed call says: memory ran out, or the file can't be read.
+// The fault for a failed call: memory ran out, or the file can't be read.
 fn fault_of(error: &io::Error) -> ProgramFault {
     if error.kind() == ErrorKind::OutOfMemory {
         ProgramFault::NoMemory
@@ -20,7 +20,7 @@ fn fault_of(error: &io::Error) -> ProgramFault {
     }
 }
 
-// The octets of a file, up to so many, in room for so many at first.
+// The octets of a file, at most `most`, in memory reserved for `room` octets at first.
 fn read_up_to<R: Files>(
     rt: &R,
     alloc: Global,
@@ -38,10 +38,10 @@ fn read_up_to<R: Files>(
     }
 }
 
-// How many octets a configuration's file may have: some hundred times what the largest configuration takes.
+// The most octets of a configuration's file: some hundred times what the largest configuration takes.
 const CONFIG_OCTETS: u64 = 16 * 1_024 * 1_024;
 
-/// What a file says as a configuration. Octets that are no text are no TOML.
+/// Reads a file as a configuration. A file that is not UTF-8 is not TOML.
 pub(crate) fn read_configuration<R: Files>(
     rt: &R,
     alloc: Global,
@@ -54,7 +54,7 @@ pub(crate) fn read_configuration<R: Files>(
     }
 }
 
-/// The configuration that a file has.
+/// Reads the configuration in a file.
 pub fn load_config<R: Files>(rt: &R, alloc: Global, path: &str) -> Result<Config, ProgramFault> {
     match read_configuration(rt, alloc, path)? {
         Ok(config) => Ok(config),
@@ -63,7 +63,7 @@ pub fn load_config<R: Files>(rt: &R, alloc: Global, path: &str) -> Result<Config
     }
 }
 
-/// The octets of a plain file that is to be sent: all of them, or one more than an entity sends, which it then refuses.
+/// Reads a plain file to be sent: all of its octets, or one more than an entity sends, which it then refuses.
 pub fn load_file<R: Files>(rt: &R, alloc: Global, path: &str) -> Result<Octets, ProgramFault> {
     match fs::metadata(rt, path) {
         Ok(found) if found.is_file() => {
@@ -77,13 +77,13 @@ pub fn load_file<R: Files>(rt: &R, alloc: Global, path: &str) -> Result<Octets, 
     }
 }
 
-/// Reads files that are to be sent. Other threads than the main one use it.
+/// Reads files to be sent. Threads other than the main one use it.
 pub trait FileReader {
-    /// The octets of a plain file, as [`load_file`] gives them.
+    /// The octets of a plain file, as [`load_file`] reads them.
     fn load(&self, alloc: Global, path: &str) -> Result<Octets, ProgramFault>;
 }
 
-/// Reads files by a runtime.
+/// Reads files through a runtime.
 #[derive(Clone, Copy, Drop)]
 pub struct RuntimeFiles<R> {
     rt: R,

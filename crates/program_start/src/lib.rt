@@ -1,4 +1,4 @@
-//! How a program starts: its configuration, a file that is to be sent; and how it tells why it ended.
+//! How a program starts: it reads its configuration and a file to be sent, and reports why it ended.
 #![tactic(auto)]
 
 mod explaining;

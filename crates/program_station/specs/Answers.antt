@@ -1,11 +1,11 @@
--- Of the code. What an entity whose gate has the lane step answers, in one.
+-- Of the code. The answer of an entity whose gate has the lane step, flattened.
 use Rattle.std.specs.Prelude.{Result, Ok, Err}
 use Rattle.lane_table.specs.declared.done.Done.{Done}
 use Rattle.lane_table.specs.declared.refused.Refused.{Refused}
 use Rattle.entity_parts.specs.declared.refusal.EntityRefusal.{EntityRefusal}
 use Rattle.entity_parts.specs.declared.refusal.EntityRefusal.TheVariants as answer
 
--- what the step gives, or why there is none: the lane refuses, or there is no lane
+-- the step's answer, or the refusal: the lane refuses, or there is no lane
 abbrev pub flat : Result (Result Done Refused) EntityRefusal → Result Done EntityRefusal
 flat (Ok (Ok done)) = Ok done
 flat (Ok (Err refused)) = Err (answer.Lane refused)

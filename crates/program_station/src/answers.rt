@@ -6,7 +6,7 @@ use lane_table::{Done, Refused};
 use program_agenda::Obstacle;
 use shared_entity::EntityRefusal;
 
-/// The one answer of a gate that has the lane step: what the step gives, or why there is none.
+/// Flattens the answer of a gate that has the lane step: the step's answer, or the refusal.
 pub fn flat(answer: Result<Result<Done, Refused>, EntityRefusal>) -> Result<Done, EntityRefusal>
     ensures { result ≡ flat answer }
 {
@@ -17,7 +17,7 @@ pub fn flat(answer: Result<Result<Done, Refused>, EntityRefusal>) -> Result<Done
     }
 }
 
-/// What a refusal says of what was to be done.
+/// What a refusal means for the work that was refused.
 pub(crate) fn obstacle_of(refusal: &EntityRefusal) -> Obstacle
     ensures { result ≡ obstacle_of refusal.now }
 {

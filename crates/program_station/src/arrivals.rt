@@ -12,25 +12,25 @@ use std::net::UdpSocket;
 use std::sync::Wait;
 use std::time::Clock;
 
-/// After how many failed reads in a row a worker reads no more datagrams.
+/// After this many failed reads in a row, a worker stops reading.
 pub const READ_FAILURES: u32 = 1_000_000;
 
-/// Whose datagrams are heard.
+/// Whose datagrams are taken.
 #[derive(Clone, Copy, Debug, PartialEq, Eq)]
 pub enum Sources {
     Any,
-    /// Those whose address the configuration has. All others are counted and dropped, and nothing of them is read.
+    /// Those from an address in the configuration. All others are counted and dropped unread.
     KnownAlone,
 }
 
-// Whether a datagram is heard, by whether the configuration has the address that it came from.
+// Whether a datagram is taken, by whether its source address is in the configuration.
 fn is_heard(sources: Sources, is_known: bool) -> bool
     ensures { result ≡ is_heard sources is_known }
 {
     is_known || sources == Sources::Any
 }
 
-/// The datagrams that arrive at a socket. Each worker reads its own, so none passes from one thread to another.
+/// The datagrams that arrive at a socket. Each worker reads for itself, so none passes from one thread to another.
 #[derive(Clone, Copy)]
 pub struct Arrivals<'a> {
     alloc: Global,
@@ -40,7 +40,7 @@ pub struct Arrivals<'a> {
 }
 
 impl<'a> Arrivals<'a> {
-    /// Those at a socket that come from such sources, until the desk is closed.
+    /// The datagrams at a socket from these sources, until the desk is closed.
     pub fn new(
         alloc: Global,
         socket: &'a UdpSocket,
@@ -55,8 +55,8 @@ impl<'a> Arrivals<'a> {
         }
     }
 
-    // The datagram that begins the room that it was read into, as workers get it. What is not heard, or not read as a PDU, is
-    // counted and lost, and so is what there is no memory for.
+    // The message for a worker, from the first `count` octets that were read. A datagram that is not taken, is not a
+    // PDU, or for which memory runs out, is counted and dropped.
     fn message<R: Wait + Clock>(
         &self,
         forwarder: &Forwarder<'_, R>,
@@ -81,8 +81,8 @@ impl<'a> Arrivals<'a> {
 }
 
 impl<'a, 'b, R: Wait + Clock> Source<R, Result<Done, Refused>, Forwarder<'a, R>> for Arrivals<'b> {
-    /// Waits for a datagram that is heard and read as a PDU. None comes any more once the desk is closed, which is looked at behind
-    /// each datagram, or once reading has failed `READ_FAILURES` times in a row. A worker that finds the desk closed wakes
+    /// Waits for a datagram that is taken and is a PDU. `None` once the desk is closed, which is checked after each
+    /// datagram, or once reading has failed `READ_FAILURES` times in a row. A worker that finds the desk closed wakes
     /// the next one.
     fn next(&self, rt: &R, forwarder: &mut Forwarder<'a, R>) -> Option<Message> {
         let mut failures = 0u32;

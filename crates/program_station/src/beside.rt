@@ -26,13 +26,13 @@ pub struct Control<'x> {
     pub seats: &'x Seats,
 }
 
-/// What the main thread of a program does.
+/// The work of a program's main thread.
 pub trait MainThread {
-    /// Works until nothing more is to be done, at the desk where the other threads leave things; the exit status then.
+    /// Works at the desk where the other threads leave work, until all is done; answers the exit status.
     fn work(self) -> Result<u8, ProgramFault>;
 }
 
-// How a program ends whose main thread ended so, and where not all workers could be started.
+// How a program ends if not all workers could be started, by how its main thread ended.
 fn fault_beside(ended: Result<u8, ProgramFault>, fault: WorkersFault) -> Result<u8, ProgramFault> {
     match (ended, fault) {
         (Ok(_) | Err(ProgramFault::Start), WorkersFault::NoMemory) => Err(ProgramFault::NoMemory),
@@ -41,8 +41,8 @@ fn fault_beside(ended: Result<u8, ProgramFault>, fault: WorkersFault) -> Result<
     }
 }
 
-/// Runs the main thread's work beside the workers, which end with it. Where not all workers could be started, that is reported at
-/// the end, unless the work ended for another reason.
+/// Runs the main thread's work beside the workers, which end with it. If not all workers could be started, that is
+/// reported at the end, unless the work ended for another reason.
 pub fn run_beside<
     'x,
     N: Names + Send + Sync,
@@ -81,8 +81,8 @@ pub fn run_beside<
     )
 }
 
-/// `run_beside` with two threads more: one reads files that are wanted at the desk, the other reads lines of commands. That one is
-/// started last: where the others can't be, nobody waits for a line.
+/// `run_beside` with two more threads: one reads files that are wanted at the desk, the other reads lines of commands.
+/// That one is started last: if the others can't be started, nobody waits for a line.
 pub fn run_commanded<
     'x,
     N: Names + Send + Sync,
@@ -126,8 +126,8 @@ pub fn run_commanded<
     )
 }
 
-/// `run_beside` with the threads of a control socket, and one that reads files that are wanted at the desk. The socket is gone
-/// once the work has ended.
+/// `run_beside` with the threads of a control socket, and one that reads files that are wanted at the desk. The socket
+/// is removed once the work has ended.
 pub fn run_controlled<
     'x,
     N: Names + Send + Sync,

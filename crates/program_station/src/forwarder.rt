@@ -1,4 +1,4 @@
-//! What a worker does with an answer.
+//! Handles a worker's answers.
 use crate::answers::flat;
 use crate::arrivals::Arrivals;
 use cfdp_types::EntityId;
@@ -19,30 +19,30 @@ use std::thread::Threads;
 use std::time::Clock;
 use txn_events::Refusal;
 
-// Room for the longest datagram, with one octet more.
+// Room for the longest datagram, and one octet more.
 const DATAGRAM_OCTETS: usize = 65_536;
 
-/// Sends the PDUs of a worker's steps, and leaves the rest of each at the desk.
+/// Sends the PDUs of a worker's steps, and leaves the rest of each step at the desk.
 #[derive(Drop)]
 pub struct Forwarder<'a, R> {
     rt: &'a R,
     sender: PduSender<'a>,
     desk: &'a Desk,
     local: EntityId,
-    /// How soon the main thread has to look at a step that nobody waits for.
+    /// How soon the main thread has to handle a step for which no client waits.
     others: Urgency,
     pub(crate) traffic: &'a Traffic,
     ledger: &'a Ledger,
-    /// Room for the datagram that the worker reads.
+    /// Memory for the datagram that the worker reads.
     pub(crate) datagram: Vec<u8>,
-    /// The octets of the last datagram, and where it came from.
+    /// The number of octets of the last datagram, and its source address.
     last: Option<(usize, SocketAddr)>,
-    /// Where the last datagram came from whose remote entity was looked up, and the place of that in the configuration.
+    /// The source address that was looked up last, and the number in the configuration of its remote entity.
     known: Option<(SocketAddr, Option<usize>)>,
 }
 
 impl<'a, R: Wait + Clock> Forwarder<'a, R> {
-    /// Counts the datagram that was read; whether the configuration has the address that it came from.
+    /// Counts the datagram that was read; answers whether its source address is in the configuration.
     pub(crate) fn note_arrival(&mut self, octets: usize, from: SocketAddr) -> bool {
         self.last = Some((octets, from));
         let known = self.known;
@@ -58,7 +58,7 @@ impl<'a, R: Wait + Clock> Forwarder<'a, R> {
         place.is_some()
     }
 
-    /// Counts a datagram that is no PDU, or that there was no memory for.
+    /// Counts a datagram that is not a PDU, or for which memory ran out.
     pub(crate) fn note_decode_fault(&self, fault: DecodeFault) {
         if fault == DecodeFault::NoMemory {
             self.note_refusal(RefusalKind::Lane(Refusal::NoMemory));
@@ -107,8 +107,8 @@ impl<'a, R: Wait + Clock> Carrier<Result<Done, Refused>> for Forwarder<'a, R> {
     }
 }
 
-/// One for each worker that `tallies` counts for. They wake the main thread at once for a deposit and for a step of the entity's own sending
-/// transactions, and for other steps as soon as is asked for.
+/// One forwarder for each worker that `tallies` counts. They wake the main thread at once for a deposit and for a step
+/// of one of the entity's sending transactions, and for other steps as soon as `others` says.
 pub fn forwarders_of<'a, R>(
     rt: &'a R,
     alloc: Global,
@@ -136,8 +136,8 @@ pub fn forwarders_of<'a, R>(
     Ok(forwarders)
 }
 
-/// Runs a worker for each forwarder until no datagram comes any more, or tells why not all could be started. Those that were go on
-/// as long, and the desk learns of it in the end.
+/// Runs a worker for each forwarder until no more datagrams come. If not all could be started, answers why; the others
+/// still run until then, and the desk is notified at the end.
 pub fn run_forwarders<N: Names + Send + Sync, R: Threads + Wait + Clock + Copy + Send + Sync>(
     rt: &R,
     alloc: Global,

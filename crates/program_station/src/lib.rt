@@ -1,5 +1,5 @@
-//! What the threads of a program do with an entity: workers send what its steps give and leave the rest at a desk, and the
-//! main thread works that off in turns. Other threads read commands, and files that are to be sent.
+//! What the threads of a program do with an entity: workers send the PDUs of their steps and leave the rest at a desk,
+//! and the main thread handles that in turns. Other threads read commands, and files to be sent.
 #![tactic(auto)]
 
 mod answers;

@@ -1,4 +1,5 @@
-//! What the main thread knows of the link to each remote entity: how fast octets may leave by it, and whether it is held.
+//! The main thread's view of the link to each remote entity: how fast octets may be sent over it, and whether it is
+//! held.
 use cfdp_types::{EntityId, TxnKey};
 use entity_config::Config;
 use entity_routing::{Place, place_of_key};
@@ -11,45 +12,45 @@ use timer_list::Armed;
 #[derive(Clone, Copy)]
 struct Link {
     id: EntityId,
-    /// How long the entity may be silent, in milliseconds.
+    /// The interval of the remote entity's inactivity timer, in milliseconds.
     silence: u64,
-    /// How fast octets may leave for it, where it has a limit of its own.
+    /// How fast octets may be sent to it, if it has a limit of its own.
     pace: Option<Pace>,
-    /// How many octets had left for it when its pace was looked at last.
+    /// How many octets had been sent to it when its pace was last updated.
     counted: u64,
-    /// When the link was released last, or 0.
+    /// When the link was last released, or 0.
     released: u64,
-    /// Whether timers that rested while it was held are yet to go on.
+    /// Whether timers that rested while the link was held have yet to run again.
     goes_on: bool,
 }
 
-/// When a file's next PDU may leave.
+/// When a file's next PDU may be sent.
 #[derive(Clone, Copy, Debug, PartialEq, Eq)]
 pub(crate) enum Departure {
-    /// By the pace that links without a limit of their own share.
+    /// As the pace that links without a limit of their own share allows.
     Shared,
     /// Now, by the link's own pace.
     Now,
-    /// From a moment on, by the link's own pace.
+    /// From this moment on, by the link's own pace.
     From(u64),
     /// Once the link is released.
     Held,
 }
 
-/// The links to all remote entities, and which of the entity's own transactions goes to which.
+/// The links to all remote entities, and the link of each of the entity's own transactions.
 #[derive(Drop)]
 pub(crate) struct LinkBook<'a> {
     config: &'a Config,
     tallies: &'a Tallies,
     links: Vec<Link>,
-    /// The link of the transaction that each sending lane had last, by user and lane.
+    /// The link of the last transaction of each sending lane, by user and lane.
     destinations: Vec<Option<usize>>,
     has_paces: bool,
     is_going_on: bool,
 }
 
 impl<'a> LinkBook<'a> {
-    /// All links are open, and have no limit of their own.
+    /// All links open, without limits of their own.
     pub(crate) fn new(
         alloc: Global,
         config: &'a Config,
@@ -66,12 +67,12 @@ impl<'a> LinkBook<'a> {
         })
     }
 
-    /// The place of a remote entity in the configuration.
+    /// The number of a remote entity in the configuration.
     pub(crate) fn place_of(&self, id: EntityId) -> Option<usize> {
         self.links.iter().position(|link| link.id == id)
     }
 
-    /// Octets that leave for a remote entity have a limit of their own from now on, so many a second.
+    /// Limits the octets that are sent to this remote entity to this many a second.
     pub(crate) fn limit(&mut self, place: usize, octets: u64) {
         if let Some(link) = self.links.get_mut(place) {
             link.pace = Some(Pace::new(Some(octets)));
@@ -84,7 +85,7 @@ impl<'a> LinkBook<'a> {
         self.has_paces
     }
 
-    // Where the destination of one of the entity's own transactions stands.
+    // The index in `destinations` of one of the entity's own transactions.
     fn lane_of(&self, key: TxnKey) -> Option<usize> {
         let Ok(Place { user, lane }) = place_of_key(self.config, key) else {
             return None;
@@ -93,7 +94,7 @@ impl<'a> LinkBook<'a> {
             .checked_add(lane)
     }
 
-    /// A transaction of the entity's own goes to a remote entity.
+    /// Notes that one of the entity's own transactions goes to a remote entity.
     pub(crate) fn begin(&mut self, key: TxnKey, destination: EntityId) {
         let place = self.place_of(destination);
         if let Some(lane) = self.lane_of(key)
@@ -103,7 +104,7 @@ impl<'a> LinkBook<'a> {
         }
     }
 
-    /// The link that a transaction uses.
+    /// The link of a transaction.
     pub(crate) fn link_of(&self, key: TxnKey) -> Option<usize> {
         if key.source == self.config.entity().local {
             *self.destinations.get(self.lane_of(key)?)?
@@ -117,7 +118,7 @@ impl<'a> LinkBook<'a> {
         self.tallies.links.is_held(place)
     }
 
-    /// Nothing leaves by a link from now on, a moment in milliseconds since 1970.
+    /// Holds a link from a moment on, in milliseconds since 1970: nothing is sent over it.
     pub(crate) fn hold(&mut self, place: usize, at: u64) {
         self.tallies.links.hold(place, at);
         if let Some(link) = self.links.get_mut(place) {
@@ -125,7 +126,7 @@ impl<'a> LinkBook<'a> {
         }
     }
 
-    /// A link is open again, at a moment of the runtime's clock; whether it was held.
+    /// Opens a link again, at a moment of the runtime's clock; answers whether it was held.
     pub(crate) fn release(&mut self, place: usize, now: u64) -> bool {
         if !self.tallies.links.release(place) {
             return false;
@@ -138,7 +139,7 @@ impl<'a> LinkBook<'a> {
         true
     }
 
-    /// A link whose timers are yet to go on.
+    /// A link whose timers have yet to run again.
     pub(crate) fn going_on(&mut self) -> Option<usize> {
         if !self.is_going_on {
             return None;
@@ -148,14 +149,14 @@ impl<'a> LinkBook<'a> {
         place
     }
 
-    /// All timers of a link go on.
+    /// Notes that all timers of a link run again.
     pub(crate) fn has_gone_on(&mut self, place: usize) {
         if let Some(link) = self.links.get_mut(place) {
             link.goes_on = false;
         }
     }
 
-    /// When a timer of a link expires.
+    /// The deadline of a timer of a link.
     pub(crate) fn deadline(&self, place: usize, timer: Armed) -> u64 {
         match self.links.get(place) {
             Some(link) if link.released > 0 => deadline_behind(timer, link.released, link.silence),
@@ -163,8 +164,8 @@ impl<'a> LinkBook<'a> {
         }
     }
 
-    /// When the next PDU of a transaction's file may leave. What left for its entity meanwhile counts, answers that workers
-    /// sent included.
+    /// When the next PDU of a transaction's file may be sent. All octets that were sent to its entity meanwhile count,
+    /// also the answers that workers sent.
     pub(crate) fn departure(&mut self, key: TxnKey, now: u64) -> Departure {
         let Some(place) = self.link_of(key) else {
             return Departure::Shared;
@@ -179,7 +180,7 @@ impl<'a> LinkBook<'a> {
     }
 }
 
-// When something may leave by a link that is not held.
+// When octets may be sent over a link that is not held.
 fn depart(link: &mut Link, tallies: &Tallies, place: usize, now: u64) -> Departure {
     let Some(pace) = link.pace else {
         return Departure::Shared;

@@ -1,4 +1,4 @@
-//! What the main thread keeps, and its turns.
+//! The state of the main thread, and its turns.
 use crate::answers::{flat, obstacle_of};
 use crate::link_book::{Departure, LinkBook};
 use crate::storing::{Preparing, StoredNote, Waiting};
@@ -16,31 +16,31 @@ use std::sync::Wait;
 use std::time::Clock;
 use timer_list::Armed;
 
-// Where a limit holds back what leaves, a turn waits at least so long, in milliseconds, so that several PDUs leave in the next
-// one. It is less than the grace of a pace, so the limit is reached all the same.
+// While a limit holds back octets, a turn waits at least this many milliseconds, so that several PDUs leave in the next
+// one. It is less than the slack of a pace, so the limit is still reached.
 const GATHERING_MS: u64 = 5;
 
-// How many PDUs of files leave in a turn at most, and how many timers expire.
+// How many PDUs of files are sent in a turn at most, and how many timers expire.
 const PUMPS: usize = 16;
 
 const EXPIRATIONS: usize = 16;
 
-// How many timers of a link that was released go on in a turn.
+// How many timers of a released link run again in a turn at most.
 const GOING_ON: usize = 64;
 
-/// How long what was refused for want of memory or of room in a queue rests, in milliseconds.
+/// How many milliseconds later work is tried again that was refused because memory or room in a queue ran out.
 pub const REST_MS: u64 = 10;
 
-/// A step of which something is left to be noted, since there was no memory.
+/// A step whose rest isn't noted yet, because memory ran out.
 #[derive(Drop)]
 struct Unsettled {
     step: Step,
-    /// How many of its timer operations are done.
+    /// How many of its timer operations are carried out.
     operations_done: usize,
 }
 
-/// An entity with what its main thread keeps: the agenda, the store for received files, and what waits for memory. Nothing
-/// more is begun while something waits for that.
+/// An entity with the state of its main thread: the agenda, the store for received files, and what waits for memory.
+/// Nothing new is begun while something waits for memory.
 #[derive(Drop)]
 pub struct Station<'a, N: Names, R: Copy, S: Drop> {
     pub(crate) rt: &'a R,
@@ -48,7 +48,7 @@ pub struct Station<'a, N: Names, R: Copy, S: Drop> {
     sender: PduSender<'a>,
     pub(crate) store: S,
     pub(crate) agenda: Agenda<Waiting>,
-    /// How fast octets may leave by the links that have no limit of their own.
+    /// How fast octets may be sent over the links without a limit of their own.
     pace: Pace,
     links: LinkBook<'a>,
     reach: u64,
@@ -56,12 +56,12 @@ pub struct Station<'a, N: Names, R: Copy, S: Drop> {
     kept_timer: Option<Armed>,
     kept_deposit: Option<Waiting>,
     pub(crate) stored: Option<StoredNote>,
-    /// For how many milliseconds a file that can't be stored is tried again.
+    /// For how many milliseconds storing a file is retried.
     pub(crate) retry: u64,
 }
 
 impl<'a, N: Names, R: Wait + Copy + Clock, S: Filestore + Preparing + Drop> Station<'a, N, R, S> {
-    /// A station where nothing is to be done, that lets at most so many octets a second leave for its files. All links are open.
+    /// A station without work, which sends at most `octets_a_second` for its files. All links are open.
     pub fn new(
         rt: &'a R,
         alloc: Global,
@@ -88,13 +88,13 @@ impl<'a, N: Names, R: Wait + Copy + Clock, S: Filestore + Preparing + Drop> Stat
         })
     }
 
-    /// A file that can't be stored is tried again for so many milliseconds.
+    /// Sets for how many milliseconds storing a file is retried.
     pub fn try_for(&mut self, milliseconds: u64) {
         self.retry = milliseconds;
     }
 
-    /// Files to a remote entity have a limit of their own from now on, of so many octets a second; what else leaves for that
-    /// entity counts, too. Whether the configuration has the entity.
+    /// Gives a remote entity its own limit in octets a second for files; whatever else is sent to it counts, too.
+    /// Answers whether the configuration has the entity.
     pub fn limit(&mut self, remote: EntityId, octets_a_second: u64) -> bool {
         match self.links.place_of(remote) {
             Some(place) => {
@@ -105,8 +105,8 @@ impl<'a, N: Names, R: Wait + Copy + Clock, S: Filestore + Preparing + Drop> Stat
         }
     }
 
-    /// Nothing leaves for a remote entity from now on, a moment in milliseconds since 1970: its files rest, and so do its timers
-    /// once they expire. Whether the configuration has the entity.
+    /// Holds the link to a remote entity from a moment on, in milliseconds since 1970: nothing is sent to it, its files
+    /// rest, and its timers rest once they expire. Answers whether the configuration has the entity.
     pub fn hold(&mut self, remote: EntityId, at: u64) -> bool {
         match self.links.place_of(remote) {
             Some(place) => {
@@ -117,7 +117,8 @@ impl<'a, N: Names, R: Wait + Copy + Clock, S: Filestore + Preparing + Drop> Stat
         }
     }
 
-    /// The link to a remote entity is open again, at a moment of the runtime's clock. Whether the configuration has the entity.
+    /// Opens the link to a remote entity again, at a moment of the runtime's clock. Answers whether the configuration
+    /// has the entity.
     pub fn release(&mut self, remote: EntityId, now: u64) -> bool {
         match self.links.place_of(remote) {
             Some(place) => {
@@ -130,7 +131,7 @@ impl<'a, N: Names, R: Wait + Copy + Clock, S: Filestore + Preparing + Drop> Stat
         }
     }
 
-    /// Whether nothing leaves for a remote entity.
+    /// Whether the link to a remote entity is held.
     pub fn is_held(&self, remote: EntityId) -> bool {
         match self.links.place_of(remote) {
             Some(place) => self.links.is_held(place),
@@ -143,17 +144,17 @@ impl<'a, N: Names, R: Wait + Copy + Clock, S: Filestore + Preparing + Drop> Stat
         self.entity
     }
 
-    /// How far into a file the data reaches that left: the greatest end of a part, of all its files.
+    /// How far into its file the data that was sent reaches: the greatest end of a segment, over all files.
     pub fn reach(&self) -> u64 {
         self.reach
     }
 
-    /// Makes room for one file more that is under way.
+    /// Reserves memory for one more file.
     pub fn reserve(&mut self) -> Result<(), AllocError> {
         self.agenda.reserve()
     }
 
-    /// A file is under way to a remote entity from now on, for which there is room.
+    /// Begins to send a file to a remote entity, for which memory is reserved.
     pub fn begin(&mut self, key: TxnKey, destination: EntityId) {
         self.links.begin(key, destination);
         let _room_was_made = self.agenda.begin(key);
@@ -164,20 +165,20 @@ impl<'a, N: Names, R: Wait + Copy + Clock, S: Filestore + Preparing + Drop> Stat
         self.unsettled.is_none() && self.kept_timer.is_none() && self.kept_deposit.is_none()
     }
 
-    /// Sends the PDUs of a step that the main thread made, and notes the rest.
+    /// Sends the PDUs of a step that the main thread made, and notes the rest of the step.
     pub fn settle_own(&mut self, done: Done) {
         self.sender.send_done(&done);
         let now = moment(self.rt);
         self.settle(Step::of(done, now));
     }
 
-    /// Sends the PDU, if there is one, with which a refusal answers.
+    /// Sends the PDU with which a refusal answers, if there is one.
     pub fn send_echo(&mut self, refusal: &EntityRefusal) {
         self.sender.send_echo(refusal);
     }
 
-    // Notes what is left of a step: timers, a deposit, and that something has come for its transaction. What there is no
-    // memory for is done later, by `catch_up`, before anything else.
+    // Notes the rest of a step: its timers, its deposit, and that its transaction's file need not rest any more. If
+    // memory runs out, `catch_up` continues later, before anything else.
     fn settle(&mut self, step: Step) {
         self.agenda.rest(step.key, 0);
         self.note(Unsettled {
@@ -186,7 +187,7 @@ impl<'a, N: Names, R: Wait + Copy + Clock, S: Filestore + Preparing + Drop> Stat
         });
     }
 
-    // Goes on with a step until memory runs out.
+    // Notes the rest of a step until memory runs out.
     fn note(&mut self, unsettled: Unsettled) {
         let Unsettled {
             step,
@@ -209,21 +210,21 @@ impl<'a, N: Names, R: Wait + Copy + Clock, S: Filestore + Preparing + Drop> Stat
         }
     }
 
-    // A deposit waits, behind all others.
+    // Adds a deposit after all others.
     pub(crate) fn keep(&mut self, waiting: Waiting) {
         if let Err(back) = self.agenda.keep(waiting) {
             self.kept_deposit = Some(back);
         }
     }
 
-    // A timer runs again.
+    // Lets a timer run again.
     fn put_back(&mut self, timer: Armed) {
         if let Err(back) = self.agenda.put_back(timer) {
             self.kept_timer = Some(back);
         }
     }
 
-    // Does what waits for memory, if there is some now; whether nothing is left of it.
+    // Continues what waits for memory; answers whether all of it is done.
     fn catch_up(&mut self) -> bool {
         if let Some(timer) = self.kept_timer.take() {
             self.put_back(timer);
@@ -237,8 +238,9 @@ impl<'a, N: Names, R: Wait + Copy + Clock, S: Filestore + Preparing + Drop> Stat
         self.is_settled()
     }
 
-    /// Notes what is left of the steps that workers left at the desk, in order, as far as there is memory; whether there was
-    /// anything. `steps` is to begin empty, with as much room as the desk has, and keeps between calls what is not noted yet.
+    /// Notes the rest of the steps that workers left at the desk, in order, as far as there is memory; answers whether
+    /// there were any. `steps` is empty at first, with as much room as the desk has, and keeps between calls the steps
+    /// that aren't noted yet.
     pub fn settle_left(&mut self, desk: &Desk, steps: &mut Vec<Step>) -> bool {
         if !self.catch_up() {
             return false;
@@ -259,7 +261,8 @@ impl<'a, N: Names, R: Wait + Copy + Clock, S: Filestore + Preparing + Drop> Stat
         count > 0
     }
 
-    /// A turn: at most sixteen timers, sixteen PDUs of files in rotation, and one deposit. Whether anything came of it.
+    /// A turn: at most sixteen timers, sixteen PDUs of files in rotation, and one deposit. Answers whether it did any
+    /// work.
     pub fn turn(&mut self, now: u64) -> bool {
         if !self.is_settled() {
             return false;
@@ -271,7 +274,7 @@ impl<'a, N: Names, R: Wait + Copy + Clock, S: Filestore + Preparing + Drop> Stat
         has_gone_on || has_expired || has_pumped || has_stored
     }
 
-    // Timers go on that rested by a link which is open again, if there are any.
+    // Lets timers run again that rested for a link which is open again; answers whether there were any.
     fn go_on(&mut self) -> bool {
         let Some(place) = self.links.going_on() else {
             return false;
@@ -289,7 +292,7 @@ impl<'a, N: Names, R: Wait + Copy + Clock, S: Filestore + Preparing + Drop> Stat
         true
     }
 
-    // Timers that have expired; whether something came of one.
+    // Handles timers that have expired; answers whether it did any work.
     fn expire_some(&mut self, now: u64) -> bool {
         let mut has_expired = false;
         for _ in 0..EXPIRATIONS {
@@ -301,7 +304,8 @@ impl<'a, N: Names, R: Wait + Copy + Clock, S: Filestore + Preparing + Drop> Stat
         has_expired
     }
 
-    // A timer that has expired, if there is one. By a held link it rests, and behind a release silence counts anew.
+    // Handles a timer that has expired, if there is one. On a held link it rests, and after a release silence counts
+    // anew.
     fn expire(&mut self, now: u64) -> bool {
         let Some(timer) = self.agenda.due(now) else {
             return false;
@@ -323,7 +327,7 @@ impl<'a, N: Names, R: Wait + Copy + Clock, S: Filestore + Preparing + Drop> Stat
         self.tell_expired(timer, now)
     }
 
-    // Notifies the entity that a timer has expired.
+    // Passes a timer's expiration to the entity; false if the entity refused it for now.
     fn tell_expired(&mut self, timer: Armed, now: u64) -> bool {
         let Armed {
             key,
@@ -347,7 +351,7 @@ impl<'a, N: Names, R: Wait + Copy + Clock, S: Filestore + Preparing + Drop> Stat
         }
     }
 
-    // The next PDUs of files whose turn it is, as many as the pace and memory allow; whether there was one.
+    // Sends the next PDUs of files in turn, as many as the pace and memory allow; answers whether there was one.
     fn pump_some(&mut self, now: u64) -> bool {
         let mut has_pumped = false;
         for _ in 0..PUMPS {
@@ -359,7 +363,7 @@ impl<'a, N: Names, R: Wait + Copy + Clock, S: Filestore + Preparing + Drop> Stat
         has_pumped
     }
 
-    // The next PDU of the file whose turn it is, if one is under way and its pace allows.
+    // Sends the next PDU of the file whose turn it is, if there is one and its pace allows.
     fn pump(&mut self, now: u64) -> bool {
         if !self.links.has_paces() && !self.pace.is_free(now) {
             return false;
@@ -378,7 +382,7 @@ impl<'a, N: Names, R: Wait + Copy + Clock, S: Filestore + Preparing + Drop> Stat
         true
     }
 
-    // The next PDU of a file.
+    // Sends the next PDU of a file.
     fn pump_file(&mut self, key: TxnKey, departure: Departure, now: u64) -> bool {
         match flat(self.entity.pump(self.rt, &NoGate, key)) {
             Ok(done) => {
@@ -401,7 +405,7 @@ impl<'a, N: Names, R: Wait + Copy + Clock, S: Filestore + Preparing + Drop> Stat
         }
     }
 
-    /// The moment until which nothing has to be done unless something comes, after a turn of which nothing came.
+    /// After a turn without work: the moment until which there is nothing to do unless another thread leaves work.
     pub fn next_moment(&self, now: u64) -> u64 {
         let soon = now.saturating_add(REST_MS);
         if !self.is_settled() {

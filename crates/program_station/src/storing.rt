@@ -1,4 +1,4 @@
-//! What becomes of received files.
+//! Stores received files.
 use crate::answers::obstacle_of;
 use crate::station::{REST_MS, Station};
 use cfdp_types::{Deposit, TxnKey};
@@ -10,12 +10,12 @@ use std::rt::Files;
 use std::sync::Wait;
 use std::time::Clock;
 
-// After how many milliseconds a file that couldn't be stored is tried again.
+// How many milliseconds after a failed attempt to store a file it is tried again.
 const RETRY_MS: u64 = 1_000;
 
-/// A store that may try to keep a file before its deposit counts.
+/// A store that can try to keep a file before its deposit counts.
 pub trait Preparing {
-    /// Tries to keep a file under a name; false where that failed for a reason that may pass.
+    /// Tries to keep a file under a name; false where that failed for a temporary reason.
     fn prepare(&mut self, name: &[u8], octets: &[u8]) -> bool;
 }
 
@@ -28,16 +28,16 @@ impl<R: Files + AllocGlobal + Drop> Preparing for StationStore<R> {
 /// A deposit that waits.
 #[derive(Drop)]
 pub(crate) enum Waiting {
-    /// It was handed out.
+    /// A deposit that the entity handed out.
     New(Deposit),
-    /// Its file couldn't be stored yet.
+    /// A deposit whose file couldn't be stored yet.
     Trying {
         deposit: Deposit,
-        /// Before this moment it isn't tried again, and from the other one on for the last time.
+        /// It is tried again from `again` on, and from `last` on for the last time.
         again: u64,
         last: u64,
     },
-    /// It came back.
+    /// A deposit that the entity refused for now.
     Rest(DepositRest),
 }
 
@@ -50,7 +50,7 @@ pub struct StoredNote {
 }
 
 impl<'a, N: Names, R: Wait + Copy + Clock, S: Filestore + Preparing + Drop> Station<'a, N, R, S> {
-    // A deposit that is to go on now, or that waits still, since its file can't be stored yet.
+    // A deposit that can be stored now, or one that still waits because its file can't be stored yet.
     fn prepared(&mut self, waiting: Waiting, now: u64) -> Result<Waiting, Waiting> {
         let (deposit, again, last) = match waiting {
             Waiting::New(deposit) if self.retry > 0 => {
@@ -80,7 +80,7 @@ impl<'a, N: Names, R: Wait + Copy + Clock, S: Filestore + Preparing + Drop> Stat
         })
     }
 
-    // Whether the file of a deposit could be stored, or is refused for another reason.
+    // Whether the file of a deposit can be stored, or will be refused for another reason.
     fn is_ready(&mut self, deposit: Deposit) -> bool {
         match self.entity.image(self.rt, deposit.key, deposit.stamp) {
             Ok(image) => self
@@ -90,7 +90,7 @@ impl<'a, N: Names, R: Wait + Copy + Clock, S: Filestore + Preparing + Drop> Stat
         }
     }
 
-    /// The first deposit, if one waits.
+    /// Handles the first deposit, if there is one; answers whether it is done.
     pub(crate) fn store_one(&mut self, now: u64) -> bool {
         let Some(waiting) = self.agenda.next_deposit() else {
             return false;
@@ -104,7 +104,7 @@ impl<'a, N: Names, R: Wait + Copy + Clock, S: Filestore + Preparing + Drop> Stat
         }
     }
 
-    // Stores the file of a deposit, unless the store can count no more.
+    // Stores the file of a deposit, unless the store's counter is at its end; answers whether the deposit is done.
     fn store_waiting(&mut self, waiting: Waiting) -> bool {
         let (calls, failures) = (self.store.calls(), self.store.failures());
         if calls == u64::MAX {
@@ -138,12 +138,12 @@ impl<'a, N: Names, R: Wait + Copy + Clock, S: Filestore + Preparing + Drop> Stat
         }
     }
 
-    /// What became of the file that the last turn stored, unless it was taken.
+    /// What became of the file that the last turn stored; `None` if it was taken already.
     pub fn take_stored(&mut self) -> Option<StoredNote> {
         self.stored.take()
     }
 
-    /// How many files the store was given, and how many of them it did not keep.
+    /// How many files were given to the store, and how many of them it did not keep.
     pub fn stores(&self) -> (u64, u64) {
         (self.store.calls(), self.store.failures())
     }

@@ -6,8 +6,8 @@ use program_tallies::Tallies;
 use std::alloc::{AllocError, Global};
 use std::net::UdpSocket;
 
-/// The way of a program's datagrams to the lanes: those that arrive at its socket, and a forwarder for each worker. All of its
-/// room is made when it is opened.
+/// The datagrams that arrive at a program's socket, with a forwarder for each worker. All memory is reserved when it is
+/// opened.
 #[derive(Drop)]
 pub struct WayIn<'a, R> {
     pub(crate) arrivals: Arrivals<'a>,
@@ -15,8 +15,8 @@ pub struct WayIn<'a, R> {
 }
 
 impl<'a, R> WayIn<'a, R> {
-    /// A way in for each worker that `tallies` counts for, of datagrams from such sources. The main thread has to look as soon as
-    /// `others` says at a step that nobody waits for.
+    /// A forwarder for each worker that `tallies` counts, for datagrams from these sources. `others` says how soon the
+    /// main thread has to handle a step for which no client waits.
     pub fn new(
         rt: &'a R,
         alloc: Global,

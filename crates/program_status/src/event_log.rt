@@ -6,14 +6,14 @@ use std::os::unix::fs::FileTypeExt;
 use std::rt::Files;
 use std::{fs, io};
 
-/// How many octets wait at most while the file can't be written.
+/// How many octets may wait while the file can't be written.
 pub const PENDING_OCTETS: usize = 1_024 * 1_024;
 
-// How long the file rests where it can't be written, in milliseconds.
+// How many milliseconds after a failed write the file is tried again.
 const REST_MS: u64 = 1_000;
 
-/// A file to which events are appended. Where it can't be written, events wait for it, and are lost where too many do. What
-/// was written in part goes on where it ended, so each line of the file is whole.
+/// A file to which events are appended. While it can't be written, events wait, and are lost once too many wait. A
+/// write that was cut short continues where it ended, so each line of the file is whole.
 #[derive(Drop)]
 pub struct EventLog<R: Files> {
     path: String,
@@ -27,7 +27,7 @@ pub struct EventLog<R: Files> {
 }
 
 impl<R: Files> EventLog<R> {
-    /// A log at a path. It is opened once something is to be written.
+    /// A log at this path. The file is opened once something is to be written.
     pub fn new(alloc: Global, path: String) -> EventLog<R> {
         EventLog {
             path,
@@ -41,12 +41,12 @@ impl<R: Files> EventLog<R> {
         }
     }
 
-    /// Whether the file could not be written the last time.
+    /// Whether the last attempt to write the file failed.
     pub fn is_failing(&self) -> bool {
         self.is_failing
     }
 
-    /// How many events the file has, by this log.
+    /// How many events this log has written to the file.
     pub fn written(&self) -> u64 {
         self.written
     }
@@ -56,7 +56,7 @@ impl<R: Files> EventLog<R> {
         self.lost
     }
 
-    /// Leaves a line to be written, or loses it where too much waits.
+    /// Adds a line to be written, or counts it as lost if too much waits.
     pub fn push(&mut self, line: &str) {
         let has_room = line.len() <= PENDING_OCTETS.saturating_sub(self.pending.len());
         if has_room && self.pending.extend_from_slice(line.as_bytes()).is_ok() {
@@ -66,7 +66,7 @@ impl<R: Files> EventLog<R> {
         }
     }
 
-    /// Writes what waits. Where that failed, it is tried again a second later, at a moment in milliseconds.
+    /// Writes what waits, at a moment in milliseconds. After a failure, the next attempt is a second later.
     pub fn flush(&mut self, rt: &R, now: u64) {
         if self.pending.is_empty() || now < self.rests_until {
             return;
@@ -84,7 +84,7 @@ impl<R: Files> EventLog<R> {
         }
     }
 
-    // Writes what waits as far as the file takes it: how many octets it took, and how that ended.
+    // Writes as much of what waits as the file takes; answers how many octets that was, and how it ended.
     fn write(&mut self, rt: &R) -> (usize, io::Result<()>) {
         if self.file.is_none() {
             match open_log(rt, self.path.as_str()) {
@@ -99,7 +99,7 @@ impl<R: Files> EventLog<R> {
     }
 }
 
-// Opens the file at a path. A pipe is none: it could hold up the whole program.
+// Opens the file at a path. A pipe is refused: it could block the whole program.
 fn open_log<R: Files>(rt: &R, path: &str) -> io::Result<R::File> {
     if let Ok(found) = fs::metadata(rt, path)
         && found.file_type().is_fifo()

@@ -15,11 +15,11 @@ use std::alloc::{AllocError, Global};
 use std::rt::Files;
 use std::sync::Wait;
 
-// The word before an event in what a client is sent.
+// The word before an event that is sent to a client.
 const WORD: &str = "event ";
 
-/// The events that a server reports: to the clients that follow, to the log, and to who comes later. Those of a turn leave
-/// at its end. An event for which there is no memory is lost, and its number is missing.
+/// The events that a server reports: to the clients that follow, to the log, and to clients that follow later. The
+/// events of a turn are sent at its end. An event for which memory runs out is lost, and its number is missing.
 #[derive(Drop)]
 pub struct Events<'a, R: Files> {
     alloc: Global,
@@ -28,14 +28,14 @@ pub struct Events<'a, R: Files> {
     kept: Kept,
     number: u64,
     has_followers: bool,
-    /// What the clients that follow are sent at the end of the turn.
+    /// What is sent to the clients that follow at the end of the turn.
     told: String,
-    /// How many octets of events came in this turn.
+    /// How many octets of events this turn has had.
     octets: usize,
 }
 
 impl<'a, R: Wait + Files> Events<'a, R> {
-    /// No event came so far.
+    /// Without any event so far.
     pub fn new(
         alloc: Global,
         seats: Option<&'a Seats>,
@@ -58,12 +58,12 @@ impl<'a, R: Wait + Files> Events<'a, R> {
         self.number
     }
 
-    /// How many octets of events came in this turn.
+    /// How many octets of events this turn has had.
     pub fn octets(&self) -> usize {
         self.octets
     }
 
-    /// Whether events reach the log, where there is one.
+    /// The state of the log, if there is one.
     pub fn log_status(&self) -> Option<LogStatus> {
         match &self.log {
             None => None,
@@ -84,7 +84,7 @@ impl<'a, R: Wait + Files> Events<'a, R> {
         };
     }
 
-    /// Ends a turn: its events leave. The moment is in milliseconds by any clock that does not go back.
+    /// Ends a turn and sends its events. `now` is in milliseconds of any clock that does not go back.
     pub fn end_turn(&mut self, rt: &R, now: u64) {
         if let Some(seats) = self.seats {
             if !self.told.is_empty() {
@@ -97,7 +97,7 @@ impl<'a, R: Wait + Files> Events<'a, R> {
         }
     }
 
-    /// Sends a client the last events, at most so many, and all that come from now on.
+    /// Sends a client the last events, at most `most`, and all events from now on.
     pub fn follow(&mut self, rt: &R, asker: Asker, most: u64) -> Result<(), AllocError> {
         let Some(seats) = self.seats else {
             return Ok(());
@@ -117,7 +117,7 @@ impl<'a, R: Wait + Files> Events<'a, R> {
         Ok(())
     }
 
-    // What begins the next event.
+    // The moment and the number of the next event.
     fn next_head(&mut self, at: Moment) -> EventHead {
         self.number = self.number.saturating_add(1);
         EventHead {
@@ -126,7 +126,7 @@ impl<'a, R: Wait + Files> Events<'a, R> {
         }
     }
 
-    // Reports an event whose line was written, where there was memory for it.
+    // Reports an event, unless memory for its line ran out.
     fn add(&mut self, line: Result<String, AllocError>) {
         let Ok(line) = line else {
             return;
@@ -141,7 +141,7 @@ impl<'a, R: Wait + Files> Events<'a, R> {
         let _kept_where_there_is_memory = self.kept.push(line);
     }
 
-    // An event is for the clients that follow: the whole of it or nothing.
+    // Adds an event for the clients that follow, as a whole or not at all.
     fn tell(&mut self, line: &str) {
         if self
             .told
@@ -153,21 +153,21 @@ impl<'a, R: Wait + Files> Events<'a, R> {
         }
     }
 
-    /// The server has started.
+    /// Reports that the server has started.
     pub fn start(&mut self, at: Moment, id: EntityId, version: &str) {
         let head = self.next_head(at);
         let line = start_line(self.alloc, head, id, version);
         self.add(line);
     }
 
-    /// The server ends.
+    /// Reports that the server ends.
     pub fn end(&mut self, at: Moment) {
         let head = self.next_head(at);
         let line = end_line(self.alloc, head);
         self.add(line);
     }
 
-    /// A user of this name received a bundle.
+    /// Reports a bundle's indications to the user of this name.
     pub fn receive(&mut self, at: Moment, user: &str, bundle: &Bundle) {
         for indication in bundle.inds.as_slice() {
             let event = IndicationEvent {
@@ -181,49 +181,49 @@ impl<'a, R: Wait + Files> Events<'a, R> {
         }
     }
 
-    /// A Put opened a transaction.
+    /// Reports that a Put opened a transaction.
     pub fn put(&mut self, at: Moment, put: &PutEvent<'_>) {
         let head = self.next_head(at);
         let line = put_line(self.alloc, head, put);
         self.add(line);
     }
 
-    /// A file of the outbox was not sent.
+    /// Reports that a file of the outbox was not sent.
     pub fn fail(&mut self, at: Moment, unsent: &UnsentEvent<'_>) {
         let head = self.next_head(at);
         let line = unsent_line(self.alloc, head, unsent);
         self.add(line);
     }
 
-    /// Nothing leaves for a remote entity.
+    /// Reports that the link to a remote entity is held.
     pub fn hold(&mut self, at: Moment, id: EntityId) {
         let head = self.next_head(at);
         let line = hold_line(self.alloc, head, id);
         self.add(line);
     }
 
-    /// The link to a remote entity is open again.
+    /// Reports that the link to a remote entity is open again.
     pub fn release(&mut self, at: Moment, id: EntityId) {
         let head = self.next_head(at);
         let line = release_line(self.alloc, head, id);
         self.add(line);
     }
 
-    /// The store kept a received file, at a place below its folder, or did not.
+    /// Reports whether the store kept a received file, and its path below the store's folder.
     pub fn store(&mut self, at: Moment, key: TxnKey, is_kept: bool, place: Option<&str>) {
         let head = self.next_head(at);
         let line = stored_line(self.alloc, head, key, is_kept, place);
         self.add(line);
     }
 
-    /// Something was refused, so often since the last event of its kind.
+    /// Reports the refusals of a kind since the last such event.
     pub fn refuse(&mut self, at: Moment, case: &RefusalCase) {
         let head = self.next_head(at);
         let line = refused_line(self.alloc, head, case);
         self.add(line);
     }
 
-    /// A worker reads no more.
+    /// Reports that a worker stopped reading.
     pub fn end_reads(&mut self, at: Moment) {
         let head = self.next_head(at);
         let line = reads_ended_line(self.alloc, head);

@@ -1,14 +1,14 @@
-//! The last events.
+//! The last events, for clients that follow later.
 use std::alloc::{AllocError, Global};
 use std::collections::VecDeque;
 
 /// How many events are kept at most.
 pub const KEPT_LINES: usize = 1_024;
 
-/// How many octets they have together at most, the last one aside.
+/// How many octets the kept events have at most, the last one not counted.
 pub const KEPT_OCTETS: usize = 2 * 1_024 * 1_024;
 
-/// The last events, a line each, the oldest first.
+/// The last events, one line each, oldest first.
 #[derive(Drop)]
 pub struct Kept {
     lines: VecDeque<String>,
@@ -16,7 +16,7 @@ pub struct Kept {
 }
 
 impl Kept {
-    /// No event came so far. The room for all lines is made here, that for their text is not.
+    /// Without any event so far. Memory for the list is reserved here, but not for the lines' text.
     pub fn new(alloc: Global) -> Result<Kept, AllocError> {
         Ok(Kept {
             lines: VecDeque::with_capacity(alloc, KEPT_LINES)?,
@@ -24,7 +24,7 @@ impl Kept {
         })
     }
 
-    /// Keeps one event more, and lets the oldest go for which there is no room beside it.
+    /// Keeps one more event, and drops the oldest ones for which there is no room besides it.
     pub fn push(&mut self, line: String) -> Result<(), AllocError> {
         self.make_room(line.len());
         self.octets = self.octets.saturating_add(line.len());
@@ -32,7 +32,7 @@ impl Kept {
         Ok(())
     }
 
-    // Lets the oldest events go until a line of so many octets has room.
+    // Drops the oldest events until a line of this many octets has room.
     fn make_room(&mut self, octets: usize) {
         for _ in 0..KEPT_LINES {
             let is_full = self.lines.len() >= KEPT_LINES
@@ -47,12 +47,12 @@ impl Kept {
         }
     }
 
-    /// How many are kept.
+    /// How many events are kept.
     pub fn len(&self) -> usize {
         self.lines.len()
     }
 
-    /// Adds the last events, at most so many, each behind a word.
+    /// Adds the last events, at most `most`, each after a word.
     pub fn push_last(&self, text: &mut String, word: &str, most: usize) -> Result<(), AllocError> {
         let skipped = self.lines.len().saturating_sub(most);
         for line in self.lines.iter().skip(skipped) {

@@ -1,4 +1,4 @@
-//! What a server shows of itself: its status, and the events that it reports.
+//! What a server shows: its status, and the events that it reports.
 #![tactic(auto)]
 
 mod event_log;

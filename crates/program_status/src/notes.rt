@@ -6,14 +6,14 @@ use indications::{Bundle, Indication};
 use station_lines::{Ending, Moment};
 use std::alloc::{AllocError, Global};
 
-/// What the server saw last of a lane's transaction.
+/// What the server saw last of a lane's transactions.
 #[derive(Clone, Copy, Debug)]
 pub struct LaneNote {
-    /// The transaction, where one was seen.
+    /// The last transaction that was seen, if there was one.
     pub key: Option<TxnKey>,
-    /// When its last indication came.
+    /// When its last indication was issued.
     pub last: Option<Moment>,
-    /// How it ended, where it did.
+    /// How it ended, if it did.
     pub ending: Option<Ending>,
 }
 
@@ -32,7 +32,7 @@ pub struct LaneNotes {
 }
 
 impl LaneNotes {
-    /// Nothing was seen, of any lane of a configuration's users.
+    /// Notes without entries, for all lanes of a configuration's users.
     pub fn new(alloc: Global, config: &Config) -> Result<LaneNotes, AllocError> {
         let mut all = Vec::with_capacity(alloc, config.users())?;
         for user in 0..config.users() {
@@ -42,7 +42,7 @@ impl LaneNotes {
         Ok(LaneNotes { users: all })
     }
 
-    /// What was seen of a lane's transaction.
+    /// What was seen of this transaction of a lane.
     pub fn of(&self, user: usize, lane: usize, key: TxnKey) -> LaneNote {
         match self.users.get(user).and_then(|lanes| lanes.get(lane)) {
             Some(note) if note.key == Some(key) => *note,
@@ -50,7 +50,7 @@ impl LaneNotes {
         }
     }
 
-    /// Notes a bundle that came at a moment.
+    /// Notes a bundle at its moment.
     pub fn note(&mut self, bundle: &Bundle, at: Moment) {
         let Some(lanes) = self.users.get_mut(bundle.user) else {
             return;
@@ -65,7 +65,7 @@ impl LaneNotes {
     }
 }
 
-// How a transaction ended, by the last of its indications.
+// How a transaction ended, if the last of these indications ends it.
 fn ending_in(indications: &[Indication]) -> Option<Ending> {
     match indications.last()? {
         Indication::TransactionFinished {

@@ -1,9 +1,9 @@
-//! Refusals, as lines show them.
+//! Refusals, in the form that lines show.
 use program_tallies::RefusalCase;
 use station_lines::{Datagram, RefusedCase};
 use std::alloc::{AllocError, Global};
 
-/// Where a case's datagram came from, or nothing where none did.
+/// The address that a case's datagram came from; `None` for a command.
 pub(crate) fn origin_of(alloc: Global, case: &RefusalCase) -> Result<Option<String>, AllocError> {
     match case.from {
         None => Ok(None),
@@ -15,7 +15,7 @@ pub(crate) fn origin_of(alloc: Global, case: &RefusalCase) -> Result<Option<Stri
     }
 }
 
-/// A case with so many refusals, whose datagram came from there.
+/// A case with this count and this address of its datagram.
 pub(crate) fn refused_case<'a>(
     case: &'a RefusalCase,
     origin: &'a Option<String>,

@@ -25,17 +25,17 @@ const FEW_ROUNDS: u64 = 1_000;
 
 const WIDEST_ROUND: u64 = 512;
 
-/// The files that wait to be sent.
+/// The files that are to be sent and wait.
 #[derive(Clone, Copy)]
 pub struct Queued<'a> {
-    /// The one whose turn came, while it is being read.
+    /// The file whose turn came, while it is being read.
     pub reading: &'a [Waiting],
-    /// Those whose turn came, and which could not be put yet.
+    /// The files whose turn came, and which could not be put yet.
     pub returned: &'a [Waiting],
     pub outbox: &'a Outbox,
 }
 
-/// What a status shows beside the entity.
+/// What a status shows besides the entity.
 #[derive(Clone, Copy)]
 pub struct Shown<'a> {
     pub version: &'a str,
@@ -51,12 +51,13 @@ pub struct Shown<'a> {
     pub log: Option<LogStatus>,
     pub clients: usize,
     pub dropped_clients: u64,
-    /// How many files the store was given, and how many of them it did not keep.
+    /// How many files were given to the store, and how many of them it did not keep.
     pub stores: (u64, u64),
 }
 
-/// Adds a line for the entity, for the log, for each user, for each lane that has run a transaction, for each file of the
-/// outbox, for each file that is being read, for each remote entity, and for each kind of refusal. Each lane's lock is taken for itself.
+/// Adds a line for the entity, for the log, for each user, for each lane that has run a transaction, for each file of
+/// the outbox, for each file that is being read, for each remote entity, and for each kind of refusal. The lanes' locks
+/// are taken one at a time.
 pub fn push_status<N: Names, R: Wait + Copy>(
     rt: &R,
     alloc: Global,
@@ -171,8 +172,8 @@ fn push_lanes<N: Names, R: Wait + Copy>(
 // More lanes than a user may have.
 const LANES: usize = 1_024;
 
-// From which number on a lane has few left: a thousand rounds of all that its sequence numbers can tell apart, or the last
-// eighth where that is less.
+// The number from which on a lane has few left: a thousand rounds before the greatest that its sequence numbers can
+// tell apart, or an eighth before it if that is less.
 fn few_numbers(config: &Config, key: TxnKey) -> u64 {
     let entity = config.entity();
     if key.source != entity.local {
@@ -186,7 +187,7 @@ fn few_numbers(config: &Config, key: TxnKey) -> u64 {
     greatest - FEW_ROUNDS.saturating_mul(width).min(greatest / 8)
 }
 
-// What an operator should know of a lane.
+// The notice on a lane for the operator, if there is one.
 fn notice_of(glance: &Glance, few_numbers: u64) -> Option<Notice> {
     if !glance.has_ended && glance.entries >= JOURNAL_ENTRIES - JOURNAL_ENTRIES_KEPT {
         Some(Notice::JournalFull)

@@ -1,14 +1,15 @@
-//! All kinds of refusals, which threads note.
+//! Counts refusals by kind, for all threads.
 use crate::refusals::{RefusalCase, RefusalKind};
 use std::alloc::{AllocError, Global};
 use std::net::SocketAddr;
 use std::sync::atomic::{AtomicU64, Ordering};
 use std::sync::{Mutex, Wait};
 
-// How many kinds there is room for: more than there are numbers of refusals and of decode faults.
+// Room for this many kinds: more than there are numbers of refusals and of decode faults.
 const KINDS: usize = 64;
 
-/// All kinds of refusals, which threads note. Its room is made when it is opened, so noting takes no memory.
+/// Counts refusals by kind, for all threads. Its memory is allocated when it is opened, so noting a refusal allocates
+/// nothing.
 #[derive(Drop)]
 pub struct Ledger {
     cases: Mutex<Vec<RefusalCase>>,
@@ -16,7 +17,7 @@ pub struct Ledger {
 }
 
 impl Ledger {
-    /// Nothing was refused.
+    /// An empty ledger.
     pub fn new(alloc: Global) -> Result<Ledger, AllocError> {
         Ok(Ledger {
             cases: Mutex::new(Vec::with_capacity(alloc, KINDS)?),
@@ -24,7 +25,8 @@ impl Ledger {
         })
     }
 
-    /// Notes a refusal of a moment: of a datagram with these octets, or of a command with none.
+    /// Notes a refusal at a moment, in milliseconds since 1970: of a datagram with these octets, or of a command,
+    /// without octets.
     pub fn note<R: Wait>(
         &self,
         rt: &R,
@@ -38,17 +40,17 @@ impl Ledger {
         let _before = self.total.fetch_add(1, Ordering::Relaxed);
     }
 
-    /// How many refusals there were. It waits for no lock.
+    /// How many refusals there were. Takes no lock.
     pub fn total(&self) -> u64 {
         self.total.load(Ordering::Relaxed)
     }
 
-    /// Each kind that came up, in the order in which it first did.
+    /// The kinds refused so far, in the order in which each first came up.
     pub fn cases<R: Wait>(&self, rt: &R, alloc: Global) -> Result<Vec<RefusalCase>, AllocError> {
         Vec::from_slice(alloc, self.cases.lock(rt).as_slice())
     }
 
-    /// The kinds of which there were more since an event last reported them. They count as reported from then on.
+    /// The kinds with refusals that no event has reported. They count as reported from then on.
     pub fn take_unreported<R: Wait>(
         &self,
         rt: &R,
@@ -66,7 +68,7 @@ impl Ledger {
     }
 }
 
-// Notes a refusal among the kinds that came up. There is room for all kinds.
+// Notes a refusal under its kind. There is room for all kinds.
 fn note_in(
     cases: &mut Vec<RefusalCase>,
     kind: RefusalKind,

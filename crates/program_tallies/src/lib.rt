@@ -1,5 +1,5 @@
-//! What the threads of a program share beside the entity: counts of datagrams by thread and by remote entity, refusals by their
-//! kind, and which links are held.
+//! What the threads of a program share besides the entity: counts of datagrams by thread and by remote entity, refusals
+//! by kind, and which links are held.
 #![tactic(auto)]
 
 mod ledger;

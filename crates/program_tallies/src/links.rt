@@ -2,17 +2,17 @@
 use std::alloc::{AllocError, Global};
 use std::sync::atomic::{AtomicU64, Ordering};
 
-// What an open link has in place of a moment.
+// Stands for an open link in place of the moment since when it is held.
 const OPEN: u64 = 0;
 
-/// Since when the link to each remote entity is held, which one thread says and others read.
+/// Since when the link to each remote entity is held. One thread changes it, and others read it.
 #[derive(Drop)]
 pub struct Links {
     since: Vec<AtomicU64>,
 }
 
 impl Links {
-    /// All links are open, to so many remote entities.
+    /// All links open, to this many remote entities.
     pub fn new(alloc: Global, remotes: usize) -> Result<Links, AllocError> {
         let mut since = Vec::with_capacity(alloc, remotes)?;
         for _ in 0..remotes {
@@ -21,8 +21,8 @@ impl Links {
         Ok(Links { since })
     }
 
-    /// From a moment on, in milliseconds since 1970, nothing leaves for the remote entity at a place of the configuration. A link
-    /// that is held already stays held since when it is.
+    /// Holds the link to the remote entity at this place of the configuration from a moment on, in milliseconds since
+    /// 1970: nothing is sent to it. For a link that is held already, the earlier moment stays.
     pub fn hold(&self, place: usize, at: u64) {
         if let Some(since) = self.since.get(place)
             && since.load(Ordering::Relaxed) == OPEN
@@ -31,7 +31,7 @@ impl Links {
         }
     }
 
-    /// The link is open again; whether it was held.
+    /// Opens a link again; answers whether it was held.
     pub fn release(&self, place: usize) -> bool {
         match self.since.get(place) {
             Some(since) => since.swap(OPEN, Ordering::Relaxed) != OPEN,
@@ -47,7 +47,7 @@ impl Links {
         }
     }
 
-    /// Whether nothing leaves for a remote entity.
+    /// Whether the link to a remote entity is held, so that nothing is sent to it.
     pub fn is_held(&self, place: usize) -> bool {
         self.held_since(place).is_some()
     }

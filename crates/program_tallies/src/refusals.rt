@@ -1,4 +1,4 @@
-//! Kinds of refusals, and the last case of each.
+//! Kinds of refusals, with the last case of each.
 ghost use Rattle.std.specs.Prelude.{◌≡◌, ◌≤◌, ◌+◌, ◌-◌, min, length};
 ghost use Rattle.entity_parts.specs.Refusals.{name_of, number_of};
 ghost use Rattle.program_tallies.specs.Kinds.{fault_of, kind_of, name_of_kind, number_of_kind};
@@ -15,13 +15,13 @@ pub const SHOWN_OCTETS: usize = 64;
 /// A kind of refusal.
 #[derive(Clone, Copy, Debug, PartialEq, Eq)]
 pub enum RefusalKind {
-    /// No lane gets it.
+    /// No lane receives the event, for this reason.
     Route(RouteRefusal),
-    /// The lane refuses.
+    /// The lane refuses the event, for this reason.
     Lane(Refusal),
-    /// Another lane lies behind the lock.
+    /// The lane behind the lock is another one.
     WrongLane,
-    /// The datagram's source is no address of the configuration, and only those are heard.
+    /// The datagram's source address is not in the configuration, and datagrams from such sources are dropped.
     ForeignSource,
 }
 
@@ -39,7 +39,7 @@ impl RefusalKind {
         }
     }
 
-    /// The number that is printed for refusals of the kind.
+    /// The number that is printed for the kind.
     pub fn number(self) -> u8
         ensures { result ≡ number_of_kind self }
     {
@@ -51,7 +51,7 @@ impl RefusalKind {
         }
     }
 
-    /// The name that is printed for them.
+    /// The name that is printed for the kind.
     pub fn name(self) -> &'static str
         ensures { result.now ≡ name_of_kind self }
     {
@@ -63,7 +63,7 @@ impl RefusalKind {
         }
     }
 
-    /// What is wrong with a datagram that is no PDU.
+    /// The decode fault, for a datagram that is not a PDU.
     pub fn fault(self) -> Option<DecodeFault>
         ensures { result ≡ fault_of self }
     {
@@ -74,7 +74,7 @@ impl RefusalKind {
     }
 }
 
-/// What is known of one kind of refusal.
+/// The refusals of one kind.
 #[derive(Clone, Copy)]
 pub struct RefusalCase {
     pub kind: RefusalKind,
@@ -84,14 +84,14 @@ pub struct RefusalCase {
     pub reported: u64,
     /// The moment of the last one, in milliseconds since 1970.
     pub last: u64,
-    /// Where the last one's datagram came from; nothing for a command.
+    /// Where the last one's datagram came from; `None` for a command.
     pub from: Option<SocketAddr>,
     octets: [u8; SHOWN_OCTETS],
     length: usize,
 }
 
 impl RefusalCase {
-    /// A kind of which nothing was refused so far.
+    /// A kind without refusals so far.
     pub(crate) fn new(kind: RefusalKind) -> RefusalCase {
         RefusalCase {
             kind,
@@ -104,7 +104,7 @@ impl RefusalCase {
         }
     }
 
-    /// One refusal more, of a datagram with these octets, or of a command with none.
+    /// Notes one more refusal, of a datagram with these octets, or of a command, without octets.
     pub(crate) fn note(&mut self, at: u64, from: Option<SocketAddr>, octets: &[u8])
         ensures kind { self.new.kind ≡ self.old.kind }
         ensures count { self.new.count ≡ min (self.old.count + 1) 18446744073709551615 }
@@ -126,7 +126,7 @@ impl RefusalCase {
         self.octets.get(..self.length).unwrap_or(&[])
     }
 
-    /// How many of them no event has reported.
+    /// How many of them no event has reported yet.
     pub fn unreported(&self) -> u64
         ensures { result ≡ self.now.count - self.now.reported }
     {

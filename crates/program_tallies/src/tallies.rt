@@ -7,16 +7,16 @@ use std::alloc::{AllocError, Global};
 /// What all threads of a program count, and which links are held.
 #[derive(Drop)]
 pub struct Tallies {
-    /// By the main thread.
+    /// Counted by the main thread.
     pub own: Traffic,
-    /// By each worker.
+    /// Counted by each worker.
     pub workers: Vec<Traffic>,
     pub ledger: Ledger,
     pub links: Links,
 }
 
 impl Tallies {
-    /// Nothing was counted, by so many workers and of so many remote entities.
+    /// All counts at 0, for this many workers and remote entities.
     pub fn new(alloc: Global, workers: usize, remotes: usize) -> Result<Tallies, AllocError> {
         let mut all = Vec::with_capacity(alloc, workers)?;
         for _ in 0..workers {

@@ -1,8 +1,8 @@
-//! What one thread counts of its datagrams.
+//! One thread's counts of its datagrams.
 use std::alloc::{AllocError, Global};
 use std::sync::atomic::{AtomicU64, Ordering};
 
-// A number that one thread raises and others read.
+// A number that one thread increases and others read.
 #[derive(Drop)]
 struct Counter {
     value: AtomicU64,
@@ -24,7 +24,7 @@ impl Counter {
     }
 }
 
-// What is counted of one remote entity.
+// The counters of one remote entity.
 #[derive(Drop)]
 struct RemoteTraffic {
     datagrams_in: Counter,
@@ -34,7 +34,7 @@ struct RemoteTraffic {
     failed_sends: Counter,
 }
 
-/// What was counted of one remote entity.
+/// The counts of one remote entity.
 #[derive(Clone, Copy, Debug, PartialEq, Eq, Default)]
 pub struct RemoteTotals {
     pub datagrams_in: u64,
@@ -44,7 +44,7 @@ pub struct RemoteTotals {
     pub failed_sends: u64,
 }
 
-/// What was counted of all datagrams.
+/// The counts of all datagrams.
 #[derive(Clone, Copy, Debug, PartialEq, Eq, Default)]
 pub struct Totals {
     pub datagrams_in: u64,
@@ -55,11 +55,11 @@ pub struct Totals {
     pub failed_reads: u64,
     pub foreign_datagrams: u64,
     pub decode_faults: u64,
-    /// How many threads read no more, since their socket failed too often.
+    /// How many threads stopped reading, because their socket failed too often.
     pub ended_reads: u64,
 }
 
-/// What one thread counts of its datagrams. It alone raises the numbers, so counting waits for nobody.
+/// One thread's counts of its datagrams. Only that thread increases them, so counting never waits.
 #[derive(Drop)]
 pub struct Traffic {
     datagrams_in: Counter,
@@ -68,13 +68,13 @@ pub struct Traffic {
     foreign_datagrams: Counter,
     decode_faults: Counter,
     ended_reads: Counter,
-    /// Sends for an entity that has no address.
+    /// Sends to an entity without an address.
     unaddressed: Counter,
     remotes: Vec<RemoteTraffic>,
 }
 
 impl Traffic {
-    /// Nothing was counted, of so many remote entities.
+    /// All counts at 0, for this many remote entities.
     pub fn new(alloc: Global, remotes: usize) -> Result<Traffic, AllocError> {
         let mut all = Vec::with_capacity(alloc, remotes)?;
         for _ in 0..remotes {
@@ -98,7 +98,7 @@ impl Traffic {
         })
     }
 
-    /// A datagram came, from the remote entity at a place of the configuration, or from elsewhere.
+    /// Counts a datagram that came from the remote entity at this place of the configuration, or from elsewhere.
     pub fn note_arrival(&self, octets: usize, place: Option<usize>) {
         self.datagrams_in.add(1);
         self.octets_in.add(octets as u64);
@@ -111,7 +111,7 @@ impl Traffic {
         }
     }
 
-    /// A datagram left, or did not, for the remote entity at a place of the configuration.
+    /// Counts a datagram to the remote entity at this place of the configuration: sent, with its octets, or not sent.
     pub fn note_departure(&self, place: usize, octets: Option<usize>) {
         let Some(remote) = self.remotes.get(place) else {
             return;
@@ -125,27 +125,27 @@ impl Traffic {
         }
     }
 
-    /// A datagram could not leave, since its entity has no address.
+    /// Counts a datagram that could not be sent because its entity has no address.
     pub fn note_unaddressed(&self) {
         self.unaddressed.add(1);
     }
 
-    /// A read failed.
+    /// Counts a read that failed.
     pub fn note_failed_read(&self) {
         self.failed_reads.add(1);
     }
 
-    /// The thread reads no more.
+    /// Counts that the thread stopped reading.
     pub fn note_end_of_reads(&self) {
         self.ended_reads.add(1);
     }
 
-    /// A datagram was no PDU.
+    /// Counts a datagram that was not a PDU.
     pub fn note_decode_fault(&self) {
         self.decode_faults.add(1);
     }
 
-    /// Adds what was counted so far.
+    /// Adds the counts so far to `totals`.
     pub(crate) fn add_to(&self, totals: &mut Totals) {
         totals.datagrams_in = totals.datagrams_in.wrapping_add(self.datagrams_in.get());
         totals.octets_in = totals.octets_in.wrapping_add(self.octets_in.get());
@@ -165,7 +165,7 @@ impl Traffic {
         }
     }
 
-    /// Adds what was counted so far of one remote entity.
+    /// Adds the counts of one remote entity so far to `totals`.
     pub(crate) fn add_remote_to(&self, place: usize, totals: &mut RemoteTotals) {
         let Some(remote) = self.remotes.get(place) else {
             return;

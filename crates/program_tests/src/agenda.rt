@@ -10,7 +10,7 @@ fn key_of(seq: u64) -> TxnKey {
     }
 }
 
-// The timer of a transaction comes when it has expired, once, and once more where it is put back.
+// A transaction's timer is due once it has expired, once, and once more if it is put back.
 fn timers_come(alloc: Global) -> Result<bool, AllocError> {
     let mut agenda: Agenda<u32> = Agenda::new(alloc);
     agenda.apply(
@@ -44,8 +44,8 @@ fn timers(rt: HostRuntime) -> Result<(), Fail> {
     Ok(())
 }
 
-// A timer that expired while its link was held rests until it goes on; one that was armed anew rests no more. Behind a release
-// silence counts anew.
+// A timer that expired while its link was held rests until it goes on; one that was armed anew no longer rests. After a
+// release silence counts anew.
 fn timers_rest(alloc: Global) -> Result<bool, AllocError> {
     let mut agenda: Agenda<u32> = Agenda::new(alloc);
     let arm = TimerOp::Arm {
@@ -78,7 +78,7 @@ fn resting_timers(rt: HostRuntime) -> Result<(), Fail> {
     Ok(())
 }
 
-// Every file that rests is under way again.
+// Every file that rests is sent again.
 #[test]
 fn woken_files(rt: HostRuntime) -> Result<(), Fail> {
     let mut agenda: Agenda<u32> = Agenda::new(rt.alloc());

@@ -7,7 +7,7 @@ use std::alloc::{AllocError, Global};
 use std::sync::Wait;
 use std::test::*;
 
-// How the lines of a desk end.
+// The ways in which the lines of a desk end.
 #[derive(Clone, Copy)]
 enum End {
     Over,
@@ -15,7 +15,7 @@ enum End {
     Deserted,
 }
 
-// What the main thread finds, in a letter.
+// The line that the main thread gets, as a letter.
 fn letter_of(next: NextLine) -> u8 {
     match next {
         NextLine::Line(asked) => match asked.said {
@@ -39,7 +39,7 @@ fn tell_end<R: Wait>(rt: &R, desk: &Desk, end: End) {
     }
 }
 
-// A command, a line that is none, and two ends: what is found of them, and what is found before.
+// A command, a bad line, and two ends: the letters of what the main thread gets before and after them.
 fn found<R: Wait>(rt: &R, alloc: Global, first: End, second: End) -> Result<[u8; 5], AllocError> {
     let desk = Desk::new(alloc, 1, 2)?;
     let before = letter_of(desk.take_line(rt));
@@ -59,7 +59,7 @@ fn found<R: Wait>(rt: &R, alloc: Global, first: End, second: End) -> Result<[u8;
     ])
 }
 
-// Lines that were left come first, and then how they ended first, whatever came behind.
+// The lines that were left come first, and then the first end, whatever follows it.
 const ENDS: [(End, End, &[u8; 5]); 3] = [
     (End::Over, End::NoMemory, b"acnee"),
     (End::NoMemory, End::Over, b"acnmm"),
@@ -75,7 +75,7 @@ fn ends(rt: HostRuntime) -> Result<(), Fail> {
     Ok(())
 }
 
-// A line comes with the client that waits for its answer.
+// A line comes with the client that awaits its answer.
 #[test]
 fn askers(rt: HostRuntime) -> Result<(), Fail> {
     let desk = Desk::new(rt.alloc(), 1, 1)?;
@@ -88,7 +88,7 @@ fn askers(rt: HostRuntime) -> Result<(), Fail> {
     Ok(())
 }
 
-// Who leaves something at a closed desk learns that nothing more is wanted, and does not wait.
+// A thread that leaves work at a closed desk is answered that no more is wanted, and does not wait.
 #[test]
 fn closed(rt: HostRuntime) -> Result<(), Fail> {
     let alloc = rt.alloc();

@@ -132,7 +132,7 @@ fn refusals(rt: HostRuntime) -> Result<(), Fail> {
     Ok(())
 }
 
-// What is behind `"name":` in the line of an indication.
+// The text after `"name":` in the line of an indication.
 fn said(alloc: Global, indication: &Indication) -> Result<String, AllocError> {
     let mut text = String::new(alloc);
     let event = IndicationEvent {

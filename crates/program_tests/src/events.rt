@@ -3,7 +3,7 @@ use std::alloc::{AllocError, Global};
 use std::fs;
 use std::test::*;
 
-// Two events more than there is room for.
+// Adds two events more than there is room for.
 fn fill(alloc: Global, kept: &mut Kept) -> Result<(), AllocError> {
     for number in 0..KEPT_LINES + 2 {
         let mut line = String::new(alloc);
@@ -19,7 +19,7 @@ fn last_of(alloc: Global, kept: &Kept, word: &str, count: usize) -> Result<Strin
     Ok(text)
 }
 
-// The last events are kept, at most so many as there is room for, and given behind a word.
+// The last events are kept, as many as there is room for, and given after a word.
 #[test]
 fn kept(rt: HostRuntime) -> Result<(), Fail> {
     let alloc = rt.alloc();
@@ -38,7 +38,7 @@ fn state_of(log: &EventLog<HostRuntime>) -> (bool, u64) {
     (log.is_failing(), log.written())
 }
 
-// What becomes of a log whose folder is made between two events.
+// The states of a log whose folder is made between two events.
 fn written(rt: &HostRuntime, log: &mut EventLog<HostRuntime>) -> [(bool, u64); 3] {
     log.push("one\n");
     log.flush(rt, 1_000);
@@ -51,7 +51,7 @@ fn written(rt: &HostRuntime, log: &mut EventLog<HostRuntime>) -> [(bool, u64); 3
     [first, second, state_of(log)]
 }
 
-// Events stand in the file in order. Where it can't be written they wait, and are tried again a second later.
+// Events are in the file in order. While it can't be written they wait, and are tried again a second later.
 #[test]
 fn logs(rt: HostRuntime) -> Result<(), Fail> {
     let alloc = rt.alloc();

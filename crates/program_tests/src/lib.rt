@@ -1,5 +1,5 @@
-//! Parts of the programs, as their callers see them: command lines, words in quotes, the agenda, the desk, seats, the outbox, what
-//! is counted, the file of numbers, and the lines of a station, octet for octet.
+//! Parts of the programs, as their callers see them: command lines, quoted words, the agenda, the desk, seats, the
+//! outbox, counts, the file of numbers, and the lines of a station, octet for octet.
 #![tactic(auto)]
 
 #[cfg(test)]

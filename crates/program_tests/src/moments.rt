@@ -1,7 +1,7 @@
 use station_lines::Moment;
 use std::test::*;
 
-// Days round leap days, years and centuries, by `date -u -d @SECONDS`.
+// Days around leap days, years and centuries, by `date -u -d @SECONDS`.
 #[test]
 fn moments(rt: HostRuntime) -> Result<(), Fail> {
     let alloc = rt.alloc();

@@ -2,7 +2,7 @@ use number_file::{NumberFile, NumbersFault};
 use std::fs;
 use std::test::*;
 
-// A file of each test's own, since they run in one folder.
+// Each test has its own file, since they run in one folder.
 const RUNS: &str = "numbers-of-runs";
 
 const NO_NUMBERS: &str = "no-numbers";
@@ -18,12 +18,12 @@ fn says(rt: &HostRuntime, file: &str, text: &str) -> bool {
     fs::read_to_string(rt, file).is_ok_and(|found| found.as_str() == text)
 }
 
-// Whether the next round is covered, and the file says this then.
+// Whether the next round is covered, and the file then has this text.
 fn covers(rt: &HostRuntime, file: &mut NumberFile, text: &str) -> bool {
     file.cover(rt).is_ok() && says(rt, RUNS, text)
 }
 
-// Two rounds are given, of which the second is not covered yet.
+// Gives two rounds, of which the second is not covered yet.
 fn runs_on(rt: &HostRuntime, file: &mut NumberFile) -> bool {
     let begins = covers(rt, file, "110\n");
     file.note_given(7);
@@ -31,7 +31,7 @@ fn runs_on(rt: &HostRuntime, file: &mut NumberFile) -> bool {
     begins && covers(rt, file, "150\n")
 }
 
-// Whether a run that begins at the round 7 goes on so.
+// Whether a run that begins at round 7 continues like that.
 fn first_run(rt: &HostRuntime) -> bool {
     match open(rt, RUNS, 7) {
         Ok(mut file) => runs_on(rt, &mut file),
@@ -39,7 +39,7 @@ fn first_run(rt: &HostRuntime) -> bool {
     }
 }
 
-// Where a run begins whose own first round this is.
+// Where a run begins whose own first round is `first`.
 fn next_run(rt: &HostRuntime, first: u64) -> Option<u64> {
     match &open(rt, RUNS, first) {
         Ok(file) => Some(file.rounds.next),
@@ -47,7 +47,7 @@ fn next_run(rt: &HostRuntime, first: u64) -> Option<u64> {
     }
 }
 
-// A run begins where the file of the one before says, and never below its own first round.
+// A run begins where the file says, and never below its own first round.
 #[test]
 fn runs(rt: HostRuntime) {
     assert!(rt; first_run(&rt));
@@ -55,7 +55,7 @@ fn runs(rt: HostRuntime) {
     assert_eq!(rt; next_run(&rt, 20), Some(20));
 }
 
-// Whether a file that says this is a fault, and stays.
+// Whether a file with this text is a fault, and stays unchanged.
 fn is_refused(rt: &HostRuntime, text: &str) -> bool {
     fs::write(rt, NO_NUMBERS, text).is_ok()
         && open(rt, NO_NUMBERS, 3).err() == Some(NumbersFault::Unreadable)

@@ -12,7 +12,7 @@ fn are_words(list: &[Octets]) -> bool {
     word == b"put".as_slice() && rest.last() == Some(b"a b".as_slice())
 }
 
-// A line whose second word stands in quotes, and a line of one word.
+// A line whose second word is quoted, and a line of one word.
 #[test]
 fn words_of_lines(rt: HostRuntime) -> Result<(), Fail> {
     assert!(rt; has_quote(LINE) && is_ascii(LINE));

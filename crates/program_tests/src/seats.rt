@@ -1,7 +1,7 @@
 use program_seats::{Asker, Outbox, Seats, Way};
 use std::test::*;
 
-// What is put waits in order until it is taken, an end leaves what waits, and what finds no room cuts the way.
+// Texts wait in order until they are taken, an end leaves those that wait, and a text without room cuts the way.
 #[test]
 fn outboxes(rt: HostRuntime) -> Result<(), Fail> {
     let alloc = rt.alloc();
@@ -21,7 +21,7 @@ fn outboxes(rt: HostRuntime) -> Result<(), Fail> {
     Ok(())
 }
 
-// Where nobody sits, nobody is answered, follows, asks or takes; and nobody may sit down once the seats are closed.
+// At a free seat, nobody is answered, follows, asks or takes; and nobody may sit down once the seats are closed.
 #[test]
 fn free_seats(rt: HostRuntime) -> Result<(), Fail> {
     let seats = Seats::new(rt.alloc())?;

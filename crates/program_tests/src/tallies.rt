@@ -8,7 +8,7 @@ const ODD: RefusalKind = RefusalKind::Route(RouteRefusal::DecodeFault(DecodeFaul
 
 const LATE: RefusalKind = RefusalKind::Lane(Refusal::OldTransaction);
 
-// What two workers and the main thread count is added up, for all remote entities and for each.
+// The counts of two workers and the main thread are added up, for all remote entities and for each.
 #[test]
 fn traffic(rt: HostRuntime) -> Result<(), Fail> {
     let tallies = Tallies::new(rt.alloc(), 2, 2)?;
@@ -43,7 +43,7 @@ fn traffic(rt: HostRuntime) -> Result<(), Fail> {
     Ok(())
 }
 
-// Each kind of refusal is counted, shows its last case, and is reported once.
+// Each kind of refusal is counted, has its last case, and is reported once.
 #[test]
 fn refusals(rt: HostRuntime) -> Result<(), Fail> {
     let alloc = rt.alloc();
@@ -64,7 +64,7 @@ fn refusals(rt: HostRuntime) -> Result<(), Fail> {
     Ok(())
 }
 
-// A link is held since it was held first, until it is released.
+// A link is held from the first hold on, until it is released.
 #[test]
 fn links(rt: HostRuntime) -> Result<(), Fail> {
     let links = Links::new(rt.alloc(), 2)?;

@@ -12,7 +12,7 @@ fn split(alloc: Global, line: &str) -> Result<Vec<String>, AllocError> {
     Ok(words)
 }
 
-// A command line of the put, and what it says: remote, class, rate, first number, closure, whose answers are heard.
+// A command line of the put, and its values: remote, class, rate, first number, closure, whose datagrams are taken.
 #[derive(Clone, Copy)]
 struct PutRow {
     line: &'static str,
@@ -78,7 +78,7 @@ fn puts(rt: HostRuntime) -> Result<(), Fail> {
     Ok(())
 }
 
-// A command line of the server, and what it says: workers, rate, and whether users are followed.
+// A command line of the server, and its values: workers, rate, and whether users are followed.
 const SERVERS: [(&str, u64, Option<u64>, bool); 3] = [
     ("s --config c --bind 1.2.3.4:5 --folder f", 4, None, false),
     (
@@ -122,7 +122,7 @@ fn servers(rt: HostRuntime) -> Result<(), Fail> {
     Ok(())
 }
 
-// Where clients command, and where events go.
+// Where clients command, and where events are written.
 #[test]
 fn places(rt: HostRuntime) -> Result<(), Fail> {
     let alloc = rt.alloc();
@@ -143,7 +143,7 @@ fn places(rt: HostRuntime) -> Result<(), Fail> {
     Ok(())
 }
 
-// Limits of single remote entities, each once, beside one of all the rest; and what else a station may be started with.
+// Limits of single remote entities, one each, besides one for all the rest; and the other options of a station.
 #[test]
 fn limits(rt: HostRuntime) -> Result<(), Fail> {
     let alloc = rt.alloc();
@@ -184,7 +184,7 @@ fn limits(rt: HostRuntime) -> Result<(), Fail> {
     Ok(())
 }
 
-// An entity's number that no unsigned number of 64 bits is.
+// A number of an entity that is greater than 64 bits can hold.
 #[test]
 fn too_great_a_remote(rt: HostRuntime) -> Result<(), Fail> {
     let alloc = rt.alloc();

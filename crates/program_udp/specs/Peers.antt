@@ -8,11 +8,11 @@ use Rattle.pdu_values.specs.Pdu.{PduValue, is_toward_sender}
 use Rattle.config_reading.specs.Values.{ConfigValue, has_id}
 use Rattle.program_udp.specs.declared.addresses.PeerAddress.{PeerAddress}
 
--- the entity that a PDU goes to: the one that sends the file, or the one that receives it, by the kind of the PDU
+-- the entity that a PDU goes to: the one that sends the file, or the one that receives it, by the PDU's direction
 abbrev pub other_end_of : PduValue → EntityId
 other_end_of pdu = if is_toward_sender pdu.body then pdu.header.source else pdu.header.destination
 
--- the text that a configuration has for the address of an entity
+-- the address of an entity in a configuration, as text
 abbrev pub address_text : ConfigValue → EntityId → Option (List ℕ)
 address_text config id = option_map (λ peer. peer.address) (find (has_id id) config.peers)
 
@@ -20,17 +20,17 @@ address_text config id = option_map (λ peer. peer.address) (find (has_id id) co
 abbrev pub ListensAt : ConfigValue → EntityId → SocketAddr → Type 0
 ListensAt config id address = (text : List ℕ) × (address_text config id ≡ Some text) × IsSocketText text address
 
--- the entity stands at its place among the remote entities of the configuration
+-- the entity has this number among the remote entities of the configuration
 abbrev pub StandsAt : ConfigValue → PeerAddress → Type 0
 StandsAt config peer =
     option_map (λ remote. remote.id) (option_map (λ other. other.remote) (slice_get config.peers peer.place)) ≡ Some peer.id
 
--- the place of the first that listens at an address, of those that were looked up
+-- the number of the first of these entities with this address
 abbrev pub FirstAt : List PeerAddress → SocketAddr → Option ℕ → Type 0
 FirstAt [] address place = place ≡ None
 FirstAt (first ∷ rest) address place =
     ((first.address ≡ address) × (place ≡ Some first.place)) ⊎ ((first.address ≢ address) × FirstAt rest address place)
 
--- the first with an ID of those that were looked up
+-- the first of these entities with this ID
 abbrev pub peer_among : List PeerAddress → EntityId → Option PeerAddress
 peer_among peers id = find (λ peer. peer.id.0 == id.0) peers

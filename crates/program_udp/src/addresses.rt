@@ -1,4 +1,4 @@
-//! Where entities listen, looked up once.
+//! The addresses of remote entities, looked up once.
 ghost use Rattle.std.specs.Prelude.{◌≡◌, ◌↔◌, All, IfOk, IfSome, IsTrue};
 ghost use Rattle.config_reading.specs.Values.{ConfigValue};
 ghost use Rattle.program_udp.specs.Peers.{FirstAt, ListensAt, StandsAt, peer_among};
@@ -9,16 +9,16 @@ use entity_config::Config;
 use std::alloc::{AllocError, Global};
 use std::net::SocketAddr;
 
-/// An entity, and where it listens.
+/// A remote entity and its address.
 #[derive(Clone, Copy, Debug, Drop)]
 pub struct PeerAddress {
     pub id: EntityId,
-    /// Its place among the remote entities of the configuration.
+    /// Its number among the remote entities of the configuration.
     pub place: usize,
     pub address: SocketAddr,
 }
 
-/// Where the remote entities listen that a configuration names, those whose address can be read.
+/// The remote entities of a configuration whose address can be read, with their addresses.
 pub fn addresses_of(alloc: Global, config: &Config) -> Result<Vec<PeerAddress>, AllocError>
     ensures listens { IfOk result (λ peers. All (λ peer. ListensAt config.now peer.id peer.address) peers.items) }
     ensures stands { IfOk result (λ peers. All (λ peer. StandsAt config.now peer) peers.items) }
@@ -32,7 +32,7 @@ pub fn addresses_of(alloc: Global, config: &Config) -> Result<Vec<PeerAddress>, 
     Ok(peers)
 }
 
-// The remote entity at a place of a configuration, if its address can be read.
+// The remote entity with this number in a configuration, if its address can be read.
 fn peer_at(config: &Config, place: usize) -> Option<PeerAddress>
     ensures listens { IfSome result (λ peer. ListensAt config.now peer.id peer.address) }
     ensures stands { IfSome result (λ peer. StandsAt config.now peer) }
@@ -42,7 +42,7 @@ fn peer_at(config: &Config, place: usize) -> Option<PeerAddress>
     Some(PeerAddress { id, place, address })
 }
 
-/// The entity with an ID, among those that were looked up.
+/// The first entity with this ID, if there is one.
 pub fn peer_among(peers: &[PeerAddress], id: EntityId) -> Option<PeerAddress>
     ensures found { result ≡ peer_among peers.now id }
     ensures listens { (config : ConfigValue) → All (λ peer. ListensAt config peer.id peer.address) peers.now
@@ -60,7 +60,7 @@ pub fn peer_among(peers: &[PeerAddress], id: EntityId) -> Option<PeerAddress>
     }
 }
 
-/// The place in the configuration of the entity that listens at an address, among those that were looked up.
+/// The number in the configuration of the first entity with this address.
 pub fn place_of_address(peers: &[PeerAddress], address: SocketAddr) -> Option<usize>
     ensures { FirstAt peers.now address result }
 {

@@ -1,5 +1,5 @@
-//! The datagrams of a program: its socket, where remote entities listen, how PDUs leave, and how far into its file the data
-//! in them reaches.
+//! The datagrams of a program: its socket, the addresses of remote entities, how PDUs are sent, and how far into its
+//! file the data in them reaches.
 #![tactic(auto)]
 
 mod addresses;

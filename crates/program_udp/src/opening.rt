@@ -3,7 +3,7 @@ use crate::widening::widen;
 use program_start::ProgramFault;
 use std::net::{Net, UdpSocket};
 
-/// The socket that a program listens at, with as large a receive buffer as the system gives.
+/// Opens a program's socket at an address, with as large a receive buffer as the system gives.
 pub fn open_socket<R: Net>(rt: &R, address: &str) -> Result<UdpSocket, ProgramFault> {
     match UdpSocket::bind(rt, address) {
         Ok(socket) => {

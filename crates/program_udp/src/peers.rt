@@ -6,7 +6,7 @@ use entity_config::Config;
 use pdu_values::Pdu;
 use std::net::SocketAddr;
 
-/// The entity that a PDU goes to, which is the one at its transaction's other end.
+/// The entity that a PDU goes to: the one at the other end of its transaction.
 pub fn other_end_of(pdu: &Pdu) -> EntityId
     ensures { result ≡ other_end_of pdu.now }
 {
@@ -18,7 +18,7 @@ pub fn other_end_of(pdu: &Pdu) -> EntityId
     }
 }
 
-/// Where an entity listens, by the configuration; nothing for an entity that it doesn't name.
+/// The address of an entity by the configuration; `None` for an entity that is not in it.
 pub fn address_of(config: &Config, id: EntityId) -> Option<SocketAddr>
     ensures { IfSome result (ListensAt config.now id) }
 {

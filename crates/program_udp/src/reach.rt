@@ -4,14 +4,14 @@ ghost use Rattle.program_udp.specs.Reaches.{data_end, reach_of};
 use lane_table::Done;
 use pdu_values::{Body, Pdu};
 
-/// How far into its file the data of a step's PDUs reaches: the greatest end of their segments, or 0 where they have none.
+/// How far into its file the data of a step's PDUs reaches: the greatest end of their segments, or 0 without segments.
 pub fn reach_of(done: &Done) -> u64
     ensures { result ≡ reach_of done.now.pdus }
 {
     reach_in(done.pdus.as_slice())
 }
 
-// How far the data of a list of PDUs reaches.
+// How far into its file the data of these PDUs reaches.
 fn reach_in(pdus: &[Pdu]) -> u64
     ensures { result ≡ reach_of pdus.now }
 {

@@ -9,12 +9,12 @@ use shared_entity::EntityRefusal;
 use std::alloc::{AllocError, Global};
 use std::net::{SocketAddr, UdpSocket};
 
-// Room for each PDU that an entity sends: its File Data have at most 1,400 octets of file, its Metadata two names and four
-// messages of at most 255 octets each, its NAKs at most 64 requests, and a header has at most 28 octets.
+// Enough for each PDU that an entity sends: its File Data have at most 1,400 octets of file, its Metadata two names and
+// four messages of at most 255 octets each, its NAKs at most 64 requests, and a header has at most 28 octets.
 const PDU_OCTETS: usize = 2_048;
 
-/// Sends PDUs through a socket, in room of its own, and counts them. A PDU that can't be sent, or whose link is held, is lost, as
-/// it may be on its way.
+/// Sends PDUs through a socket and counts them, without allocating. A PDU that can't be sent, or whose link is held, is
+/// lost, as it may be on its way.
 #[derive(Drop)]
 pub struct PduSender<'a> {
     socket: &'a UdpSocket,
@@ -25,8 +25,8 @@ pub struct PduSender<'a> {
 }
 
 impl<'a> PduSender<'a> {
-    /// A sender over a socket, to where a configuration says that its remote entities listen: they are looked up once. What
-    /// leaves is counted in `traffic`, and nothing leaves by a link that `links` holds.
+    /// A sender over a socket to the remote entities of a configuration, whose addresses are looked up once. It counts
+    /// in `traffic`, and sends nothing over a link that `links` holds.
     pub fn new(
         alloc: Global,
         socket: &'a UdpSocket,
@@ -43,12 +43,12 @@ impl<'a> PduSender<'a> {
         })
     }
 
-    /// The place in the configuration of the remote entity that listens at an address.
+    /// The number in the configuration of the remote entity with this address.
     pub fn place_of(&self, address: SocketAddr) -> Option<usize> {
         place_of_address(self.peers.as_slice(), address)
     }
 
-    /// Sends a PDU to the entity at its other end, and tells how many octets went out.
+    /// Sends a PDU to the entity at the other end; answers how many octets were sent.
     pub fn send(&mut self, pdu: &Pdu) -> usize {
         let Some(peer) = peer_among(self.peers.as_slice(), other_end_of(pdu)) else {
             self.traffic.note_unaddressed();
@@ -68,7 +68,7 @@ impl<'a> PduSender<'a> {
         octets.unwrap_or(0)
     }
 
-    /// Sends the PDUs of a step, in order, and tells how many octets went out.
+    /// Sends the PDUs of a step, in order; answers how many octets were sent.
     pub fn send_done(&mut self, done: &Done) -> usize {
         let mut octets = 0usize;
         for pdu in done.pdus.as_slice() {
@@ -77,7 +77,7 @@ impl<'a> PduSender<'a> {
         octets
     }
 
-    /// Sends the PDU, if there is one, with which a refusal answers a PDU of an old transaction.
+    /// Sends the PDU with which a refusal answers a PDU of an old transaction, if there is one.
     pub fn send_echo(&mut self, refusal: &EntityRefusal) {
         if let EntityRefusal::Lane(refused) = refusal {
             if let Some(echo) = &refused.echo {
@@ -87,7 +87,7 @@ impl<'a> PduSender<'a> {
     }
 }
 
-/// Has a thread that waits for a datagram at the socket go on, by a datagram without octets to the socket's own address.
+/// Wakes a thread that waits for a datagram at the socket, by sending an empty datagram to the socket's own address.
 pub fn wake_reader(socket: &UdpSocket) {
     if let Ok(address) = socket.local_addr() {
         let _lost = socket.send_to(&[], address);

@@ -1,4 +1,4 @@
--- Meaning. What the command lines of the programs say: which options and words they have, and what a line gives to each.
+-- Meaning. The command lines of the programs: their options and words, and what a line gives to each.
 use Rattle.std.specs.Prelude.{◌≡◌, Bool, true, false, List, [], ◌∷◌, Option, Some, None, codes, map, option_and_then}
 use Rattle.std.specs.Option.{option_map}
 use Rattle.clap.specs.Words.{App, Rule, Text, all_of, first_of, first_value, matched_of, matches_of, new_rule, one_of, one_text, raw_values}
@@ -9,7 +9,7 @@ use Rattle.program_words.specs.declared.putting.PutWords.{PutWords}
 use Rattle.program_words.specs.declared.serving.ServerWords.{ServerWords}
 use Rattle.clap.specs.declared.builder.action.ArgAction.TheVariants.{Append, Set, SetTrue}
 
--- an option with a value, which has to be given or not
+-- an option with a value, required or not
 abbrev pub valued : Text → Bool → Rule
 valued name is_required = record (new_rule name) { long = Some name; action = Some Set; required = is_required }
 
@@ -17,19 +17,19 @@ valued name is_required = record (new_rule name) { long = Some name; action = So
 abbrev pub repeated : Text → Rule
 repeated name = record (new_rule name) { long = Some name; action = Some Append }
 
--- a word that is there or not
+-- an option without a value, which is present or absent
 abbrev pub flag : Text → Rule
 flag name = record (new_rule name) { long = Some name; action = Some SetTrue }
 
--- a word that stands by its place
+-- a positional word
 abbrev pub placed : Text → Rule
 placed name = record (new_rule name) { action = Some Set; required = true }
 
--- a program with a version, and with these
+-- a program with a version, and with these options and words
 abbrev pub program_of : Text → List Rule → App
 program_of name rules = record { top = record (new_shape name) { rules = rules; has_version = true }; subs = [] }
 
--- what `cfdp_put` takes
+-- the options and words of `cfdp_put`
 abbrev pub put_program : App
 put_program = program_of (codes "cfdp_put")
     (valued (codes "config") true ∷ valued (codes "bind") true ∷ valued (codes "user") true
@@ -37,7 +37,7 @@ put_program = program_of (codes "cfdp_put")
     ∷ flag (codes "closure") ∷ valued (codes "first") false ∷ valued (codes "numbers") false
     ∷ flag (codes "known-sources") ∷ placed (codes "source") ∷ placed (codes "target") ∷ [])
 
--- what `cfdp_server` takes
+-- the options and words of `cfdp_server`
 abbrev pub server_program : App
 server_program = program_of (codes "cfdp_server")
     (valued (codes "config") true ∷ valued (codes "bind") true ∷ valued (codes "folder") true
@@ -46,17 +46,17 @@ server_program = program_of (codes "cfdp_server")
     ∷ flag (codes "known-sources") ∷ flag (codes "hold") ∷ flag (codes "tree") ∷ flag (codes "keep")
     ∷ valued (codes "retry") false ∷ [])
 
--- what a check of the configuration takes
+-- the options of a check of the configuration
 abbrev pub check_program : App
 check_program = program_of (codes "check") (valued (codes "config") true ∷ flag (codes "check") ∷ [])
 
--- what is given to an option or word, by its name: its first value as it stands and as it is read, and all its values
+-- what an option or word is given, by its name: its first value as it stands and as it was read, and all its values
 pub record Givings : Type 0 where
   pub first : Text → Option Text
   pub one : Text → Option Text
   pub all : Text → Option (List Text)
 
--- what a line gives, the program's own name first
+-- what a line gives; its first word is the program's own name
 abbrev pub given_by : App → List Text → Givings
 given_by program line = record {
   first = λ name. first_of name (matches_of program line);
@@ -72,13 +72,13 @@ found_in found = record {
   all = λ name. option_map raw_values (matched_of found name);
 }
 
--- whether a word that is there or not is there
+-- whether an option without a value is present
 pub record IsFlag (found : Option Text) (is_there : Bool) : Type 0 where
   pub missing : found ≡ None → is_there ≡ false
   pub there : found ≡ Some (codes "true") → is_there ≡ true
   pub absent : found ≡ Some (codes "false") → is_there ≡ false
 
--- what the server is started with, as its line gives it
+-- the server's words, as its command line gives them
 pub record ServerSays (given : Givings) (words : ServerWords) : Type 0 where
   pub config : given.first (codes "config") ≡ Some words.config.now
   pub bind : given.first (codes "bind") ≡ Some words.bind.now
@@ -95,7 +95,7 @@ pub record ServerSays (given : Givings) (words : ServerWords) : Type 0 where
   pub keep : IsFlag (given.one (codes "keep")) words.keep
   pub retry : seconds_of (given.first (codes "retry")) ≡ Some words.retry
 
--- what is put, and how, as its line gives it
+-- the put's words, as its command line gives them
 pub record PutSays (given : Givings) (words : PutWords) : Type 0 where
   pub config : given.first (codes "config") ≡ Some words.config.now
   pub bind : given.first (codes "bind") ≡ Some words.bind.now

@@ -8,41 +8,41 @@ use Rattle.line_words.specs.Words.{decimal_of}
 use Rattle.line_words.specs.Operands.{◌>>=◌}
 use Rattle.program_words.specs.declared.rates.Rate.{Rate}
 
--- the number that a word writes in decimal digits, where it is within a range
+-- the number that a word writes in decimal digits, if it is within a range
 abbrev pub number_within : ℕ → ℕ → List ℕ → Option ℕ
 number_within least most word = do
   number ← decimal_of most word
   if nat_lt number least then None else Some number
 
--- an option's number where the option is given, and nothing where it isn't; none where its word is no such number
+-- `Some` of an option's number, or `Some None` without the option; `None` where its word is not such a number
 abbrev pub perhaps : (List ℕ → Option ℕ) → Option (List ℕ) → Option (Option ℕ)
 perhaps read None = Some None
 perhaps read (Some word) = option_map Some (read word)
 
--- how many workers a word asks for: 4 where there is none
+-- how many workers a word asks for; 4 without a word
 abbrev pub workers_of : Option (List ℕ) → Option ℕ
 workers_of None = Some 4
 workers_of (Some word) = number_within 1 16 word
 
--- for how many seconds, a day at most
+-- a number of seconds, a day at most
 abbrev pub seconds_of : Option (List ℕ) → Option (Option ℕ)
 seconds_of word = perhaps (number_within 1 86400) word
 
--- how many octets a second
+-- a limit in octets a second
 abbrev pub limit_of : Option (List ℕ) → Option (Option ℕ)
 limit_of word = perhaps (number_within 1 1000000000) word
 
--- where numbers of transactions begin
+-- the number of the first transaction
 abbrev pub first_number : Option (List ℕ) → Option (Option ℕ)
 first_number word = perhaps (number_within 0 CONFIGURED_NUMBER) word
 
--- a class by its number
+-- a class, from its number
 abbrev pub class_of : List ℕ → Option Class
 class_of word = do
   number ← number_within 1 2 word
   Some (if number == 1 then class.One else class.Two)
 
--- a limit of octets a second: of one remote entity as REMOTE=N, of all the rest as N
+-- a limit in octets a second: REMOTE=N for one remote entity, N for all the rest
 abbrev pub rate_by : Option ℕ → List ℕ → Option Rate
 rate_by None word = do
   octets ← number_within 1 1000000000 word
@@ -52,7 +52,7 @@ rate_by (Some place) word = do
   octets ← number_within 1 1000000000 (drop (place + 1) word)
   Some (record { remote = Some (record { 0 = remote }); octets = octets })
 
--- where the first sign = stands
+-- the place of the first sign =
 abbrev pub equals_place : List ℕ → Option ℕ
 equals_place word = position (λ octet. octet == 61) word
 

@@ -1,4 +1,4 @@
-//! The command line by which a configuration is read and nothing else is done.
+//! The command line that only checks a configuration.
 ghost use Rattle.std.specs.Prelude.{◌≡◌, IfOk, IfSome, Some, codes, map, string_bytes};
 ghost use Rattle.clap.specs.Words.{app_of, found_of};
 ghost use Rattle.program_words.specs.Lines.{check_program, found_in, given_by};
@@ -8,7 +8,8 @@ use crate::options::{fault_of, flag, required};
 use clap::{ArgMatches, Command};
 use std::alloc::{AllocError, Global};
 
-/// Whether a line asks for a check of the configuration: before the word `--`, behind which names stand.
+/// Whether a command line asks for a check of the configuration: `--check` before the word `--`, after which names
+/// follow.
 pub fn asks_for_check(line: &[String]) -> bool {
     for word in line {
         match word.as_str() {
@@ -31,14 +32,14 @@ pub(crate) fn command<'a>(alloc: Global) -> Result<Command<'a>, AllocError>
     Ok(command)
 }
 
-// The path that the matches of a line give.
+// The path given by the matches of a command line.
 fn path_in<'a>(matches: &ArgMatches<'a>) -> Option<&'a str>
     ensures { IfSome result (λ path. (found_in (found_of matches.now)).first (codes "config") ≡ Some path.now) }
 {
     matches.get_str("config")
 }
 
-// What a line says to a command with the options of a check.
+// Parses a line with the options of a check.
 fn path_by<'a>(command: Command<'a>, line: &'a [String]) -> Result<&'a str, WordsFault>
     requires { app_of command ≡ check_program }
     ensures { IfOk result (λ path. (given_by check_program (map string_bytes line.entry.now)).first (codes "config") ≡ Some path.now) }
@@ -49,8 +50,8 @@ fn path_by<'a>(command: Command<'a>, line: &'a [String]) -> Result<&'a str, Word
     }
 }
 
-/// The path of the configuration that a line asks to check; its first word is the program's own name. Such a line has no other
-/// option.
+/// The path of the configuration that a command line asks to check; its first word is the program's own name. Such a
+/// line has no other option.
 pub fn check_words<'a>(alloc: Global, line: &'a [String]) -> Result<&'a str, WordsFault>
     ensures { IfOk result (λ path. (given_by check_program (map string_bytes line.entry.now)).first (codes "config") ≡ Some path.now) }
 {

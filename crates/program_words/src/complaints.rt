@@ -1,4 +1,4 @@
-//! What is wrong with a command line, in words for people.
+//! Explains to a person what is wrong with a command line.
 use crate::options::{
     first_number, is_address, is_name, limit_of, number_within, seconds_of, workers_of,
 };
@@ -7,7 +7,7 @@ use crate::{checking, putting, serving};
 use clap::{ArgMatches, Error};
 use std::alloc::{AllocError, Global};
 
-/// Adds what is wrong with a line of the server; nothing where nothing is.
+/// Adds what is wrong with a command line of the server; nothing if it is right.
 pub fn push_server_complaint(
     alloc: Global,
     text: &mut String,
@@ -19,7 +19,7 @@ pub fn push_server_complaint(
     }
 }
 
-/// Adds what is wrong with a line of the program that puts a file; nothing where nothing is.
+/// Adds what is wrong with a command line of the program that puts a file; nothing if it is right.
 pub fn push_put_complaint(
     alloc: Global,
     text: &mut String,
@@ -31,7 +31,7 @@ pub fn push_put_complaint(
     }
 }
 
-/// Adds what is wrong with a line that asks for a check of the configuration; nothing where nothing is.
+/// Adds what is wrong with a command line that asks for a check of the configuration; nothing if it is right.
 pub fn push_check_complaint(
     alloc: Global,
     text: &mut String,
@@ -43,7 +43,7 @@ pub fn push_check_complaint(
     }
 }
 
-// Adds what the parser says, up to its usage, in one line.
+// Adds the parser's message, up to its usage, in one line.
 fn push_error(alloc: Global, text: &mut String, error: &Error) -> Result<(), AllocError> {
     let mut told = String::new(alloc);
     write!(told, "{error}")?;
@@ -70,7 +70,7 @@ fn push_wrong(text: &mut String, wrong: Option<&str>) -> Result<(), AllocError> 
     }
 }
 
-// Which value of the server's options is none that the option takes.
+// What is wrong with the value of one of the server's options, if anything.
 fn wrong_for_server(alloc: Global, matches: &ArgMatches<'_>) -> Option<&'static str> {
     if !matches.get_str("bind").is_some_and(is_address) {
         return Some(ADDRESS);
@@ -95,7 +95,7 @@ fn wrong_for_server(alloc: Global, matches: &ArgMatches<'_>) -> Option<&'static 
     numbers_complaint(matches)
 }
 
-// Which value is none that an option or word of the put takes.
+// What is wrong with the value of one of the put's options or words, if anything.
 fn wrong_for_put(matches: &ArgMatches<'_>) -> Option<&'static str> {
     if !matches.get_str("bind").is_some_and(is_address) {
         return Some(ADDRESS);

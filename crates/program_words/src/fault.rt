@@ -1,4 +1,4 @@
-/// Why there is nothing to start with.
+/// Why a command line doesn't start a program.
 #[derive(Clone, Copy, Debug, PartialEq, Eq)]
 pub enum WordsFault {
     /// A word is missing, unknown, given twice or out of range.

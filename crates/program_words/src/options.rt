@@ -1,4 +1,4 @@
-//! What both command lines have.
+//! What both command lines share.
 ghost use Rattle.std.specs.Prelude.{◌≡◌, false, true};
 ghost use Rattle.std.specs.Option.{option_map};
 ghost use Rattle.clap.specs.Words.{rule_of};
@@ -43,7 +43,7 @@ pub(crate) fn repeated<'a>(alloc: Global, name: &'static str) -> Arg<'a>
     Arg::new(alloc, name).long(name).action(ArgAction::Append)
 }
 
-/// A word that is there or not.
+/// An option without a value, which is present or absent.
 pub(crate) fn flag<'a>(alloc: Global, name: &'static str) -> Arg<'a>
     ensures rule { rule_of result ≡ flag name.entry.now }
     ensures local { result.global ≡ false }
@@ -51,7 +51,7 @@ pub(crate) fn flag<'a>(alloc: Global, name: &'static str) -> Arg<'a>
     Arg::new(alloc, name).long(name).action(ArgAction::SetTrue)
 }
 
-/// Why a command line is not taken.
+/// The fault for an error of the parser.
 pub(crate) fn fault_of(error: &Error) -> WordsFault {
     match error.kind() {
         ErrorKind::OutOfMemory => WordsFault::NoMemory,
@@ -68,7 +68,7 @@ pub(crate) fn number_within(word: &str, least: u64, most: u64) -> Option<u64>
     octets_within(word.as_bytes(), least, most)
 }
 
-/// The same of a word's octets.
+/// The same for a word's octets.
 pub(crate) fn octets_within(word: &[u8], least: u64, most: u64) -> Option<u64>
     ensures { result ≡ number_within least most word.now }
 {
@@ -76,7 +76,7 @@ pub(crate) fn octets_within(word: &[u8], least: u64, most: u64) -> Option<u64>
     if number < least { None } else { Some(number) }
 }
 
-/// Whether a word is an address as a configuration has them: four numbers and a port, none with leading zeros.
+/// Whether a word is an address as in a configuration: four numbers and a port, none with leading zeros.
 pub(crate) fn is_address(word: &str) -> bool {
     if word.parse::<SocketAddrV4>().is_err() {
         return false;
@@ -92,7 +92,7 @@ pub(crate) fn is_name(word: &str) -> bool {
     !word.is_empty() && word.len() <= NAME_OCTETS
 }
 
-/// The limit of octets a second that a word gives, if there is one: nothing where the word is none.
+/// The limit in octets a second: `Some(None)` without a word, `None` where the word is not such a limit.
 pub(crate) fn limit_of(word: Option<&str>) -> Option<Option<u64>>
     ensures { result ≡ limit_of (option_map (λ word. word.now) word.entry) }
 {
@@ -102,7 +102,7 @@ pub(crate) fn limit_of(word: Option<&str>) -> Option<Option<u64>>
     }
 }
 
-/// The seconds that a word gives, likewise.
+/// The seconds, likewise.
 pub(crate) fn seconds_of(word: Option<&str>) -> Option<Option<u64>>
     ensures { result ≡ seconds_of (option_map (λ word. word.now) word.entry) }
 {
@@ -112,7 +112,7 @@ pub(crate) fn seconds_of(word: Option<&str>) -> Option<Option<u64>>
     }
 }
 
-/// The number of the first transaction that a word gives, likewise.
+/// The number of the first transaction, likewise.
 pub(crate) fn first_number(word: Option<&str>) -> Option<Option<u64>>
     ensures { result ≡ first_number (option_map (λ word. word.now) word.entry) }
 {
@@ -122,7 +122,7 @@ pub(crate) fn first_number(word: Option<&str>) -> Option<Option<u64>>
     }
 }
 
-/// How many workers a word asks for: 4 where there is none.
+/// How many workers a word asks for; 4 without a word.
 pub(crate) fn workers_of(word: Option<&str>) -> Option<u64>
     ensures { result ≡ workers_of (option_map (λ word. word.now) word.entry) }
 {

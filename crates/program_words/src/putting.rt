@@ -11,31 +11,31 @@ use cfdp_types::{Class, EntityId};
 use clap::{Arg, ArgAction, ArgMatches, Command};
 use std::alloc::{AllocError, Global};
 
-/// What is put, and how.
+/// What a command line asks to put, and how.
 #[derive(Clone, Copy, Debug)]
 pub struct PutWords<'a> {
     /// The path of the configuration's file.
     pub config: &'a str,
     /// The address that the program listens at: `A.B.C.D:PORT`.
     pub bind: &'a str,
-    /// The name of the user who puts.
+    /// The name of the user whose Put it is.
     pub user: &'a str,
-    /// The entity that receives.
+    /// The remote entity that receives the file.
     pub remote: EntityId,
     pub class: Class,
-    /// The file to be read, which is its name at the sender, too: 1 to 255 octets.
+    /// The path of the file, and its source file name: 1 to 255 octets.
     pub source: &'a str,
-    /// Its name at the receiver: 1 to 255 octets.
+    /// Its destination file name: 1 to 255 octets.
     pub destination_name: &'a str,
-    /// How many octets of the file's PDUs may leave in a second, where that is limited.
+    /// How many octets of the file's PDUs may be sent in a second, if that is limited.
     pub rate: Option<u64>,
-    /// Whether the receiver is asked to say at the end what became of the file: class 1 alone heeds it.
+    /// Whether the receiver is asked to report at the end what became of the file; it matters in class 1 only.
     pub closure: bool,
-    /// The number of the entity's first transaction, where it is another than the configuration's: at most 2^63 - 1.
+    /// The number of the entity's first transaction, if not the configuration's: at most 2^63 - 1.
     pub first: Option<u64>,
-    /// The path of the file that says where numbers begin.
+    /// The path of the file that keeps where transaction numbers begin.
     pub numbers: Option<&'a str>,
-    /// Whether datagrams from addresses that the configuration doesn't have are dropped.
+    /// Whether datagrams from addresses that aren't in the configuration are dropped.
     pub known_sources: bool,
 }
 
@@ -74,7 +74,7 @@ pub fn put_version() -> &'static str {
     "cfdp_put 0.1\n"
 }
 
-// A word that stands by its place.
+// A positional word.
 fn word<'a>(alloc: Global, name: &'static str) -> Arg<'a>
     ensures rule { rule_of result ≡ placed name.entry.now }
     ensures local { result.global ≡ false }
@@ -103,7 +103,7 @@ pub(crate) fn command<'a>(alloc: Global) -> Result<Command<'a>, AllocError>
     Ok(command)
 }
 
-// A class by its number.
+// A class, from its number.
 fn class_of(word: &str) -> Option<Class>
     ensures { result ≡ class_of word.now }
 {
@@ -113,7 +113,7 @@ fn class_of(word: &str) -> Option<Class>
     }
 }
 
-// What the matches of a command line say.
+// The words that the matches of a command line give.
 fn words_in<'a>(matches: &ArgMatches<'a>) -> Option<PutWords<'a>>
     ensures { IfSome result (λ words. PutSays (found_in (found_of matches.now)) words) }
 {
@@ -148,7 +148,7 @@ fn words_in<'a>(matches: &ArgMatches<'a>) -> Option<PutWords<'a>>
     })
 }
 
-// What a line says to a command with the program's options.
+// Parses a line with the program's options.
 fn words_by<'a>(command: Command<'a>, line: &'a [String]) -> Result<PutWords<'a>, WordsFault>
     requires { app_of command ≡ put_program }
     ensures { IfOk result (λ words. PutSays (given_by put_program (map string_bytes line.entry.now)) words) }
@@ -159,7 +159,7 @@ fn words_by<'a>(command: Command<'a>, line: &'a [String]) -> Result<PutWords<'a>
     }
 }
 
-/// What a command line of the program says; its first word is the program's own name.
+/// Parses a command line of the program; its first word is the program's own name.
 pub fn put_words<'a>(alloc: Global, line: &'a [String]) -> Result<PutWords<'a>, WordsFault>
     ensures { IfOk result (λ words. PutSays (given_by put_program (map string_bytes line.entry.now)) words) }
 {

@@ -9,7 +9,7 @@ use cfdp_types::EntityId;
 use line_words::decimal;
 use std::alloc::Global;
 
-/// How many octets a second may leave for files, to one remote entity or to all that have no limit of their own.
+/// How many octets of files may be sent in a second, to one remote entity or to all that have no limit of their own.
 #[derive(Clone, Copy, Debug, PartialEq, Eq)]
 pub struct Rate {
     pub remote: Option<EntityId>,
@@ -28,7 +28,7 @@ fn rate_of(word: &str) -> Option<Rate>
     }
 }
 
-// Where the first sign `=` stands.
+// The place of the first `=`.
 fn equals_place(word: &[u8]) -> Option<usize>
     ensures place { result ≡ equals_place word.now }
     ensures range { IfSome result (λ place. place < length word.now) }
@@ -36,7 +36,7 @@ fn equals_place(word: &[u8]) -> Option<usize>
     word.iter().position(|octet| *octet == b'=')
 }
 
-// The limit of all the rest.
+// The limit of all remote entities without one of their own.
 fn rest_rate(word: &[u8]) -> Option<Rate>
     ensures { result ≡ rate_by None word.now }
 {
@@ -47,7 +47,7 @@ fn rest_rate(word: &[u8]) -> Option<Rate>
     })
 }
 
-// The limit of the remote entity that stands before a place.
+// The limit of the remote entity that is named before the `=` at this place.
 fn rate_at(word: &[u8], place: usize) -> Option<Rate>
     requires { place < length word.now }
     ensures { result ≡ rate_by (Some place) word.now }
@@ -60,7 +60,7 @@ fn rate_at(word: &[u8], place: usize) -> Option<Rate>
     })
 }
 
-/// The limits that words write. None is of a remote entity that has one already, and one at most of all the rest.
+/// The limits that words write: at most one for each remote entity, and at most one for all the rest.
 pub(crate) fn rates_of(alloc: Global, words: Option<&[&str]>) -> Result<Vec<Rate>, WordsFault>
     ensures { IfOk result (λ rates. map Some rates.items
         ≡ rates_of (option_map (λ words. map (λ word. word.now) words.now) words.entry)) }
@@ -89,7 +89,7 @@ fn each_rate(alloc: Global, words: &[&str]) -> Result<Vec<Rate>, WordsFault>
     Ok(rates)
 }
 
-// Whether there is a limit of a remote entity, or of all the rest.
+// Whether there is a limit for this remote entity, or for all the rest.
 fn has_limit(rates: &[Rate], remote: Option<EntityId>) -> bool {
     rates.iter().any(|rate| rate.remote == remote)
 }

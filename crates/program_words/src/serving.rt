@@ -11,7 +11,7 @@ use crate::rates::{Rate, rates_of};
 use clap::{ArgMatches, Command};
 use std::alloc::{AllocError, Global};
 
-/// What the server is started with.
+/// What the server's command line asks for.
 #[derive(Debug, Drop)]
 pub struct ServerWords<'a> {
     /// The path of the configuration's file.
@@ -22,26 +22,26 @@ pub struct ServerWords<'a> {
     pub folder: &'a str,
     /// How many workers bring datagrams to their lanes: 1 to 16.
     pub workers: u64,
-    /// How many octets of files' PDUs may leave in a second, where that is limited: at most one limit of each remote entity, and
-    /// one of all the rest.
+    /// How many octets of files' PDUs may be sent in a second, if that is limited: at most one limit for each remote
+    /// entity, and one for all the rest.
     pub rates: Vec<Rate>,
-    /// Whether each user's indications are printed as they come.
+    /// Whether each user's indications are printed as they are issued.
     pub follow: bool,
-    /// The path of the socket by which clients command the server, in place of standard input and output.
+    /// The path of the socket where clients command the server, instead of standard input and output.
     pub control: Option<&'a str>,
     /// The path of the file to which events are appended.
     pub log: Option<&'a str>,
-    /// The path of the file that says where numbers begin.
+    /// The path of the file that keeps where transaction numbers begin.
     pub numbers: Option<&'a str>,
-    /// Whether datagrams from addresses that the configuration doesn't have are dropped.
+    /// Whether datagrams from addresses that aren't in the configuration are dropped.
     pub known_sources: bool,
-    /// Whether nothing leaves for any remote entity until it is released.
+    /// Whether nothing is sent to any remote entity until it is released.
     pub hold: bool,
     /// Whether slashes in a received file's name lead into folders.
     pub tree: bool,
-    /// Whether a file that is there is kept, and the new one gets a name of its own.
+    /// Whether an existing file is kept, and the new one gets another name.
     pub keep: bool,
-    /// For how many seconds a received file that can't be stored is tried again: 1 to 86,400.
+    /// For how many seconds storing a received file is retried: 1 to 86,400.
     pub retry: Option<u64>,
 }
 
@@ -120,7 +120,7 @@ pub(crate) fn command<'a>(alloc: Global) -> Result<Command<'a>, AllocError>
     Ok(command)
 }
 
-// What the matches of a command line say.
+// The words that the matches of a command line give.
 fn words_in<'a>(alloc: Global, matches: &ArgMatches<'a>) -> Result<ServerWords<'a>, WordsFault>
     ensures { IfOk result (λ words. ServerSays (found_in (found_of matches.now)) words) }
 {
@@ -128,7 +128,7 @@ fn words_in<'a>(alloc: Global, matches: &ArgMatches<'a>) -> Result<ServerWords<'
     words_with(matches, rates).ok_or(WordsFault::Usage)
 }
 
-// The same, with the limits that were read of it.
+// The same, with the limits that were read from the matches.
 fn words_with<'a>(matches: &ArgMatches<'a>, rates: Vec<Rate>) -> Option<ServerWords<'a>>
     requires { rates_of ((found_in (found_of matches.now)).all (codes "rate")) ≡ map Some rates.items }
     ensures { IfSome result (λ words. ServerSays (found_in (found_of matches.now)) words) }
@@ -168,7 +168,7 @@ fn words_with<'a>(matches: &ArgMatches<'a>, rates: Vec<Rate>) -> Option<ServerWo
     })
 }
 
-// What a line says to a command with the program's options.
+// Parses a line with the program's options.
 fn words_by<'a>(
     alloc: Global,
     command: Command<'a>,
@@ -183,7 +183,7 @@ fn words_by<'a>(
     }
 }
 
-/// What a command line of the server says; its first word is the program's own name.
+/// Parses a command line of the server; its first word is the program's own name.
 pub fn server_words<'a>(alloc: Global, line: &'a [String]) -> Result<ServerWords<'a>, WordsFault>
     ensures { IfOk result (λ words. ServerSays (given_by server_program (map string_bytes line.entry.now)) words) }
 {

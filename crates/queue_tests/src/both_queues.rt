@@ -1,4 +1,4 @@
-//! Offers and takes, each at both kinds of queue and at a plain list of what is held.
+//! Plays offers and takes with both kinds of queue, and compares them with a plain list.
 ghost use Rattle.std.specs.Prelude.{◌≡◌, ◌<◌, ◌+◌, ◌++◌, ◌∷◌, [], List, IsTrue, not, OnOk};
 ghost use Rattle.indications.specs.LaneLists.{IsLaneList};
 ghost use Rattle.indications.specs.declared.bundle.Bundle.{Bundle as BundleValue};
@@ -18,7 +18,7 @@ use user_queues::{LaneOutlet, ListQueue};
 // How many turns there are.
 const COUNT: u64 = 10_000;
 
-// What is done with a queue.
+// One turn with a queue.
 #[derive(Clone, Copy)]
 enum Turn {
     FirstOffers,
@@ -26,14 +26,14 @@ enum Turn {
     Take,
 }
 
-// What comes of it.
+// The result of a turn.
 #[derive(Drop)]
 enum Told {
     Offered { is_taken: bool },
     Taken(Option<Bundle>),
 }
 
-// The turns, always the same, as if drawn by lot: half of them takes.
+// Turns from a fixed pseudo-random sequence: half of them are takes.
 #[derive(Drop)]
 struct Draws {
     state: u32,
@@ -57,7 +57,7 @@ fn new_draws() -> Draws {
     Draws { state: 1 }
 }
 
-// Whether the same came, bundle by bundle.
+// Whether two lists have the same results, bundle by bundle.
 fn are_same(told: &[Told], expected: &[Told]) -> bool {
     told.len() == expected.len()
         && told
@@ -75,7 +75,7 @@ fn is_same(told: &Told, expected: &Told) -> bool {
     }
 }
 
-// A plain list with room for so many.
+// One turn with a plain list that has room for `capacity` bundles.
 fn modelled_turn(
     alloc: Global,
     held: &mut VecDeque<Bundle>,
@@ -105,7 +105,7 @@ fn modelled(alloc: Global, capacity: usize) -> Result<Vec<Told>, AllocError> {
     Ok(told)
 }
 
-// Whether a queue of one thread took a bundle of a lane.
+// Whether a one-thread queue took a bundle of a lane.
 fn put(queue: &mut ListQueue, lane: usize, bundle: Bundle) -> bool
     requires lanes { lane < queue.old.lanes }
     requires of_user { bundle.user ≡ queue.old.user }
@@ -118,7 +118,7 @@ fn put(queue: &mut ListQueue, lane: usize, bundle: Bundle) -> bool
     queue.outlet(lane).offer(bundle).is_ok()
 }
 
-// The bundle with the next number goes to a queue of one thread.
+// Puts the bundle with the next number into a one-thread queue.
 fn put_next(
     alloc: Global,
     queue: &mut ListQueue,
@@ -162,7 +162,7 @@ fn listed(alloc: Global, capacity: usize) -> Result<Vec<Told>, AllocError> {
     Ok(told)
 }
 
-// Whether a queue that threads share took a bundle of a lane.
+// Whether a shared queue took a bundle of a lane.
 fn offer<R: Wait + Copy>(outlet: &mut LaneOutlet<R>, bundle: Bundle) -> bool
     requires of_user { bundle.user ≡ outlet.old.knows.user }
     requires of_lane { bundle.lane ≡ outlet.old.knows.lane }
@@ -173,7 +173,7 @@ fn offer<R: Wait + Copy>(outlet: &mut LaneOutlet<R>, bundle: Bundle) -> bool
     outlet.offer(bundle).is_ok()
 }
 
-// The bundle with the next number goes to a queue that threads share.
+// Offers the bundle with the next number to a shared queue.
 fn offer_next<R: Wait + Copy>(
     alloc: Global,
     outlet: &mut LaneOutlet<R>,
@@ -222,12 +222,12 @@ fn shared<R: Wait + Copy>(
     Ok(told)
 }
 
-// Whether a queue of one thread gave this.
+// Whether a one-thread queue gave these results.
 fn is_listed(alloc: Global, capacity: usize, expected: &[Told]) -> Result<bool, AllocError> {
     Ok(are_same(listed(alloc, capacity)?.as_slice(), expected))
 }
 
-// Whether a queue that threads share gave this.
+// Whether a shared queue gave these results.
 fn is_shared<R: Wait + Copy>(
     rt: R,
     alloc: Global,
@@ -246,7 +246,7 @@ fn count_of(told: &[Told], one: &Told) -> usize {
     told.iter().filter(|other| is_same(other, one)).count()
 }
 
-// Whether the queue was often full, and often empty.
+// Whether the queue was often full and often empty.
 fn is_varied(told: &[Told]) -> bool {
     count_of(told, &Told::Offered { is_taken: false }) > 100
         && count_of(told, &Told::Taken(None)) > 100

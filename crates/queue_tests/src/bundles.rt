@@ -1,4 +1,4 @@
-//! What lanes send here: transactions that are over at once.
+//! The bundles that lanes send in these tests: of transactions that end at once.
 ghost use Rattle.std.specs.Prelude.{IfOk};
 ghost use Rattle.queue_tests.specs.Senders.{IsOver};
 
@@ -6,10 +6,10 @@ use cfdp_types::{Condition, EntityId, TxnKey};
 use indications::{Bundle, Indication, Indications};
 use std::alloc::{AllocError, Global};
 
-// How many a progress may be.
+// The number of different progress values.
 const PROGRESSES: u64 = 4_294_967_296;
 
-/// The only bundle of the transaction with a number, which its progress tells too.
+/// The only bundle of the transaction with this number, which is also its progress.
 pub(crate) fn bundle_of(alloc: Global, lane: usize, seq: u64) -> Result<Bundle, AllocError>
     ensures { IfOk result (λ bundle. IsOver bundle lane seq) }
 {
@@ -30,7 +30,7 @@ pub(crate) fn bundle_of(alloc: Global, lane: usize, seq: u64) -> Result<Bundle, 
     })
 }
 
-/// Whether two bundles are alike in all that they hold.
+/// Whether two bundles have the same content.
 pub(crate) fn are_alike(bundle: &Bundle, other: &Bundle) -> bool {
     bundle.user == other.user
         && bundle.lane == other.lane

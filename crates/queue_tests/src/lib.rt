@@ -1,5 +1,5 @@
-//! Users' queues of both kinds, of one thread and of several: that offers and takes are answered alike, and that all
-//! that lanes send comes.
+//! Users' queues of both kinds, one-thread and shared: both answer offers and takes alike, and every bundle that a lane
+//! sends arrives.
 #![tactic(auto)]
 
 #[cfg(test)]

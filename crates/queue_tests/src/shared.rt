@@ -1,4 +1,4 @@
-//! Threads put bundles into a queue, and another takes them.
+//! Threads put bundles into a queue, and another thread takes them.
 ghost use Rattle.std.specs.Prelude.{◌≡◌, ◌<◌, ◌++◌, ◌∷◌, [], All, IfOk, IfSome, IsTrue};
 ghost use Rattle.indications.specs.LaneLists.{IsLaneList};
 ghost use Rattle.queue_rule.specs.Views.{with_sent};
@@ -22,13 +22,13 @@ const COUNT: u64 = 100;
 // How often each end tries.
 const TURNS: u32 = 200_000;
 
-// Lets other threads go on for a moment. A thread that only yields may have had all its turns before another one that it
-// waits for had its first.
+// Lets other threads run for a moment. If a thread only yields, it may use up all its turns before the thread that it
+// waits for has its first.
 fn pause<R: Wait>(rt: &R) {
     Parker::new().park_timeout(rt, Duration::from_micros(50));
 }
 
-// Offers the bundle again and again, and tells where the queue was full; whether it was taken.
+// Offers a bundle until it is taken, and notes when the queue was full; answers whether it was taken.
 fn offer<R: Wait + Copy>(
     rt: &R,
     outlet: &mut LaneOutlet<R>,
@@ -52,7 +52,7 @@ fn offer<R: Wait + Copy>(
     false
 }
 
-// Whether all bundles of a lane were taken.
+// Sends all bundles of a lane; answers whether all were taken.
 fn produce<R: Wait + Copy>(
     rt: &R,
     alloc: Global,
@@ -71,7 +71,7 @@ fn produce<R: Wait + Copy>(
     Ok(true)
 }
 
-// Whether a bundle is the next of its lane, whose last one it is from then on.
+// Whether a bundle is the next one of its lane, whose last number it then is.
 fn comes_next(alloc: Global, last: &mut [u64], bundle: &Bundle) -> Result<bool, AllocError> {
     let Some(last) = last.get_mut(bundle.lane) else {
         return Ok(false);
@@ -83,8 +83,8 @@ fn comes_next(alloc: Global, last: &mut [u64], bundle: &Bundle) -> Result<bool, 
     Ok(are_alike(bundle, &bundle_of(alloc, bundle.lane, *last)?))
 }
 
-// Whether all bundles of each lane come, those of a lane in order. The number of the last of each is kept. A slow user
-// waits after each.
+// Takes bundles until all of each lane have come; answers whether each lane's came in order. `last` has the last number
+// of each lane. A slow user waits after each bundle.
 fn consume<R: Wait>(
     rt: &R,
     alloc: Global,
@@ -109,7 +109,7 @@ fn consume<R: Wait>(
     Ok(false)
 }
 
-// The ends of the queue of the only user, with room for so many bundles.
+// The queue of the only user, with room for `capacity` bundles.
 fn ends<R: Wait + Copy>(
     rt: R,
     alloc: Global,
@@ -135,7 +135,7 @@ pub(crate) struct TwoEnds<R: Copy> {
     pub(crate) second: LaneOutlet<R>,
 }
 
-/// Those of a queue with room for so many bundles.
+/// A queue of two lanes with room for `capacity` bundles.
 pub(crate) fn ends_of_two<R: Wait + Copy>(
     rt: R,
     alloc: Global,
@@ -195,7 +195,7 @@ fn are_given_back<R: Wait + Copy>(rt: &R, ends: TwoEnds<R>) -> bool
     port.is_complete() && port.take(rt).is_none()
 }
 
-// All lanes send, each in a thread of its own; whether all bundles were taken.
+// Has all lanes send, each in a thread of its own; answers whether all bundles were taken.
 fn produce_all<R: Threads + Wait + Copy + Send + Sync>(
     rt: &R,
     alloc: Global,
@@ -223,7 +223,7 @@ fn produce_all<R: Threads + Wait + Copy + Send + Sync>(
     Ok(true)
 }
 
-// Waits until some lane met a full queue; whether one did.
+// Waits until a lane has met a full queue; answers whether one did.
 fn waits_until<R: Wait>(rt: &R, was_full: &AtomicBool) -> bool {
     for _ in 0..TURNS {
         if was_full.load(Ordering::SeqCst) {
@@ -234,8 +234,8 @@ fn waits_until<R: Wait>(rt: &R, was_full: &AtomicBool) -> bool {
     false
 }
 
-// Lanes send to a queue with room for four bundles; whether all come, those of each lane in order, and nothing else. A
-// slow user takes nothing before some lane met a full queue.
+// Has lanes send to a queue with room for four bundles; answers whether all bundles come, those of each lane in order,
+// and no others. A slow user takes nothing before a lane has met a full queue.
 fn all_come<R: Threads + Wait + Copy + Send + Sync>(
     rt: R,
     alloc: Global,

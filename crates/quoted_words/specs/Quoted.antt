@@ -5,7 +5,7 @@ use Rattle.line_words.specs.Words.{words_of}
 use Rattle.quoted_words.specs.declared.splitter.Mode.{Mode}
 use Rattle.quoted_words.specs.declared.splitter.Mode.TheVariants.{Begin, Plain, Quoted, Escaped, FirstDigit, LastDigit, Closed, Bad}
 
--- a line on its way: the words that ended, the octets of the word that is read, and where the next octet stands
+-- a line that is being read: the words that ended, the octets of the current word, and how the next octet is read
 pub record Reading : Type 0 where
   pub words : List (List ℕ)
   pub word : List ℕ
@@ -15,7 +15,7 @@ pub record Reading : Type 0 where
 abbrev pub start : Reading
 start = record { words = []; word = []; mode = Begin }
 
--- ---- what comes of an octet
+-- ---- the effects of an octet
 
 -- it ends the word
 abbrev pub with_end : Reading → Reading
@@ -25,7 +25,7 @@ with_end r = record { words = r.words ++ r.word ∷ []; word = []; mode = Begin 
 abbrev pub with_octet : Mode → ℕ → Reading → Reading
 with_octet mode octet r = record { words = r.words; word = r.word ++ octet ∷ []; mode = mode }
 
--- the word has no more
+-- the word stays, and the next octet is read in this mode
 abbrev pub with_mode : Mode → Reading → Reading
 with_mode mode r = record { words = r.words; word = r.word; mode = mode }
 
@@ -48,7 +48,7 @@ digits_octet (Some high) (Some low) = Some (high * 16 + low)
 abbrev pub hex_octet : ℕ → ℕ → Option ℕ
 hex_octet high low = digits_octet (hex_digit high) (hex_digit low)
 
--- ---- what an octet does, by where it stands
+-- ---- what an octet does, by the mode
 
 -- without quotes: a space ends the word, and any other octet of ASCII stands for itself
 abbrev pub plain_octet : ℕ → Reading → Reading
@@ -68,7 +68,7 @@ quoted_octet octet r =
     else if octet == 92 then with_mode Escaped r
     else with_octet Quoted octet r
 
--- behind a backslash: a quote, a backslash, or the x before two hex digits
+-- after a backslash: a quote, a backslash, or the x before two hex digits
 abbrev pub escaped_octet : ℕ → Reading → Reading
 escaped_octet octet r =
     if (octet == 34) || (octet == 92) then with_octet Quoted octet r
@@ -84,7 +84,7 @@ with_written (Some octet) r = with_octet Quoted octet r
 abbrev pub last_digit : ℕ → ℕ → Reading → Reading
 last_digit first octet r = with_written (hex_octet first octet) r
 
--- behind closing quotes: a space ends the word
+-- after closing quotes: a space ends the word
 abbrev pub closed_octet : ℕ → Reading → Reading
 closed_octet octet r = if octet == 32 then with_end r else with_mode Bad r
 
@@ -103,7 +103,7 @@ next_octet octet r = octet_in r.mode octet r
 
 -- ---- whole lines
 
--- a line on its way, after more of its octets
+-- a line that is being read, after more of its octets
 abbrev pub after : Reading → List ℕ → Reading
 after r [] = r
 after r (octet ∷ line) = after (next_octet octet r) line

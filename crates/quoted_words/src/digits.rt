@@ -1,4 +1,4 @@
-//! Octets that two hex digits write.
+//! Octets written as two hex digits.
 ghost use Rattle.std.specs.Prelude.{◌≡◌, ◌<◌, IfSome};
 ghost use Rattle.quoted_words.specs.Quoted.{hex_digit, hex_octet};
 

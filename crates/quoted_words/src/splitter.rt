@@ -1,4 +1,4 @@
-//! A line with quotes, read octet by octet.
+//! Reads a line with quotes, octet by octet.
 ghost use Rattle.std.specs.Prelude.{◌≡◌, [], IfOk, OnOk};
 ghost use Rattle.quoted_words.specs.Quoted.{quoted_words_of, start, next_octet, first_octet, plain_octet, quoted_octet, escaped_octet, last_digit, closed_octet, with_end, with_octet, with_mode, words_at_end};
 
@@ -7,7 +7,7 @@ use cfdp_types::Octets;
 use std::alloc::{AllocError, Global};
 use std::marker::Model;
 
-/// Where in a line the next octet stands.
+/// How the next octet of a line is read.
 #[derive(Clone, Copy, Debug)]
 pub enum Mode {
     /// At the beginning of a word.
@@ -16,15 +16,15 @@ pub enum Mode {
     Plain,
     /// Inside quotes.
     Quoted,
-    /// Inside quotes, behind a backslash.
+    /// Inside quotes, after a backslash.
     Escaped,
-    /// Inside quotes, where the first of two hex digits is wanted.
+    /// Inside quotes, where the first of two hex digits is expected.
     FirstDigit,
-    /// Inside quotes, behind this octet, where the second one is wanted.
+    /// Inside quotes, after this first hex digit, where the second one is expected.
     LastDigit(u8),
-    /// Behind closing quotes.
+    /// After closing quotes.
     Closed,
-    /// In a line that isn't made of words.
+    /// After an octet that a line may not have there.
     Bad,
 }
 
@@ -50,7 +50,7 @@ impl WordList {
     }
 }
 
-// A line on its way.
+// A line that is being read.
 #[derive(Drop)]
 struct Splitter {
     alloc: Global,
@@ -67,7 +67,7 @@ impl Model for Splitter {
     ghost view = { λ s. record { words = s.words.items; word = s.word.items; mode = s.mode } };
 }
 
-/// The words of a line, where each may stand in double quotes; nothing where the line isn't made of words.
+/// The words of a line, where each may stand in double quotes; `None` where the line isn't made of words.
 pub fn quoted_words(alloc: Global, line: &[u8]) -> Result<Option<WordList>, AllocError>
     ensures { IfOk result (λ words. words ≡ quoted_words_of line.now) }
 {
@@ -105,7 +105,7 @@ impl Splitter {
         }
     }
 
-    // Takes the next octet of the line.
+    // Reads the next octet of the line.
     fn read(&mut self, octet: u8) -> Result<(), AllocError>
         ensures { OnOk result (self.new ≡ next_octet octet self.old) }
     {
@@ -197,7 +197,7 @@ impl Splitter {
         Ok(())
     }
 
-    // The word goes on with an octet.
+    // Appends an octet to the word.
     fn add(&mut self, mode: Mode, octet: u8) -> Result<(), AllocError>
         ensures { OnOk result (self.new ≡ with_octet mode octet self.old) }
     {
@@ -206,7 +206,7 @@ impl Splitter {
         Ok(())
     }
 
-    // The word ends.
+    // Ends the word.
     fn end_word(&mut self) -> Result<(), AllocError>
         ensures { OnOk result (self.new ≡ with_end self.old) }
     {

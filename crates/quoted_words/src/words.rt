@@ -1,4 +1,4 @@
-//! The words of a line, taken one after the other.
+//! Takes the words of a line in order.
 ghost use Rattle.std.specs.Prelude.{◌≡◌, [], ◌∷◌, MatchOption};
 ghost use Rattle.std.specs.Option.{option_copied};
 ghost use Rattle.line_words.specs.Words.{words_of, only_word};
@@ -8,10 +8,10 @@ use cfdp_types::Octets;
 use line_words::{Rest, split_word};
 use std::marker::Model;
 
-/// What is left of a line's words. Contracts see the list of them.
+/// The rest of a line's words. Contracts see the list of them.
 #[derive(Drop)]
 pub struct Words<'a> {
-    // the words of a text that isn't split yet, and words behind them
+    // the words of a text that isn't split yet, and words after them
     text: Rest<'a>,
     list: &'a [Octets],
 }

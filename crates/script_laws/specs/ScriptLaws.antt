@@ -1,4 +1,4 @@
--- Meaning. What holds of every script that is played.
+-- Meaning. Laws of every script that is played.
 use Rattle.std.specs.Prelude.{ℕ, IsTrue, List}
 use Rattle.config_reading.specs.Values.{is_config}
 use Rattle.world_table.specs.Histories.{IsHistory}
@@ -7,7 +7,7 @@ use Rattle.world_core.specs.Routed.{AreRouted}
 use Rattle.script_replay.specs.Sessions.{Session, fresh}
 use Rattle.script_replay.specs.Run.{Plays}
 
--- what has happened can happen in an entity of the session's configuration, each event where it belongs
+-- the history can happen in an entity of the session's configuration, each event where it belongs
 pub record CanBe (session : Session) : Type 0 where
   pub kept : IsTrue (is_config session.config)
   pub routed : AreRouted session.config session.history

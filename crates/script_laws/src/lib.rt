@@ -1,4 +1,4 @@
-//! What holds of every script that is played, over the definitions alone.
+//! Laws of every script, about the definitions alone.
 #![tactic(auto)]
 
 pub mod laws;

@@ -1,4 +1,4 @@
--- Meaning. What a line of a script says.
+-- Meaning. What a line of a script asks for.
 use Rattle.std.specs.Prelude.{ℕ, ◌-◌, ◌^◌, ◌==◌, Bool, true, false, if◌then◌else◌, List, [], ◌∷◌, length, Option, Some, None, is_some, codes, option_and_then}
 use Rattle.std.specs.Option.{option_map}
 use Rattle.std.specs.Result.{result_ok}
@@ -28,7 +28,7 @@ use Rattle.line_words.specs.Operands.{◌>>=◌, number_of, key_from, name_of, c
 abbrev pub stamp_of : List ℕ → Option ℕ
 stamp_of word = decimal_of (2 ^ 32 - 1) word
 
--- a user's number, and one of the user's two sending lanes
+-- a user's number, from the user's name, and the number of one of a user's two sending lanes
 abbrev pub user_of : List ℕ → Option ℕ
 user_of word =
     if bytes_eq word (codes "alice") then Some 0
@@ -42,7 +42,7 @@ lane_of word = decimal_of 1 word
 abbrev pub octets_of : List ℕ → Option (List ℕ)
 octets_of word = if length word == 0 then None else result_ok (decode_of word)
 
--- those of a file: a dash writes none
+-- the octets of a file, in hex; a dash for an empty file
 abbrev pub file_of : List ℕ → Option (List ℕ)
 file_of word = if bytes_eq word (codes "-") then Some [] else octets_of word
 
@@ -83,7 +83,7 @@ checksum_of word =
 
 -- ---- lines
 
--- set NAME N, by its two words
+-- set NAME N, from its two words
 abbrev pub set_number : List ℕ → ℕ → Option Command
 set_number name n =
     if bytes_eq name (codes "capacity") then Some (command.Set (setting.Capacity n))
@@ -93,13 +93,13 @@ set_number name n =
     else if bytes_eq name (codes "check_limit") then Some (command.Set (setting.CheckLimit n))
     else None
 
--- set NAME VALUE, by its two words: a checksum, or a number
+-- set NAME VALUE, from its two words: a checksum, or a number
 abbrev pub set_value : List ℕ → List ℕ → Option Command
 set_value name value =
     if bytes_eq name (codes "checksum") then option_map (λ c. command.Set (setting.Checksum c)) (checksum_of value)
     else option_and_then (set_number name) (number_of value)
 
--- set ROLE CONDITION HANDLER, by its three words
+-- set ROLE CONDITION HANDLER, from its three words
 abbrev pub set_handler : List ℕ → List ℕ → List ℕ → Option Command
 set_handler role condition handler = do
   of_role ← role_of role
@@ -107,7 +107,7 @@ set_handler role condition handler = do
   does ← handler_of handler
   Some (command.Set (setting.Handler of_role code does))
 
--- by what stands behind two words
+-- a setting, from its first two words and the words after them
 abbrev pub set_with : List ℕ → List ℕ → List (List ℕ) → Option Command
 set_with name value [] = set_value name value
 set_with role condition (handler ∷ []) = set_handler role condition handler
@@ -122,7 +122,7 @@ abbrev pub deliver_of : List (List ℕ) → Option Command
 deliver_of (octets ∷ []) = option_map (λ o. command.Event (events.Deliver o)) (octets_of octets)
 deliver_of operands = None
 
--- a request of a user, by its four words
+-- a user's request, from its four words
 abbrev pub asked_from : List ℕ → List ℕ → List ℕ → List ℕ → Option Command
 asked_from kind user source seq = do
   of_user ← user_of user
@@ -169,7 +169,7 @@ abbrev pub take_of : List (List ℕ) → Option Command
 take_of (user ∷ []) = option_map command.Take (user_of user)
 take_of operands = None
 
--- a Put without messages, where its names are some and not too long
+-- a Put without messages, if its names are neither empty nor too long
 abbrev pub put_made : ℕ → Class → List ℕ → List ℕ → List ℕ → Option PutValue
 put_made destination class source_name destination_name file =
     if is_some (put_fault source_name destination_name []) then None
@@ -183,7 +183,7 @@ put_made destination class source_name destination_name file =
       file = file;
     })
 
--- of what is to be sent: CLASS DEST SRC DST FILE
+-- a Put, from CLASS DEST SRC DST FILE
 abbrev pub put_from : List ℕ → List ℕ → List ℕ → List ℕ → List ℕ → Option PutValue
 put_from class destination source_name destination_name file = do
   of_class ← class_of class
@@ -200,7 +200,7 @@ put_words (class ∷ destination ∷ source_name ∷ destination_name ∷ file �
   Some (record put { closure = closure })
 put_words operands = None
 
--- a Put of a user's lane
+-- a Put on a user's lane
 abbrev pub put_at : List ℕ → List ℕ → List (List ℕ) → Option Command
 put_at user lane operands = do
   of_user ← user_of user
@@ -208,12 +208,12 @@ put_at user lane operands = do
   put ← put_words operands
   Some (command.Event (events.Request of_user (requests.Put of_lane put)))
 
--- put USER LANE CLASS DEST SRC DST FILE, and closure where it is asked for
+-- put USER LANE CLASS DEST SRC DST FILE, with `closure` if that is wanted
 abbrev pub put_of : List (List ℕ) → Option Command
 put_of (user ∷ lane ∷ operands) = put_at user lane operands
 put_of operands = None
 
--- what happens to a transaction, or is asked for it
+-- a line about one transaction: an event, or a user's request
 abbrev pub of_transaction : List ℕ → List (List ℕ) → Option Command
 of_transaction kind operands =
     if bytes_eq kind (codes "stored") then stored_of operands
@@ -221,7 +221,7 @@ of_transaction kind operands =
     else if bytes_eq kind (codes "pump") then pump_of operands
     else asked_of kind operands
 
--- by the first word
+-- a line, by its first word
 abbrev pub command_by : List ℕ → List (List ℕ) → Option Command
 command_by kind operands =
     if bytes_eq kind (codes "pdu") then deliver_of operands
@@ -234,8 +234,7 @@ abbrev pub command_of_words : List (List ℕ) → Option Command
 command_of_words [] = None
 command_of_words (kind ∷ operands) = command_by kind operands
 
--- what a line says, or nothing where it is a bad line; an empty line and one that begins with `#`
--- are remarks
+-- a line of a script, or nothing for a bad line; empty lines and lines that begin with `#` are comments
 abbrev pub command_of : List ℕ → Option Command
 command_of [] = Some command.Nothing
 command_of (octet ∷ octets) =

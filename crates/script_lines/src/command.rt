@@ -1,4 +1,4 @@
-//! What a line of a script says.
+//! Parses a line of a script.
 ghost use Rattle.std.specs.Prelude.{◌≡◌, IfOk};
 ghost use Rattle.std.specs.Option.{option_copied};
 ghost use Rattle.script_lines.specs.Commands.{command_of, command_by, deliver_of, asked_of, asked_from, pump_of, timer_of, timer_from, stored_of, stored_from, take_of, of_transaction};
@@ -12,20 +12,20 @@ use entity_routing::WorldEvent;
 use line_words::{Rest, key_from, last_word, next_word, request_for, split_word};
 use std::alloc::{AllocError, Global};
 
-/// What a line of a script says.
+/// What a line of a script asks for.
 #[derive(Drop)]
 pub enum Command {
-    /// A setting of the configuration.
+    /// Changes the configuration.
     Set(Setting),
-    /// Something happens to the entity.
+    /// An event for the entity.
     Event(WorldEvent),
-    /// A user takes the bundle at the front.
+    /// A user, by number, takes the bundle at the front of its queue.
     Take(usize),
-    /// The line is a remark.
+    /// The line is empty or a comment.
     Nothing,
 }
 
-/// What a line says, or nothing where it is a bad line.
+/// Parses a line of a script; `None` for a bad line.
 pub fn command_of(alloc: Global, line: &[u8]) -> Result<Option<Command>, AllocError>
     ensures { IfOk result (λ command. command ≡ command_of line.now) }
 {
@@ -53,7 +53,7 @@ fn by_kind(alloc: Global, kind: &[u8], operands: Rest<'_>) -> Result<Option<Comm
     }
 }
 
-// What happens to a transaction, or is asked for it.
+// Parses a line about one transaction: an event, or a user's request.
 fn of_transaction(kind: &[u8], operands: Rest<'_>) -> Option<Command>
     ensures { result ≡ of_transaction kind.now (words_left (option_copied operands.entry)) }
 {

@@ -1,4 +1,4 @@
-//! What single words of a line write.
+//! Single words of a script's line, read as operands.
 ghost use Rattle.std.specs.Prelude.{◌≡◌, IfOk};
 ghost use Rattle.script_lines.specs.Commands.{stamp_of, user_of, lane_of, octets_of, file_of, answer_of, kind_of, role_of, handler_of, checksum_of};
 
@@ -13,7 +13,7 @@ pub(crate) fn stamp_of(word: &[u8]) -> Option<u32>
     Some(decimal(word, u64::from(u32::MAX))? as u32)
 }
 
-/// A user's number.
+/// A user's number, from the user's name.
 pub(crate) fn user_of(word: &[u8]) -> Option<usize>
     ensures { result ≡ user_of word.now }
 {
@@ -26,7 +26,7 @@ pub(crate) fn user_of(word: &[u8]) -> Option<usize>
     }
 }
 
-/// One of a user's two sending lanes.
+/// The number of one of a user's two sending lanes.
 pub(crate) fn lane_of(word: &[u8]) -> Option<usize>
     ensures { result ≡ lane_of word.now }
 {
@@ -47,7 +47,7 @@ pub(crate) fn octets_of(alloc: Global, word: &[u8]) -> Result<Option<Octets>, Al
     }
 }
 
-/// Those of a file: a dash writes none.
+/// The octets of a file, in hex; a dash for an empty file.
 pub(crate) fn file_of(alloc: Global, word: &[u8]) -> Result<Option<Octets>, AllocError>
     ensures { IfOk result (λ octets. octets ≡ file_of word.now) }
 {

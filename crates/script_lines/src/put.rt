@@ -11,7 +11,7 @@ use entity_routing::{Request, WorldEvent};
 use line_words::{Rest, class_of, closure_of, name_of, next_word, number_of};
 use std::alloc::{AllocError, Global};
 
-/// A Put, by what stands behind the first word.
+/// Parses a Put from the words after the first one.
 pub(crate) fn put(alloc: Global, operands: Rest<'_>) -> Result<Option<Command>, AllocError>
     ensures { IfOk result (λ command. command ≡ put_of (words_left (option_copied operands.entry))) }
 {

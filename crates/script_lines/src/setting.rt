@@ -10,7 +10,7 @@ use cfdp_types::Condition;
 use entity_config::Setting;
 use line_words::{Rest, decimal, last_word, next_word, number_of};
 
-/// A setting, by what stands behind the first word.
+/// Parses a setting from the words after the first one.
 pub(crate) fn set(operands: Rest<'_>) -> Option<Command>
     ensures { result ≡ set_of (words_left (option_copied operands.entry)) }
 {

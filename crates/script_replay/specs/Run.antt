@@ -1,4 +1,4 @@
--- Meaning. What a whole script prints.
+-- Meaning. The output of a whole script.
 use Rattle.std.specs.Prelude.{◌≡◌, ℕ, ◌+◌, ◌<◌, ◌≤◌, List, [], ◌∷◌, ◌++◌, length, take, slice_get, Option, Some, Result, Ok, Err, is_ok, if◌then◌else◌, ◌⊎◌, ⊤}
 use Rattle.std.specs.Io.KnownBytes.{Appends}
 use Rattle.script_io.specs.declared.fault.ReplayFault.{ReplayFault}
@@ -18,18 +18,18 @@ pub record PlaysLine (session : Session) (line : List ℕ) (after : Session) (te
   pub says : command_of line ≡ Some command
   pub answers : Answers session command after text
 
--- the lines are answered in turn, and all this is printed
+-- the lines are answered in order, and all this is printed
 abbrev pub Plays : Session → List (List ℕ) → Session → List ℕ → Type 0
 Plays session [] after text = (after ≡ session) × (text ≡ [])
 Plays session (line ∷ lines) after text =
     (mid : Session) × (first : List ℕ) × (others : List ℕ) × PlaysLine session line mid first × Plays mid lines after others × (text ≡ first ++ others)
 
--- a whole list of lines, played from the first on, prints this
+-- a whole list of lines, played from the first one, prints this
 pub record Prints (lines : List (List ℕ)) (text : List ℕ) : Type 0 where
   pub after : Session
   pub plays : Plays fresh lines after text
 
--- a line that a script may not have at this place, the first being 0, where it stands so
+-- a line that a script may not have at this place (from 0) of this session
 abbrev pub IsBad : ℕ → Session → List ℕ → Type 0
 IsBad place session line = (LINES ≤ place) ⊎ ((line_octets < length line) ⊎ IsBadFor session (command_of line))
 
@@ -49,8 +49,8 @@ pub record StopsBehind (lines : List (List ℕ)) (text : List ℕ) : Type 0 wher
   pub few : count ≤ LINES
   pub prints : Prints (take count lines) text
 
--- the line with this number, the first being 1, is the first bad one: the lines before it are no more than a script
--- may have, and were played
+-- the line with this number, from 1, is the first bad one: the lines before it, at most as many as a script may have,
+-- were played
 pub record StopsAt (lines : List (List ℕ)) (number : ℕ) (text : List ℕ) : Type 0 where
   pub place : ℕ
   pub number_is : number ≡ place + 1
@@ -58,13 +58,13 @@ pub record StopsAt (lines : List (List ℕ)) (number : ℕ) (text : List ℕ) : 
   pub prints : Prints (take place lines) text
   pub bad : IsBadAt lines place prints.after
 
--- which lines were played, by how the run ended, and what they print
+-- which lines were played, by how the run ended, and what they printed
 abbrev pub PlaysUntil : {A : Type 0} → Result A ReplayFault → List (List ℕ) → List ℕ → Type 0
 PlaysUntil (Ok done) lines text = PlaysWhole lines text
 PlaysUntil (Err (fault.BadLine number)) lines text = StopsAt lines number text
 PlaysUntil (Err why) lines text = StopsBehind lines text
 
--- how much of that was written: all of it, or a front where the writer failed
+-- how much of that was written: all of it, or its beginning if the writer failed
 abbrev pub Writes : {A : Type 0} → Result A ReplayFault → Option (List ℕ) → Option (List ℕ) → List ℕ → Type 0
 Writes (Err fault.Write) old new text = AppendsFront old new text
 Writes ended old new text = Appends old new text
@@ -75,8 +75,8 @@ pub record Replays (ended : Result ⊤ ReplayFault) (lines : List (List ℕ)) (o
   pub plays : PlaysUntil ended lines text
   pub written : Writes ended old new text
 
--- a run has ended with this exit status, and what it wrote and reported of its end stands at the writer of the answers
--- and beside it
+-- a run has ended with this exit status; its output and the report of its end were appended to the answers and the
+-- errors
 pub record EndsRun (status : ℕ) (lines : List (List ℕ)) (old new old_errors new_errors : Option (List ℕ)) : Type 0 where
   pub ended : Result ⊤ ReplayFault
   pub status_is : status ≡ (if is_ok ended then 0 else 1)

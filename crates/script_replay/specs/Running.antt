@@ -1,4 +1,4 @@
--- Of the code. Where a run stands between two lines.
+-- Of the code. The state of a run between two lines.
 use Rattle.std.specs.Prelude.{◌≡◌, ℕ, ◌+◌, ◌≤◌, Bool, true, false, List, [], ◌++◌, length, Option, Some, None, Result, Ok, Err}
 use Rattle.std.specs.Io.KnownBytes.{Appends}
 use Rattle.entity_config.specs.declared.setting.Setting.{Setting}
@@ -17,12 +17,12 @@ use Rattle.script_replay.specs.Run.{Plays, PlaysUntil, StopsBehind}
 
 -- ---- what the code keeps of a session
 
--- an entity goes by the session's configuration, and stands after what has happened
+-- an entity has the session's configuration and its history
 pub record RunsAs (world : WorldValue) (session : Session) : Type 0 where
   pub config : world.config ≡ session.config
   pub stands : StandsAfter world session.history
 
--- what is kept is where the session stands
+-- the code's state is that of the session
 abbrev pub Stands : Kept → Session → Type 0
 Stands (Configured config) session = session ≡ record { config = config; may_set = true; history = [] }
 Stands (Running world) session = (session.may_set ≡ false) × RunsAs world session
@@ -33,24 +33,24 @@ abbrev pub HasBegun : Kept → Session → Type 0
 HasBegun (Running world) session = RunsAs world session
 HasBegun kept session = ⊥
 
--- ---- what a line does
+-- ---- the effect of a line
 
--- a setting was made, or may not be
+-- a setting was made, or may not be made
 abbrev pub SetsTo : Bool → Session → Setting → Kept → Type 0
 SetsTo false session setting kept = IsBadSetting session setting
 SetsTo true session setting kept = (after : Session) × Stands kept after × IsSet session setting after []
 
--- what a line says was done, and its answer stands behind what the text held; or the line is a bad one
+-- a line was carried out, and its answer was appended to the text; or the line is a bad one
 abbrev pub ObeysTo : Bool → Session → Command → Kept → List ℕ → List ℕ → Type 0
 ObeysTo false session command kept old new = IsBadFor session (Some command)
 ObeysTo true session command kept old new =
     (after : Session) × (said : List ℕ) × Stands kept after × Answers session command after said × (new ≡ old ++ said)
 
--- what a line says to an entity that runs was done, and its answer stands behind what the text held; or the line is a bad one
+-- a line was carried out by an entity that runs, and its answer was appended to the text; or the line is a bad one
 abbrev pub ToldTo : Bool → Session → Command → WorldValue → List ℕ → List ℕ → Type 0
 ToldTo good session command world old new = ObeysTo good session command (Running world) old new
 
--- a line was played, and its answer stands in the text; or it is none that a script may have there
+-- a line was played, and its answer is in the text; or the script may not have that line here
 abbrev pub PlaysTo : Bool → Session → List ℕ → Kept → List ℕ → Type 0
 PlaysTo false session line kept text = IsBadFor session (command_of line)
 PlaysTo true session line kept text =
@@ -58,12 +58,12 @@ PlaysTo true session line kept text =
 
 -- ---- the run
 
--- what is left is known, and its lines are the others
+-- what is left is known, and its lines are the ones not yet played
 abbrev pub IsLeft : List (List ℕ) → List (List ℕ) → Option (List ℕ) → Type 0
 IsLeft lines done None = ⊥
 IsLeft lines done (Some rest) = lines ≡ done ++ lines_of rest
 
--- so many lines were played; a front of what they print was written, and the buffer holds the rest
+-- this many lines were played; the beginning of their output was written, and the buffer holds the rest
 pub record Ran (lines : List (List ℕ)) (left : Option (List ℕ)) (count : ℕ) (kept : Kept) (old new : Option (List ℕ)) (buffer : List ℕ) : Type 0 where
   pub done : List (List ℕ)
   pub session : Session
@@ -75,13 +75,13 @@ pub record Ran (lines : List (List ℕ)) (left : Option (List ℕ)) (count : ℕ
   pub stands : Stands kept session
   pub written : Appends old new front
 
--- the run has ended: a front of what it prints was written, and the buffer holds the rest; but where the writer failed
--- the buffer holds nothing
+-- the run has ended: the beginning of its output was written, and the buffer holds the rest; if the writer failed, the
+-- buffer holds nothing
 abbrev pub Ends : {A : Type 0} → Result A ReplayFault → List (List ℕ) → Option (List ℕ) → Option (List ℕ) → List ℕ → Type 0
 Ends (Err fault.Write) lines old new buffer = (buffer ≡ []) × ((text : List ℕ) × StopsBehind lines text × AppendsFront old new text)
 Ends ended lines old new buffer = (front : List ℕ) × PlaysUntil ended lines (front ++ buffer) × Appends old new front
 
--- after one line more, or at the end, or where the run stops
+-- the run after one more line, at its end, or where it stops
 abbrev pub GoesOn : Result Bool ReplayFault → List (List ℕ) → Option (List ℕ) → ℕ → Kept → Option (List ℕ) → Option (List ℕ) → List ℕ → Type 0
 GoesOn (Ok true) lines left count kept old new buffer = Ran lines left (count + 1) kept old new buffer
 GoesOn ended lines left count kept old new buffer = Ends ended lines old new buffer

@@ -1,4 +1,4 @@
--- Meaning. What the lines of a script do to an entity, and what they are answered.
+-- Meaning. What the lines of a script do to an entity, and how they are answered.
 use Rattle.std.specs.Prelude.{◌≡◌, ℕ, ◌<◌, ◌≤◌, Bool, true, false, List, [], ◌∷◌, length, Option, Some, None, Result, Ok, IsErr, ◌⊎◌}
 use Rattle.config_reading.specs.Values.{ConfigValue}
 use Rattle.entity_config.specs.declared.setting.Setting.{Setting}
@@ -18,7 +18,7 @@ use Rattle.script_lines.specs.declared.command.Command.{Command}
 use Rattle.script_lines.specs.declared.command.Command.TheVariants as command
 use Rattle.script_replay.specs.Texts.{answer_text, taken_text}
 
--- the configuration, whether it may be changed, and what has happened in the entity, the newest first
+-- the configuration, whether it may still be changed, and the entity's history, newest first
 pub record Session : Type 0 where
   pub config : ConfigValue
   pub may_set : Bool
@@ -28,13 +28,13 @@ pub record Session : Type 0 where
 abbrev pub fresh : Session
 fresh = record { config = reference_config; may_set = true; history = [] }
 
--- more has happened in the entity: from now on its configuration stays
+-- the session with a longer history: from now on its configuration stays
 abbrev pub with_history : Session → List Happening → Session
 with_history session history = record { config = session.config; may_set = false; history = history }
 
 -- ---- settings
 
--- a setting is made, where it may be, and nothing is printed
+-- a setting is made, if it may be, and nothing is printed
 pub record IsSet (session : Session) (setting : Setting) (after : Session) (text : List ℕ) : Type 0 where
   pub early : session.may_set ≡ true
   pub config : ConfigValue
@@ -49,7 +49,7 @@ abbrev pub is_put : WorldEvent → Bool
 is_put (events.Request user (requests.Put lane put)) = true
 is_put event = false
 
--- the entity gets an event, takes or refuses it, and that is printed
+-- the entity receives an event, takes or refuses it, and the answer is printed
 pub record IsTold (session : Session) (event : WorldEvent) (after : Session) (text : List ℕ) : Type 0 where
   pub may : MayCome session.config event
   pub result : Result Done EntityRefusal
@@ -59,17 +59,17 @@ pub record IsTold (session : Session) (event : WorldEvent) (after : Session) (te
 
 -- ---- takes
 
--- what a user takes is at the front, or nothing waits
+-- the user's front bundle, or none if the queue is empty
 abbrev pub Gives : ConfigValue → List Happening → ℕ → Option Bundle → Type 0
 Gives config history user None = held_for (first_lane config) history user ≡ []
 Gives config history user (Some bundle) = IsFront config history user bundle
 
--- what has happened then
+-- the history after that
 abbrev pub history_taken : List Happening → ℕ → Option Bundle → List Happening
 history_taken history user None = history
 history_taken history user (Some bundle) = takes user ∷ history
 
--- a user takes what there is, and that is printed
+-- a user takes its next bundle, if there is one, and that is printed
 pub record IsTakenBy (session : Session) (user : ℕ) (after : Session) (text : List ℕ) : Type 0 where
   pub may : user < length session.config.users
   pub taken : Option Bundle
@@ -79,7 +79,7 @@ pub record IsTakenBy (session : Session) (user : ℕ) (after : Session) (text : 
 
 -- ---- lines
 
--- what a line says is done, and this is printed
+-- a line is carried out, and this is printed
 abbrev pub Answers : Session → Command → Session → List ℕ → Type 0
 Answers session command.Nothing after text = (after ≡ session) × (text ≡ [])
 Answers session (command.Set setting) after text = IsSet session setting after text
@@ -90,7 +90,7 @@ Answers session (command.Take user) after text = IsTakenBy session user after te
 abbrev pub IsBadSetting : Session → Setting → Type 0
 IsBadSetting session setting = (session.may_set ≡ false) ⊎ IsErr (with_setting setting session.config)
 
--- a line is a bad one there: it says nothing, makes no setting, or names a user or a lane that the entity does not have
+-- a line is bad there: it can't be parsed, makes no setting, or names a user or a lane that the entity does not have
 abbrev pub IsBadFor : Session → Option Command → Type 0
 IsBadFor session None = Unit {0}
 IsBadFor session (Some command.Nothing) = ⊥

@@ -1,4 +1,4 @@
--- Meaning. What is printed for the lines of a script.
+-- Meaning. The output of single lines of a script.
 use Rattle.std.specs.Prelude.{ℕ, ◌==◌, if◌then◌else◌, Bool, List, Option, Some, None, Result, Ok, Err, codes}
 use Rattle.answer_texts.specs.AnswerTexts.{done_text, refusal_text, fault_line, refused_text}
 use Rattle.answer_texts.specs.ToldTexts.{bundle_text}
@@ -16,19 +16,19 @@ use Rattle.pdu_reading.specs.Fault.{fault_number}
 abbrev pub user_name : ℕ → List ℕ
 user_name user = if user == 0 then codes "alice" else codes "bob"
 
--- why no lane gets an event; of what is no PDU, the fault
+-- why no lane receives an event; for octets that are not a PDU, the decode fault
 abbrev pub route_text : RouteRefusal → List ℕ
 route_text (DecodeFault fault) = fault_line (fault_number fault)
 route_text why = refusal_text (refusal_number why) (refusal_name why)
 
--- what an event is answered, a Put or another
+-- the answer to an event, which is a Put or another one
 abbrev pub answer_text : Bool → Result Done EntityRefusal → List ℕ
 answer_text is_put (Ok done) = done_text is_put done
 answer_text is_put (Err (answer.Lane refused)) = refused_text refused
 answer_text is_put (Err (answer.Route why)) = route_text why
 answer_text is_put (Err answer.WrongLane) = refusal_text (number_of answer.WrongLane) (name_of answer.WrongLane)
 
--- what a user took, if anything waited
+-- the bundle that a user took, or `none`
 abbrev pub taken_text : ℕ → Option Bundle → List ℕ
 taken_text user None = codes "none\n"
 taken_text user (Some bundle) = bundle_text (user_name user) bundle

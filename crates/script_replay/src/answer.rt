@@ -1,4 +1,4 @@
-//! The texts of an entity's answers. Each function adds to a text; after an `Err` the text is no answer.
+//! Texts of an entity's answers. Each function appends to `text`; after an `Err` the text is not to be used.
 ghost use Rattle.std.specs.Prelude.{◌≡◌, ◌++◌, OnOk, string_bytes};
 ghost use Rattle.script_replay.specs.Texts.{answer_text, route_text, taken_text, user_name};
 
@@ -8,7 +8,8 @@ use lane_table::Done;
 use std::alloc::{AllocError, Global};
 use world_core::{EntityRefusal, RouteRefusal};
 
-/// Adds the lines for an event that was taken or refused: for a Put, also that of the transaction that it opened.
+/// Appends the lines for an event that was taken or refused; for a Put, also the line of the transaction that it
+/// opened.
 pub fn push_answer(
     alloc: Global,
     text: &mut String,
@@ -34,7 +35,7 @@ fn push_route_refusal(text: &mut String, why: RouteRefusal) -> Result<(), AllocE
     }
 }
 
-/// Adds the lines for what a user of a script took, if anything waited.
+/// Appends the lines for the bundle that a user took, or for none.
 pub fn push_taken(
     alloc: Global,
     text: &mut String,
@@ -49,7 +50,7 @@ pub fn push_taken(
     }
 }
 
-// The name of a user in scripts.
+// A user's name in scripts.
 fn user_name(user: usize) -> &'static str
     ensures { result.now ≡ user_name user }
 {

@@ -1,4 +1,4 @@
-//! Runs scripts through one protocol entity, and writes what it answers.
+//! Runs a script through one protocol entity, and writes the entity's answers.
 #![tactic(auto)]
 
 mod answer;

@@ -1,4 +1,4 @@
-//! A run as the program makes it.
+//! A script's run from the reader to the exit status.
 ghost use Rattle.std.specs.Prelude.{◌≤◌, IfSome};
 ghost use Rattle.script_io.specs.Lines.{lines_of};
 ghost use Rattle.script_replay.specs.Run.{EndsRun};
@@ -8,8 +8,8 @@ use script_io::conclude;
 use std::alloc::Global;
 use std::io::{Read, Write};
 
-/// Runs the script that the reader holds, and writes all that it prints, at this pace. Says there which line is a bad one, and in
-/// `errors` any other fault. Answers the exit status.
+/// Runs the reader's script and writes its output at this pace. Reports a bad line in the output, and any other fault
+/// to `errors`. Answers the exit status.
 pub fn play_to_end<R: Read, W: Write, E: Write>(
     alloc: Global,
     reader: &mut R,

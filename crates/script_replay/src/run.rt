@@ -19,22 +19,21 @@ pub const LINES: u32 = 1_000_000;
 /// When answers are written.
 #[derive(Clone, Copy, Debug, PartialEq, Eq)]
 pub enum AnswerPace {
-    /// By blocks: an answer may come later than its line.
+    /// By blocks: an answer may be written later than the line after it is read.
     ByBlocks,
-    /// Each before the next line is read, for a person who waits for it.
+    /// Each before the next line is read, for a person at a terminal.
     ByLines,
 }
 
-// The line that is played, and what it prints.
+// The line that is played, and its output.
 #[derive(Drop)]
 struct Scratch {
     line: Vec<u8>,
     text: String,
 }
 
-/// Runs the script that the reader holds through an entity, and writes what it answers, line by
-/// line, in blocks. It reads ahead, by blocks: where it ends before the text does, the reader stands
-/// further than the last line that was played.
+/// Runs the reader's script through an entity, line by line, and writes the answers by blocks. It also reads by blocks:
+/// if the run ends before the script does, the reader is ahead of the last line played.
 pub fn replay<R: Read, W: Write>(
     alloc: Global,
     reader: &mut R,
@@ -46,7 +45,7 @@ pub fn replay<R: Read, W: Write>(
     replay_at(alloc, reader, writer, AnswerPace::ByBlocks)
 }
 
-/// As [`replay`], with the answers written at this pace.
+/// Like [`replay`], with the answers written at this pace.
 pub fn replay_at<R: Read, W: Write>(
     alloc: Global,
     reader: &mut R,
@@ -62,7 +61,7 @@ pub fn replay_at<R: Read, W: Write>(
     ended
 }
 
-// Runs the script, with a buffer that holds at the end what was not written yet.
+// Runs the script. At the end the buffer holds the output that was not written yet.
 fn play_script<R: Read, W: Write>(
     alloc: Global,
     reader: &mut R,
@@ -79,7 +78,7 @@ fn play_script<R: Read, W: Write>(
     play_lines(alloc, &mut session, &mut blocks, writer, buffer, pace)
 }
 
-// Plays the lines of a reader that shows its blocks, in a session that begins.
+// Plays all lines of a reader in a new session.
 fn play_lines<B: BufRead, W: Write>(
     alloc: Global,
     session: &mut Session,
@@ -105,7 +104,7 @@ fn play_lines<B: BufRead, W: Write>(
     ends(reader, &mut scratch.line)
 }
 
-// Writes what the buffer holds, where answers are written line by line.
+// Writes the buffer if answers are written line by line.
 fn hand_on<W: Write>(
     writer: &mut W,
     buffer: &mut Vec<u8>,
@@ -132,7 +131,7 @@ fn ends<B: BufRead>(reader: &mut B, line: &mut Vec<u8>) -> Result<(), ReplayFaul
     }
 }
 
-// Plays the next line, and says whether there was one.
+// Plays the next line; answers whether there was one.
 fn turn<B: BufRead, W: Write>(
     alloc: Global,
     session: &mut Session,

@@ -11,25 +11,25 @@ use std::alloc::{AllocError, Global};
 use std::mem;
 use world_core::{Request, World, WorldEvent};
 
-/// What a script drives: a configuration, as long as it may be changed, and then the entity that goes by it.
+/// The state of a script: a configuration that may still be changed, or the entity that runs with it.
 #[derive(Drop)]
 pub(crate) enum Session {
     Configured(Config),
     Running(World),
-    /// There was no memory for the entity.
+    /// Memory for the entity ran out.
     Over,
 }
 
 impl Session {
-    /// A script begins with the reference configuration.
+    /// A new session, with the reference configuration.
     pub(crate) fn new(alloc: Global) -> Result<Session, AllocError>
         ensures { IfOk result (λ session. Stands session fresh) }
     {
         Ok(Session::Configured(Config::reference(alloc)?))
     }
 
-    /// Plays a line, puts its answer in place of what `text` holds, and says whether it is a line that the script may
-    /// have there.
+    /// Plays a line and replaces the content of `text` with its answer. Answers whether the script may have that line
+    /// here.
     pub(crate) fn play(
         &mut self,
         alloc: Global,
@@ -46,7 +46,7 @@ impl Session {
         }
     }
 
-    // Does what a line says, and adds its answer.
+    // Carries out a line and appends its answer.
     fn obey(
         &mut self,
         alloc: Global,
@@ -65,7 +65,7 @@ impl Session {
         }
     }
 
-    // Changes the configuration, if that may be.
+    // Changes the configuration, if it may still be changed; answers whether it did.
     fn set(&mut self, setting: Setting) -> bool
         ensures { (played : Played) → Stands self.old played → SetsTo result played setting self.new }
     {
@@ -75,7 +75,7 @@ impl Session {
         }
     }
 
-    // The entity begins now, if it does not run yet.
+    // Starts the entity, if it doesn't run yet.
     fn begin(&mut self, alloc: Global) -> Result<(), AllocError>
         ensures { (played : Played) → Stands self.old played → OnOk result (HasBegun self.new played) }
     {
@@ -88,7 +88,7 @@ impl Session {
         Ok(())
     }
 
-    // Tells the entity of an event.
+    // Passes an event to the entity.
     fn tell(
         &mut self,
         alloc: Global,
@@ -106,7 +106,7 @@ impl Session {
         tell(alloc, world, event, text)
     }
 
-    // A user of the entity takes what waits.
+    // A user of the entity takes its next bundle.
     fn take(&mut self, alloc: Global, user: usize, text: &mut String) -> Result<bool, AllocError>
         ensures { (played : Played) → Stands self.old played
             → IfOk result (λ good. ObeysTo good played (command.Take user) self.new (string_bytes text.old)
@@ -126,7 +126,7 @@ fn is_put(event: &WorldEvent) -> bool
     matches!(event, WorldEvent::Request(_, Request::Put(_, _)))
 }
 
-// Tells an entity of an event, and adds what it answers.
+// Passes an event to an entity, and appends the answer.
 fn tell(
     alloc: Global,
     world: &mut World,
@@ -145,7 +145,7 @@ fn tell(
     Ok(true)
 }
 
-// A user of an entity takes what waits, and that is added.
+// A user of an entity takes its next bundle, which is appended.
 fn take(
     alloc: Global,
     world: &mut World,

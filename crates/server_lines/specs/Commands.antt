@@ -14,23 +14,23 @@ use Rattle.server_lines.specs.declared.sending.Sending.{Sending}
 
 -- ---- words
 
--- a user's number, by the user's name
+-- a user's number, from the user's name
 abbrev pub user_of : ConfigValue → List ℕ → Option ℕ
 user_of config word = do
   name ← name_of word
   position (is_same_text name) config.users
 
--- one of a user's sending lanes
+-- the number of one of a user's sending lanes
 abbrev pub lane_of : ConfigValue → List ℕ → Option ℕ
 lane_of config word = do
   lane ← number_of word
   if nat_lt lane config.entity.put_lanes then Some lane else None
 
--- a name that a file may have: not empty and not too long
+-- a file name: neither empty nor too long
 abbrev pub file_name_of : List ℕ → Option (List ℕ)
 file_name_of word = if (length word == 0) || nat_lt NAME_OCTETS (length word) then None else Some word
 
--- ---- files that are to be sent
+-- ---- files to be sent
 
 -- CLASS DEST SRC DST, with closure asked for or not
 abbrev pub sending_from : List ℕ → List ℕ → List ℕ → List ℕ → Bool → Option Sending
@@ -41,14 +41,14 @@ sending_from class destination source destination_name closure = do
   to_name ← file_name_of destination_name
   Some (record { class = of_class; closure = closure; destination = record { 0 = to }; source = from_name; destination_name = to_name })
 
--- the same words, and nothing or the word for closure behind them
+-- the same words, with or without the word `closure` after them
 abbrev pub sending_of : List (List ℕ) → Option Sending
 sending_of (class ∷ destination ∷ source ∷ destination_name ∷ operands) = do
   closure ← closure_of operands
   sending_from class destination source destination_name closure
 sending_of operands = None
 
--- a file that goes from one of a user's lanes
+-- a file to be sent from one of a user's lanes
 abbrev pub put_command : ℕ → ℕ → Sending → Command
 put_command user lane sending =
     command.Put (record {
@@ -73,7 +73,7 @@ send_command user sending =
       destination_name = sending.destination_name;
     })
 
--- put USER LANE and what is to be sent
+-- put USER LANE and the file to be sent
 abbrev pub put_at : ConfigValue → List ℕ → List ℕ → List (List ℕ) → Option Command
 put_at config user lane operands = do
   of_user ← user_of config user
@@ -85,7 +85,7 @@ abbrev pub put_of : ConfigValue → List (List ℕ) → Option Command
 put_of config (user ∷ lane ∷ operands) = put_at config user lane operands
 put_of config operands = None
 
--- send USER and what is to be sent
+-- send USER and the file to be sent
 abbrev pub send_at : ConfigValue → List ℕ → List (List ℕ) → Option Command
 send_at config user operands = do
   of_user ← user_of config user
@@ -98,7 +98,7 @@ send_of config operands = None
 
 -- ---- other lines
 
--- a request of a user, by its four words
+-- a user's request, from its four words
 abbrev pub asked_from : ConfigValue → List ℕ → List ℕ → List ℕ → List ℕ → Option Command
 asked_from config kind user source seq = do
   of_user ← user_of config user
@@ -147,12 +147,12 @@ abbrev pub drop_of : List (List ℕ) → Option Command
 drop_of (number ∷ []) = option_map command.Drop (number_of number)
 drop_of operands = None
 
--- a remote entity, where it is the only operand
+-- a remote entity, if it is the only operand
 abbrev pub remote_of : List (List ℕ) → Option EntityId
 remote_of (remote ∷ []) = option_map (λ id. record { 0 = id }) (number_of remote)
 remote_of operands = None
 
--- by the first word: the outbox and holds, and else a request
+-- by the first word: the outbox or a hold, or else a user's request
 abbrev pub outbox_by : ConfigValue → List ℕ → List (List ℕ) → Option Command
 outbox_by config kind operands =
     if bytes_eq kind (codes "outbox") then outbox_of operands
@@ -161,7 +161,7 @@ outbox_by config kind operands =
     else if bytes_eq kind (codes "release") then option_map command.Release (remote_of operands)
     else asked_of config kind operands
 
--- the others that send no file
+-- by the first word: the other commands that send no file
 abbrev pub other_by : ConfigValue → List ℕ → List (List ℕ) → Option Command
 other_by config kind operands =
     if bytes_eq kind (codes "take") then take_of config operands
@@ -183,7 +183,7 @@ abbrev pub command_of_words : ConfigValue → List (List ℕ) → Option Command
 command_of_words config [] = None
 command_of_words config (kind ∷ operands) = command_by config kind operands
 
--- what a line asks for, or nothing where it is no command
+-- what a line asks for, or nothing where it is not a command
 abbrev pub command_of : ConfigValue → List ℕ → Option Command
 command_of config line = do
   words ← words_in line

@@ -9,66 +9,66 @@ use entity_routing::Request;
 use quoted_words::{Words, has_quote, is_ascii, quoted_words};
 use std::alloc::{AllocError, Global};
 
-/// A file that a user wants to be sent from one of its lanes.
+/// A file to be sent from one of a user's lanes.
 #[derive(Debug, Drop)]
 pub struct PutCommand {
     pub user: usize,
     pub lane: usize,
     pub class: Class,
-    /// Whether the receiver is asked to say at the end what became of the file: class 1 alone heeds it.
+    /// Whether the receiver is asked to report at the end what became of the file; it matters in class 1 only.
     pub closure: bool,
     pub destination: EntityId,
-    /// Where the file is read, which is its name at the sender, too: 1 to 255 octets, beyond ASCII only where it was quoted.
+    /// The path of the file here, and its source file name: 1 to 255 octets, beyond ASCII only where it was quoted.
     pub source: Octets,
-    /// Its name at the receiver, of such octets.
+    /// Its destination file name, of 1 to 255 octets likewise.
     pub destination_name: Octets,
 }
 
-/// A file that a user wants to be sent once one of its lanes is idle.
+/// A file to be sent once one of its user's lanes is idle.
 #[derive(Debug, Drop)]
 pub struct SendCommand {
     pub user: usize,
     pub class: Class,
-    /// Whether the receiver is asked to say at the end what became of the file: class 1 alone heeds it.
+    /// Whether the receiver is asked to report at the end what became of the file; it matters in class 1 only.
     pub closure: bool,
     pub destination: EntityId,
-    /// Where the file is read, which is its name at the sender, too: 1 to 255 octets, beyond ASCII only where it was quoted.
+    /// The path of the file here, and its source file name: 1 to 255 octets, beyond ASCII only where it was quoted.
     pub source: Octets,
-    /// Its name at the receiver, of such octets.
+    /// Its destination file name, of 1 to 255 octets likewise.
     pub destination_name: Octets,
 }
 
 /// What a line of commands asks for.
 #[derive(Debug, Drop)]
 pub enum Command {
-    /// A file is to be sent.
+    /// Send a file now.
     Put(PutCommand),
-    /// A file is to wait in the outbox.
+    /// Put a file in the outbox.
     Send(SendCommand),
-    /// A user asks for something to happen to a transaction.
+    /// A user's request of a transaction.
     Ask(usize, Request),
-    /// A user takes the bundle at the front.
+    /// A user takes the bundle at the front of its queue.
     Take(usize),
-    /// How far a transaction is.
+    /// Report how far a transaction is.
     Trace(TxnKey),
-    /// What goes on.
+    /// Report the server's status.
     Status,
-    /// The client reads events too from now on, after the last ones of those that are kept, so many at most.
+    /// Send events to the client from now on, after the last ones that are kept, at most this many.
     Follow(u64),
-    /// The files that wait in the outbox.
+    /// List the files in the outbox.
     Outbox,
-    /// The file with this number in the outbox is to wait no more.
+    /// Take the file with this number out of the outbox.
     Drop(u64),
-    /// Nothing is to leave for this entity, and its timers rest.
+    /// Hold the link to this entity: nothing is sent to it, and its timers rest.
     Hold(EntityId),
-    /// The link to this entity is open again.
+    /// Open the link to this entity again.
     Release(EntityId),
-    /// The server is to end.
+    /// End the server.
     Quit,
 }
 
-/// What a line asks for, by the users and lanes of a configuration, or nothing where it is no command. A line without
-/// double quotes takes memory for the names of a file alone, one with quotes for each of its words.
+/// Parses a line of commands, by the users and lanes of a configuration; `None` where it is not a command. A line
+/// without double quotes allocates only a file's names; one with quotes allocates each of its words.
 pub fn command_of(
     alloc: Global,
     config: &Config,

@@ -1,4 +1,4 @@
-//! What the lines of a server's commands say.
+//! Parses the lines of commands of a server.
 #![tactic(auto)]
 
 mod command;

@@ -1,4 +1,4 @@
-//! What single words write, by a configuration.
+//! Single words of a command, read as operands by a configuration.
 ghost use Rattle.std.specs.Prelude.{◌≡◌};
 ghost use Rattle.std.specs.Option.{option_copied};
 ghost use Rattle.line_words.specs.Operands.{closure_of};
@@ -10,7 +10,7 @@ use entity_config::Config;
 use line_words::{name_of, number_of};
 use quoted_words::Words;
 
-/// A user's number, by the user's name.
+/// A user's number, from the user's name.
 pub(crate) fn user_of(config: &Config, word: &[u8]) -> Option<usize>
     ensures { result ≡ user_of config.now word.now }
 {
@@ -21,7 +21,7 @@ pub(crate) fn user_of(config: &Config, word: &[u8]) -> Option<usize>
     }
 }
 
-/// One of a user's sending lanes.
+/// The number of one of a user's sending lanes.
 pub(crate) fn lane_of(config: &Config, word: &[u8]) -> Option<usize>
     ensures { result ≡ lane_of config.now word.now }
 {
@@ -33,7 +33,7 @@ pub(crate) fn lane_of(config: &Config, word: &[u8]) -> Option<usize>
     }
 }
 
-/// A name that a file may have.
+/// A file name: neither empty nor too long.
 pub(crate) fn file_name_of(word: &[u8]) -> Option<&[u8]>
     ensures { option_copied result ≡ file_name_of word.now }
 {
@@ -44,7 +44,8 @@ pub(crate) fn file_name_of(word: &[u8]) -> Option<&[u8]>
     }
 }
 
-/// Whether closure is asked for, by what stands behind all else; nothing where that is anything but the one word `closure`.
+/// Whether closure is asked for, by the words after all other operands: true for the single word `closure`, false for
+/// no word, and `None` for anything else.
 pub(crate) fn closure_of(rest: Words<'_>) -> Option<bool>
     ensures { result ≡ closure_of rest.entry }
 {
@@ -57,7 +58,7 @@ pub(crate) fn closure_of(rest: Words<'_>) -> Option<bool>
     }
 }
 
-/// A remote entity, where it is the only operand.
+/// A remote entity, if it is the only operand.
 pub(crate) fn remote_of(operands: Words<'_>) -> Option<EntityId>
     ensures { result ≡ remote_of operands.entry }
 {

@@ -8,7 +8,7 @@ use entity_config::Config;
 use line_words::{key_from, number_of, request_for};
 use quoted_words::Words;
 
-/// A command that takes no memory.
+/// Parses a command that allocates nothing.
 pub(crate) fn other(config: &Config, kind: &[u8], operands: Words<'_>) -> Option<Command>
     ensures { result ≡ other_by config.now kind.now operands.entry }
 {
@@ -27,7 +27,7 @@ pub(crate) fn other(config: &Config, kind: &[u8], operands: Words<'_>) -> Option
     }
 }
 
-// The outbox and holds, and else a request.
+// Parses a command about the outbox or a hold, or else a user's request.
 fn outbox_command(config: &Config, kind: &[u8], operands: Words<'_>) -> Option<Command>
     ensures { result ≡ outbox_by config.now kind.now operands.entry }
 {

@@ -9,7 +9,7 @@ use entity_config::Config;
 use quoted_words::Words;
 use std::alloc::{AllocError, Global};
 
-/// A Put, by what stands behind the first word.
+/// Parses a Put from the words after the first one.
 pub(crate) fn put(
     alloc: Global,
     config: &Config,
@@ -47,7 +47,7 @@ fn put_command(user: usize, lane: usize, sending: Sending) -> Command
     })
 }
 
-/// A file for the outbox, by what stands behind the first word.
+/// Parses a file for the outbox from the words after the first one.
 pub(crate) fn send(
     alloc: Global,
     config: &Config,

@@ -1,4 +1,4 @@
-//! What a line says of a file that is to be sent.
+//! The operands of a file to be sent.
 ghost use Rattle.std.specs.Prelude.{◌≡◌, IfOk};
 ghost use Rattle.server_lines.specs.Commands.{sending_of, sending_from};
 
@@ -8,7 +8,7 @@ use line_words::{class_of, number_of};
 use quoted_words::Words;
 use std::alloc::{AllocError, Global};
 
-// A file that is to be sent, without its user.
+// A file to be sent, without its user.
 #[derive(Drop)]
 pub(crate) struct Sending {
     pub(crate) class: Class,
@@ -18,7 +18,7 @@ pub(crate) struct Sending {
     pub(crate) destination_name: Octets,
 }
 
-/// Class, destination, both names, and whether closure is asked for.
+/// Parses class, destination, both names, and whether closure is asked for.
 pub(crate) fn sending_of(alloc: Global, operands: Words<'_>) -> Result<Option<Sending>, AllocError>
     ensures { IfOk result (λ sending. sending ≡ sending_of operands.entry) }
 {

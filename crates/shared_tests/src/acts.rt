@@ -1,4 +1,4 @@
-//! What lanes get, and what comes of it.
+//! Events for lanes, and their outcomes.
 
 use crate::told::{pause, put};
 use cfdp_types::{TimerKind, TxnKey};
@@ -15,7 +15,7 @@ use txn_events::{Event, Refusal};
 /// How often a thread tries.
 pub(crate) const TURNS: u32 = 1_000_000;
 
-/// What a lane gets.
+/// An event for a lane.
 #[derive(Drop)]
 pub(crate) enum Act {
     Put(Place),
@@ -27,13 +27,13 @@ pub(crate) enum Act {
     Pump(TxnKey),
     Deliver([u8; 17]),
     Acknowledge([u8; 10]),
-    /// A PDU that is read before the entity gets it.
+    /// A PDU that is read before the entity receives it.
     Read(&'static [u8]),
     Stored(TxnKey, u32),
     Timer(TxnKey, TimerKind, u32),
 }
 
-/// What came of it.
+/// The outcome of an event.
 #[derive(Drop)]
 pub(crate) enum Outcome {
     Taken(Told),
@@ -41,14 +41,14 @@ pub(crate) enum Outcome {
     Failed,
 }
 
-/// A step, and all indications of its transaction until then.
+/// A step, and all indications of its transaction up to it.
 #[derive(Drop)]
 pub(crate) struct Told {
     pub(crate) done: Done,
     pub(crate) trace: Vec<Indication>,
 }
 
-// The lane takes its event, and its trace is read under the same lock.
+// Has the lane take its event, and reads its trace under the same lock.
 #[derive(Drop)]
 struct Tracing {
     alloc: Global,
@@ -82,7 +82,7 @@ fn copy_of(alloc: Global, trace: &[Indication]) -> Result<Vec<Indication>, Alloc
     Ok(copy)
 }
 
-// What a user asks for, a Put aside.
+// A user's request, except a Put.
 fn request_of(act: &Act) -> Option<(usize, Request)> {
     match act {
         Act::Suspend(user, key) => Some((*user, Request::Suspend(*key))),
@@ -117,7 +117,7 @@ fn read<N: Names, R: Wait + Copy>(
     Some(entity.deliver_pdu(rt, gate, pdu))
 }
 
-/// Tells a lane once.
+/// Passes an event to its lane, once.
 pub(crate) fn tell_once<N: Names, R: Wait + Copy>(
     rt: &R,
     alloc: Global,
@@ -141,7 +141,7 @@ pub(crate) fn tell_once<N: Names, R: Wait + Copy>(
     }
 }
 
-/// Tells a lane, again and again while its user's queue is full.
+/// Passes an event to its lane, again and again while the user's queue is full.
 pub(crate) fn tell<N: Names, R: Wait + Copy>(
     rt: &R,
     alloc: Global,

@@ -1,4 +1,4 @@
-//! A lane that is held back keeps no other waiting.
+//! A lane that is held back makes no other wait.
 
 use crate::runs::{Run, play};
 use crate::told::{pause, push_answer, push_line, put};
@@ -15,10 +15,10 @@ use std::thread;
 use std::thread::Threads;
 use txn_events::Event;
 
-// How often a thread looks.
+// How often a thread checks.
 const TURNS: u32 = 1_000_000;
 
-// Waits until something has happened, and tells whether it did.
+// Waits until something has happened; answers whether it did.
 fn waits_until<R: Wait>(rt: &R, happened: &AtomicBool) -> bool {
     for _ in 0..TURNS {
         if happened.load(Ordering::SeqCst) {
@@ -30,7 +30,7 @@ fn waits_until<R: Wait>(rt: &R, happened: &AtomicBool) -> bool {
 }
 
 // The points that a thread reached, one digit each: 2 for the lock of a lane of the first user, 3 for one of the
-// second, and 1 for a datagram that a worker took, which no call of the entity says.
+// second, and 1 for a datagram that a worker took, which no call of the entity reports.
 #[derive(Drop)]
 struct Points {
     digits: AtomicU64,
@@ -76,7 +76,8 @@ impl<N: Names, R: Wait + Copy> Gate<N, R> for Points {
     }
 }
 
-// Holds a thread with the lock of a lane of the first user, until others were answered and one more tries that lane.
+// Holds a thread at the lock of a lane of the first user, until others were answered and another thread tries that
+// lane.
 #[derive(Drop)]
 struct Holding<R: Copy> {
     rt: R,
@@ -85,7 +86,7 @@ struct Holding<R: Copy> {
     are_answered: AtomicBool,
     is_tried: AtomicBool,
     was_in_time: AtomicBool,
-    // What the thread that tries the lane reaches, and whether it had the lane while this one held it.
+    // The points that the thread which tries the lane reached, and whether it had the lane while this one held it.
     tries: Points,
     was_alone: AtomicBool,
 }
@@ -141,8 +142,8 @@ const METADATA: [u8; 17] = [0x24, 0, 10, 0, 1, 5, 2, 7, 0, 0, 0, 0, 3, 1, 0x61, 
 
 const END: [u8; 17] = [0x24, 0, 10, 0, 1, 5, 2, 4, 0, 0, 0, 0, 0, 0, 0, 0, 3];
 
-/// The first user's lane for what comes is held back until both users put a file, and while one more datagram comes
-/// for it.
+/// Holds back the first user's receiving lane until both users have put a file, and while one more datagram arrives for
+/// that lane.
 pub(crate) fn hold_back<N: Names + Send + Sync, R: Threads + Wait + Copy + Send + Sync>(
     rt: &R,
     alloc: Global,
@@ -164,7 +165,7 @@ pub(crate) fn hold_back<N: Names + Send + Sync, R: Threads + Wait + Copy + Send 
     push_held(text, &put, &delivered, &ended, &gate)
 }
 
-// Adds what a thread says.
+// Adds a thread's text.
 fn push_said(text: &mut String, said: &Result<String, AllocError>) -> Result<(), AllocError> {
     match said {
         Ok(said) => text.push_str(said.as_str()),
@@ -172,7 +173,7 @@ fn push_said(text: &mut String, said: &Result<String, AllocError>) -> Result<(),
     }
 }
 
-// What came of it: the Puts, what the thread that held the lane was answered, and the one that tried it.
+// Adds the outcome: the Puts, and the answers to the thread that held the lane and to the one that tried it.
 fn push_held<R: Copy>(
     text: &mut String,
     put: &Result<String, AllocError>,
@@ -199,7 +200,7 @@ fn push_points(text: &mut String, points: &Points) -> Result<(), AllocError> {
     writeln!(text, "{digits}")
 }
 
-// Both users put a file while the lane is held.
+// Has both users put a file while the lane is held.
 fn put_both<N: Names, R: Wait + Copy>(
     rt: &R,
     alloc: Global,
@@ -232,7 +233,7 @@ fn push_noted<N: Names, R: Wait + Copy>(
     push_points(text, &points)
 }
 
-// The Metadata comes, by which the lane is held.
+// Delivers the Metadata by which the lane is held.
 fn deliver_held<N: Names, R: Wait + Copy>(
     rt: &R,
     alloc: Global,
@@ -244,7 +245,7 @@ fn deliver_held<N: Names, R: Wait + Copy>(
     Ok(text)
 }
 
-// The end of the file comes while the lane is held.
+// Delivers the file's EOF while the lane is held.
 fn try_lane<N: Names, R: Wait + Copy>(
     rt: &R,
     alloc: Global,

@@ -18,7 +18,7 @@ use std::thread;
 use std::thread::Threads;
 use user_queues::UserPort;
 
-// How many threads work, and how often each goes to every lane.
+// How many threads work, and how often each visits every lane.
 const WORKERS: u64 = 8;
 
 const ROUNDS: u64 = 2;
@@ -46,8 +46,7 @@ fn next_file(numbers: &AtomicU64, user: usize, source: u8, lane: u8) -> File {
     }
 }
 
-// Goes to a lane: the first four send, and the others receive from the source of their user. Numbers are given out
-// once.
+// Visits a lane: the first four send, and the others receive from their user's source. Each number is given out once.
 fn visit<N: Names, R: Wait + Copy>(
     worker: &mut Worker<N, R>,
     numbers: &AtomicU64,
@@ -65,7 +64,7 @@ fn visit<N: Names, R: Wait + Copy>(
     }
 }
 
-// Goes to all lanes, from one on; whether all went well.
+// Visits all lanes, beginning with `first`; answers whether all went well.
 fn work<N: Names, R: Wait + Copy>(
     worker: &mut Worker<N, R>,
     numbers: &AtomicU64,
@@ -81,7 +80,7 @@ fn work<N: Names, R: Wait + Copy>(
     Ok(true)
 }
 
-// Takes all that comes until all threads have worked and nothing is left.
+// Takes all bundles until all threads have worked and the queue is empty.
 fn take_all<R: Wait>(
     rt: &R,
     alloc: Global,
@@ -101,14 +100,14 @@ fn take_all<R: Wait>(
     Ok(bundles)
 }
 
-// What a thread does.
+// The job of a thread.
 #[derive(Drop)]
 enum Job {
     Work(u64),
     Take(UserPort),
 }
 
-// What came of it.
+// The outcome of a job.
 #[derive(Drop)]
 enum Came {
     Worked(bool, Vec<Ended>),
@@ -155,7 +154,7 @@ fn jobs(alloc: Global, ports: Vec<UserPort>) -> Result<Vec<Job>, AllocError> {
     Ok(jobs)
 }
 
-/// Eight threads work on all lanes while the users take; then what came of each lane is compared with its traces.
+/// Has eight threads work on all lanes while the users take; then compares each lane's indications with its traces.
 pub(crate) fn crowd<N: Names + Send + Sync, R: Threads + Wait + Copy + Send + Sync>(
     rt: &R,
     alloc: Global,
@@ -179,8 +178,8 @@ pub(crate) fn crowd<N: Names + Send + Sync, R: Threads + Wait + Copy + Send + Sy
     Ok(())
 }
 
-// Adds a line for a thread that worked well, whose transactions are kept, or one for each lane of a user of which all
-// came. The users come last.
+// Adds a line for a thread that worked well, whose transactions are kept, or one for each lane of a user whose
+// indications were complete. The users come last.
 fn push_came(
     alloc: Global,
     text: &mut String,
@@ -218,7 +217,7 @@ fn push_lanes(
     Ok(())
 }
 
-// Where queues have room, and where each holds one bundle.
+// With queues that have room, and with queues of one bundle.
 #[test]
 fn eight_threads(rt: HostRuntime) -> Result<(), Fail> {
     for capacity in [8, 1] {

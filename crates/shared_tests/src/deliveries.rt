@@ -13,14 +13,14 @@ use std::thread;
 use std::thread::Threads;
 use user_queues::{LaneOutlet, UserPort};
 
-// The Metadata of an empty file that entity 1 sends under a number, in class 1.
+// The Metadata of an empty file from entity 1 with this sequence number, in class 1.
 fn metadata_of(seq: u8) -> [u8; 17] {
     [
         0x24, 0, 10, 0, 1, seq, 2, 7, 0, 0, 0, 0, 0, 1, 0x61, 1, 0x62,
     ]
 }
 
-// Its EOF.
+// The EOF of that file.
 fn eof_of(seq: u8) -> [u8; 17] {
     [0x24, 0, 10, 0, 1, seq, 2, 4, 0, 0, 0, 0, 0, 0, 0, 0, 0]
 }
@@ -35,8 +35,8 @@ fn deliver_both<N: Names, R: Wait + Copy>(rt: &R, entity: &Entity<N, R>, seq: u8
     is_taken(rt, entity, &metadata_of(seq)) && is_taken(rt, entity, &eof_of(seq))
 }
 
-/// Two files come, each in a thread of its own. Then the user takes all indications, and the lanes give their outlets
-/// back.
+/// Delivers two files, each in a thread of its own. Then the user takes all indications, and the lanes give their
+/// outlets back.
 pub(crate) fn deliver_two<N: Names + Send + Sync, R: Threads + Wait + Copy + Send + Sync>(
     rt: &R,
     alloc: Global,
@@ -61,7 +61,7 @@ pub(crate) fn deliver_two<N: Names + Send + Sync, R: Threads + Wait + Copy + Sen
     push_taken(rt, alloc, text, &mut port)
 }
 
-// Takes all that is there, and tells it transaction by transaction.
+// Takes all bundles that wait, and adds their indications transaction by transaction.
 fn push_taken<R: Wait>(
     rt: &R,
     alloc: Global,
@@ -75,7 +75,7 @@ fn push_taken<R: Wait>(
     push_both(text, bundles.as_slice())
 }
 
-// Gives a user's port the outlets of the user's lanes back.
+// Gives the outlets of a user's lanes back to the user's port.
 fn admit_own<N: Names, R: Copy>(port: &mut UserPort, outlets: Vec<LaneOutlet<R>>)
     requires port { port.old.queue ≡ N.queue port.old.knows.user }
     requires outlets { All (λ outlet. outlet.queue ≡ N.queue outlet.knows.user) outlets.items }

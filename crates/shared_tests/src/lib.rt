@@ -1,5 +1,5 @@
-//! What an entity does that threads share: what is answered to each call, what its users take, and that its lanes run
-//! side by side.
+//! The behaviour of an entity that threads share: the answer to each call, the indications that its users take, and
+//! that its lanes run side by side.
 #![tactic(auto)]
 
 #[cfg(test)]

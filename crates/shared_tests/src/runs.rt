@@ -1,4 +1,4 @@
-//! Runs of an entity that threads share: each opens one, with the queues of its users, and plays.
+//! Runs of a shared entity: each opens one, with the queues of its users, and plays.
 ghost use Rattle.std.specs.Prelude.{◌≡◌, All};
 ghost use Rattle.shared_entity.specs.Opening.{AreQueuesFor};
 
@@ -13,20 +13,20 @@ use std::sync::Wait;
 use std::thread::Threads;
 use user_queues::{Queues, UserPort};
 
-/// What is played.
+/// The kinds of runs.
 #[derive(Drop)]
 pub(crate) enum Run {
-    /// Steps, one after the other.
+    /// Steps in order.
     Steps(&'static [Step]),
-    /// Two threads deliver, and the entity is closed.
+    /// Two threads deliver, and then the entity is closed.
     Deliveries,
-    /// A lane is held back while others go on.
+    /// A lane is held back while others work.
     Apart,
     /// Eight threads work on all lanes.
     Crowd,
 }
 
-/// What a run says, line by line.
+/// The text of a run, line by line.
 pub(crate) fn play<R: Threads + Wait + Copy + Send + Sync>(
     rt: R,
     alloc: Global,
@@ -37,7 +37,7 @@ pub(crate) fn play<R: Threads + Wait + Copy + Send + Sync>(
     play_named::<Brand, R>(rt, alloc, config, queues, run)
 }
 
-// Plays over queues that `N` names: what is proved of an entity speaks of them by that name, so it is a parameter.
+// Plays with queues that `N` names: the proofs about an entity refer to its queues by that name, so it is a parameter.
 fn play_named<N: Names + Send + Sync, R: Threads + Wait + Copy + Send + Sync>(
     rt: R,
     alloc: Global,
@@ -57,7 +57,7 @@ fn play_named<N: Names + Send + Sync, R: Threads + Wait + Copy + Send + Sync>(
     Ok(text)
 }
 
-// What all users see, with their ports.
+// Plays with the ports of all users.
 fn play_all<N: Names + Send + Sync, R: Threads + Wait + Copy + Send + Sync>(
     rt: &R,
     alloc: Global,
@@ -74,7 +74,7 @@ fn play_all<N: Names + Send + Sync, R: Threads + Wait + Copy + Send + Sync>(
     }
 }
 
-// Deliveries to the first user, whose port is the first one.
+// Plays deliveries to the first user, whose port is the first one.
 fn play_first<N: Names + Send + Sync, R: Threads + Wait + Copy + Send + Sync>(
     rt: &R,
     alloc: Global,

@@ -1,4 +1,4 @@
-//! Steps at an entity, one after the other, and what is said of each.
+//! Steps at an entity in order, with a text for each.
 
 use crate::acts::{Act, Outcome, Told, tell_once};
 use crate::runs::{Run, play};
@@ -15,23 +15,23 @@ use std::test::*;
 use test_configs::{EntityText, TWO_SOURCES, text_of};
 use user_queues::UserPort;
 
-/// What is done.
+/// One step.
 #[derive(Drop)]
 pub(crate) enum Step {
-    /// A lane gets something. Says which transaction took the step, and how long its inactivity timer runs from then on where
-    /// that was armed, or why none did.
+    /// A lane receives an event. The text has the transaction that took the step, and the interval of its inactivity
+    /// timer if that was armed, or why no transaction took it.
     Tell(Act),
-    /// The file of a deposit is asked for.
+    /// Asks for the file of a deposit.
     Image(TxnKey, u32),
-    /// It is asked how far a transaction is.
+    /// Asks for the progress of a transaction.
     Trace(TxnKey),
-    /// A lane is looked at.
+    /// Looks at a lane.
     Look(Place),
-    /// Each user takes all. Says how many bundles those were.
+    /// Has each user take all bundles. The text has how many those were.
     Take,
 }
 
-/// Takes steps, and adds lines for each.
+/// Plays steps, and adds lines for each.
 pub(crate) fn take_steps<N: Names, R: Wait + Copy>(
     rt: &R,
     alloc: Global,
@@ -114,7 +114,7 @@ fn push_file(alloc: Global, text: &mut String, image: &Image) -> Result<(), Allo
     writeln!(text, "{from} {to} {octets}")
 }
 
-// Adds a line for how far a transaction is, or why that isn't reported.
+// Adds a line for the progress of a transaction, or why that isn't reported.
 fn push_trace<N: Names, R: Wait + Copy>(
     rt: &R,
     text: &mut String,
@@ -127,7 +127,7 @@ fn push_trace<N: Names, R: Wait + Copy>(
     }
 }
 
-// Adds a line for what is seen of a lane.
+// Adds a line for what a look at a lane shows.
 fn push_look<N: Names, R: Wait + Copy>(
     rt: &R,
     text: &mut String,
@@ -185,7 +185,7 @@ fn push_counts<R: Wait>(
     Ok(())
 }
 
-// Alice's second transaction of entity 1, the one behind it, and her first Put.
+// Alice's second transaction from entity 1, the one after it, and her first Put.
 const FIVE: TxnKey = TxnKey {
     source: EntityId(1),
     seq: 5,
@@ -201,7 +201,7 @@ const FOUR: TxnKey = TxnKey {
     seq: 4,
 };
 
-// Where that comes, and where she puts.
+// The lane that receives it, and the lane from which she puts.
 const RECEIVES: Place = Place { user: 0, lane: 3 };
 
 const PUTS: Place = Place { user: 0, lane: 0 };
@@ -215,14 +215,14 @@ const NEXT: [u8; 17] = [0x24, 0, 10, 0, 1, 6, 2, 7, 0, 0, 0, 0, 3, 1, 0x61, 1, 0
 
 const OF_THREE: [u8; 17] = [0x24, 0, 10, 0, 3, 4, 2, 7, 0, 0, 0, 0, 3, 1, 0x61, 1, 0x62];
 
-// The octets of the first, and its EOF.
+// The File Data of the first, and its EOF.
 const OCTETS: &[u8] = &[0x34, 0, 7, 0, 1, 5, 2, 0, 0, 0, 0, 0x61, 0x62, 0x63];
 
 const EOF: [u8; 17] = [
     0x24, 0, 10, 0, 1, 5, 2, 4, 0, 0x61, 0x62, 0x63, 0, 0, 0, 0, 3,
 ];
 
-// A file comes and is kept, while its lane is looked at. Then each call of a sender.
+// A file is received and kept, while its lane is looked at. Then each call of a sender.
 const CALLS: &[Step] = &[
     Step::Look(RECEIVES),
     Step::Tell(Act::Deliver(METADATA)),
@@ -290,7 +290,7 @@ const FILLED: &[Step] = &[
     Step::Tell(Act::Report(0, FOUR)),
     Step::Take,
     Step::Tell(Act::Report(0, FOUR)),
-    // How long each lane waits for more.
+    // The inactivity interval of each lane.
     Step::Tell(Act::Deliver(METADATA)),
     Step::Tell(Act::Deliver(OF_THREE)),
 ];
@@ -315,7 +315,7 @@ fn each_call(rt: HostRuntime) -> Result<(), Fail> {
     Ok(())
 }
 
-/// Entity 2 with two users, each with a source of its own, and room for so many bundles of each.
+/// Entity 2 with two users, each with its own source, and room for `capacity` bundles for each user.
 pub(crate) fn two_sources(alloc: Global, capacity: u16) -> Option<Config> {
     let entity = EntityText {
         capacity,
@@ -325,7 +325,7 @@ pub(crate) fn two_sources(alloc: Global, capacity: u16) -> Option<Config> {
     read_config(alloc, text.as_str()).ok()
 }
 
-// What a configuration says is what its lanes do: how much a queue holds, and the parameters of each source.
+// Lanes behave as configured: how much a queue holds, and the parameters of each source.
 #[test]
 fn as_configured(rt: HostRuntime) -> Result<(), Fail> {
     let config = two_sources(rt.alloc(), 3).ok_or("no configuration")?;

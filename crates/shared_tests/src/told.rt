@@ -1,4 +1,4 @@
-//! Short ways to say what was answered and taken.
+//! Short texts for answers and indications.
 ghost use Rattle.std.specs.Prelude.{◌≡◌};
 
 use cfdp_types::{Class, EntityId, PutRequest, TxnKey};
@@ -13,16 +13,16 @@ use std::thread::Parker;
 use std::time::Duration;
 use user_queues::UserPort;
 
-/// What an entity answers whose gate has the lane step.
+/// The answer of an entity whose gate has the lane step.
 pub(crate) type Answered = Result<Result<Done, Refused>, EntityRefusal>;
 
-/// Lets other threads go on for a moment. A thread that only yields may have had all its turns before another that is
-/// looked for had its first.
+/// Lets other threads run for a moment. If a thread only yields, it may use up all its turns before another that it
+/// waits for has its first.
 pub(crate) fn pause<R: Wait>(rt: &R) {
     Parker::new().park_timeout(rt, Duration::from_micros(50));
 }
 
-/// The transaction of an entity with a number.
+/// The transaction ID of an entity and a number.
 pub(crate) fn key(source: u64, seq: u64) -> TxnKey {
     TxnKey {
         source: EntityId(source),
@@ -58,7 +58,7 @@ fn file_for(alloc: Global, destination: u64) -> Option<PutRequest> {
     PutRequest::new(alloc, to, Class::One, b"a", b"b", &[], b"abc").ok()
 }
 
-/// A user puts a file from a lane, or `None` where there is no such lane.
+/// Has a user put a file from a lane; `None` without such a lane.
 pub(crate) fn put<N: Names, R: Wait + Copy, G: Gate<N, R>>(
     rt: &R,
     alloc: Global,
@@ -74,7 +74,7 @@ pub(crate) fn put<N: Names, R: Wait + Copy, G: Gate<N, R>>(
     Some(entity.request(rt, gate, place.user, Request::Put(place.lane, file)))
 }
 
-/// All that a user takes until nothing is there.
+/// All bundles that a user takes until the queue is empty.
 pub(crate) fn taken<R: Wait>(
     rt: &R,
     alloc: Global,
@@ -109,7 +109,7 @@ fn word_of(indication: &Indication) -> &'static str {
     }
 }
 
-/// Adds a line for how many bundles there are, and lines for those of the transactions 5 and 6.
+/// Adds a line for how many bundles there are, and lines for those of transactions 5 and 6.
 pub(crate) fn push_both(text: &mut String, bundles: &[Bundle]) -> Result<(), AllocError> {
     let count = bundles.len();
     writeln!(text, "{count}")?;

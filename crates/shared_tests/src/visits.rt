@@ -1,4 +1,4 @@
-//! What a thread of a crowd does with a lane: a whole transaction, from its first event to its last.
+//! Whole transactions, from the first event to the last, that a thread of a crowd runs on a lane.
 
 use crate::acts::{Act, Outcome, Told, tell};
 use crate::told::key;
@@ -20,7 +20,7 @@ pub(crate) struct Ended {
     pub(crate) trace: Vec<Indication>,
 }
 
-/// A thread that works on an entity, and what it brought to an end. Its calls tell whether all went well.
+/// A thread that works on an entity, and the transactions that it completed. Its methods answer whether all went well.
 #[derive(Drop)]
 pub(crate) struct Worker<'e, N: Names, R: Wait + Copy> {
     rt: &'e R,
@@ -39,7 +39,7 @@ impl<'e, N: Names, R: Wait + Copy> Worker<'e, N, R> {
         }
     }
 
-    /// What was brought to an end.
+    /// The transactions that it completed.
     pub(crate) fn into_ended(self) -> Vec<Ended> {
         let Worker { ended, .. } = self;
         ended
@@ -49,7 +49,7 @@ impl<'e, N: Names, R: Wait + Copy> Worker<'e, N, R> {
         tell(self.rt, self.alloc, self.entity, act)
     }
 
-    // A step that has to be taken.
+    // A step that must be taken.
     fn step(&self, act: &Act) -> Option<Done> {
         match self.tell(act) {
             Outcome::Taken(Told { done, .. }) => Some(done),
@@ -61,7 +61,7 @@ impl<'e, N: Names, R: Wait + Copy> Worker<'e, N, R> {
         matches!(self.tell(act), Outcome::Refused(refusal) if refusal == why)
     }
 
-    // The last step of a transaction.
+    // The last step of a transaction, which must be taken.
     fn end(&mut self, place: Place, act: &Act) -> Result<bool, AllocError> {
         let Outcome::Taken(Told { done, trace }) = self.tell(act) else {
             return Ok(false);
@@ -83,7 +83,7 @@ impl<'e, N: Names, R: Wait + Copy> Worker<'e, N, R> {
         }
     }
 
-    // Sends the three PDUs of a file. Nothing is left then, and before a timer that does not run is refused.
+    // Sends the three PDUs of a file. Then nothing is left to send; before, a timer that doesn't run is refused.
     fn send_all(&mut self, place: Place, key: TxnKey) -> Result<bool, AllocError> {
         let stale = Act::Timer(key, TimerKind::Ack, 0);
         let begins = self.is_refused(&stale, Refusal::StaleTimer)
@@ -103,8 +103,8 @@ impl<'e, N: Names, R: Wait + Copy> Worker<'e, N, R> {
             && self.step(&Act::Resume(place.user, key)).is_some()
     }
 
-    /// Has an empty file come for a user, unless its lane is busy or has seen a higher number. By its kind its sender
-    /// falls silent, its user cancels it, or it is kept, in class 1 or 2.
+    /// Receives an empty file for a user, unless its lane is busy or has seen a higher number. By its kind, the sender
+    /// falls silent, the user cancels, or the file is kept, in class 1 or 2.
     pub(crate) fn receive(&mut self, file: &File) -> Result<bool, AllocError> {
         let metadata = file.datagram([7, 0, 0, 0, 0, 0, 1, 0x61, 1, 0x62]);
         match self.tell(&Act::Deliver(metadata)) {
@@ -135,7 +135,7 @@ impl<'e, N: Names, R: Wait + Copy> Worker<'e, N, R> {
         }
     }
 
-    // The end of a file comes; the store's answer to what is handed out then.
+    // Delivers the EOF of a file; gives the store's answer to the deposit that follows.
     fn deposit(&self, file: &File) -> Option<Act> {
         let eof = file.datagram([4, 0, 0, 0, 0, 0, 0, 0, 0, 0]);
         let deposit = self.step(&Act::Deliver(eof))?.deposit?;
@@ -152,7 +152,7 @@ pub(crate) enum Kind {
     Acknowledged,
 }
 
-/// An empty file that comes.
+/// An empty file that is received.
 #[derive(Drop)]
 pub(crate) struct File {
     pub(crate) place: Place,
@@ -174,14 +174,14 @@ impl File {
         }
     }
 
-    // A datagram with ten octets behind its header.
+    // A datagram with ten octets after its header.
     fn datagram(&self, data: [u8; 10]) -> [u8; 17] {
         let [a, b, c, d, e, f, g, h, i, j] = data;
         let (mode, source, seq) = (self.mode(), self.source, self.seq);
         [mode, 0, 10, 0, source, seq, 2, a, b, c, d, e, f, g, h, i, j]
     }
 
-    // The acknowledgement of what its receiver says at the end.
+    // The ACK of the receiver's Finished PDU.
     fn acknowledgement(&self) -> [u8; 10] {
         [self.mode(), 0, 3, 0, self.source, self.seq, 2, 6, 0x51, 2]
     }

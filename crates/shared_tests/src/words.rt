@@ -7,7 +7,7 @@ use ind_words::{Side, WordReader};
 use indications::{Bundle, Indication};
 use std::alloc::{AllocError, Global};
 
-// A transaction as far as it was read.
+// A transaction, as far as it was read.
 #[derive(Drop)]
 struct Reading {
     key: TxnKey,
@@ -24,7 +24,7 @@ impl Reading {
         })
     }
 
-    // Whether a bundle's indications go on with the word.
+    // Whether a bundle's indications continue the word.
     fn read(&mut self, bundle: &Bundle) -> Result<bool, AllocError> {
         for indication in bundle.inds.as_slice() {
             if self.reader.next(indication).is_err() {
@@ -36,8 +36,8 @@ impl Reading {
     }
 }
 
-// The transactions of a lane in the order in which they were indicated, where all but the last are whole words, and
-// that is one or the beginning of one.
+// The transactions of a lane in the order of their indications; all but the last are whole words, and the last is a
+// word or the beginning of one.
 fn readings(
     alloc: Global,
     side: Side,
@@ -53,7 +53,7 @@ fn readings(
     Ok(Some(readings))
 }
 
-// Whether a lane's next bundle may come next.
+// Whether a bundle may be the next of its lane.
 fn read_on(
     alloc: Global,
     side: Side,
@@ -75,8 +75,8 @@ fn read_on(
     }
 }
 
-/// Whether what came of a lane are the traces of the transactions that ended there: of each once and whole, and of no
-/// other.
+/// Whether a lane's indications are the traces of the transactions that ended there: of each once and whole, and of no
+/// others.
 pub(crate) fn is_told(
     alloc: Global,
     ended: &[Ended],
@@ -100,7 +100,7 @@ pub(crate) fn is_told(
     Ok(there > 0 && readings.len() == there)
 }
 
-// How many transactions ended at a place.
+// How many transactions ended on a lane.
 fn ended_at(ended: &[Ended], place: Place) -> usize {
     let mut count = 0usize;
     for ended in ended {
@@ -111,7 +111,7 @@ fn ended_at(ended: &[Ended], place: Place) -> usize {
     count
 }
 
-// Whether a transaction ended at a place, where its trace was what was read.
+// Whether a transaction that was read ended on this lane, with the same trace.
 fn is_whole(ended: &[Ended], place: Place, reading: &Reading) -> bool {
     for ended in ended {
         if ended.place == place && ended.key == reading.key {

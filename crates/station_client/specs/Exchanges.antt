@@ -1,4 +1,4 @@
--- Meaning. What came of one command so far: its answer, and the events in between.
+-- Meaning. What was received for one command so far: its answer, and the events in between.
 use Rattle.std.specs.Prelude.{◌++◌, ℕ, List, [], ◌∷◌, drop}
 use Rattle.station_client.specs.declared.lines.LineKind.{LineKind}
 use Rattle.station_client.specs.declared.lines.LineKind.TheVariants as kinds
@@ -8,7 +8,7 @@ pub record ExchangeValue : Type 0 where
   pub answer : List ℕ
   pub events : List (List ℕ)
 
--- what a line adds
+-- the effect of a line
 abbrev pub with_line : LineKind → List ℕ → ExchangeValue → ExchangeValue
 with_line kinds.Answer line old = record old { answer = old.answer ++ line ++ 10 ∷ [] }
 with_line kinds.Event line old = record old { events = old.events ++ drop 6 line ∷ [] }

@@ -1,4 +1,4 @@
-//! A connection to a Unix socket, with a limit of time.
+//! Connects to a Unix socket within a time limit.
 use crate::fault::StationFault;
 use libc::net as c;
 use std::io;
@@ -8,15 +8,15 @@ use std::os::fd::AsRawFd;
 use std::os::unix::net::UnixStream;
 use std::time::Duration;
 
-// The kind of such an address, and how many octets its path has at most.
+// The family of a Unix address, and how many octets its path may have.
 const UNIX: u16 = 1;
 
 const PATH_OCTETS: usize = 107;
 
-// How often a connect that was interrupted is made again, as where the program was stopped and goes on.
+// How often an interrupted connect is made again, as when the program was stopped and continued.
 const INTERRUPTIONS: u32 = 8;
 
-/// Connects to a path. Where the queue of those who listen is full, it waits for a place until the limit of time is over.
+/// Connects to a path. If the server's queue of connections is full, waits for a place until the time limit.
 pub(crate) fn connect_socket<R: Net>(
     rt: &R,
     path: &str,
@@ -37,7 +37,7 @@ pub(crate) fn connect_socket<R: Net>(
     address[2..2 + path.len()].copy_from_slice(path);
     let length = path.len() as u32 + 3;
     for _ in 0..INTERRUPTIONS {
-        // the call reads the first octets of the address, and changes nothing of the program's
+        // the call reads the first octets of the address, and changes none of the program's memory
         if unsafe { c::connect(stream.as_raw_fd(), &address, length) } == 0 {
             return Ok(stream);
         }
@@ -49,7 +49,7 @@ pub(crate) fn connect_socket<R: Net>(
     Err(StationFault::NoServer)
 }
 
-// Why there is no connection.
+// The fault for a connect that failed.
 fn fault_of_connect(error: &io::Error) -> StationFault {
     match error.kind() {
         ErrorKind::NotFound | ErrorKind::ConnectionRefused | ErrorKind::WouldBlock => {
@@ -62,7 +62,7 @@ fn fault_of_connect(error: &io::Error) -> StationFault {
     }
 }
 
-/// Why a call of the system failed, where it isn't a connect.
+/// The fault for any other call of the system that failed.
 pub(crate) fn fault_of(error: &io::Error) -> StationFault {
     match error.kind() {
         ErrorKind::WouldBlock | ErrorKind::TimedOut => StationFault::TimedOut,

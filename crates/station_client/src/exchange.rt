@@ -1,4 +1,4 @@
-//! One command's answer, and the events that came in between.
+//! The answer of one command, and the events that came with it.
 ghost use Rattle.std.specs.Prelude.{◌≡◌, ◌≤◌, [], length, OnOk, OnErr};
 ghost use Rattle.station_client.specs.Exchanges.{with_line};
 
@@ -12,10 +12,10 @@ use std::mem;
 /// The most octets of an answer.
 pub const ANSWER_OCTETS: usize = 32 * 1024 * 1024;
 
-// How many octets stand before an event's own text.
+// How many octets the word `event` and its space have.
 const EVENT_WORD_OCTETS: usize = 6;
 
-/// The answer so far, and the events that nobody took yet.
+/// The answer so far, and the events that nobody has taken yet.
 #[derive(Debug, Drop)]
 pub struct Exchange {
     answer: Vec<u8>,
@@ -32,7 +32,7 @@ impl Model for Exchange {
 }
 
 impl Exchange {
-    /// Nothing came.
+    /// Without any line so far.
     pub fn new(alloc: Global) -> Exchange
         ensures { result ≡ record { answer = []; events = [] } }
     {
@@ -42,7 +42,7 @@ impl Exchange {
         }
     }
 
-    /// Adds a line of a kind.
+    /// Adds a line of this kind.
     pub fn add(&mut self, alloc: Global, kind: LineKind, line: &[u8]) -> Result<(), StationFault>
         ensures ok { OnOk result (self.new ≡ with_line kind line.now self.old) }
         ensures err { OnErr result (self.new ≡ self.old) }

@@ -3,28 +3,28 @@ use std::alloc::AllocError;
 /// Why a station doesn't answer.
 #[derive(Clone, Copy, Debug, PartialEq, Eq)]
 pub enum StationFault {
-    /// Nobody listens at the path, or lets anybody in.
+    /// Nobody listens at the path, or lets clients in.
     NoServer,
-    /// The path isn't one that a socket can have, or it isn't ours to use.
+    /// A socket can't have this path, or the path isn't ours to use.
     BadPath,
-    /// The station has no seat for one client more.
+    /// The station has no free seat.
     Busy,
     /// The station ended, or cut us off.
     Gone,
     /// No whole answer came in time.
     TimedOut,
-    /// A line or an answer was longer than those of a station are.
+    /// A line or an answer was longer than a station sends.
     TooLong,
     /// The command has a line feed inside.
     BadCommand,
     /// Memory ran out.
     NoMemory,
-    /// The system refuses a call.
+    /// A call of the system failed.
     System,
 }
 
 impl StationFault {
-    /// What happened, as words for a message.
+    /// The fault as words for a message.
     pub fn text(self) -> &'static str {
         match self {
             StationFault::NoServer => "no server answers at the control socket",

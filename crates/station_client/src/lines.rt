@@ -1,4 +1,4 @@
-//! Lines, found in the octets that came.
+//! Finds lines in the octets that were received.
 ghost use Rattle.std.specs.Prelude.{◌≡◌, ◌++◌, ◌↔◌, ◌<◌, [], length, IsTrue, OnOk, OnErr, IfOk, IfSome};
 ghost use Rattle.station_client.specs.Lines.{BeginsEvent, feed_place, IsNext, IsOfKind};
 
@@ -9,7 +9,7 @@ use std::marker::Model;
 /// The most octets of a line that a station sends.
 pub const LINE_OCTETS: usize = 140_000;
 
-/// What a line is.
+/// The kinds of lines.
 #[derive(Clone, Copy, Debug, PartialEq, Eq)]
 pub enum LineKind {
     /// A line of an answer.
@@ -22,7 +22,7 @@ pub enum LineKind {
     Busy,
 }
 
-/// What a line is, without its line feed.
+/// The kind of a line, which is without its line feed.
 pub fn kind_of(line: &[u8]) -> LineKind
     ensures { IsOfKind result line.now }
 {
@@ -37,14 +37,14 @@ pub fn kind_of(line: &[u8]) -> LineKind
     }
 }
 
-// Whether a line is an event's.
+// Whether a line is an event.
 fn begins_event(line: &[u8]) -> bool
     ensures { IsTrue result ↔ BeginsEvent line.now }
 {
     line.len() >= 6 && &line[..6] == b"event ".as_slice()
 }
 
-// Where the first line feed stands.
+// The place of the first line feed.
 fn feed_place(octets: &[u8]) -> Option<usize>
     ensures place { result ≡ feed_place octets.now }
     ensures within { IfSome result (λ at. at < length octets.now) }
@@ -52,11 +52,11 @@ fn feed_place(octets: &[u8]) -> Option<usize>
     octets.iter().position(|octet| *octet == b'\n')
 }
 
-/// The octets that came and weren't read as lines yet. Contracts see them as a list.
+/// The octets that were received and not yet read as lines. Contracts see them as a list.
 #[derive(Debug, Drop)]
 pub struct Incoming {
     octets: Vec<u8>,
-    // how many of them were read
+    // how many of the octets were read as lines
     start: usize,
 }
 
@@ -71,7 +71,7 @@ impl Model for Incoming {
 }
 
 impl Incoming {
-    /// Nothing came.
+    /// Without any octets.
     pub fn new(alloc: Global) -> Incoming
         ensures { result ≡ [] }
     {
@@ -81,14 +81,14 @@ impl Incoming {
         }
     }
 
-    /// How many octets wait to be read.
+    /// How many octets are not yet read as lines.
     pub fn len(&self) -> usize
         ensures { result ≡ length self.now }
     {
         self.octets.len() - self.start
     }
 
-    /// Adds what came.
+    /// Adds octets that were received.
     pub fn push(&mut self, came: &[u8]) -> Result<(), StationFault>
         ensures ok { OnOk result (self.new ≡ self.old ++ came.now) }
         ensures err { OnErr result (self.new ≡ self.old) }
@@ -98,7 +98,7 @@ impl Incoming {
         Ok(())
     }
 
-    // Lets the octets go that were read, once they are the greater part.
+    // Drops the octets that were read, once they are the greater part.
     fn forget_read(&mut self)
         ensures { self.new ≡ self.old }
     {
@@ -108,8 +108,8 @@ impl Incoming {
         }
     }
 
-    /// Takes the first whole line, which then stands in place of what `line` held, and says what it is. None where no line is
-    /// whole. After an error nothing is known of `line`.
+    /// Moves the first whole line into `line`, in place of its content, and answers its kind; `None` without a whole
+    /// line. After an error, the content of `line` is unspecified.
     pub fn next_line(&mut self, line: &mut Vec<u8>) -> Result<Option<LineKind>, StationFault>
         ensures ok { IfOk result (λ kind. IsNext kind self.old line.new.items self.new) }
         ensures err { OnErr result (self.new ≡ self.old) }

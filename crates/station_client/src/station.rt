@@ -11,14 +11,14 @@ use std::sync::Wait;
 use std::thread;
 use std::time::{Clock, Duration};
 
-// How many octets are asked of the system at once.
+// How many octets the system is asked for at a time.
 const BLOCK_OCTETS: usize = 16 * 1024;
 
-// For how many milliseconds one rests before the next try to connect.
+// How many milliseconds to wait before the next attempt to connect.
 const REST_MILLIS: u64 = 50;
 
-/// A station, by its control socket. After a fault every later call gives the same fault, but for `BadCommand`, which leaves
-/// all as it was.
+/// A connection to a station's control socket. After a fault, every later call gives the same fault, except
+/// `BadCommand`, which changes nothing.
 #[derive(Drop)]
 pub struct Station {
     alloc: Global,
@@ -31,8 +31,8 @@ pub struct Station {
 }
 
 impl Station {
-    /// Connects to the control socket at a path. A station that lets nobody in for the limit of time counts as none. It asks
-    /// for nothing yet, so a station without a free seat says so at the first `ask` or `next_event`.
+    /// Connects to the control socket at a path. A station that lets nobody in within the time limit counts as no
+    /// server. Nothing is sent yet, so a station without a free seat reports that at the first `ask` or `next_event`.
     pub fn connect<R: Net>(
         rt: &R,
         alloc: Global,
@@ -51,7 +51,7 @@ impl Station {
         })
     }
 
-    /// As `connect`, and where no server is there tries again until the limit of time is over.
+    /// Like `connect`, but tries again while no server is there, until the time limit.
     pub fn connect_within<R: Net + Clock + Wait>(
         rt: &R,
         alloc: Global,
@@ -70,7 +70,7 @@ impl Station {
         Err(StationFault::NoServer)
     }
 
-    /// Connects, asks one command and leaves: the answer, all within the limit of time.
+    /// Connects, sends one command and leaves; gives the command's answer. All that within the time limit.
     pub fn ask_once<R: Net + Clock + Wait>(
         rt: &R,
         alloc: Global,
@@ -83,8 +83,8 @@ impl Station {
         station.ask(rt, command, left_until(rt, until)?)
     }
 
-    /// Sends a command, a line without its line feed, and gives the lines of its answer, each with its line feed and without
-    /// the dot. Events that come in between wait for `next_event`.
+    /// Sends a command, a line without its line feed, and gives the lines of its answer, each with its line feed,
+    /// without the final dot. Events that come in between are kept for `next_event`.
     pub fn ask<R: Clock + Wait>(
         &mut self,
         rt: &R,
@@ -99,8 +99,8 @@ impl Station {
         self.keep_fault(answered)
     }
 
-    /// The next event's JSON, without its word `event`. None where none came within the limit of time. The station tells events
-    /// once it was asked to `follow`.
+    /// The JSON of the next event, without the word `event`; `None` if none comes within the time limit. The station
+    /// sends events once it was asked to `follow`.
     pub fn next_event<R: Clock + Wait>(
         &mut self,
         rt: &R,
@@ -125,7 +125,7 @@ impl Station {
         }
     }
 
-    // Keeps a fault for the calls that follow.
+    // Keeps a fault for later calls.
     fn keep_fault<T>(&mut self, outcome: Result<T, StationFault>) -> Result<T, StationFault> {
         if let Err(fault) = &outcome {
             self.fault = Some(*fault);
@@ -150,7 +150,7 @@ impl Station {
         Ok(self.exchange.take_answer(self.alloc))
     }
 
-    // Sends a command. Where the station has closed its end, what it said before is still to be read.
+    // Sends a command. If the station has closed its end, what it sent before can still be read.
     fn send(&mut self, command: &[u8], limit: Duration) -> Result<(), StationFault> {
         let mut text = Vec::with_capacity(self.alloc, command.len().saturating_add(1))?;
         text.extend_from_slice(command)?;
@@ -166,7 +166,7 @@ impl Station {
         }
     }
 
-    // Reads until an event came.
+    // Reads until there is an event.
     fn wait_event<R: Clock + Wait>(
         &mut self,
         rt: &R,
@@ -181,7 +181,7 @@ impl Station {
         Ok(self.exchange.take_event())
     }
 
-    // Reads the next line and adds it to what came; what it was.
+    // Reads the next line and adds it to the exchange; answers its kind.
     fn read_line<R: Clock + Wait>(
         &mut self,
         rt: &R,
@@ -201,7 +201,7 @@ impl Station {
         Err(StationFault::System)
     }
 
-    // Reads what the station sent, once.
+    // Reads once from the station.
     fn read_more<R: Clock>(&mut self, rt: &R, until: Duration) -> Result<(), StationFault> {
         let left = left_until(rt, until)?;
         if left.is_zero() {
@@ -219,13 +219,13 @@ impl Station {
     }
 }
 
-// The moment that comes so long after now, on the system's own clock.
+// The moment at which a time limit from now ends, by the system's own clock.
 fn moment_behind<R: Clock>(rt: &R, limit: Duration) -> Result<Duration, StationFault> {
     let now = rt.monotonic().map_err(|_| StationFault::System)?;
     Ok(now.saturating_add(limit))
 }
 
-// How long it is until a moment.
+// How long it is until this moment.
 fn left_until<R: Clock>(rt: &R, until: Duration) -> Result<Duration, StationFault> {
     let now = rt.monotonic().map_err(|_| StationFault::System)?;
     Ok(until.saturating_sub(now))

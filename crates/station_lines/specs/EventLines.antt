@@ -28,7 +28,7 @@ start_line head id version =
 
 -- ---- indications
 
--- what Metadata-Recv says: the file's entity and size, its names, and the messages
+-- the members of Metadata-Recv: the file's entity and size, its names, and the messages
 abbrev pub metadata_members : EntityId → ℕ → List ℕ → List ℕ → List (List ℕ) → List Token
 metadata_members source size source_name destination_name messages =
     number_member (codes "origin") source.0 ++ (number_member (codes "size") size
@@ -40,7 +40,7 @@ abbrev pub fault_members : ℕ → ℕ → List Token
 fault_members condition progress =
     number_member (codes "condition") condition ++ number_member (codes "progress") progress
 
--- what an indication says behind its name
+-- an indication's members, after its name
 abbrev pub said_members : Indication → List Token
 said_members Transaction = []
 said_members EofSent = []
@@ -66,7 +66,7 @@ indication_line head event =
 
 -- ---- Puts, the outbox, the store, refusals
 
--- whose Put it is, and where the file goes
+-- the Put's user and transaction, its remote entity and its class
 abbrev pub put_head : PutEvent → List Token
 put_head put =
     text_member (codes "user") put.user.now ++ (key_members put.key
@@ -77,7 +77,7 @@ abbrev pub queued_members : Option ℕ → List Token
 queued_members None = []
 queued_members (Some number) = number_member (codes "queued") number
 
--- its file
+-- the Put's file
 abbrev pub put_file : PutEvent → List Token
 put_file put =
     octets_member (codes "file") put.file.now ++ (octets_member (codes "to") put.to.now
@@ -94,15 +94,15 @@ unsent_members unsent =
     ++ (number_member (codes "destination") unsent.destination.0 ++ (octets_member (codes "file") unsent.file.now
     ++ text_member (codes "why") unsent.why.now)))
 
--- the line of such a file
+-- the line of a file of the outbox that was given up
 abbrev pub unsent_line : EventHead → UnsentEvent → List ℕ
 unsent_line head unsent = line_of (head_members head (codes "unsent") ++ unsent_members unsent)
 
--- what became of a file that the store kept, or did not
+-- the file status for a file that the store kept, or did not
 abbrev pub stored_status : Bool → FileStatus
 stored_status is_retained = if is_retained then Retained else Rejected
 
--- where the store kept it, if that is shown
+-- the file's path in the store, if that is shown
 abbrev pub place_members : Option (List ℕ) → List Token
 place_members None = []
 place_members (Some place) = text_member (codes "as") place
@@ -128,17 +128,17 @@ about_remote_line head kind id = line_of (head_members head kind ++ number_membe
 abbrev pub hold_line : EventHead → EntityId → List ℕ
 hold_line head id = about_remote_line head (codes "hold") id
 
--- the line of its end
+-- the line of a hold's end
 abbrev pub release_line : EventHead → EntityId → List ℕ
 release_line head id = about_remote_line head (codes "release") id
 
--- ---- events without members of their own
+-- ---- events that have no further members
 
 -- the line of such an event
 abbrev pub plain_line : EventHead → List ℕ → List ℕ
 plain_line head kind = line_of (head_members head kind)
 
--- the line of a worker that reads no more
+-- the line of a worker that stopped reading
 abbrev pub reads_ended_line : EventHead → List ℕ
 reads_ended_line head = plain_line head (codes "reads-ended")
 

@@ -29,7 +29,7 @@ hex_string octets = string (encode_lower octets)
 unfoldable pub hex_member : List ℕ → List ℕ → List Token
 hex_member name octets = key name ∷ hex_string octets ∷ []
 
--- octets as text, or in hex where they are no text
+-- octets as text, or in hex where they are not UTF-8
 unfoldable pub octets_member : List ℕ → List ℕ → List Token
 octets_member name octets = if is_utf8 octets then text_member name octets else hex_member (name ++ codes "_hex") octets
 

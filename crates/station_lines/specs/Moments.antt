@@ -4,15 +4,15 @@ use Rattle.std.specs.Fmt.{styled_decimal, format_spec}
 use Rattle.station_lines.specs.declared.moment.Date.{Date}
 use Rattle.station_lines.specs.declared.moment.Moment.{Moment}
 
--- a number with zeros before it, where it has fewer digits
+-- a number, with zeros before it if it has fewer digits
 abbrev pub padded : ℕ → ℕ → List ℕ
 padded digits number = styled_decimal (format_spec 32 0 4 digits (2 ^ 64 - 1)) number
 
--- a day in quarters of a day, counted from the first of March of the year 0, with three of its own
+-- a day in quarters of a day, counted from the first of March of the year 0, plus three quarters
 abbrev pub quarters_of : ℕ → ℕ
 quarters_of day = 4 * (day + 719_468) + 3
 
--- the same in the day's century
+-- the same within the day's century
 abbrev pub quarters_in_century : ℕ → ℕ
 quarters_in_century day = quarters_of day % 146_097 / 4 * 4 + 3
 

@@ -1,4 +1,4 @@
--- Meaning. Members that lines of several kinds have.
+-- Meaning. Members that several kinds of lines have.
 use Rattle.std.specs.Prelude.{ℕ, List, [], ◌++◌, Option, Some, None, take, codes}
 use Rattle.cfdp_types.specs.declared.key.TxnKey.{TxnKey}
 use Rattle.cfdp_types.specs.declared.names.Class.{Class}
@@ -11,7 +11,7 @@ use Rattle.station_lines.specs.Members.{text_member, number_member, hex_member}
 use Rattle.station_lines.specs.declared.members.RefusedCase.{RefusedCase}
 use Rattle.station_lines.specs.declared.members.Datagram.{Datagram}
 
--- the two numbers of a transaction
+-- a transaction ID's two numbers
 abbrev pub key_members : TxnKey → List Token
 key_members key = number_member (codes "source") key.source.0 ++ number_member (codes "seq") key.seq
 
@@ -26,18 +26,18 @@ abbrev pub fault_members : Option ℕ → List Token
 fault_members None = []
 fault_members (Some fault) = number_member (codes "fault") fault
 
--- a kind of refusal, with its number under a name, and how often it came
+-- a kind of refusal and its count; the member for its number has this name
 abbrev pub case_members : List ℕ → RefusedCase → List Token
 case_members number_name case =
     number_member number_name case.number
     ++ (text_member (codes "name") case.name.now
     ++ (fault_members case.fault ++ number_member (codes "count") case.count))
 
--- the first octets, at most so many
+-- the first octets, at most `most`
 unfoldable pub first_octets : ℕ → List ℕ → List ℕ
 first_octets most octets = take most octets
 
--- where a datagram came from and its first octets, if it was one
+-- a datagram's source and its first octets, if the refusal was of one
 abbrev pub datagram_members : Option Datagram → List Token
 datagram_members None = []
 datagram_members (Some datagram) =

@@ -26,25 +26,25 @@ use Rattle.station_lines.specs.declared.status.UserStatus.{UserStatus}
 
 -- ---- the entity
 
--- who it is, and since when
+-- the entity, and since when it runs
 abbrev pub entity_head : EntityStatus → List Token
 entity_head e =
     text_member (codes "kind") (codes "entity") ++ (number_member (codes "id") e.id.0
     ++ (text_member (codes "version") e.version.now ++ moment_member (codes "started") e.started))
 
--- how it stands
+-- the entity's state
 abbrev pub entity_state : EntityStatus → List Token
 entity_state e =
     moment_member (codes "now") e.now ++ (number_member (codes "workers") e.workers
     ++ (number_member (codes "clients") e.clients ++ number_member (codes "events") e.events))
 
--- the counters of what comes and goes
+-- the counters of what is received and sent
 abbrev pub traffic_members : Counters → List Token
 traffic_members c =
     number_member (codes "datagrams_in") c.datagrams_in ++ (number_member (codes "octets_in") c.octets_in
     ++ (number_member (codes "datagrams_out") c.datagrams_out ++ number_member (codes "octets_out") c.octets_out))
 
--- the counters of what fails on the way
+-- the counters of failures on the way
 abbrev pub trouble_members : Counters → List Token
 trouble_members c =
     number_member (codes "failed_sends") c.failed_sends ++ (number_member (codes "failed_reads") c.failed_reads
@@ -52,7 +52,7 @@ trouble_members c =
     ++ (number_member (codes "foreign_datagrams") c.foreign_datagrams
     ++ number_member (codes "decode_faults") c.decode_faults)))
 
--- the counters of what becomes of it
+-- the counters of what became of it
 abbrev pub outcome_members : Counters → List Token
 outcome_members c =
     number_member (codes "refused") c.refused ++ (number_member (codes "stored") c.stored
@@ -84,22 +84,22 @@ user_line user =
 
 -- ---- transactions
 
--- the end of a transaction that a lane runs
+-- the role of this end in a transaction that a lane runs
 abbrev pub role_name : Side → List ℕ
 role_name Sender = codes "sender"
 role_name Receiver = codes "receiver"
 
--- what a transaction does, as a Report says it, until it ended
+-- a transaction's phase, as in a Report indication, or that it has ended
 abbrev pub state_name : Glance → List ℕ
 state_name glance = if glance.has_ended then codes "ended" else phase_name glance.phase
 
--- which transaction it is, and whose
+-- a transaction's key and its user
 abbrev pub transaction_head : TransactionStatus → List Token
 transaction_head t =
     text_member (codes "kind") (codes "transaction") ++ (key_members t.glance.now.key
     ++ (text_member (codes "user") t.user.now ++ number_member (codes "lane") t.lane))
 
--- what an end of it does, and with whom
+-- this end's role, the other end, the class and the state
 abbrev pub transaction_part : Glance → List Token
 transaction_part glance =
     text_member (codes "role") (role_name glance.end) ++ (number_member (codes "peer") glance.peer.0
@@ -112,13 +112,13 @@ file_members (Some file) =
     octets_member (codes "file") file.source_name
     ++ (octets_member (codes "to") file.destination_name ++ number_member (codes "size") file.size)
 
--- its file, and how far it came
+-- the transaction's file and its progress
 abbrev pub transaction_file : Glance → List Token
 transaction_file glance =
     file_members glance.file
     ++ (number_member (codes "octets") glance.progress ++ number_member (codes "events") glance.entries)
 
--- when its last indication came, if the server saw one
+-- when its last indication was issued, if the server saw one
 abbrev pub last_members : Option Moment → List Token
 last_members None = []
 last_members (Some last) = moment_member (codes "last") last
@@ -128,22 +128,22 @@ abbrev pub end_members : Ending → List Token
 end_members (Finished condition delivery status) = finished_members condition delivery status
 end_members (Abandoned condition) = number_member (codes "condition") condition
 
--- the same, if the server saw that
+-- the same, if the server saw the end
 abbrev pub ending_members : Option Ending → List Token
 ending_members None = []
 ending_members (Some ending) = end_members ending
 
--- a notice, in a word
+-- the name of a notice
 abbrev pub notice_name : Notice → List ℕ
 notice_name JournalFull = codes "journal-full"
 notice_name LastNumbers = codes "last-numbers"
 
--- what an operator should know, if there is something
+-- what an operator should know, if anything
 abbrev pub notice_members : Option Notice → List Token
 notice_members None = []
 notice_members (Some notice) = text_member (codes "notice") (notice_name notice)
 
--- what the server saw of it, and a notice
+-- what the server saw of the transaction, and a notice
 abbrev pub transaction_end : TransactionStatus → List Token
 transaction_end t = last_members t.last ++ (ending_members t.ending ++ notice_members t.notice)
 
@@ -154,14 +154,14 @@ transaction_line t =
 
 -- ---- the outbox
 
--- which file waits, whose, and where it goes
+-- a waiting file, its user and its destination
 abbrev pub queued_head : QueuedStatus → List Token
 queued_head q =
     text_member (codes "kind") (codes "queued") ++ (number_member (codes "number") q.number
     ++ (text_member (codes "user") q.user.now ++ (number_member (codes "class") (class_number q.class)
     ++ number_member (codes "destination") q.destination.0)))
 
--- its names, and since when it waits
+-- the file's names, and since when it waits
 abbrev pub queued_file : QueuedStatus → List Token
 queued_file q =
     octets_member (codes "file") q.file.now ++ (octets_member (codes "to") q.to.now
@@ -190,7 +190,7 @@ abbrev pub address_members : Option (List ℕ) → List Token
 address_members None = []
 address_members (Some address) = text_member (codes "address") address
 
--- which remote entity it is, and where
+-- a remote entity and its address
 abbrev pub remote_head : RemoteStatus → List Token
 remote_head r =
     text_member (codes "kind") (codes "remote") ++ (number_member (codes "id") r.id.0
@@ -201,7 +201,7 @@ abbrev pub held_members : Option Moment → List Token
 held_members None = flag_member (codes "held") false
 held_members (Some since) = flag_member (codes "held") true ++ moment_member (codes "held_since") since
 
--- what comes from a remote entity and goes to it
+-- the counters of what is received from a remote entity and sent to it
 abbrev pub crossing_members : RemoteStatus → List Token
 crossing_members r =
     number_member (codes "datagrams_in") r.datagrams_in ++ (number_member (codes "octets_in") r.octets_in

@@ -1,4 +1,4 @@
-//! What the lines of events show.
+//! The values that the lines of events show.
 
 use crate::moment::Moment;
 use cfdp_types::{Class, EntityId, TxnKey};
@@ -26,29 +26,29 @@ pub struct PutEvent<'a> {
     /// The user's name.
     pub user: &'a str,
     pub key: TxnKey,
-    /// The entity that is to receive the file.
+    /// The remote entity that is to receive the file.
     pub peer: EntityId,
     pub class: Class,
-    /// The name of the file here.
+    /// The path of the file here.
     pub file: &'a [u8],
-    /// The name of the file at the receiver.
+    /// The destination file name.
     pub to: &'a [u8],
-    /// In octets.
+    /// The file's size in octets.
     pub size: u64,
-    /// Its number in the outbox, where it waited there.
+    /// The file's number in the outbox, if it waited there.
     pub queued: Option<u64>,
 }
 
 /// A file of the outbox that was given up.
 #[derive(Clone, Copy, Debug)]
 pub struct UnsentEvent<'a> {
-    /// Its number in the outbox.
+    /// The file's number in the outbox.
     pub queued: u64,
-    /// The name of its user.
+    /// The name of the file's user.
     pub user: &'a str,
-    /// The entity that was to receive it.
+    /// The remote entity that was to receive the file.
     pub destination: EntityId,
-    /// The name of the file here.
+    /// The path of the file here.
     pub file: &'a [u8],
     /// Why it was given up.
     pub why: &'a str,

@@ -1,4 +1,4 @@
-//! The lines of events. A follower gets them behind the word `event` and a space, which these functions don't write.
+//! The lines of events. Followers get each after the word `event` and a space, which these functions don't write.
 ghost use Rattle.std.specs.Prelude.{◌≡◌, ◌++◌, OnErr, OnOk, string_bytes};
 ghost use Rattle.std.specs.Option.{option_copied};
 ghost use Rattle.station_lines.specs.EventLines.{head_members, start_line, indication_line, said_members, metadata_members, put_line, put_head, put_file, queued_members, unsent_line, unsent_members, place_members, stored_line, stored_status, refused_line, hold_line, release_line, about_remote_line, reads_ended_line, end_line, plain_line};
@@ -58,7 +58,7 @@ pub fn push_indication_event(
     line.end(text)
 }
 
-// What an indication says behind its name.
+// An indication's members, after its name.
 fn said_members(line: &mut Line, said: &Indication) -> Result<(), AllocError>
     ensures { OnOk result (line.new ≡ line.old ++ said_members said.now) }
 {
@@ -199,7 +199,8 @@ fn unsent_members(line: &mut Line, unsent: &UnsentEvent<'_>) -> Result<(), Alloc
     line.text("why", unsent.why)
 }
 
-/// Adds the line of a store's answer: whether it kept the file of a transaction, and where below its folder, if that is shown.
+/// Adds the line of a store's answer: whether it kept the file of a transaction, and its path below the folder, if that
+/// is shown.
 pub fn push_stored_event(
     alloc: Global,
     text: &mut String,
@@ -256,7 +257,7 @@ pub fn push_refused_event(
     line.end(text)
 }
 
-/// Adds the line of a hold: nothing leaves for a remote entity from now on.
+/// Adds the line of a hold: nothing is sent to a remote entity from now on.
 pub fn push_hold_event(
     alloc: Global,
     text: &mut String,
@@ -282,7 +283,7 @@ pub fn push_release_event(
     push_about_remote(alloc, text, head, "release", id)
 }
 
-// An event about a remote entity.
+// Adds the line of an event about a remote entity.
 fn push_about_remote(
     alloc: Global,
     text: &mut String,
@@ -299,7 +300,7 @@ fn push_about_remote(
     line.end(text)
 }
 
-/// Adds the line of a worker that reads no more.
+/// Adds the line of a worker that stopped reading.
 pub fn push_reads_ended_event(
     alloc: Global,
     text: &mut String,
@@ -319,7 +320,7 @@ pub fn push_end_event(alloc: Global, text: &mut String, head: EventHead) -> Resu
     push_plain_event(alloc, text, head, "end")
 }
 
-// An event without members of its own.
+// Adds the line of an event that has no further members.
 fn push_plain_event(
     alloc: Global,
     text: &mut String,

@@ -1,6 +1,6 @@
-//! The lines that a server writes of itself: its status, and what happens. Each is one JSON object and a line feed, with
-//! the members that `docs/control-socket.md` lays down. Each function adds a line to a text; after an `Err` the text is
-//! as it was.
+//! The lines in which a server reports its status and its events. Each is a JSON object and a line feed, with the
+//! members that `docs/control-socket.md` defines. Each function adds a line to a text; after an `Err` the text is
+//! unchanged.
 #![tactic(auto)]
 
 mod event;

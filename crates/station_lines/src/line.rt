@@ -1,4 +1,4 @@
-//! A line on its way. After an `Err` it is no line.
+//! Writes one line. After an `Err` the line is not to be used.
 ghost use Rattle.std.specs.Prelude.{◌≡◌, [], ◌∷◌, ◌++◌, IfOk, OnErr, OnOk, string_bytes, codes};
 ghost use Rattle.json.specs.Token.{begin_object, end_object, key};
 ghost use Rattle.json.specs.Print.{print};
@@ -11,7 +11,7 @@ use std::alloc::{AllocError, Global};
 use std::marker::Model;
 use std::str;
 
-// The greatest number up to which every whole number is one of the doubles that many readers hold.
+// 2^53: up to here a double, in which many readers hold numbers, is exact for each whole number.
 const EXACT_MOST: u64 = 9_007_199_254_740_992;
 
 // A JSON object, member by member. Contracts see its tokens.
@@ -43,7 +43,7 @@ impl Line {
         Ok(Line { alloc, writer })
     }
 
-    // Adds the line to a text, with its line feed.
+    // Adds the line to a text, with a line feed.
     pub(crate) fn end(self, text: &mut String) -> Result<(), AllocError>
         ensures added { OnOk result (string_bytes text.new
             ≡ string_bytes text.old ++ (print (self ++ end_object ∷ []) ++ codes "\n")) }
@@ -74,7 +74,7 @@ impl Line {
         self.writer.boolean(value)
     }
 
-    // A number, and beside it as text where it is one that many readers round.
+    // A number, and the same as text if many readers would round it.
     #[tactic(auto, unfolding(crate::specs::Members::number_member, crate::specs::Members::text_member))]
     pub(crate) fn number(&mut self, name: &str, value: u64) -> Result<(), AllocError>
         ensures { OnOk result (self.new ≡ self.old ++ number_member name.now value) }
@@ -124,7 +124,7 @@ impl Line {
         self.four_numbers(second, third, fourth, fifth)
     }
 
-    // Octets as text, or in hex where they are no text.
+    // Octets as text, or in hex where they are not UTF-8.
     #[tactic(auto, using(crate::proofs::Texts::octets_facts))]
     pub(crate) fn octets(&mut self, name: &str, octets: &[u8]) -> Result<(), AllocError>
         ensures { OnOk result (self.new ≡ self.old ++ octets_member name.now octets.now) }
@@ -135,7 +135,7 @@ impl Line {
         }
     }
 
-    // Octets that are no text.
+    // Octets that are not UTF-8, in hex.
     #[tactic(auto, unfolding(crate::specs::Members::hex_member))]
     fn hex_octets(&mut self, name: &str, octets: &[u8]) -> Result<(), AllocError>
         ensures { OnOk result (self.new ≡ self.old ++ hex_member (name.now ++ codes "_hex") octets.now) }
@@ -160,7 +160,7 @@ impl Line {
         self.text(name, value.as_str())
     }
 
-    // Lists of octets, each in hex.
+    // An array of octet strings, each in hex.
     #[tactic(auto, unfolding(crate::specs::Members::hexes_member))]
     pub(crate) fn hexes(&mut self, name: &str, values: &[Octets]) -> Result<(), AllocError>
         ensures { OnOk result (self.new ≡ self.old ++ hexes_member name.now values.now) }
@@ -200,7 +200,7 @@ impl Line {
         self.writer.string(digits.as_str())
     }
 
-    // A key with something behind its name.
+    // A key that is a name with an ending.
     fn long_key(&mut self, name: &str, ending: &str) -> Result<(), AllocError>
         ensures { OnOk result (self.new ≡ self.old ++ key (name.now ++ ending.now) ∷ []) }
     {

@@ -1,4 +1,4 @@
-//! Members that lines of several kinds have.
+//! Members that several kinds of lines have.
 ghost use Rattle.std.specs.Prelude.{◌≡◌, ◌++◌, OnOk};
 ghost use Rattle.station_lines.specs.Shared.{key_members, finished_members, case_members, datagram_members, fault_members, first_octets, class_number};
 
@@ -17,20 +17,20 @@ pub struct RefusedCase<'a> {
     pub number: u8,
     /// The name of the refusal.
     pub name: &'a str,
-    /// The number of the fault, of octets that are no PDU.
+    /// The number of the decode fault, for octets that are not a PDU.
     pub fault: Option<u8>,
-    /// How often it came.
+    /// How many of them there were.
     pub count: u64,
     /// The datagram that was refused, unless it was a command or a timer.
     pub datagram: Option<Datagram<'a>>,
 }
 
-/// A datagram that came.
+/// A datagram that was received.
 #[derive(Clone, Copy, Debug)]
 pub struct Datagram<'a> {
     /// The address that it came from.
     pub from: &'a str,
-    /// What it carried. A line shows the first octets, at most `SHOWN_OCTETS`.
+    /// Its octets. A line shows the first of them, at most `SHOWN_OCTETS`.
     pub octets: &'a [u8],
 }
 
@@ -55,7 +55,7 @@ pub(crate) fn finished_members(
     line.text("status", status_name(status))
 }
 
-// A kind of refusal and how often it came. Its number goes under a name that depends on the line.
+// A kind of refusal and its count. The member for its number has a name that depends on the line.
 pub(crate) fn case_members(
     line: &mut Line,
     number_name: &str,
@@ -91,7 +91,7 @@ pub(crate) fn datagram_members(
     line.hex("octets", first_octets(datagram.octets, SHOWN_OCTETS))
 }
 
-// The first octets, at most so many.
+// The first octets, at most `most`.
 #[tactic(auto, unfolding(crate::specs::Shared::first_octets))]
 fn first_octets(octets: &[u8], most: usize) -> &[u8]
     ensures { result.now ≡ first_octets most octets.now }

@@ -36,7 +36,7 @@ struct Date {
     day: u64,
 }
 
-// The day with a number: 0 for the first of 1970.
+// The day with this number: 0 for the first of January 1970.
 fn date_of(number: u64) -> Date
     requires { number ≤ 213_503_982_334 }
     ensures { result ≡ date_of number }
@@ -66,7 +66,7 @@ fn push_date(text: &mut String, date: Date) -> Result<(), AllocError>
     write!(text, "{year:04}-{month:02}-{day:02}")
 }
 
-// The time of day, of the milliseconds since midnight.
+// Adds the time of day, from the milliseconds since midnight.
 fn push_time(text: &mut String, milliseconds: u64) -> Result<(), AllocError>
     ensures { OnOk result (string_bytes text.new ≡ string_bytes text.old ++ time_text milliseconds) }
 {

@@ -1,4 +1,4 @@
-//! What the lines of a status show.
+//! The values that the lines of a status show.
 
 use crate::moment::Moment;
 use cfdp_types::{Class, Condition, Delivery, EntityId, FileStatus};
@@ -12,18 +12,18 @@ pub struct EntityStatus<'a> {
     pub version: &'a str,
     /// When the server started.
     pub started: Moment,
-    /// When the status was asked for.
+    /// When the status was requested.
     pub now: Moment,
-    /// Its workers that read the socket.
+    /// How many workers read the socket.
     pub workers: usize,
-    /// The clients that it has.
+    /// How many clients are connected.
     pub clients: usize,
     /// The number of the last event.
     pub events: u64,
     pub counters: Counters,
 }
 
-/// What a server counts, from its start on.
+/// What a server counts, since its start.
 #[derive(Clone, Copy, Debug)]
 pub struct Counters {
     /// Datagrams that were read from the socket.
@@ -38,11 +38,11 @@ pub struct Counters {
     pub failed_sends: u64,
     /// Reads from the socket that failed.
     pub failed_reads: u64,
-    /// Workers that read no more, since the socket failed a million times.
+    /// Workers that stopped reading, because the socket failed a million times.
     pub ended_reads: u64,
-    /// Datagrams from an address that the configuration doesn't have.
+    /// Datagrams from an address that isn't in the configuration.
     pub foreign_datagrams: u64,
-    /// Datagrams that are no PDU.
+    /// Datagrams that are not PDUs.
     pub decode_faults: u64,
     /// Datagrams, commands and timers that the entity refused.
     pub refused: u64,
@@ -50,7 +50,7 @@ pub struct Counters {
     pub stored: u64,
     /// Received files that the store didn't keep.
     pub failed_stores: u64,
-    /// Clients that were cut because they didn't read.
+    /// Clients that were cut off because they didn't read.
     pub dropped_clients: u64,
 }
 
@@ -59,9 +59,9 @@ pub struct Counters {
 pub struct LogStatus {
     /// Whether the file can't be written now.
     pub failing: bool,
-    /// The events that were written.
+    /// How many events were written.
     pub written: u64,
-    /// The events that were lost, since the file couldn't be written.
+    /// How many events were lost because the file couldn't be written.
     pub lost: u64,
 }
 
@@ -70,13 +70,13 @@ pub struct LogStatus {
 pub struct UserStatus<'a> {
     /// The user's name.
     pub name: &'a str,
-    /// The bundles that wait.
+    /// How many bundles wait.
     pub waiting: usize,
-    /// The most bundles that can wait.
+    /// How many bundles can wait.
     pub capacity: usize,
 }
 
-/// The transaction that a lane runs or ran last.
+/// The transaction that a lane runs, or the last one that it ran.
 #[derive(Clone, Copy, Debug)]
 pub struct TransactionStatus<'a> {
     pub glance: &'a Glance,
@@ -84,18 +84,18 @@ pub struct TransactionStatus<'a> {
     pub user: &'a str,
     /// The number of the user's lane.
     pub lane: usize,
-    /// When its last indication came, where the server saw one.
+    /// When its last indication was issued, if the server saw one.
     pub last: Option<Moment>,
-    /// How it ended, where the server saw its end.
+    /// How it ended, if the server saw its end.
     pub ending: Option<Ending>,
-    /// What there is to be done about the transaction or its lane.
+    /// What an operator should do about the transaction or its lane.
     pub notice: Option<Notice>,
 }
 
 /// How a transaction ended.
 #[derive(Clone, Copy, Debug)]
 pub enum Ending {
-    /// As Transaction-Finished says it.
+    /// With this Transaction-Finished indication.
     Finished {
         condition: Condition,
         delivery: Delivery,
@@ -110,27 +110,27 @@ pub enum Ending {
 /// What an operator should know of a transaction or its lane.
 #[derive(Clone, Copy, Debug)]
 pub enum Notice {
-    /// It takes no more events.
+    /// The lane takes no more events.
     JournalFull,
-    /// The lane has few numbers left for transactions.
+    /// The lane has few transaction numbers left.
     LastNumbers,
 }
 
 /// A file that waits in the outbox.
 #[derive(Clone, Copy, Debug)]
 pub struct QueuedStatus<'a> {
-    /// Its number in the outbox.
+    /// The file's number in the outbox.
     pub number: u64,
-    /// The name of its user.
+    /// The name of the file's user.
     pub user: &'a str,
     pub class: Class,
-    /// The entity that is to receive it.
+    /// The remote entity that is to receive it.
     pub destination: EntityId,
-    /// The name of the file here.
+    /// The path of the file here.
     pub file: &'a [u8],
-    /// The name of the file at the receiver.
+    /// The destination file name.
     pub to: &'a [u8],
-    /// When it was given.
+    /// When it was put in the outbox.
     pub since: Moment,
 }
 
@@ -146,9 +146,9 @@ pub struct ReadingStatus<'a> {
 #[derive(Clone, Copy, Debug)]
 pub struct RemoteStatus<'a> {
     pub id: EntityId,
-    /// Its address, where the configuration has one.
+    /// Its address, if the configuration has one.
     pub address: Option<&'a str>,
-    /// Since when nothing leaves for it, where it is held.
+    /// Since when nothing is sent to it, if it is held.
     pub held_since: Option<Moment>,
     /// Datagrams that came from its address.
     pub datagrams_in: u64,
@@ -158,6 +158,6 @@ pub struct RemoteStatus<'a> {
     pub datagrams_out: u64,
     /// Their octets.
     pub octets_out: u64,
-    /// PDUs for it that weren't sent.
+    /// PDUs to it that weren't sent.
     pub failed_sends: u64,
 }

@@ -34,7 +34,7 @@ pub fn push_entity(
     line.end(text)
 }
 
-// Who it is, and since when.
+// The entity, and since when it runs.
 fn entity_head(line: &mut Line, entity: &EntityStatus<'_>) -> Result<(), AllocError>
     ensures { OnOk result (line.new ≡ line.old ++ entity_head entity.entry.now) }
 {
@@ -44,7 +44,7 @@ fn entity_head(line: &mut Line, entity: &EntityStatus<'_>) -> Result<(), AllocEr
     line.moment("started", entity.started)
 }
 
-// How it stands.
+// The entity's state.
 fn entity_state(line: &mut Line, entity: &EntityStatus<'_>) -> Result<(), AllocError>
     ensures { OnOk result (line.new ≡ line.old ++ entity_state entity.entry.now) }
 {
@@ -132,7 +132,7 @@ pub fn push_user(alloc: Global, text: &mut String, user: &UserStatus<'_>) -> Res
     line.end(text)
 }
 
-/// Adds the line of the transaction that a lane runs or ran last.
+/// Adds the line of the transaction that a lane runs, or the last one that it ran.
 pub fn push_transaction(
     alloc: Global,
     text: &mut String,
@@ -149,7 +149,7 @@ pub fn push_transaction(
     line.end(text)
 }
 
-// Which transaction it is, and whose.
+// The transaction's key and its user.
 fn transaction_head(line: &mut Line, transaction: &TransactionStatus<'_>) -> Result<(), AllocError>
     ensures { OnOk result (line.new ≡ line.old ++ transaction_head transaction.entry.now) }
 {
@@ -159,7 +159,7 @@ fn transaction_head(line: &mut Line, transaction: &TransactionStatus<'_>) -> Res
     line.number("lane", transaction.lane as u64)
 }
 
-// What this end of it does, and with whom.
+// This end's role, the other end, the class and the state.
 fn transaction_part(line: &mut Line, glance: &Glance) -> Result<(), AllocError>
     ensures { OnOk result (line.new ≡ line.old ++ transaction_part glance.now) }
 {
@@ -169,7 +169,7 @@ fn transaction_part(line: &mut Line, glance: &Glance) -> Result<(), AllocError>
     line.text("state", state_name(glance))
 }
 
-// Its file, and how far it came.
+// The transaction's file and its progress.
 fn transaction_file(line: &mut Line, glance: &Glance) -> Result<(), AllocError>
     ensures { OnOk result (line.new ≡ line.old ++ transaction_file glance.now) }
 {
@@ -189,7 +189,7 @@ fn file_members(line: &mut Line, file: &Option<GlancedFile>) -> Result<(), Alloc
     line.number("size", file.size)
 }
 
-// What the server saw of it, and a notice.
+// What the server saw of the transaction, and a notice.
 fn transaction_end(line: &mut Line, transaction: &TransactionStatus<'_>) -> Result<(), AllocError>
     ensures { OnOk result (line.new ≡ line.old ++ transaction_end transaction.entry.now) }
 {
@@ -281,7 +281,7 @@ pub fn push_queued(
     line.end(text)
 }
 
-// Which file it is, whose, and where it goes.
+// The file, its user and its destination.
 fn queued_head(line: &mut Line, queued: &QueuedStatus<'_>) -> Result<(), AllocError>
     ensures { OnOk result (line.new ≡ line.old ++ queued_head queued.entry.now) }
 {
@@ -292,7 +292,7 @@ fn queued_head(line: &mut Line, queued: &QueuedStatus<'_>) -> Result<(), AllocEr
     line.number("destination", queued.destination.0)
 }
 
-// Its names, and since when it waits.
+// The file's names, and since when it waits.
 fn queued_file(line: &mut Line, queued: &QueuedStatus<'_>) -> Result<(), AllocError>
     ensures { OnOk result (line.new ≡ line.old ++ queued_file queued.entry.now) }
 {
@@ -340,7 +340,7 @@ pub fn push_remote(
     line.end(text)
 }
 
-// Which one it is, and where.
+// The remote entity and its address.
 fn remote_head(line: &mut Line, remote: &RemoteStatus<'_>) -> Result<(), AllocError>
     ensures { OnOk result (line.new ≡ line.old ++ remote_head remote.entry.now) }
 {
@@ -381,7 +381,7 @@ fn crossing_members(line: &mut Line, remote: &RemoteStatus<'_>) -> Result<(), Al
     )
 }
 
-/// Adds the line of a kind of refusal, whose last case came at a moment.
+/// Adds the line of a kind of refusal, with the moment of the last one.
 pub fn push_refusal(
     alloc: Global,
     text: &mut String,

@@ -16,7 +16,7 @@ entity_part entity =
 unfoldable pub user_part : List ℕ → List ℕ
 user_part name = codes "[[user]]\nname = \"" ++ (name ++ codes "\"\n")
 
--- the table of a remote entity, but for how long its timers run
+-- the table of a remote entity, without its timers
 unfoldable pub remote_part : RemoteText → List ℕ
 remote_part remote =
     codes "[[remote]]\nid = " ++ (decimal remote.id
@@ -24,7 +24,7 @@ remote_part remote =
     ++ (codes "\"\nuser = \"" ++ (remote.user.now
     ++ codes "\"\nack_limit = 2\nnak_limit = 2\ncheck_limit = 2\n")))))
 
--- how long the timers of a remote entity run
+-- the timers of a remote entity
 unfoldable pub timers_part : RemoteText → List ℕ
 timers_part remote =
     codes "ack_ms = " ++ (decimal remote.timers_ms

@@ -1,26 +1,27 @@
-//! What varies from one text to the other.
+//! The values in which the configurations differ.
 
-/// What a text says of a remote entity. It is at this machine, and two expirations of each timer that is counted are a fault.
+/// A remote entity in a configuration's text. It is on this machine, and two expirations of a timer with a limit are a
+/// fault.
 #[derive(Clone, Copy)]
 pub struct RemoteText<'a> {
     pub id: u64,
-    /// The port of its address.
+    /// The port of its UDP address.
     pub port: u16,
-    /// The user whom its files are for.
+    /// The user that receives its files.
     pub user: &'a str,
-    /// How long each timer runs but for inactivity, in milliseconds.
+    /// The interval of each timer except inactivity, in milliseconds.
     pub timers_ms: u32,
     pub inactivity_ms: u32,
 }
 
-/// What a text says of an entity and those it knows. Entity IDs and sequence numbers have one octet in headers, the first number
-/// is 1, and a File Data PDU has 256 octets of the file at the most.
+/// An entity and its remote entities in a configuration's text. Entity IDs and sequence numbers have one octet in
+/// headers, the first number is 1, and a File Data PDU has at most 256 octets of the file.
 #[derive(Clone, Copy)]
 pub struct EntityText<'a> {
     pub id: u64,
     pub put_lanes: u8,
     pub receive_lanes: u8,
-    /// How many bundles wait for a user at the most.
+    /// How many bundles may wait for a user.
     pub capacity: u16,
     pub users: &'a [&'a str],
     pub remotes: &'a [RemoteText<'a>],
@@ -42,7 +43,7 @@ pub const REMOTE_TWO: RemoteText<'static> = RemoteText {
     ..REMOTE_ONE
 };
 
-/// The configuration that worked examples run with: entity 2 with the users alice and bob, and one remote entity.
+/// The configuration of worked examples: entity 2 with the users alice and bob, and one remote entity.
 pub const REFERENCE: EntityText<'static> = EntityText {
     id: 2,
     put_lanes: 2,
@@ -52,14 +53,15 @@ pub const REFERENCE: EntityText<'static> = EntityText {
     remotes: &[REMOTE_ONE],
 };
 
-/// The other end of the reference: entity 1 with the same users, which knows entity 2.
+/// The other end of the reference: entity 1 with the same users, and entity 2 as its remote entity.
 pub const ENTITY_ONE: EntityText<'static> = EntityText {
     id: 1,
     remotes: &[REMOTE_TWO],
     ..REFERENCE
 };
 
-/// The reference with one more remote entity, of number 3: its files go to bob, and its inactivity timer runs for three seconds.
+/// The reference with entity 3 as a second remote entity: its files go to bob, and its inactivity timer runs for three
+/// seconds.
 pub const TWO_SOURCES: EntityText<'static> = EntityText {
     remotes: &[
         REMOTE_ONE,

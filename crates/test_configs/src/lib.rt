@@ -1,4 +1,4 @@
-//! The texts of configurations that tests and measurements read: that of the reference, and what they change in it.
+//! Configurations for tests and measurements: the reference, and variants of it.
 #![tactic(auto)]
 
 mod entity;

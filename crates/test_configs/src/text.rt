@@ -1,4 +1,4 @@
-//! A text, table by table.
+//! Writes a configuration's text, table by table.
 ghost use Rattle.std.specs.Prelude.{◌≡◌, ◌++◌, IfOk, OnOk, string_bytes};
 ghost use Rattle.test_configs.specs.Texts.{entity_part, remote_part, text_shown, timers_part, user_part};
 

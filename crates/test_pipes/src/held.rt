@@ -1,4 +1,4 @@
-/// What lies in a pipe.
+/// The octets in a pipe.
 #[derive(Drop)]
 pub(crate) struct Held {
     pub(crate) octets: Vec<u8>,
@@ -7,7 +7,7 @@ pub(crate) struct Held {
 }
 
 impl Held {
-    /// Whether an octet lies there that was not taken.
+    /// Whether there is an octet that was not taken.
     pub(crate) fn has_more(&self) -> bool {
         self.taken < self.octets.len()
     }

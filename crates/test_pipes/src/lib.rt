@@ -1,5 +1,5 @@
-//! What a test says to a program that runs beside it in the same process, and hears from it: octets in one direction, and lines
-//! in both; and ports that are free.
+//! Pipes between a test and a program that runs in the same process: octets in one direction, and lines in both; and
+//! free ports.
 #![tactic(auto)]
 
 mod held;

@@ -5,7 +5,7 @@ use std::io::{ErrorKind, Read, Write};
 use std::sync::{Condvar, CondvarTimeouts, Mutex, Wait};
 use std::time::{Clock, Duration};
 
-/// Octets in one direction.
+/// A pipe: octets in one direction.
 #[derive(Drop)]
 pub struct Pipe {
     held: Mutex<Held>,
@@ -13,7 +13,7 @@ pub struct Pipe {
 }
 
 impl Pipe {
-    /// Nothing was said yet.
+    /// An empty pipe.
     pub fn new(alloc: Global) -> Pipe {
         Pipe {
             held: Mutex::new(Held {
@@ -25,20 +25,21 @@ impl Pipe {
         }
     }
 
-    /// Says octets; whether there was memory for them.
+    /// Writes octets; answers whether there was memory for them.
     pub fn put<R: Wait>(&self, rt: &R, octets: &[u8]) -> bool {
         let put = self.held.lock(rt).octets.extend_from_slice(octets);
         self.came.notify_all();
         put.is_ok()
     }
 
-    /// Nothing more is said.
+    /// Closes the pipe: nothing more is written.
     pub fn close<R: Wait>(&self, rt: &R) {
         self.held.lock(rt).is_closed = true;
         self.came.notify_all();
     }
 
-    /// Waits for the next line, without its line feed; none where nothing more is said, or nothing for so many seconds.
+    /// Waits for the next line, without its line feed; `None` once the pipe is closed, or if nothing comes for this
+    /// many seconds.
     pub fn line<R: Wait + Clock>(&self, rt: &R, alloc: Global, seconds: u64) -> Option<String> {
         let mut line = String::new(alloc);
         let mut held = self.held.lock(rt);
@@ -62,7 +63,7 @@ impl Pipe {
     }
 }
 
-/// The end of a pipe that reads.
+/// The reading end of a pipe.
 #[derive(Drop)]
 pub struct PipeReader<'a, R> {
     pub rt: &'a R,
@@ -91,7 +92,7 @@ impl<'a, R: Wait> Read for PipeReader<'a, R> {
     }
 }
 
-/// The end that writes.
+/// The writing end of a pipe.
 #[derive(Drop)]
 pub struct PipeWriter<'a, R> {
     pub rt: &'a R,

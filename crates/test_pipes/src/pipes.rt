@@ -4,15 +4,15 @@ use std::sync::Wait;
 use std::thread;
 use std::time::{Clock, Duration};
 
-// For how many seconds an answer is waited for.
+// For how many seconds a test waits for an answer.
 const PATIENCE: u64 = 20;
 
-// How often a question is asked again, and the pause behind each time.
+// How often a question is repeated, and the pause after each time.
 const QUESTIONS: u32 = 20_000;
 
 const PAUSE_MICROSECONDS: u64 = 500;
 
-/// The pipes to a program and from it.
+/// The pipes to and from a program.
 #[derive(Drop)]
 pub struct Pipes {
     to: Pipe,
@@ -20,7 +20,7 @@ pub struct Pipes {
 }
 
 impl Pipes {
-    /// Nothing was said yet.
+    /// Empty pipes.
     pub fn new(alloc: Global) -> Pipes {
         Pipes {
             to: Pipe::new(alloc),
@@ -28,12 +28,12 @@ impl Pipes {
         }
     }
 
-    /// What the program reads from.
+    /// The end from which the program reads.
     pub fn reader<'a, R>(&'a self, rt: &'a R) -> PipeReader<'a, R> {
         PipeReader { rt, pipe: &self.to }
     }
 
-    /// What the program writes to.
+    /// The end to which the program writes.
     pub fn writer<'a, R>(&'a self, rt: &'a R) -> PipeWriter<'a, R> {
         PipeWriter {
             rt,
@@ -41,7 +41,7 @@ impl Pipes {
         }
     }
 
-    /// The answer to a command that has one line; none where the program doesn't give it.
+    /// The answer to a command whose answer is one line; `None` if the program doesn't give it.
     pub fn ask<R: Wait + Clock>(&self, rt: &R, alloc: Global, command: &[u8]) -> Option<String> {
         if !self.to.put(rt, command) {
             return None;
@@ -49,7 +49,7 @@ impl Pipes {
         self.from.line(rt, alloc, PATIENCE)
     }
 
-    /// Asks until the answer ends so; whether it does.
+    /// Repeats a command until its answer ends with `end`; answers whether it does.
     pub fn ask_until<R: Wait + Clock>(
         &self,
         rt: &R,
@@ -67,13 +67,13 @@ impl Pipes {
         false
     }
 
-    /// Says the last command.
+    /// Sends the last command.
     pub fn say_last<R: Wait>(&self, rt: &R, command: &[u8]) {
         self.to.put(rt, command);
         self.to.close(rt);
     }
 
-    /// The program says nothing more.
+    /// Notes that the program has ended and writes nothing more.
     pub fn ended<R: Wait>(&self, rt: &R) {
         self.from.close(rt);
     }

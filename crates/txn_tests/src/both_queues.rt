@@ -1,4 +1,4 @@
-//! Each script at a lane with a queue of one thread, and at one whose queue threads may share.
+//! Plays each script with a lane that has a one-thread queue, and with one that has a shared queue.
 ghost use Rattle.std.specs.Prelude.{◌≡◌, ◌<◌};
 ghost use Rattle.txn_tests.specs.Desks.{SharedFits};
 ghost use Rattle.lane_table.specs.Lane.{idle};
@@ -21,7 +21,7 @@ const NO_LINE: &str = "the line is none of a lane";
 
 const NO_OUTLET: &str = "the lane has no outlet";
 
-// What the user takes.
+// Adds the bundle that the user takes.
 fn push_take<R: Wait + Copy>(
     rt: &R,
     alloc: Global,
@@ -34,7 +34,7 @@ fn push_take<R: Wait + Copy>(
     push_taken(alloc, text, take_shared(rt, desk)).ok()
 }
 
-// What an event gives.
+// Adds the answer to an event.
 fn push_event<R: Wait + Copy>(
     alloc: Global,
     text: &mut String,
@@ -48,7 +48,7 @@ fn push_event<R: Wait + Copy>(
     push_stepped(alloc, text, step_shared(desk, &event)).ok()
 }
 
-// What a line gives, if it is one.
+// Adds the answer to a line, if it is one.
 fn push_line<R: Wait + Copy>(
     rt: &R,
     alloc: Global,
@@ -97,7 +97,7 @@ fn play<R: AllocGlobal + Abort + Wait + Copy>(
     Ok(())
 }
 
-// Plays a script at a lane whose queue threads may share, with room for so many bundles.
+// Plays a script with a lane whose shared queue has room for `capacity` bundles.
 fn play_shared<R: AllocGlobal + Abort + Wait + Copy>(
     rt: R,
     lane: Lane,
@@ -115,7 +115,7 @@ fn play_shared<R: AllocGlobal + Abort + Wait + Copy>(
     }
 }
 
-// Plays a script at a lane that receives, with each kind of queue.
+// Plays a script with a receiving lane, for each kind of queue.
 fn both_receive<R: AllocGlobal + Abort + Wait + Copy>(
     rt: R,
     capacity: usize,
@@ -128,7 +128,7 @@ fn both_receive<R: AllocGlobal + Abort + Wait + Copy>(
     play_shared(rt, lane, 2, capacity, script)
 }
 
-// Plays a script at a lane that sends, with each kind of queue.
+// Plays a script with a sending lane, for each kind of queue.
 fn both_send<R: AllocGlobal + Abort + Wait + Copy>(
     rt: R,
     capacity: usize,
@@ -140,7 +140,7 @@ fn both_send<R: AllocGlobal + Abort + Wait + Copy>(
     play_shared(rt, sending_lane(rt.alloc(), 1), 0, capacity, script)
 }
 
-// A reception of class 2, whose closing is not acknowledged.
+// A reception in class 2 whose Finished PDU is not acknowledged.
 #[test]
 fn same_answers_of_a_reception(rt: HostRuntime) -> Result<(), Fail> {
     both_receive(
@@ -163,7 +163,7 @@ fn same_answers_of_a_reception(rt: HostRuntime) -> Result<(), Fail> {
     )
 }
 
-// A PDU that finds the queue full is taken once there is room.
+// A PDU that meets a full queue is taken once there is room.
 #[test]
 fn same_answers_at_a_full_queue(rt: HostRuntime) -> Result<(), Fail> {
     both_receive(
@@ -182,7 +182,7 @@ fn same_answers_at_a_full_queue(rt: HostRuntime) -> Result<(), Fail> {
     )
 }
 
-// A file of class 2, of which a part is sent again.
+// A file in class 2, of which a segment is sent again.
 #[test]
 fn same_answers_of_a_sender(rt: HostRuntime) -> Result<(), Fail> {
     both_send(

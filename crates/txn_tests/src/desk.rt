@@ -1,4 +1,4 @@
-//! A lane with its user's queue, as one thread holds them.
+//! A lane with its user's queue, both in one thread.
 ghost use Rattle.std.specs.Prelude.{◌≡◌, ◌<◌, []};
 ghost use Rattle.txn_tests.specs.Desks.{Fits};
 ghost use Rattle.lane_table.specs.Lane.{idle};
@@ -17,7 +17,7 @@ pub(crate) struct Desk {
     pub(crate) queue: ListQueue,
 }
 
-/// A lane that opened nothing yet, and a queue that holds nothing.
+/// A lane that has opened nothing yet, and an empty queue.
 pub(crate) fn new_desk(lane: Lane, number: usize, queue: ListQueue) -> Desk
     requires idle { lane ≡ idle lane.side lane.user lane.lane lane.source }
     requires user { queue.user ≡ lane.user }
@@ -43,7 +43,7 @@ pub(crate) fn step(desk: &mut Desk, event: &Event) -> Result<Done, Refused>
     desk.lane.step(event, &mut outlet)
 }
 
-/// What the user takes.
+/// The bundle that the user takes.
 pub(crate) fn take(desk: &mut Desk) -> Option<Bundle>
     requires { Fits desk.old.lane desk.old.number desk.old.queue }
     ensures { Fits desk.new.lane desk.new.number desk.new.queue }

@@ -1,6 +1,6 @@
-//! How a script is played at either end. Each of its lines is an event and what it is answered, with a
-//! colon between. Entity 1 sends the file "a" to entity 2, to be
-//! kept as "b", as transaction 5; entity 2 puts its own to entity 1, as transaction 4.
+//! Plays a script at either end. Each of its lines is an event and its answer, separated by a colon. Entity 1 sends the
+//! file "a" to entity 2, where its name is "b", as transaction 5; entity 2 puts its own file to entity 1, as
+//! transaction 4.
 use crate::events::{event_of, pdu_of};
 use crate::setting::{Acts, params};
 use crate::texts::{check_lines, push_answer, push_image};
@@ -26,10 +26,10 @@ const SENT: TxnKey = TxnKey {
     seq: 4,
 };
 
-// What to say where nothing is opened.
+// The message if nothing is opened.
 const NO_BEGINNING: &str = "the first event opens a transaction";
 
-// What to say of a line that is none.
+// The message for a line that isn't an event and an answer.
 const NO_ROW: &str = "the line is no event and its answer";
 
 // One end of a transaction.
@@ -39,7 +39,7 @@ enum End {
     Sends(SenderCore),
 }
 
-// What an event gives a receiver.
+// Adds a receiver's answer to an event.
 fn receive(
     alloc: Global,
     text: &mut String,
@@ -55,7 +55,7 @@ fn receive(
     }
 }
 
-// What an event gives a sender.
+// Adds a sender's answer to an event.
 fn send(
     alloc: Global,
     text: &mut String,
@@ -71,7 +71,7 @@ fn send(
     }
 }
 
-// What an event gives an end.
+// Adds an end's answer to an event.
 fn step(alloc: Global, text: &mut String, end: &mut End, event: &What) -> Result<(), AllocError> {
     match end {
         End::Receives(core) => receive(alloc, text, core, event),
@@ -79,7 +79,7 @@ fn step(alloc: Global, text: &mut String, end: &mut End, event: &What) -> Result
     }
 }
 
-// The file with a stamp.
+// Adds the file with this stamp.
 fn image(alloc: Global, text: &mut String, end: &End, stamp: u32) -> Result<(), AllocError> {
     match end {
         End::Sends(_) => text.push_str("no receiver"),
@@ -98,7 +98,7 @@ fn push_event(alloc: Global, text: &mut String, end: &mut End, event: &str) -> O
     step(alloc, text, end, &event_of(alloc, event)?).ok()
 }
 
-// What an event gives, or "image" with a stamp; none where it is neither.
+// Adds the answer to an event, or the file for "image" and a stamp; `None` if the line is neither.
 fn push_line(alloc: Global, text: &mut String, end: &mut End, line: &str) -> Option<()> {
     match line.strip_prefix("image ") {
         Some(stamp) => push_image_of(alloc, text, end, stamp),
@@ -106,7 +106,7 @@ fn push_line(alloc: Global, text: &mut String, end: &mut End, line: &str) -> Opt
     }
 }
 
-// The lines of a script, in their order.
+// Plays the lines of a script in order.
 fn play<R: AllocGlobal + Abort>(
     rt: &R,
     end: &mut End,
@@ -135,7 +135,7 @@ fn play_line<R: AllocGlobal + Abort>(
     Ok(())
 }
 
-// The head of lines for the user of an end.
+// The first words of the lines for the user of an end.
 fn head_of(end: &End) -> &'static str {
     match end {
         End::Receives(_) => "user 1 5 ",
@@ -143,7 +143,7 @@ fn head_of(end: &End) -> &'static str {
     }
 }
 
-// Plays what follows the first event of an end, if there is one.
+// Plays the rest of a script from an end whose first event is done, if there is one.
 fn play_from<R: AllocGlobal + Abort>(
     rt: &R,
     end: Option<End>,
@@ -156,7 +156,7 @@ fn play_from<R: AllocGlobal + Abort>(
     }
 }
 
-// The reception that a PDU opens. What that is answered goes to the text.
+// The reception that a PDU opens. Its answer is added to the text.
 fn reception(alloc: Global, text: &mut String, pdu: &Pdu, params: Params) -> Result<End, Refusal> {
     if !ReceiverCore::may_open(RECEIVED, pdu) {
         return Err(Refusal::NoTransaction);
@@ -166,7 +166,7 @@ fn reception(alloc: Global, text: &mut String, pdu: &Pdu, params: Params) -> Res
     Ok(End::Receives(core))
 }
 
-// The reception that a PDU in hex opens, where there is one. What that is answered goes to the text.
+// The reception that a PDU in hex opens, if it opens one. Its answer is added to the text.
 fn received_from(alloc: Global, text: &mut String, acts: (Acts, Acts), hex: &str) -> Option<End> {
     let params = params(acts.0, acts.1)?;
     let pdu = pdu_of(alloc, hex)?;
@@ -182,7 +182,8 @@ pub(crate) fn receives<R: AllocGlobal + Abort>(
     receives_with(rt, title, (&[], &[]), script)
 }
 
-/// Plays a reception that does so at some faults, in class 1 and in class 2: the first line is the PDU that opens it.
+/// Plays a reception with these handlers for some faults, in class 1 and in class 2: the first line is the PDU that
+/// opens it.
 pub(crate) fn receives_with<R: AllocGlobal + Abort>(
     rt: &R,
     title: &str,
@@ -196,7 +197,7 @@ pub(crate) fn receives_with<R: AllocGlobal + Abort>(
     play_from(rt, end, title, rest)
 }
 
-// The PDU of a script's first line, what that is answered, and the lines behind it.
+// The PDU of a script's first line, its answer, and the lines after it.
 fn parts_of(script: &str) -> Option<(&str, &str, &str)> {
     let (first, rest) = script.trim().split_once('\n')?;
     let (event, answer) = first.split_once(": ")?;
@@ -208,7 +209,7 @@ pub(crate) fn request(alloc: Global, class: Class, file: &[u8]) -> Result<PutReq
     PutRequest::new(alloc, EntityId(1), class, b"a", b"b", &[], file)
 }
 
-// The sender that a Put opens. What that is answered goes to the text.
+// The sender that a Put opens. Its answer is added to the text.
 fn sending(
     alloc: Global,
     text: &mut String,
@@ -220,14 +221,14 @@ fn sending(
     Ok(End::Sends(core))
 }
 
-// The sender that the Put of a file opens, where there is one. What that is answered goes to the text.
+// The sender that the Put of a file opens, if it opens one. Its answer is added to the text.
 fn sent_from(alloc: Global, text: &mut String, class: Class, file: &[u8]) -> Option<End> {
     let params = params(&[], &[])?;
     let request = request(alloc, class, file).ok()?;
     sending(alloc, text, &request, params).ok()
 }
 
-/// Plays what follows the Put of a file, which is answered by Transaction alone.
+/// Plays a script after the Put of a file, whose only answer is the Transaction indication.
 pub(crate) fn sends<R: AllocGlobal + Abort>(
     rt: &R,
     title: &str,

@@ -1,11 +1,11 @@
-//! Events as rows write them.
+//! Reads events from the rows of scripts.
 use cfdp_types::TimerKind;
 use pdu_codec::decode;
 use pdu_values::Pdu;
 use std::alloc::Global;
 use txn_events::What;
 
-/// The event that a row writes, if it writes one: what happens, and after a space with what.
+/// The event in a row, if there is one: a word, and after a space its operands.
 pub(crate) fn event_of(alloc: Global, row: &str) -> Option<What> {
     if let Some(hex) = row.strip_prefix("pdu ") {
         return Some(What::Pdu(pdu_of(alloc, hex)?));
@@ -19,13 +19,13 @@ pub(crate) fn event_of(alloc: Global, row: &str) -> Option<What> {
     asked(row)
 }
 
-/// The PDU that stands there in hex.
+/// The PDU that is given in hex.
 pub(crate) fn pdu_of(alloc: Global, hex: &str) -> Option<Pdu> {
     let octets = hex::decode(alloc, hex).ok()?;
     decode(alloc, octets.as_slice()).ok()
 }
 
-// What is asked with one word.
+// The request that a single word names.
 fn asked(word: &str) -> Option<What> {
     match word {
         "pump" => Some(What::Pump),
@@ -48,14 +48,14 @@ fn kind_of(word: &str) -> Option<TimerKind> {
     }
 }
 
-// A timer's kind and stamp.
+// The expiration of a timer, by its kind and stamp.
 fn expired(timer: &str) -> Option<What> {
     let (kind, stamp) = timer.split_once(' ')?;
     let kind = kind_of(kind)?;
     Some(What::Timer(kind, stamp.parse().ok()?))
 }
 
-// A deposit's stamp, and whether the file is kept.
+// The store's answer, by the deposit's stamp and whether the file is kept.
 fn stored(answer: &str) -> Option<What> {
     let (stamp, kept) = answer.split_once(' ')?;
     let kept = match kept {

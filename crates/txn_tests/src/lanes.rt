@@ -1,8 +1,7 @@
-//! Lanes with their user's queue, line by line. A line is what the lane takes and what the step gives: a
-//! PDU, "put" with a class and a file, or a key and what happens to it. "take" is what the user takes,
-//! "image" asks for a file, and "last" says which transaction it is, how many events it took, and how much
-//! it indicated. "look" says whether it has ended, how many events it took, how far the file came, and what is
-//! known of the file.
+//! Lanes with their user's queue, line by line. A line has an event and the lane's answer. The event is a PDU, "put"
+//! with a class and a file, or a key and what happens to its transaction. "take" takes the user's next bundle, "image"
+//! asks for a file, and "last" shows the transaction, how many events it took, and how much it indicated. "look" shows
+//! whether it has ended, how many events it took, the progress of its file, and what is known of the file.
 ghost use Rattle.std.specs.Prelude.{◌≡◌, IfSome};
 ghost use Rattle.txn_tests.specs.Desks.{Fits};
 ghost use Rattle.lane_table.specs.Lane.{idle};
@@ -25,7 +24,7 @@ use user_queues::ListQueue;
 
 const NO_LINE: &str = "the line is none of a lane";
 
-/// The third lane of user 0, for what comes from entity 1.
+/// The third lane of user 0, which receives from entity 1.
 pub(crate) fn receiving_lane(alloc: Global) -> Option<Lane>
     ensures { IfSome result (λ lane. lane ≡ idle lane.side 0 2 lane.source) }
 {
@@ -45,7 +44,7 @@ pub(crate) fn sending_lane(alloc: Global, first: u64) -> Lane
     Lane::sending(alloc, 0, 0, EntityId(2), numbers, 255)
 }
 
-/// A lane that receives, with room for so many bundles.
+/// A receiving lane, with room for `capacity` bundles.
 pub(crate) fn receiving(alloc: Global, capacity: usize) -> Option<Desk>
     ensures { IfSome result (λ desk. Fits desk.lane desk.number desk.queue) }
 {
@@ -54,7 +53,7 @@ pub(crate) fn receiving(alloc: Global, capacity: usize) -> Option<Desk>
     Some(new_desk(lane, 2, queue))
 }
 
-/// A lane that sends, with room for so many bundles.
+/// A sending lane, with room for `capacity` bundles.
 pub(crate) fn sending(alloc: Global, capacity: usize, first: u64) -> Option<Desk>
     ensures { IfSome result (λ desk. Fits desk.lane desk.number desk.queue) }
 {
@@ -62,7 +61,7 @@ pub(crate) fn sending(alloc: Global, capacity: usize, first: u64) -> Option<Desk
     Some(new_desk(sending_lane(alloc, first), 0, queue))
 }
 
-// What happens under a key; a PDU has to be of it.
+// The event for the transaction with this key; a PDU has to be of that transaction.
 fn on(key: TxnKey, what: What) -> Option<Event>
     ensures { IfSome result IsKeyed }
 {
@@ -75,7 +74,7 @@ fn on(key: TxnKey, what: What) -> Option<Event>
     Some(Event::On(key, what))
 }
 
-// A source and a number.
+// The transaction ID of a source and a number.
 fn key_of(source: &str, seq: &str) -> Option<TxnKey> {
     let source = EntityId(source.parse().ok()?);
     let seq = seq.parse().ok()?;
@@ -89,7 +88,7 @@ fn split_key(line: &str) -> Option<(TxnKey, &str)> {
     Some((key_of(source, seq)?, rest))
 }
 
-// A PDU under its own key.
+// A PDU as an event of its own transaction.
 fn received(alloc: Global, hex: &str) -> Option<Event>
     ensures { IfSome result IsKeyed }
 {
@@ -102,7 +101,7 @@ fn received(alloc: Global, hex: &str) -> Option<Event>
     on(key, What::Pdu(pdu))
 }
 
-// The Put of a file in hex, or of none.
+// The Put of a file in hex, or without a file.
 fn put(alloc: Global, class: &str, file: &str) -> Option<Event>
     ensures { IfSome result IsKeyed }
 {
@@ -114,7 +113,7 @@ fn put(alloc: Global, class: &str, file: &str) -> Option<Event>
     Some(Event::Put(request, params))
 }
 
-/// What the lane takes.
+/// The event in a line.
 pub(crate) fn event(alloc: Global, line: &str) -> Option<Event>
     ensures { IfSome result IsKeyed }
 {
@@ -129,7 +128,7 @@ pub(crate) fn event(alloc: Global, line: &str) -> Option<Event>
     on(key, event_of(alloc, what)?)
 }
 
-/// What a step gives, or why the event is not taken.
+/// Adds the answer of a step, or the refusal.
 pub(crate) fn push_stepped(
     alloc: Global,
     text: &mut String,
@@ -141,7 +140,7 @@ pub(crate) fn push_stepped(
     }
 }
 
-/// What is taken.
+/// Adds the bundle that was taken.
 pub(crate) fn push_taken(
     alloc: Global,
     text: &mut String,
@@ -153,7 +152,7 @@ pub(crate) fn push_taken(
     }
 }
 
-// The file of a key and a stamp.
+// Adds the file of a key and a stamp.
 fn push_file(alloc: Global, text: &mut String, lane: &Lane, words: &str) -> Option<()> {
     let (key, stamp) = split_key(words)?;
     match &lane.image(key, stamp.parse().ok()?) {
@@ -162,7 +161,7 @@ fn push_file(alloc: Global, text: &mut String, lane: &Lane, words: &str) -> Opti
     }
 }
 
-/// Which transaction a lane runs or ran last, how many events it took, and how much it indicated.
+/// Adds the transaction that a lane runs, or the last that it ran, how many events it took, and how much it indicated.
 pub(crate) fn push_last(text: &mut String, lane: &Lane) -> Result<(), AllocError> {
     let entries = lane.journal().len();
     let told = lane.trace().len();
@@ -175,7 +174,7 @@ pub(crate) fn push_last(text: &mut String, lane: &Lane) -> Result<(), AllocError
     }
 }
 
-// A look: whether the transaction runs, its events, its progress, and its file's size and names.
+// Adds what a look shows: whether the transaction runs, its events, its progress, and its file's size and names.
 fn push_glance(alloc: Global, text: &mut String, glance: &Glance) -> Result<(), AllocError> {
     let (entries, progress) = (glance.entries, glance.progress);
     text.push_str(if glance.has_ended { "ended" } else { "runs" })?;
@@ -191,7 +190,7 @@ fn push_glance(alloc: Global, text: &mut String, glance: &Glance) -> Result<(), 
     }
 }
 
-// What a look at a lane shows.
+// Adds what a look at a lane shows.
 fn push_look(alloc: Global, text: &mut String, lane: &Lane) -> Option<()> {
     match &lane.glance().ok()? {
         None => text.push_str("none").ok(),
@@ -199,7 +198,7 @@ fn push_look(alloc: Global, text: &mut String, lane: &Lane) -> Option<()> {
     }
 }
 
-// What the user takes.
+// Adds the bundle that the user takes.
 fn push_take(alloc: Global, text: &mut String, desk: &mut Desk) -> Option<()>
     requires { Fits desk.old.lane desk.old.number desk.old.queue }
     ensures { Fits desk.new.lane desk.new.number desk.new.queue }
@@ -207,7 +206,7 @@ fn push_take(alloc: Global, text: &mut String, desk: &mut Desk) -> Option<()>
     push_taken(alloc, text, take(desk)).ok()
 }
 
-// What an event gives.
+// Adds the answer to an event.
 fn push_event(alloc: Global, text: &mut String, desk: &mut Desk, event: &Event) -> Option<()>
     requires keyed { IsKeyed event.now }
     requires fits { Fits desk.old.lane desk.old.number desk.old.queue }
@@ -216,7 +215,7 @@ fn push_event(alloc: Global, text: &mut String, desk: &mut Desk, event: &Event) 
     push_stepped(alloc, text, step(desk, event)).ok()
 }
 
-// What a line gives that writes an event.
+// Adds the answer to the event in a line.
 fn push_told(alloc: Global, text: &mut String, desk: &mut Desk, line: &str) -> Option<()>
     requires { Fits desk.old.lane desk.old.number desk.old.queue }
     ensures { Fits desk.new.lane desk.new.number desk.new.queue }
@@ -224,7 +223,7 @@ fn push_told(alloc: Global, text: &mut String, desk: &mut Desk, line: &str) -> O
     push_event(alloc, text, desk, &event(alloc, line)?)
 }
 
-// What a line gives, if it is one.
+// Adds the answer to a line, if it is one.
 fn push_line(alloc: Global, text: &mut String, desk: &mut Desk, line: &str) -> Option<()>
     requires { Fits desk.old.lane desk.old.number desk.old.queue }
     ensures { Fits desk.new.lane desk.new.number desk.new.queue }
@@ -268,7 +267,7 @@ fn play_row<R: AllocGlobal + Abort>(rt: &R, desk: &mut Desk, row: &str) -> Resul
     Ok(())
 }
 
-/// Plays a script at a lane, if it could be made.
+/// Plays a script with a lane, if there is one.
 pub(crate) fn play_at<R: AllocGlobal + Abort>(
     rt: &R,
     desk: Option<Desk>,
@@ -282,7 +281,7 @@ pub(crate) fn play_at<R: AllocGlobal + Abort>(
     }
 }
 
-// One transaction after the other; what a lane refuses of them, and of others.
+// Several transactions in order, with the events of them and of others that the lane refuses.
 #[test]
 fn a_lane_that_receives(rt: HostRuntime) -> Result<(), Fail> {
     play_at(
@@ -356,7 +355,7 @@ fn a_full_queue(rt: HostRuntime) -> Result<(), Fail> {
     )
 }
 
-// A reception of class 2 that is suspended, and whose file is not kept.
+// A reception in class 2 that is suspended, and whose file is not kept.
 #[test]
 fn a_suspended_reception(rt: HostRuntime) -> Result<(), Fail> {
     play_at(
@@ -383,7 +382,7 @@ fn a_suspended_reception(rt: HostRuntime) -> Result<(), Fail> {
     )
 }
 
-// Two files, of which the first is acknowledged.
+// Two files, of which the first one is acknowledged.
 #[test]
 fn a_lane_that_sends(rt: HostRuntime) -> Result<(), Fail> {
     play_at(

@@ -1,5 +1,5 @@
-//! Worked transactions, run through the code of the cores and through lanes with their user's queue: what
-//! each event is answered, with the octets that are sent. Their values are worked out by hand from the tables.
+//! Worked transactions, played with the code of the cores, and with lanes that have their user's queue: the answer to
+//! each event, with the octets that are sent. The expected values were worked out by hand from the state tables.
 #![tactic(auto)]
 
 #[cfg(test)]

@@ -3,7 +3,7 @@ use crate::ends::{receives, receives_with};
 use cfdp_types::{Condition, Handler};
 use std::test::*;
 
-// Each with what it is about. Each fault cancels.
+// Each script with its title. Each fault cancels.
 const SCRIPTS: &[(&str, &str)] = &[
     (
         "a size error",
@@ -13,7 +13,7 @@ const SCRIPTS: &[(&str, &str)] = &[
         pdu 24000a0001050204006162630000000003: ended
         ",
     ),
-    // A segment that ends above the size of an EOF that came before it, in both classes.
+    // A segment that ends above the file size of an EOF that came before it, in both classes.
     (
         "a size error after the end, in class 1",
         "
@@ -30,7 +30,7 @@ const SCRIPTS: &[(&str, &str)] = &[
         report: ok; Report closing 5
         ",
     ),
-    // While it closes, EOFs are acknowledged and nothing else of the file is taken.
+    // While the reception closes, EOFs are acknowledged and nothing else of the file is taken.
     (
         "while it closes",
         "
@@ -69,7 +69,7 @@ const SCRIPTS: &[(&str, &str)] = &[
         pdu 3400070001050200000000616263: ended
         ",
     ),
-    // The NAK is sent again, and at the limit there is a fault.
+    // The NAK is sent again, and reaching the limit is a fault.
     (
         "what never comes",
         "
@@ -84,7 +84,7 @@ const SCRIPTS: &[(&str, &str)] = &[
         timer ack 5: ended
         ",
     ),
-    // The first Metadata and each segment with something new begin the count of NAKs again.
+    // The first Metadata and each segment with new octets restart the count of NAKs.
     (
         "progress begins the count again",
         "
@@ -108,7 +108,7 @@ fn faults_that_cancel(rt: HostRuntime) -> Result<(), Fail> {
     Ok(())
 }
 
-// The ACK says that the transaction is over.
+// The ACK reports that the transaction is terminated.
 #[test]
 fn a_checksum_error_that_abandons(rt: HostRuntime) -> Result<(), Fail> {
     receives_with(
@@ -123,7 +123,7 @@ fn a_checksum_error_that_abandons(rt: HostRuntime) -> Result<(), Fail> {
     )
 }
 
-// Where it goes on, the count begins again.
+// After the Resume, the count begins again.
 #[test]
 fn what_never_comes_suspends(rt: HostRuntime) -> Result<(), Fail> {
     receives_with(

@@ -3,7 +3,7 @@ use crate::ends::receives;
 use std::alloc::AllocError;
 use std::test::*;
 
-// Each with what it is about: the first PDU opens the reception.
+// Each script with its title: the first PDU opens the reception.
 const SCRIPTS: &[(&str, &str)] = &[
     (
         "a file in class one",
@@ -32,7 +32,7 @@ const SCRIPTS: &[(&str, &str)] = &[
         cancel: ended
         ",
     ),
-    // What came first at an offset stays; a segment that covers a gap is indicated where it is new.
+    // The octets that came first at an offset stay; a segment that covers a gap is indicated where it is new.
     (
         "overlapping segments",
         "
@@ -45,7 +45,7 @@ const SCRIPTS: &[(&str, &str)] = &[
         stored 4 no: ok; Transaction-Finished 4 incomplete rejected
         ",
     ),
-    // A segment over two others, one that is known, and one without octets.
+    // A segment over two others, a known one, and one without octets.
     (
         "segments in pieces",
         "
@@ -69,7 +69,7 @@ const SCRIPTS: &[(&str, &str)] = &[
         cancel: ended
         ",
     ),
-    // The NAK asks for the Metadata alone; the Finished PDU is sent again, and at the limit the reception ends.
+    // The NAK asks only for the Metadata; the Finished PDU is sent again, and at the limit the reception ends.
     (
         "a file in class two",
         "
@@ -86,7 +86,8 @@ const SCRIPTS: &[(&str, &str)] = &[
         report: ended
         ",
     ),
-    // While it is suspended, data is taken; the ACK of the Finished PDU has another condition, which says nothing.
+    // Data is taken while the reception is suspended; the ACK of the Finished PDU has another condition, which doesn't
+    // matter.
     (
         "suspended while data comes",
         "
@@ -119,7 +120,7 @@ const SCRIPTS: &[(&str, &str)] = &[
         abandon: ended
         ",
     ),
-    // A Prompt for a NAK leaves all timers as they are.
+    // A Prompt for a NAK leaves all timers unchanged.
     (
         "prompts",
         "
@@ -154,7 +155,7 @@ const SCRIPTS: &[(&str, &str)] = &[
         pdu 24000a0001050207000000000301610162: ended
         ",
     ),
-    // Of another class; an ACK that does not fit; what goes the other way; one octet above the greatest file.
+    // PDUs of another class; an ACK that doesn't fit; PDUs in the other direction; one octet above the greatest file.
     (
         "what is refused",
         "
@@ -180,8 +181,7 @@ fn whole_receptions(rt: HostRuntime) -> Result<(), Fail> {
     Ok(())
 }
 
-// 65 octets, with a gap before each: a NAK asks for 64 of the gaps, and its scope ends with the last of
-// them.
+// 65 octets, with a gap before each: a NAK asks for 64 of the gaps, and its scope ends with the last of these.
 #[test]
 fn more_gaps_than_a_nak_asks_for(rt: HostRuntime) -> Result<(), Fail> {
     let mut script = String::new(rt.alloc());
@@ -197,7 +197,7 @@ fn more_gaps_than_a_nak_asks_for(rt: HostRuntime) -> Result<(), Fail> {
     receives(&rt, "more gaps than a NAK asks for", script.as_str())
 }
 
-// The event with a stamp brings the octet at an offset, which is new.
+// The event with this stamp brings the octet at an offset, which is new.
 fn write_segment(script: &mut String, stamp: u32, offset: u32) -> Result<(), AllocError> {
     write!(script, "pdu 30000500010502{offset:08x}61: ")?;
     writeln!(

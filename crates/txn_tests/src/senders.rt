@@ -1,9 +1,9 @@
-//! Senders: what follows the Put of a file.
+//! Senders: the events after the Put of a file.
 use crate::ends::sends;
 use cfdp_types::Class;
 use std::test::*;
 
-// Each with what it is about and its class: the Put of three octets is answered, and this follows.
+// Each script with its title and class: it begins after the answer to the Put of three octets.
 const SCRIPTS: &[(&str, Class, &str)] = &[
     (
         "a file in class one",
@@ -15,7 +15,7 @@ const SCRIPTS: &[(&str, Class, &str)] = &[
         pump: ended
         ",
     ),
-    // The EOF that cancels has the checksum and the size of what was sent.
+    // The EOF that cancels has the checksum and the size of the octets that were sent.
     (
         "cancelled",
         Class::Two,
@@ -43,7 +43,7 @@ const SCRIPTS: &[(&str, Class, &str)] = &[
         pump: ok; pdu 20000a0002040107000000000301610162
         ",
     ),
-    // A segment is asked for again, and the receiver says that it keeps the file.
+    // A segment is requested again, and the receiver reports that it keeps the file.
     (
         "a file in class two",
         Class::Two,
@@ -59,7 +59,7 @@ const SCRIPTS: &[(&str, Class, &str)] = &[
         pump: ended
         ",
     ),
-    // The EOF is sent again, and then the limit is a fault that cancels.
+    // The EOF is sent again, and then reaching the limit is a fault that cancels.
     (
         "never acknowledged",
         Class::Two,

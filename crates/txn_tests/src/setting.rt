@@ -1,13 +1,13 @@
-//! What the worked transactions go by.
+//! The parameters of the worked transactions.
 use cfdp_types::{
     Checksum, Condition, EntityId, ExpirationLimits, FaultTable, FaultTables, Handler,
     HandlerNotAllowed, HeaderLengths, Params, ParamsParts, Role, TimerLengths,
 };
 
-/// What a role does at some faults; at all others it cancels.
+/// A role's handlers for some faults; all others cancel.
 pub(crate) type Acts<'a> = &'a [(Condition, Handler)];
 
-// The tables of a reception that does so at its faults, and of a sender that cancels.
+// The tables of a reception with these handlers, and of a sender that cancels.
 fn tables(one: Acts, two: Acts) -> Result<FaultTables, HandlerNotAllowed> {
     Ok(FaultTables {
         send: FaultTable::new(Role::Send, &[])?,
@@ -16,9 +16,8 @@ fn tables(one: Acts, two: Acts) -> Result<FaultTables, HandlerNotAllowed> {
     })
 }
 
-/// Entity 2, with IDs and sequence numbers of one octet, parts of 256 octets and all limits 2, which
-/// does so at the faults of a reception, and cancels at those of a sender. Each timer has another
-/// length, so that the rows tell them apart.
+/// Entity 2, with IDs and sequence numbers of one octet, segments of 256 octets and all limits 2. Receptions have these
+/// handlers, and senders cancel. Each timer has a different interval, so that the rows show which one is armed.
 pub(crate) fn params(one: Acts, two: Acts) -> Option<Params> {
     let tables = tables(one, two).ok()?;
     let lengths = HeaderLengths {

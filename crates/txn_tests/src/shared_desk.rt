@@ -12,7 +12,7 @@ use txn_events::Event;
 use txn_lane::{Done, Lane, Refused};
 use user_queues::{LaneOutlet, UserPort, UserQueue, open};
 
-/// A lane of a user, its outlet of the user's queue, and the end from which the user takes.
+/// A lane of a user, its outlet of the user's queue, and the port from which the user takes.
 #[derive(Drop)]
 pub(crate) struct SharedDesk<R: Copy> {
     pub(crate) lane: Lane,
@@ -20,7 +20,7 @@ pub(crate) struct SharedDesk<R: Copy> {
     pub(crate) port: UserPort,
 }
 
-// The ends of the queue of the only user, who has so many lanes.
+// The queue of the only user, who has `lanes` lanes.
 fn ends<R: Wait + Copy>(
     rt: R,
     alloc: Global,
@@ -37,7 +37,7 @@ fn ends<R: Wait + Copy>(
     Ok(Some(only))
 }
 
-// A lane that opened nothing yet, with the last of the outlets.
+// A lane that has opened nothing yet, with the last of the outlets.
 fn with_last<R: Copy>(lane: Lane, number: usize, ends: UserQueue<R>) -> Option<SharedDesk<R>>
     requires idle { lane ≡ idle lane.side lane.user lane.lane lane.source }
     requires user { lane.user ≡ 0 }
@@ -52,7 +52,7 @@ fn with_last<R: Copy>(lane: Lane, number: usize, ends: UserQueue<R>) -> Option<S
     }
 }
 
-/// A lane that opened nothing yet, which is the last one of user 0, and a queue that holds nothing.
+/// A lane that has opened nothing yet, the last one of user 0, and an empty queue.
 pub(crate) fn new_shared<R: Wait + Copy>(
     rt: R,
     alloc: Global,
@@ -85,7 +85,7 @@ pub(crate) fn step_shared<R: Wait + Copy>(
     desk.lane.step(event, &mut desk.outlet)
 }
 
-/// What the user takes.
+/// The bundle that the user takes.
 pub(crate) fn take_shared<R: Wait + Copy>(rt: &R, desk: &mut SharedDesk<R>) -> Option<Bundle>
     requires { SharedFits desk.old.lane desk.old.outlet }
     ensures { SharedFits desk.new.lane desk.new.outlet }

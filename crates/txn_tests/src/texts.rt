@@ -1,5 +1,5 @@
-//! What an event is answered, line by line: what is sent and handed out, the user's indications, and what is done with
-//! the timers; or why it is refused. Each function adds to a text.
+//! Texts of answers, line by line: the PDUs, the deposit, the user's indications, and the timer operations; or why the
+//! event is refused. Each function appends to a text.
 use answer_texts::{push_bundle, push_done};
 use cfdp_types::{Deposit, Image, Octets, TimerKind, TimerOp, TxnKey};
 use indications::Bundle;
@@ -8,7 +8,7 @@ use std::alloc::{AllocError, Global};
 use std::process::Abort;
 use txn_events::Answer;
 
-/// The lines for an answer of the transaction with a key.
+/// Adds the lines for an answer of the transaction with this key.
 pub(crate) fn push_answer(
     alloc: Global,
     text: &mut String,
@@ -47,7 +47,7 @@ fn push_both(
     push_timers(text, done)
 }
 
-/// The lines for a step of a lane.
+/// Adds the lines for a step of a lane.
 pub(crate) fn push_step(alloc: Global, text: &mut String, done: &Done) -> Result<(), AllocError> {
     push_done(alloc, text, false, done)?;
     push_timers(text, done)
@@ -116,12 +116,12 @@ fn name_of(kind: TimerKind) -> &'static str {
     }
 }
 
-// Says so where something is another transaction's.
+// A note for an item of another transaction; otherwise nothing.
 fn whose(key: TxnKey, owner: TxnKey) -> &'static str {
     if owner == key { "" } else { " of another" }
 }
 
-/// The line for a file: its two names and its octets, in hex.
+/// Adds the line for a file: its two names and its octets, in hex.
 pub(crate) fn push_image(
     alloc: Global,
     text: &mut String,
@@ -133,7 +133,7 @@ pub(crate) fn push_image(
     push_octets(alloc, text, &image.octets)
 }
 
-/// A space and octets in hex, or a dash for none.
+/// Adds a space and octets in hex, or a dash if there are none.
 pub(crate) fn push_octets(
     alloc: Global,
     text: &mut String,
@@ -146,7 +146,7 @@ pub(crate) fn push_octets(
     write!(text, " {hex}")
 }
 
-/// Compares what an event gives with these lines.
+/// Compares an event's answer with these lines.
 pub(crate) fn check_lines<R: Abort>(
     rt: &R,
     title: &str,
@@ -161,7 +161,7 @@ pub(crate) fn check_lines<R: Abort>(
     );
 }
 
-// Whether a text has just these lines, with semicolons between; they leave out the head of those for a user.
+// Whether a text has exactly these lines, separated by semicolons and without the first words of lines for a user.
 fn has_lines(text: &str, head: &str, expected: &str) -> bool {
     let mut lines = text.lines();
     for part in expected.split("; ") {

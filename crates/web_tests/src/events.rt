@@ -12,7 +12,7 @@ fn events_of(alloc: Global, start: &[u8], count: u64) -> Result<Events, Fail> {
     Ok(events)
 }
 
-// What is sent behind an ID.
+// The events that are sent after this ID.
 fn told(alloc: Global, events: &Events, last: &[u8]) -> Result<Vec<u8>, Fail> {
     let mut text = Vec::new(alloc);
     events.append_to(last, &mut text)?;

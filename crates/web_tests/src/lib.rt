@@ -1,4 +1,4 @@
-//! What the console and the socket's client do, beside what their contracts say.
+//! What the console and the socket's client do, besides what their contracts say.
 #![tactic(auto)]
 
 #[cfg(test)]

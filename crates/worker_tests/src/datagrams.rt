@@ -2,26 +2,26 @@
 use modular_sum::sum_of;
 use std::alloc::{AllocError, Global};
 
-/// The Metadata of a file of three octets, `a` there and `b` here, that entity 1 sends in class 1 under number 5.
+/// The Metadata of a file of three octets that entity 1 sends in class 1 with number 5, named `a` there and `b` here.
 pub(crate) const METADATA: &[u8] = &[0x24, 0, 10, 0, 1, 5, 2, 7, 0, 0, 0, 0, 3, 1, 0x61, 1, 0x62];
 
-/// All of its octets.
+/// The File Data with all of its octets.
 pub(crate) const FILE_DATA: &[u8] = &[0x34, 0, 7, 0, 1, 5, 2, 0, 0, 0, 0, 0x61, 0x62, 0x63];
 
-/// Its EOF.
+/// The file's EOF.
 pub(crate) const EOF: &[u8] = &[
     0x24, 0, 10, 0, 1, 5, 2, 4, 0, 0x61, 0x62, 0x63, 0, 0, 0, 0, 3,
 ];
 
-/// Segments of a file of the soak, and octets of each.
+/// How many segments a file of the soak has, and how many octets each segment.
 const SEGMENTS: u8 = 8;
 
 const SEGMENT_OCTETS: u8 = 16;
 
-/// How many datagrams a file of the soak takes: its Metadata, its segments, its EOF, and the answer to a Finished.
+/// How many datagrams a file of the soak takes: its Metadata, its segments, its EOF, and the ACK of a Finished.
 pub(crate) const DATAGRAMS: u8 = SEGMENTS + 3;
 
-/// A file that an entity sends under a number: its octets, and its name here, tell both.
+/// A file that an entity sends with a number. Its octets and its name here are made from both.
 #[derive(Clone, Copy, Debug, PartialEq, Eq)]
 pub(crate) struct Sent {
     pub(crate) source: u8,
@@ -38,12 +38,12 @@ impl Sent {
         self.source.wrapping_mul(31) ^ self.seq.wrapping_mul(7) ^ offset
     }
 
-    /// The name here.
+    /// The file's name here.
     pub(crate) fn name(self) -> [u8; 2] {
         [b'A'.wrapping_add(self.source), b'A'.wrapping_add(self.seq)]
     }
 
-    /// The octets.
+    /// The file's octets.
     pub(crate) fn file(self, alloc: Global) -> Result<Vec<u8>, AllocError> {
         let mut octets = Vec::new(alloc);
         for offset in 0..SEGMENTS * SEGMENT_OCTETS {
@@ -52,7 +52,7 @@ impl Sent {
         Ok(octets)
     }
 
-    /// One of its datagrams, by its place among them.
+    /// The datagram with this index.
     pub(crate) fn datagram(self, alloc: Global, place: u8) -> Result<Vec<u8>, AllocError> {
         if place == 0 {
             self.metadata(alloc)
@@ -100,7 +100,7 @@ impl Sent {
         Ok(octets)
     }
 
-    // The ACK of a Finished, which in class 1 nobody awaits.
+    // The ACK of a Finished, which nobody awaits in class 1.
     fn answer(self, alloc: Global) -> Result<Vec<u8>, AllocError> {
         let mut octets = self.header(alloc, 0x20, 3)?;
         octets.extend_from_slice(&[6, 0x51, 2])?;

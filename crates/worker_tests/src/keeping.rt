@@ -1,4 +1,4 @@
-//! Carriers that keep what workers are answered, and a store of which each seventh call fails.
+//! Carriers that keep the answers to workers, and a store whose every seventh call fails.
 ghost use Rattle.std.specs.Prelude.{◌≡◌, ◌≤◌};
 
 use cfdp_types::{Deposit, Octets};
@@ -7,7 +7,7 @@ use lane_table::{Done, Refused};
 use shared_entity::EntityRefusal;
 use std::alloc::{AllocError, Global};
 
-/// What a lane answers to a worker.
+/// A lane's answer to a worker.
 pub(crate) type Answered = Result<Result<Done, Refused>, EntityRefusal>;
 
 /// Keeps the answers of one worker.
@@ -26,7 +26,7 @@ impl Carrier<Result<Done, Refused>> for Keeper {
     }
 }
 
-/// As many of them as there are workers.
+/// A keeper for each worker.
 pub(crate) fn keepers(alloc: Global, workers: usize) -> Result<Vec<Keeper>, AllocError> {
     let mut keepers = Vec::new(alloc);
     for _ in 0..workers {
@@ -36,7 +36,7 @@ pub(crate) fn keepers(alloc: Global, workers: usize) -> Result<Vec<Keeper>, Allo
     Ok(keepers)
 }
 
-/// The deposits among answers.
+/// The deposits in the answers.
 pub(crate) fn deposits_in(keepers: &[Keeper], alloc: Global) -> Result<Vec<Deposit>, AllocError> {
     let mut deposits = Vec::new(alloc);
     for keeper in keepers {
@@ -74,7 +74,7 @@ fn is_step(answer: &Answered) -> bool {
     matches!(answer, Ok(Ok(_)))
 }
 
-/// A store in memory of which each seventh call fails.
+/// A store in memory whose every seventh call fails.
 #[derive(Drop)]
 pub(crate) struct Wayward {
     files: Vec<StoredFile>,
@@ -94,7 +94,7 @@ impl Wayward {
         }
     }
 
-    /// The files that it keeps.
+    /// The files that the store keeps.
     pub(crate) fn files(&self) -> &[StoredFile] {
         self.files.as_slice()
     }

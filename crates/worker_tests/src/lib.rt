@@ -1,4 +1,4 @@
-//! What workers, an intake and deposits do round an entity that threads share.
+//! Workers, an intake and deposits with a shared entity.
 #![tactic(auto)]
 
 #[cfg(test)]

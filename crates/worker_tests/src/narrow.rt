@@ -1,4 +1,4 @@
-//! A store whose answer the lane can't tell at first, since its user's queue holds one bundle.
+//! A store whose answer the lane can't indicate at first, since its user's queue holds one bundle.
 ghost use Rattle.std.specs.Prelude.{◌≡◌};
 
 use crate::datagrams::{EOF, FILE_DATA, METADATA};
@@ -15,7 +15,7 @@ use std::sync::Wait;
 use std::test::*;
 use user_queues::UserPort;
 
-// Delivers a datagram; the deposit that follows, if one does.
+// Delivers a datagram; gives the deposit that follows, if there is one.
 fn deliver<N: Names, R: Wait + Copy>(
     rt: &R,
     entity: &Entity<N, R>,
@@ -27,8 +27,8 @@ fn deliver<N: Names, R: Wait + Copy>(
     }
 }
 
-/// A file comes to a queue that holds one bundle. What its deposit comes back with, what is indicated then, whether
-/// that is a whole word, and what the store has.
+/// Receives a file for a user whose queue holds one bundle. Adds the rest with which its deposit comes back, the
+/// indications after that, whether they are a whole word, and the store's files.
 pub(crate) fn squeeze<N: Names, R: Wait + Copy>(
     rt: &R,
     alloc: Global,
@@ -70,7 +70,7 @@ fn squeeze_first<N: Names, R: Wait + Copy>(
     push_files(text, store.files())
 }
 
-// The file's end comes, and its deposit is made, which can't be indicated yet; what is left of it.
+// Delivers the EOF and makes the deposit, which can't be indicated yet; gives the rest of it.
 fn store_early<N: Names, R: Wait + Copy>(
     rt: &R,
     text: &mut String,

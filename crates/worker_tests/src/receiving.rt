@@ -18,14 +18,14 @@ use std::thread;
 use std::thread::Threads;
 use user_queues::UserPort;
 
-// Sends a file's three datagrams, and lets the sender go.
+// Sends a file's three datagrams, and drops the intake's sending end.
 fn send_file<R: Wait>(rt: &R, send: IntakeSend) -> bool {
     [METADATA, FILE_DATA, EOF]
         .iter()
         .all(|octets| send.send(rt, octets).is_ok())
 }
 
-// Three workers have the datagrams of a file.
+// Has three workers receive the datagrams of a file.
 fn deliver<N: Names + Send + Sync, R: Threads + Wait + Copy + Send + Sync>(
     rt: &R,
     alloc: Global,
@@ -41,7 +41,7 @@ fn deliver<N: Names + Send + Sync, R: Threads + Wait + Copy + Send + Sync>(
     Ok(if sent { back } else { None })
 }
 
-/// Says how many workers came back, how many steps they made, how the file was stored and how its transaction ended.
+/// Adds how many workers came back, how many steps they made, how the file was stored and how its transaction ended.
 pub(crate) fn receive<N: Names + Send + Sync, R: Threads + Wait + Copy + Send + Sync>(
     rt: &R,
     alloc: Global,
@@ -71,7 +71,7 @@ pub(crate) fn receive<N: Names + Send + Sync, R: Threads + Wait + Copy + Send + 
     writeln!(text, "{whole:?}")
 }
 
-/// Adds a line for a deposit whose lane was notified, or for what comes back of one.
+/// Adds a line for a deposit whose lane was notified, or for the rest with which it comes back.
 pub(crate) fn push_deposit(
     text: &mut String,
     made: Result<Done, DepositRest>,
@@ -86,7 +86,7 @@ pub(crate) fn push_deposit(
     }
 }
 
-/// Adds a line for each file that a store has.
+/// Adds a line for each file of a store.
 pub(crate) fn push_files(text: &mut String, files: &[StoredFile]) -> Result<(), AllocError> {
     for file in files {
         let name = str::from_utf8(file.name.as_slice()).unwrap_or("?");

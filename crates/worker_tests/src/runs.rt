@@ -1,4 +1,4 @@
-//! Runs of workers round an entity: each opens one, with the queues of its users, and plays.
+//! Runs of workers with an entity: each opens one, with the queues of its users, and plays.
 ghost use Rattle.shared_entity.specs.Opening.{AreQueuesFor};
 
 use crate::{narrow, receiving, soak, taken};
@@ -11,20 +11,20 @@ use std::sync::Wait;
 use std::thread::Threads;
 use user_queues::{Queues, UserPort};
 
-/// What is played.
+/// The kinds of runs.
 #[derive(Clone, Copy)]
 pub(crate) enum Run {
     /// Three workers receive a file, which a store takes.
     Receiving,
     /// A file is stored before its user's queue has room for the indication.
     Narrow,
-    /// Two workers are each to take a datagram before either goes on.
+    /// Two workers take a datagram each before either continues.
     Taken,
     /// Four workers receive many files, whose datagrams are lost, doubled and reordered.
     Soak,
 }
 
-/// What a run says, line by line.
+/// The text of a run, line by line.
 pub(crate) fn play<R: Threads + Wait + Copy + Send + Sync>(
     rt: R,
     alloc: Global,
@@ -35,7 +35,7 @@ pub(crate) fn play<R: Threads + Wait + Copy + Send + Sync>(
     play_named::<Brand, R>(rt, alloc, config, queues, run)
 }
 
-// Plays over queues that `N` names: what is proved of an entity speaks of them by that name, so it is a parameter.
+// Plays with queues that `N` names: the proofs about an entity refer to its queues by that name, so it is a parameter.
 fn play_named<N: Names + Send + Sync, R: Threads + Wait + Copy + Send + Sync>(
     rt: R,
     alloc: Global,
@@ -52,7 +52,7 @@ fn play_named<N: Names + Send + Sync, R: Threads + Wait + Copy + Send + Sync>(
     Ok(text)
 }
 
-// Plays at an entity.
+// Plays with an entity.
 fn play_all<N: Names + Send + Sync, R: Threads + Wait + Copy + Send + Sync>(
     rt: &R,
     alloc: Global,

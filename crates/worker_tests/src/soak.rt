@@ -1,5 +1,5 @@
-//! Four workers receive files from eight entities in both classes, whose datagrams are lost, doubled and reordered, while two
-//! users take and a store fails now and then.
+//! Four workers receive files from eight entities in both classes, whose datagrams are lost, doubled and reordered,
+//! while two users take and a store sometimes fails.
 
 use crate::datagrams::{DATAGRAMS, Sent};
 use crate::keeping::{Answered, Wayward};
@@ -24,8 +24,8 @@ use std::thread::Threads;
 use test_configs::{EntityText, REFERENCE, REMOTE_ONE, RemoteText, text_of};
 use user_queues::UserPort;
 
-/// Entities that send, with numbers from 11 on; the files of each; and how often each datagram is tried before it is sent
-/// until its file has come.
+/// How many entities send, with numbers from 11 on; how many files each sends; and how often each datagram is tried
+/// before it is sent until its file has arrived.
 const SOURCES: u8 = 8;
 
 const FIRST_SOURCE: u8 = 11;
@@ -34,13 +34,13 @@ const FILES: u8 = 6;
 
 const ROUNDS: u8 = 3;
 
-/// What threads tell one another.
+/// The state that the threads share.
 #[derive(Drop)]
 struct Yard {
     deposits: Mutex<Vec<Deposit>>,
-    // How many transactions of each source ended.
+    // How many transactions of each source have ended.
     ended: Vec<AtomicU64>,
-    // The datagrams that were sent, and whether all were.
+    // How many datagrams were sent, and whether all were.
     sent: AtomicU64,
     over: AtomicU64,
 }
@@ -64,7 +64,7 @@ impl Yard {
         self.ended.get(usize::try_from(place).ok()?)
     }
 
-    // Whether a file's transaction has ended: those of a source end one after the other.
+    // Whether a file's transaction has ended: those of a source end in order.
     fn has_ended(&self, sent: Sent) -> bool {
         match self.ended_of(u64::from(sent.source)) {
             Some(ended) => ended.load(Ordering::SeqCst) >= u64::from(sent.seq),
@@ -81,7 +81,7 @@ impl Yard {
     }
 }
 
-/// Lays deposits down for the thread that stores, and counts answers.
+/// Leaves deposits for the thread that stores, and counts answers.
 #[derive(Drop)]
 struct Porter<'a, R> {
     rt: &'a R,
@@ -112,7 +112,7 @@ impl<'a, R: Wait> Porter<'a, R> {
     }
 }
 
-// As many of them as there are workers.
+// A porter for each worker.
 fn porters<'a, R: Wait>(
     rt: &'a R,
     alloc: Global,
@@ -130,7 +130,7 @@ fn porters<'a, R: Wait>(
     Ok(porters)
 }
 
-// Runs the workers; how many came back, their answers, and the refusals among those.
+// Runs the workers; gives how many came back, how many answers they got, and how many of those were refusals.
 fn run_all<N: Names + Send + Sync, R: Threads + Wait + Copy + Send + Sync>(
     rt: &R,
     alloc: Global,
@@ -150,7 +150,7 @@ fn run_all<N: Names + Send + Sync, R: Threads + Wait + Copy + Send + Sync>(
     )
 }
 
-/// A fixed list of numbers, one after the other.
+/// A fixed pseudo-random sequence of numbers.
 #[derive(Clone, Copy)]
 struct Numbers {
     state: u32,
@@ -166,7 +166,7 @@ impl Numbers {
     }
 }
 
-/// Sends datagrams, and counts what becomes of them.
+/// Sends datagrams, and counts those that are lost or doubled.
 #[derive(Drop)]
 struct Feeder<'a, R> {
     rt: &'a R,
@@ -187,7 +187,7 @@ impl<'a, R: Wait> Feeder<'a, R> {
         Ok(())
     }
 
-    // A datagram is lost, comes, or comes twice.
+    // Loses a datagram, sends it once, or sends it twice.
     fn try_once(&mut self, sent: Sent, place: u8) -> Result<(), AllocError> {
         match self.numbers.next() % 4 {
             0 => {
@@ -203,7 +203,7 @@ impl<'a, R: Wait> Feeder<'a, R> {
         }
     }
 
-    // All datagrams of a file of each source are tried, in an order that the numbers give.
+    // Tries all datagrams of one file of each source, in an order from the random numbers.
     fn round(&mut self, seq: u8) -> Result<(), AllocError> {
         let first = (self.numbers.next() % u32::from(DATAGRAMS)) as u8;
         for step in 0..DATAGRAMS {
@@ -216,7 +216,7 @@ impl<'a, R: Wait> Feeder<'a, R> {
         Ok(())
     }
 
-    // All datagrams of a file come again.
+    // Sends all datagrams of a file again.
     fn send_all(&self, sent: Sent) -> Result<(), AllocError> {
         for place in 0..DATAGRAMS {
             self.send(sent, place)?;
@@ -224,7 +224,7 @@ impl<'a, R: Wait> Feeder<'a, R> {
         Ok(())
     }
 
-    // The files with a number are sent until all have come; whether they have.
+    // Sends the files with this number until all have arrived; answers whether they have.
     fn complete(&self, seq: u8) -> Result<bool, AllocError> {
         for _ in 0..20_000 {
             let mut is_whole = true;
@@ -243,7 +243,7 @@ impl<'a, R: Wait> Feeder<'a, R> {
         Ok(false)
     }
 
-    // All files.
+    // Sends all files; answers whether all arrived.
     fn feed(&mut self) -> Result<bool, AllocError> {
         for seq in 1..=FILES {
             for _ in 0..ROUNDS {
@@ -257,7 +257,8 @@ impl<'a, R: Wait> Feeder<'a, R> {
     }
 }
 
-// Feeds all files, and then lets the intake go; whether all came, and what was lost and doubled.
+// Sends all files, and then drops the intake's sending end; answers whether all arrived, and how many datagrams were
+// lost and doubled.
 fn feed_all<R: Wait>(feeder: Feeder<'_, R>) -> (bool, u64, u64) {
     let mut feeder = feeder;
     let fed = matches!(feeder.feed(), Ok(true));
@@ -265,7 +266,7 @@ fn feed_all<R: Wait>(feeder: Feeder<'_, R>) -> (bool, u64, u64) {
     (fed, feeder.lost, feeder.doubled)
 }
 
-/// Takes users' indications, and stores what is laid down.
+/// Takes users' indications, and stores the deposits that porters left.
 #[derive(Drop)]
 struct Keeping {
     store: Wayward,
@@ -274,7 +275,7 @@ struct Keeping {
 }
 
 impl Keeping {
-    // One bundle of each user is taken; whether there was one.
+    // Takes one bundle of each user; answers whether there was one.
     fn take<R: Wait>(
         &mut self,
         rt: &R,
@@ -293,7 +294,7 @@ impl Keeping {
         Ok(took)
     }
 
-    // One deposit is made, or gone on with; whether there was one.
+    // Makes or continues one deposit; answers whether there was one.
     fn store<N: Names, R: Wait + Copy>(
         &mut self,
         rt: &R,
@@ -320,7 +321,7 @@ impl Keeping {
         Ok(true)
     }
 
-    // Until all files were fed and nothing is left.
+    // Takes and stores until all files were sent and nothing is left.
     fn keep_on<N: Names, R: Wait + Copy>(
         &mut self,
         rt: &R,
@@ -343,7 +344,7 @@ impl Keeping {
         Ok(())
     }
 
-    // How many files are kept that are what was sent under their name.
+    // How many of the kept files have the octets that were sent under their name.
     fn right(&self, alloc: Global) -> Result<u64, AllocError> {
         let mut right = 0u64;
         for file in self.store.files() {
@@ -355,7 +356,7 @@ impl Keeping {
     }
 }
 
-// Whether a file that is kept is what was sent under its name.
+// Whether a kept file has the octets that were sent under its name.
 fn is_sent(alloc: Global, file: &StoredFile) -> Result<bool, AllocError> {
     for number in 0..SOURCES {
         for seq in 1..=FILES {
@@ -369,8 +370,8 @@ fn is_sent(alloc: Global, file: &StoredFile) -> Result<bool, AllocError> {
     Ok(false)
 }
 
-/// Says how many workers came back, whether each datagram was answered once, whether enough was lost, doubled and refused,
-/// the calls of the store and its failures, the files that are right, and the words that were issued.
+/// Adds how many workers came back, whether each datagram was answered once, whether enough was lost, doubled and
+/// refused, the store's calls and failures, how many files are right, and how many words were issued.
 pub(crate) fn soak<N: Names + Send + Sync, R: Threads + Wait + Copy + Send + Sync>(
     rt: &R,
     alloc: Global,
@@ -417,7 +418,7 @@ pub(crate) fn soak<N: Names + Send + Sync, R: Threads + Wait + Copy + Send + Syn
     push_outcome(alloc, text, &keeping, outcome)
 }
 
-// What came of the workers and of what was fed.
+// The outcome of the workers and of the sending thread.
 #[derive(Clone, Copy)]
 struct Outcome {
     workers: usize,
@@ -451,7 +452,7 @@ const FOR_BOB: RemoteText<'static> = RemoteText {
     ..REMOTE_ONE
 };
 
-// The sources: the files of some are for alice, those of the others for bob.
+// The sources: the files of some go to alice, those of the others to bob.
 const ALL_SOURCES: [RemoteText<'static>; 8] = [
     RemoteText { id: 11, ..FOR_BOB },
     RemoteText {

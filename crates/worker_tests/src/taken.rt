@@ -17,7 +17,7 @@ use std::thread;
 use std::thread::Threads;
 use txn_events::Event;
 
-/// Holds whoever took a datagram until another has taken one, too.
+/// Holds a worker that took a datagram until another worker has taken one, too.
 #[derive(Drop)]
 struct Meeting<R> {
     rt: R,
@@ -56,12 +56,12 @@ impl<R: Wait + Copy> Meeting<R> {
     }
 }
 
-// Sends two datagrams, and lets the sender go.
+// Sends two datagrams, and drops the intake's sending end.
 fn send_two<R: Wait>(rt: &R, send: IntakeSend) -> bool {
     (0..2).all(|_| send.send(rt, METADATA).is_ok())
 }
 
-/// Two workers take a datagram each. Says how many met another.
+/// Has two workers take a datagram each. Adds how many met another.
 pub(crate) fn meet<N: Names + Send + Sync, R: Threads + Wait + Copy + Send + Sync>(
     rt: &R,
     alloc: Global,

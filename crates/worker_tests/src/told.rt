@@ -1,4 +1,4 @@
-//! What users take, read word by word.
+//! The indications that users take, read word by word.
 use ind_words::{Side, WordReader};
 use indications::{Bundle, Indication};
 use std::alloc::{AllocError, Global};
@@ -7,13 +7,13 @@ use std::thread::Parker;
 use std::time::Duration;
 use user_queues::UserPort;
 
-/// Lets other threads go on for a moment. A thread that only yields may have had all its turns before another that is looked
-/// for had its first.
+/// Lets other threads run for a moment. If a thread only yields, it may use up all its turns before another that it
+/// waits for has its first.
 pub(crate) fn pause<R: Wait>(rt: &R) {
     Parker::new().park_timeout(rt, Duration::from_micros(50));
 }
 
-/// The words of a lane, read as they come: each transaction's but the last is whole.
+/// The words of a lane, read bundle by bundle: each transaction's but the last is whole.
 #[derive(Drop)]
 pub(crate) struct LaneWords {
     user: usize,
@@ -24,7 +24,7 @@ pub(crate) struct LaneWords {
 }
 
 impl LaneWords {
-    // A receiving lane of which nothing was read.
+    // A receiving lane of which nothing was read yet.
     fn new(alloc: Global, user: usize, lane: usize) -> Result<LaneWords, AllocError> {
         Ok(LaneWords {
             user,
@@ -35,7 +35,7 @@ impl LaneWords {
         })
     }
 
-    // Whether a bundle goes on with the word, or begins the next one behind an end.
+    // Whether a bundle continues the word, or begins the next one after an end.
     fn read(&mut self, alloc: Global, bundle: &Bundle) -> Result<bool, AllocError> {
         for indication in bundle.inds.as_slice() {
             if self.reader.at_end() {
@@ -85,7 +85,7 @@ impl Words {
         Ok(())
     }
 
-    /// How many whole words were read, or nothing where a lane's indications were no word and no beginning of one.
+    /// How many whole words were read; `None` if a lane's indications were neither a word nor the beginning of one.
     pub(crate) fn whole(&self) -> Option<u64> {
         if !self.are_words {
             return None;
@@ -99,7 +99,7 @@ impl Words {
     }
 }
 
-/// How a bundle ends a transaction, if it does: by its condition, and whether the delivery is complete.
+/// The indication in a bundle that ends its transaction, if there is one: it has the condition and the delivery code.
 pub(crate) fn end_in(bundle: &Bundle) -> Option<&Indication> {
     bundle.inds.as_slice().iter().find(|told| is_end(told))
 }
@@ -111,7 +111,7 @@ fn is_end(told: &Indication) -> bool {
     )
 }
 
-/// Takes all that waits for a user, reads it, and adds a line for the end of each transaction.
+/// Takes and reads all bundles that wait for a user, and adds a line for the end of each transaction.
 pub(crate) fn take_all<R: Wait>(
     rt: &R,
     alloc: Global,

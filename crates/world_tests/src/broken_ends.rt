@@ -1,4 +1,4 @@
-//! A reader that fails at one of its calls, and a writer that does, each call in turn.
+//! A reader or a writer that fails at one of its calls: each call is tried in turn.
 
 use script_replay::{AnswerPace, ReplayFault, play_to_end, replay};
 use std::alloc::{AllocError, Global};
@@ -8,7 +8,7 @@ use std::test::*;
 
 const SCRIPT: &[u8] = b"take alice\npump 2 4\nreport alice 2 4\npdu 24\ntake bob\n";
 
-// What its lines print.
+// The answers to the lines of the script.
 const ANSWERS: [&str; 5] = [
     "none\n",
     "refused 1 NoTransaction\n",
@@ -17,8 +17,8 @@ const ANSWERS: [&str; 5] = [
     "none\n",
 ];
 
-// How many octets each read gives and each write takes at the most. The script has 53 octets, which takes eight reads, and one
-// that finds the end; the answers have 83 octets, which takes 17 writes.
+// How many octets each read gives and each write takes at most. The script has 53 octets, which takes eight reads, and
+// one that finds the end; the answers have 83 octets, which takes 17 writes.
 const READ_OCTETS: usize = 7;
 
 const READS: usize = 9;
@@ -70,7 +70,7 @@ impl Write for FailingWriter {
     }
 }
 
-// What is printed for the lines that end within so many octets of the script.
+// The answers to the lines that end within this many octets of the script.
 fn answers(alloc: Global, octets: usize) -> Result<String, AllocError> {
     let read = &SCRIPT[..octets.min(SCRIPT.len())];
     let lines = read.iter().filter(|octet| **octet == b'\n').count();
@@ -81,10 +81,11 @@ fn answers(alloc: Global, octets: usize) -> Result<String, AllocError> {
     Ok(text)
 }
 
-// How a run ends, and whether what was printed is right.
+// How a run ends, and whether its output is right.
 type Ended = (Result<(), ReplayFault>, bool);
 
-// Plays the script from a reader that fails at a call; how the run ends, and whether it printed what stands before.
+// Plays the script from a reader that fails at a call; answers how the run ends, and whether it printed the answers
+// before that.
 fn read_failing(alloc: Global, fails_at: usize) -> Result<Ended, AllocError> {
     let mut reader = FailingReader {
         rest: SCRIPT,
@@ -114,7 +115,7 @@ fn each_read_fails(rt: HostRuntime) -> Result<(), Fail> {
     Ok(())
 }
 
-// A read that fails is reported beside what is printed.
+// A failed read is reported to the errors, not among the answers.
 #[test]
 fn what_is_told(rt: HostRuntime) {
     let mut reader = FailingReader {
@@ -130,7 +131,8 @@ fn what_is_told(rt: HostRuntime) {
     assert!(rt; told.as_slice() == b"read fault\n".as_slice());
 }
 
-// Plays the script into a writer that fails at a call; how the run ends, and whether all before it was written.
+// Plays the script into a writer that fails at a call; answers how the run ends, and whether all before that was
+// written.
 fn write_failing(alloc: Global, fails_at: usize) -> Result<Ended, AllocError> {
     let mut reader = SCRIPT;
     let mut writer = FailingWriter {

@@ -1,4 +1,4 @@
-//! The two entities, and what one gets.
+//! The two entities, and their events.
 ghost use Rattle.world_core.specs.Worlds.{MayCome};
 
 use cfdp_types::{Class, EntityId, Octets, PutFault, PutRequest, TimerKind, TxnKey};
@@ -8,7 +8,7 @@ use std::alloc::Global;
 use test_configs::{ENTITY_ONE, EntityText, text_of};
 use world_core::{EntityRefusal, Request, World, WorldEvent};
 
-/// The entity of a text, to which nothing has happened.
+/// A new entity with this configuration.
 pub(crate) fn entity_of(alloc: Global, text: &EntityText) -> Option<World> {
     let text = text_of(alloc, text).ok()?;
     match read_config(alloc, text.as_str()) {
@@ -17,12 +17,12 @@ pub(crate) fn entity_of(alloc: Global, text: &EntityText) -> Option<World> {
     }
 }
 
-/// Entity 1, to which nothing has happened.
+/// A new entity 1.
 pub(crate) fn entity_one(alloc: Global) -> Option<World> {
     entity_of(alloc, &ENTITY_ONE)
 }
 
-/// Entity 2, the reference, to which nothing has happened.
+/// A new entity 2, with the reference configuration.
 pub(crate) fn entity_two(alloc: Global) -> Option<World> {
     match Config::reference(alloc) {
         Ok(config) => World::open(alloc, config).ok(),
@@ -30,7 +30,7 @@ pub(crate) fn entity_two(alloc: Global) -> Option<World> {
     }
 }
 
-// An entity gets an event.
+// Passes an event to an entity.
 fn tell(world: &mut World, event: WorldEvent) -> Result<Done, EntityRefusal>
     requires { MayCome world.old.config event }
 {
@@ -56,7 +56,7 @@ pub(crate) fn file_for_one(
     )
 }
 
-/// A user puts a file, from one of the user's lanes, if there are both.
+/// Has a user put a file from a lane; `None` without such a user or lane.
 pub(crate) fn put(
     world: &mut World,
     user: usize,
@@ -71,17 +71,17 @@ pub(crate) fn put(
     }
 }
 
-/// A datagram comes.
+/// Delivers a datagram.
 pub(crate) fn deliver(world: &mut World, octets: Octets) -> Result<Done, EntityRefusal> {
     tell(world, WorldEvent::Deliver(octets))
 }
 
-/// The next PDU is to be sent.
+/// Asks for the next PDU of a transaction.
 pub(crate) fn pump(world: &mut World, key: TxnKey) -> Result<Done, EntityRefusal> {
     tell(world, WorldEvent::Pump(key))
 }
 
-/// A timer expires.
+/// Lets a timer expire.
 pub(crate) fn expire(
     world: &mut World,
     key: TxnKey,
@@ -91,7 +91,7 @@ pub(crate) fn expire(
     tell(world, WorldEvent::Timer(key, kind, stamp))
 }
 
-/// The file store answers.
+/// Passes on the file store's answer.
 pub(crate) fn store(
     world: &mut World,
     key: TxnKey,

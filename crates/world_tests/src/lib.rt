@@ -1,6 +1,6 @@
-//! What entities of one thread do that no script can show: files of two sources; two entities of which each is given what the other sent, in a
-//! worked run with its octets, and in a long one in which PDUs are lost, repeated and reordered as if by lot. And scripts over
-//! readers and writers that fail, and when their answers are written.
+//! Behaviour of one-thread entities that no script can show: files of two sources; two entities that receive each
+//! other's PDUs, in a worked run with its octets, and in a long one in which PDUs are lost, repeated and reordered
+//! pseudo-randomly. Also scripts with readers and writers that fail, and when their answers are written.
 #![tactic(auto)]
 
 #[cfg(test)]

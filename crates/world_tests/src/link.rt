@@ -1,4 +1,4 @@
-//! Two entities and all that either ever sent.
+//! Two entities, and all PDUs that either has sent.
 
 use crate::entities::{deliver, expire, file_for_one, pump, put, store};
 use crate::seen::{Seen, count};
@@ -9,7 +9,7 @@ use pdu_codec::{Body, Pdu, encode};
 use std::alloc::{AllocError, Global};
 use world_core::{EntityRefusal, World};
 
-/// One of the two.
+/// One of the two entities.
 #[derive(Clone, Copy)]
 pub(crate) enum End {
     Putting,
@@ -32,8 +32,8 @@ struct Sent {
     is_nak: bool,
 }
 
-// A file that was put: which, whether the file store keeps it, whether parts of it were asked for once more, and
-// whether it was indicated as complete to the users at either end.
+// A file that was put: its number, whether the file store keeps it, whether segments were requested again, and whether
+// it was indicated as complete to the users at either end.
 #[derive(Clone, Copy)]
 struct Posted {
     key: TxnKey,
@@ -58,7 +58,7 @@ pub(crate) struct Link {
     seen: Seen,
 }
 
-// The octets of a file.
+// The octets of the file with this number.
 fn file_of(alloc: Global, number: u64) -> Result<Vec<u8>, AllocError> {
     let mut file = Vec::new(alloc);
     for i in 0..number.wrapping_mul(131) % 700 {
@@ -67,7 +67,7 @@ fn file_of(alloc: Global, number: u64) -> Result<Vec<u8>, AllocError> {
     Ok(file)
 }
 
-// Its names, at the sender and at the receiver.
+// The file's names, at the sender and at the receiver.
 fn names_of(number: u64) -> ([u8; 2], [u8; 3]) {
     let low = (number % 26) as u8 + b'a';
     let high = (number / 26 % 26) as u8 + b'a';
@@ -102,7 +102,7 @@ fn is_complete(indication: &Indication) -> bool {
     )
 }
 
-// A number among these, if there are any; seven times in eight one of the last sixteen.
+// An index below `count`, if there is one; seven times in eight one of the last sixteen.
 fn chosen(count: usize, lot: u32) -> Option<usize> {
     if count == 0 {
         return None;
@@ -116,7 +116,7 @@ fn chosen(count: usize, lot: u32) -> Option<usize> {
 }
 
 impl Link {
-    /// Both, to which nothing has happened.
+    /// Two entities, both new.
     pub(crate) fn new(alloc: Global, putting: World, receiving: World) -> Link {
         Link {
             alloc,
@@ -130,7 +130,7 @@ impl Link {
         }
     }
 
-    /// What was seen.
+    /// The counts so far.
     pub(crate) fn seen(&self) -> Seen {
         self.seen
     }
@@ -147,7 +147,7 @@ impl Link {
         Ok(())
     }
 
-    // Whether a deposit gives the file that was put under a number.
+    // Whether a deposit is of the file that was put under this number.
     fn gives(&self, deposit: Deposit, number: u64) -> Result<bool, AllocError> {
         match &self.receiving.image(deposit.key, deposit.stamp) {
             Ok(image) => is_file(self.alloc, image, number),
@@ -155,7 +155,7 @@ impl Link {
         }
     }
 
-    // The file that is handed out is looked at.
+    // Checks the file of a deposit.
     fn look(&mut self, deposit: Deposit) -> Result<(), AllocError> {
         self.deposits.push(deposit)?;
         let posted = self.posted.iter().find(|posted| posted.key == deposit.key);
@@ -194,7 +194,7 @@ impl Link {
         }
     }
 
-    // What an end answers goes to the link, an echo too.
+    // Notes what an end answers, echoes included.
     fn note(&mut self, end: End, answer: &Result<Done, EntityRefusal>) -> Result<(), AllocError> {
         match answer {
             Ok(done) => self.note_done(end, done),
@@ -213,7 +213,7 @@ impl Link {
         }
     }
 
-    // A Put that is taken is noted, with what its lane answers.
+    // Notes a Put that was taken, with its lane's answer.
     fn note_put(
         &mut self,
         class: Class,
@@ -235,7 +235,7 @@ impl Link {
         self.note(End::Putting, answer)
     }
 
-    /// A file is put, unless the lane is busy.
+    /// Puts a file, unless the lane is busy.
     pub(crate) fn put(&mut self, number: u64, lot: u32) -> Result<(), AllocError> {
         let class = if lot % 4 == 0 { Class::One } else { Class::Two };
         let user = lot as usize / 4 % 2;
@@ -249,7 +249,7 @@ impl Link {
         }
     }
 
-    /// A transaction may send its next PDU.
+    /// Lets a transaction send its next PDU.
     pub(crate) fn pump(&mut self, lot: u32) -> Result<(), AllocError> {
         let Some(place) = chosen(self.posted.len(), lot) else {
             return Ok(());
@@ -265,7 +265,7 @@ impl Link {
         self.note(End::Putting, &answer)
     }
 
-    /// A PDU comes at one of the ends: any that was ever sent.
+    /// Delivers a PDU at one of the ends: any that was ever sent.
     pub(crate) fn deliver(&mut self, end: End, lot: u32) -> Result<(), AllocError> {
         let Some(place) = chosen(self.sent.len(), lot) else {
             return Ok(());
@@ -287,7 +287,7 @@ impl Link {
         self.note(end, &answer)
     }
 
-    // Parts of a file are asked for once more: only the sender takes a NAK.
+    // Notes that segments of a file were requested again: only the sender takes a NAK.
     fn ask(&mut self, key: TxnKey) {
         for posted in &mut self.posted {
             if posted.key == key {
@@ -296,7 +296,7 @@ impl Link {
         }
     }
 
-    /// A timer expires: any that was ever armed.
+    /// Lets a timer expire: any that was ever armed.
     pub(crate) fn expire(&mut self, lot: u32) -> Result<(), AllocError> {
         let Some(place) = chosen(self.armed.len(), lot) else {
             return Ok(());
@@ -323,7 +323,7 @@ impl Link {
         self.note(end, &answer)
     }
 
-    /// The file store answers: mostly that it keeps the file.
+    /// Passes on an answer of the file store, mostly that it keeps the file.
     pub(crate) fn store(&mut self, lot: u32) -> Result<(), AllocError> {
         let Some(place) = chosen(self.deposits.len(), lot) else {
             return Ok(());
@@ -352,7 +352,7 @@ impl Link {
         }
     }
 
-    // A file is indicated as complete: it has to be stored.
+    // Notes that a file is indicated as complete, for which it has to be stored.
     fn hear_complete(&mut self, end: End, key: TxnKey) {
         let mut is_stored = false;
         for posted in &mut self.posted {
@@ -387,7 +387,7 @@ impl Link {
         }
     }
 
-    /// The users take their indications.
+    /// Has the users take their indications.
     pub(crate) fn take(&mut self) {
         for user in 0..self.putting.users() {
             if user < self.putting.users() {

@@ -5,7 +5,7 @@ use std::io;
 use std::io::Write;
 use std::test::*;
 
-// A writer that notes how often it is asked to write.
+// A writer that counts how often it is asked to write.
 #[derive(Drop)]
 struct CountingWriter {
     asked: u32,
@@ -24,7 +24,8 @@ impl Write for CountingWriter {
     }
 }
 
-// A run by lines writes the answer of each of its lines, one by blocks all of them together, and both the same in the end.
+// A run by lines writes the answer of each line separately, one by blocks all of them together, and both write the same
+// text.
 #[test]
 fn paces(rt: HostRuntime) -> Result<(), Fail> {
     for (pace, asked) in [(AnswerPace::ByLines, 3), (AnswerPace::ByBlocks, 1)] {

@@ -9,10 +9,10 @@ use std::test::*;
 use test_configs::TWO_SOURCES;
 use world_core::World;
 
-// The Metadata of a file that entity 3 sends, whose files are bob's.
+// The Metadata of a file from entity 3, whose files go to bob.
 const METADATA: &[u8] = b"\x24\x00\x0a\x00\x03\x05\x02\x07\x00\x00\x00\x00\x03\x01\x61\x01\x62";
 
-// What a user is notified of first, behind the user's number.
+// Adds a user's number and first indication.
 fn push_told(
     alloc: Global,
     text: &mut String,
@@ -25,7 +25,7 @@ fn push_told(
     }
 }
 
-// What both users are notified of when the other source sends.
+// The first indications of both users when the other source sends.
 fn told(alloc: Global, world: &mut World) -> Result<String, AllocError> {
     let mut text = String::new(alloc);
     let metadata = Octets::from_slice(alloc, METADATA)?;

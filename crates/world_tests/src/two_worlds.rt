@@ -1,5 +1,5 @@
-//! Whatever the link does, each file that is handed out is the one that was put, and what is indicated as complete was
-//! stored. The run is long enough to meet all that a link can do, as its counts show.
+//! Whatever the link does, each file that is handed out is the one that was put, and each file that is indicated as
+//! complete was stored. The run is long enough to meet everything that a link can do, as its counts show.
 
 use crate::entities::{entity_one, entity_two};
 use crate::link::{End, Link};
@@ -10,7 +10,7 @@ use std::test::*;
 // How many turns there are.
 const COUNT: u64 = 10_000;
 
-// Numbers, always the same, as if drawn by lot.
+// A fixed pseudo-random sequence of numbers.
 #[derive(Drop)]
 struct Draws {
     state: u32,
@@ -40,7 +40,7 @@ fn turn(link: &mut Link, draws: &mut Draws, number: u64) -> Result<(), AllocErro
     done
 }
 
-// What is seen of all turns.
+// The counts of all turns.
 fn all_turns(alloc: Global) -> Result<Seen, Fail> {
     let two = entity_two(alloc).ok_or("no entity 2")?;
     let one = entity_one(alloc).ok_or("no entity 1")?;

@@ -1,4 +1,4 @@
-//! The worked run: Metadata and data are lost at first, and asked for.
+//! The worked run: Metadata and data are lost at first, and requested.
 
 use crate::entities::{deliver, entity_one, entity_two, file_for_one, pump, put, store};
 use answer_texts::{push_bundle, push_done, push_refused};
@@ -14,26 +14,26 @@ const KEY: TxnKey = TxnKey {
     seq: 4,
 };
 
-// Which of the two.
+// One of the two entities.
 #[derive(Clone, Copy)]
 enum Entity {
     One,
     Two,
 }
 
-// What an entity gets.
+// An event for an entity.
 #[derive(Clone, Copy)]
 enum Step {
-    // The user alice puts the octets "abc", named "a", to be kept as "b".
+    // The user alice puts the octets "abc", named "a", with the destination name "b".
     Put,
     Pump,
-    // A datagram comes, in hex.
+    // A datagram arrives, in hex.
     Deliver(&'static str),
     // The file store keeps the file.
     Store,
 }
 
-// The run, step by step: at which entity, and what it prints.
+// The run, step by step: the entity, its event, and the text of its answer.
 const RUN: [(Entity, Step, &str); 14] = [
     (Entity::Two, Step::Put, "ok\ntxn 2 4\n"),
     (
@@ -51,7 +51,7 @@ const RUN: [(Entity, Step, &str); 14] = [
         Step::Pump,
         "ok\npdu 20000a0002040104006162630000000003\n",
     ),
-    // The EOF comes alone: all is asked for.
+    // Only the EOF arrives: everything is requested.
     (
         Entity::One,
         Step::Deliver("20000a0002040104006162630000000003"),
@@ -93,7 +93,7 @@ const RUN: [(Entity, Step, &str); 14] = [
     (Entity::One, Step::Deliver("20000300020401065102"), "ok\n"),
 ];
 
-// What is printed of an answer, to a Put or to something else.
+// The text of an answer, to a Put or to another event.
 fn text_of(
     alloc: Global,
     is_put: bool,
@@ -115,7 +115,7 @@ fn given(alloc: Global, world: &mut World, digits: &str) -> Result<String, Alloc
     }
 }
 
-/// What a user takes next, if there is anything.
+/// The next bundle that a user takes, if there is one.
 pub(crate) fn next_of(world: &mut World, user: usize) -> Option<Bundle> {
     if user < world.users() {
         world.take(user)
@@ -146,7 +146,7 @@ fn put_abc(alloc: Global, world: &mut World) -> Result<String, AllocError> {
     }
 }
 
-// What an entity prints for a step.
+// The text of an entity's answer to a step.
 fn answer(alloc: Global, world: &mut World, step: Step) -> Result<String, AllocError> {
     match step {
         Step::Put => put_abc(alloc, world),
@@ -156,7 +156,7 @@ fn answer(alloc: Global, world: &mut World, step: Step) -> Result<String, AllocE
     }
 }
 
-// The first step at which something else is printed, if there is one.
+// The first step whose text differs, if there is one.
 fn other_print(
     alloc: Global,
     one: &mut World,
@@ -174,7 +174,7 @@ fn other_print(
     Ok(None)
 }
 
-// Whether the last indication to a user at either end is that the file is complete.
+// Whether the last indication to a user at each end reports the file as complete.
 fn are_told(alloc: Global, one: &mut World, two: &mut World) -> Result<bool, AllocError> {
     let told = "user 2 4 Transaction-Finished 0 complete retained\n";
     Ok(last_told(alloc, one, 0)?.as_str() == told && last_told(alloc, two, 0)?.as_str() == told)
