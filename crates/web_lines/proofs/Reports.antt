@@ -1,11 +1,11 @@
 -- Reports in the making: numbers behind numbers, families behind families.
-use Rattle.std.proofs.Common.{◌≡◌, All, ℕ, ◌+◌, ◌<◌, List, [], ◌∷◌, ◌++◌, length, take, get_or, map, refl, ap, sym, ◌∙◌, append-nil, arith}
+use Rattle.std.proofs.Common.{◌≡◌, ℕ, ◌+◌, ◌<◌, List, [], ◌∷◌, ◌++◌, length, take, get_or, map, refl, ap, sym, ◌∙◌, append-nil, arith}
 use Rattle.std.proofs.lemmas.Grind.{common_steps}
 use Rattle.std.proofs.lemmas.List.{take_more}
 use Rattle.web_lines.specs.declared.labels.Labels.{Labels}
 use Rattle.web_lines.specs.declared.lines.Line.{Line}
 use Rattle.web_lines.specs.declared.told.Told.{Told}
-use Rattle.web_lines.specs.Document.{IsKnown}
+use Rattle.web_lines.specs.Document.{AreLinesOf}
 use Rattle.web_lines.specs.Families.{Row, row_of, told_rows}
 use Rattle.web_lines.specs.Metrics.{AddsCounts, AddsLine, AddsLines, AddsRows, AddsSamples, IsMetrics, Sample, head_text, sample_text, up_text}
 
@@ -60,8 +60,8 @@ pub told_report : (rows : List Told) (lines : List Line) (a b : List ℕ) → ma
 told_report rows lines a b rows_are report = rw (sym rows_are) report
 
 -- all numbers of a station that answers
-pub whole_metrics : (known told_lines counted_lines : List Line) (old start told text : List ℕ) → All IsKnown known
+pub whole_metrics : (status : List ℕ) (known told_lines counted_lines : List Line) (old start told text : List ℕ) → AreLinesOf status known
     → told_lines ≡ known → counted_lines ≡ known → old ≡ [] → start ≡ old ++ up_text 1
-    → AddsRows told_rows told_lines start told → AddsCounts counted_lines told text → IsMetrics text
-whole_metrics known told_lines counted_lines old start told text all told_same counted_same none start_is rows counts =
+    → AddsRows told_rows told_lines start told → AddsCounts counted_lines told text → IsMetrics status text
+whole_metrics status known told_lines counted_lines old start told text all told_same counted_same none start_is rows counts =
     (known, all, (told, rw (start_is ∙ ap (λ t. t ++ up_text 1) none) at (rw told_same at rows), rw counted_same at counts))

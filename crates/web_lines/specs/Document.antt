@@ -1,6 +1,6 @@
 -- Meaning. Lines of a status, and the document that they make.
-use Rattle.std.specs.Prelude.{◌≡◌, ◌==◌, ℕ, Bool, if◌then◌else◌, List, [], ◌∷◌, ◌++◌, All, Option, Some, None, drop, flat_map, option_and_then, codes}
-use Rattle.std.specs.List.{count_by}
+use Rattle.std.specs.Prelude.{◌≡◌, ◌==◌, ℕ, Bool, if◌then◌else◌, List, [], ◌∷◌, ◌++◌, Option, Some, None, drop, map, flat_map, option_and_then, codes}
+use Rattle.std.specs.List.{count_by, slice_split}
 use Rattle.std.specs.Str.{bytes_eq}
 use Rattle.json.specs.Json.{Json, document}
 use Rattle.json.specs.Find.{get, as_str}
@@ -32,9 +32,26 @@ kind_of_value value = option_and_then named (kind_name value)
 abbrev pub kind_of_text : List ℕ → Option Kind
 kind_of_text text = option_and_then kind_of_value (document text)
 
--- a line is whole JSON of its kind
-abbrev pub IsKnown : Line → Type 0
-IsKnown line = kind_of_text line.text.now ≡ Some line.kind
+-- a line's kind and text
+abbrev pub said : Line → Kind × List ℕ
+said line = (line.kind, line.text.now)
+
+-- a text with its kind, if it has one
+abbrev pub with_kind : Option Kind → List ℕ → List (Kind × List ℕ)
+with_kind None text = []
+with_kind (Some kind) text = (kind, text) ∷ []
+
+-- one line of a status, if it is whole JSON of a known kind
+abbrev pub known_line : List ℕ → List (Kind × List ℕ)
+known_line text = with_kind (kind_of_text text) text
+
+-- the lines of a status that are whole JSON of known kinds, in order
+abbrev pub known_lines : List ℕ → List (Kind × List ℕ)
+known_lines status = flat_map known_line (slice_split (λ octet. octet == 10) status)
+
+-- these are the known lines of a status
+abbrev pub AreLinesOf : List ℕ → List Line → Type 0
+AreLinesOf status lines = map said lines ≡ known_lines status
 
 -- the place of a kind's list in the document
 abbrev pub place_of : Kind → ℕ
@@ -76,6 +93,6 @@ document_text lines =
     ++ codes "],\"reading\":[" ++ list_text Reading lines
     ++ codes "]}\n"
 
--- a document of lines that are whole JSON of their kinds
-abbrev pub IsDocument : List ℕ → Type 0
-IsDocument text = (lines : List Line) × All IsKnown lines × (text ≡ document_text lines)
+-- the document of a status
+abbrev pub IsDocument : List ℕ → List ℕ → Type 0
+IsDocument status text = (lines : List Line) × AreLinesOf status lines × (text ≡ document_text lines)

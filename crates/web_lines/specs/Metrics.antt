@@ -1,11 +1,11 @@
 -- Meaning. Text for Prometheus.
-use Rattle.std.specs.Prelude.{◌≡◌, ◌⊎◌, ◌==◌, ℕ, if◌then◌else◌, List, [], ◌∷◌, ◌++◌, All, Some, flat_map, codes, decimal}
+use Rattle.std.specs.Prelude.{◌≡◌, ◌⊎◌, ◌==◌, ℕ, if◌then◌else◌, List, [], ◌∷◌, ◌++◌, Some, flat_map, codes, decimal}
 use Rattle.json.specs.Json.{Json, document}
 use Rattle.web_lines.specs.declared.labels.Label.{Label}
 use Rattle.web_lines.specs.declared.labels.Labels.{Labels}
 use Rattle.web_lines.specs.declared.labels.Labels.TheVariants.{Bare, One, Two}
 use Rattle.web_lines.specs.declared.lines.Line.{Line}
-use Rattle.web_lines.specs.Document.{IsKnown, count_of_kind, place_of}
+use Rattle.web_lines.specs.Document.{AreLinesOf, count_of_kind, place_of}
 use Rattle.web_lines.specs.declared.kind.Kind.TheVariants.{Queued, Reading}
 use Rattle.web_lines.specs.Families.{Head, Row, outbox_head, reading_head, states_head, told_rows, up_head}
 use Rattle.web_lines.specs.Numbers.{IsNumberAt}
@@ -99,9 +99,8 @@ AddsRows [] lines old new = new ≡ old
 AddsRows (row ∷ rows) lines old new =
     (middle : List ℕ) × AddsLines row lines (old ++ head_text row.head) middle × AddsRows rows lines middle new
 
--- the numbers of a station that answers: that it does, the numbers that stand in the lines of its status, and those that count
--- them
-abbrev pub IsMetrics : List ℕ → Type 0
-IsMetrics text =
-    (lines : List Line) × All IsKnown lines
+-- the numbers of a station that answers: that it does, the numbers in the lines of its status, and those that count lines
+abbrev pub IsMetrics : List ℕ → List ℕ → Type 0
+IsMetrics status text =
+    (lines : List Line) × AreLinesOf status lines
     × ((told : List ℕ) × AddsRows told_rows lines (up_text 1) told × AddsCounts lines told text)

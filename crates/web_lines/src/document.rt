@@ -11,7 +11,7 @@ use std::alloc::{AllocError, Global};
 /// `outbox` and `reading`, each the list of the lines of its kind, in order and as they came. A line that is no JSON object of one of
 /// these kinds is left out.
 pub fn to_document(alloc: Global, text: &str) -> Result<Vec<u8>, AllocError>
-    ensures { IfOk result (λ document. IsDocument document.items) }
+    ensures { IfOk result (λ document. IsDocument text.now document.items) }
 {
     let lines = read_lines(alloc, text)?;
     let mut document = Vec::with_capacity(alloc, text.len().saturating_add(128))?;

@@ -1,6 +1,7 @@
 //! Lines of a status, each with its kind.
-ghost use Rattle.std.specs.Prelude.{◌≡◌, IfOk, OnOk, All};
-ghost use Rattle.web_lines.specs.Document.{kind_of_text, IsKnown};
+ghost use Rattle.std.specs.Prelude.{◌≡◌, ◌==◌, ◌++◌, IfOk, OnOk, map};
+ghost use Rattle.std.specs.List.{slice_split};
+ghost use Rattle.web_lines.specs.Document.{AreLinesOf, kind_of_text, said, with_kind};
 
 use crate::kind::Kind;
 use json::{Error, Scratch, Value};
@@ -13,17 +14,25 @@ pub(crate) struct Line<'a> {
     pub(crate) text: &'a str,
 }
 
-/// The lines of a text, in order. A line that is no JSON object of a known kind is left out.
+/// The lines of a text, in order. A line that is not a JSON object of a known kind is left out.
 pub(crate) fn read_lines<'a>(alloc: Global, text: &'a str) -> Result<Vec<Line<'a>>, AllocError>
-    ensures { IfOk result (λ lines. All IsKnown lines.items) }
+    ensures { IfOk result (λ lines. AreLinesOf text.now lines.items) }
 {
     let mut scratch = Scratch::new(alloc);
     let mut lines = Vec::new(alloc);
-    for line in text.split('\n') {
-        let kind = kind_of(alloc, line, &mut scratch)?;
-        push_line(&mut lines, kind, line)?;
+    let pieces = pieces_of(alloc, text)?;
+    for piece in pieces.as_slice() {
+        let kind = kind_of(alloc, *piece, &mut scratch)?;
+        push_line(&mut lines, kind, *piece)?;
     }
     Ok(lines)
+}
+
+// The text, cut at its line feeds.
+fn pieces_of<'a>(alloc: Global, text: &'a str) -> Result<Vec<&'a str>, AllocError>
+    ensures { IfOk result (λ pieces. map (λ piece. piece.now) pieces.items ≡ slice_split (λ octet. octet == 10) text.now) }
+{
+    text.split('\n').collect(alloc)
 }
 
 // Adds a line, if it has a kind.
@@ -32,9 +41,7 @@ fn push_line<'a>(
     kind: Option<Kind>,
     text: &'a str,
 ) -> Result<(), AllocError>
-    requires kind { kind ≡ kind_of_text text.now }
-    requires known { All IsKnown lines.old.items }
-    ensures { OnOk result (All IsKnown lines.new.items) }
+    ensures { OnOk result (map said lines.new.items ≡ map said lines.old.items ++ with_kind kind text.now) }
 {
     if let Some(kind) = kind {
         lines.push(Line { kind, text })?;

@@ -12,7 +12,7 @@ use std::alloc::{AllocError, Global};
 /// The numbers of a station's status, in Prometheus' text format. A line that is no JSON object of a known kind counts for
 /// nothing.
 pub fn to_metrics(alloc: Global, status: &str) -> Result<Vec<u8>, AllocError>
-    ensures { IfOk result (λ text. IsMetrics text.items) }
+    ensures { IfOk result (λ text. IsMetrics status.now text.items) }
 {
     let lines = read_lines(alloc, status)?;
     let mut text = Vec::new(alloc);

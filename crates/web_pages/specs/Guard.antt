@@ -1,15 +1,12 @@
 -- Meaning. Whom a request is meant for, and which requests are taken.
-use Rattle.std.specs.Prelude.{◌≡◌, ◌≢◌, ◌⊎◌, ◌≤◌, ◌-◌, ℕ, if◌then◌else◌, List, [], Option, Some, None, option_map, length, take, drop, map, codes}
+use Rattle.std.specs.Prelude.{◌≡◌, ◌≢◌, ◌⊎◌, ◌-◌, ℕ, if◌then◌else◌, List, [], Option, Some, None, option_map, length, take, drop, map, codes}
 use Rattle.std.specs.Char.{to_ascii_lowercase}
 use Rattle.std.specs.Str.{bytes_eq}
 use Rattle.http.specs.declared.request.Request.{Request}
 use Rattle.http.specs.Request.{head_of}
 use Rattle.http_header.specs.HeaderMap.{get, get_all}
 use Rattle.http_uri.specs.Uri.{uri_scheme, uri_authority}
-use Rattle.http_server.specs.declared.response.Response.{Response}
 use Rattle.web_pages.specs.declared.guard.Verdict.{Verdict}
-use Rattle.web_pages.specs.declared.route.Route.TheVariants as route
-use Rattle.web_pages.specs.Routes.{asked_route}
 use Rattle.web_pages.specs.declared.guard.Verdict.TheVariants.{Read, Command, OtherSite, NotAllowed, BadTarget}
 
 -- the first value of a header
@@ -62,18 +59,8 @@ IsJudged Read request = IsOwn request × IsReading request
 IsJudged Command request = IsOwn request × HasMethod (codes "POST") request
 IsJudged NotAllowed request = IsOwn request × (¬ IsReading request) × ¬ HasMethod (codes "POST") request
 IsJudged OtherSite request = IsFromOtherSite request
-IsJudged BadTarget request = ¬ HasPlainTarget request
+IsJudged BadTarget request = (¬ IsFromOtherSite request) × ¬ HasPlainTarget request
 
 -- commands are taken with a token, which the request has in its header
 abbrev pub HasToken : Option (List ℕ) → Request (List ℕ) → Type 0
 HasToken token request = (value_of (codes "x-console-token") request ≡ token) × (token ≢ None) × (token ≢ Some [])
-
--- a request that is answered with more than a status: one that reads what is shown, or a command with the token
-abbrev pub IsTaken : Option (List ℕ) → Request (List ℕ) → Type 0
-IsTaken token request =
-    IsOwn request × ((IsReading request × (asked_route request ≢ Some route.Command))
-    ⊎ (HasMethod (codes "POST") request × (asked_route request ≡ Some route.Command) × HasToken token request))
-
--- a refusal has a status from 400 on, and no body
-abbrev pub IsRefusal : Response → Type 0
-IsRefusal response = (400 ≤ response.status) × (response.body.items ≡ [])

@@ -1,9 +1,5 @@
 -- Meaning. The headers of what is served.
-use Rattle.std.specs.Prelude.{◌≡◌, ◌⊎◌, ℕ, List, [], ◌∷◌, Some, codes}
-use Rattle.http.specs.declared.request.Request.{Request}
-use Rattle.http_server.specs.declared.response.Response.{Response}
-use Rattle.http_server.specs.Response.{fields_of}
-use Rattle.web_pages.specs.Routes.{asked_route}
+use Rattle.std.specs.Prelude.{ℕ, List, [], ◌∷◌, codes}
 use Rattle.web_pages.specs.declared.route.Route.{Route}
 use Rattle.web_pages.specs.declared.route.Route.TheVariants.{Page, Status, Events, Metrics, Health, Command}
 
@@ -26,13 +22,3 @@ guards policy =
 -- the headers of a text of this kind
 abbrev pub headers_for : List ℕ → List ℕ → List (List ℕ × List ℕ)
 headers_for kind policy = (codes "content-type", kind) ∷ guards policy
-
--- the station answered, or it didn't
-abbrev pub HasServedStatus : Response → Type 0
-HasServedStatus response = (response.status ≡ 200) ⊎ (response.status ≡ 503)
-
--- a response has the headers of the route that was asked for, and no other
-abbrev pub IsServed : List ℕ → Request (List ℕ) → Response → Type 0
-IsServed policy request response =
-    HasServedStatus response
-    × ((route : Route) × (asked_route request ≡ Some route) × (fields_of response ≡ headers_for (kind_text route) policy))

@@ -1,9 +1,9 @@
 //! The service: each request's answer.
-ghost use Rattle.std.specs.Prelude.{◌≡◌, ◌≢◌, ◌↔◌, ◌⊎◌, ◌≤◌, [], OnOk, IsTrue, Some, codes};
+ghost use Rattle.std.specs.Prelude.{◌≡◌, ◌↔◌, ◌⊎◌, [], OnOk, IsTrue, codes};
 ghost use Rattle.std.specs.Option.{option_copied};
-ghost use Rattle.http_server.specs.Response.{IsResponse, IsBlank};
-ghost use Rattle.web_pages.specs.Guard.{IsFor, IsTaken, HasToken, IsRefusal, value_of};
-ghost use Rattle.web_pages.specs.Headers.{IsServed};
+ghost use Rattle.http_server.specs.Response.{IsBlank, fields_of};
+ghost use Rattle.web_pages.specs.Answers.{IsAnswered, IsAt, IsObeyed, IsPage, IsPostedAt, IsReadAt, IsRefused, IsShown, IsWrongMethod, last_seen, status_of};
+ghost use Rattle.web_pages.specs.Guard.{IsFor, HasToken, value_of};
 ghost use Rattle.web_pages.specs.Routes.{asked_route};
 ghost use Rattle.web_pages.specs.Settings.{token_of};
 
@@ -48,7 +48,7 @@ impl<'a, S: Source> Console<'a, S> {
     // Answers a request that is for the console.
     fn answer(&self, request: &Request<Bytes>, response: &mut Response) -> Result<(), AllocError>
         requires { IsBlank response.old }
-        ensures { OnOk result ((IsTaken (token_of self.now) request.now × IsServed POLICY.now request.now response.new) ⊎ IsRefusal response.new) }
+        ensures { OnOk result (IsAnswered POLICY.now PAGE.now (token_of self.now) (S.shows self.now.source.now) (S.tells self.now.source.now) request.now response.new) }
     {
         match judge(request) {
             Verdict::OtherSite => refuse(response, StatusCode::FORBIDDEN),
@@ -66,11 +66,12 @@ impl<'a, S: Source> Console<'a, S> {
         response: &mut Response,
     ) -> Result<(), AllocError>
         requires { IsBlank response.old }
-        ensures { OnOk result (((asked_route request.now ≢ Some Route.Command) × IsServed POLICY.now request.now response.new) ⊎ IsRefusal response.new) }
+        ensures { OnOk result (IsAt (IsReadAt POLICY.now PAGE.now (S.shows self.now.source.now) request.now) (asked_route request.now) response.new) }
     {
         match Route::at(request.uri().path()) {
             None => refuse(response, StatusCode::NOT_FOUND),
             Some(Route::Command) => refuse_method(request, response),
+            Some(Route::Page) => show_page(response),
             Some(route) => self.fill(request, route, response),
         }
     }
@@ -82,7 +83,7 @@ impl<'a, S: Source> Console<'a, S> {
         response: &mut Response,
     ) -> Result<(), AllocError>
         requires { IsBlank response.old }
-        ensures { OnOk result (((asked_route request.now ≡ Some Route.Command) × HasToken (token_of self.now) request.now × IsServed POLICY.now request.now response.new) ⊎ IsRefusal response.new) }
+        ensures { OnOk result (IsAt (IsPostedAt POLICY.now (token_of self.now) (S.tells self.now.source.now) request.now) (asked_route request.now) response.new) }
     {
         match Route::at(request.uri().path()) {
             None => refuse(response, StatusCode::NOT_FOUND),
@@ -97,34 +98,27 @@ impl<'a, S: Source> Console<'a, S> {
         }
     }
 
-    // Answers what is at a route.
+    // Answers what the source shows at a route.
     fn fill(
         &self,
         request: &Request<Bytes>,
         route: Route,
         response: &mut Response,
     ) -> Result<(), AllocError>
-        requires blank { IsBlank response.old }
-        requires route { asked_route request.now ≡ Some route }
-        ensures { OnOk result (IsServed POLICY.now request.now response.new) }
+        requires { IsBlank response.old }
+        ensures { OnOk result (IsShown POLICY.now (S.shows self.now.source.now) request.now route response.new) }
     {
         add_headers(route, response)?;
-        if route == Route::Page {
-            return response.body.put_slice(PAGE.as_bytes());
-        }
         let mut text = Vec::new(self.alloc);
-        if self.source.fill(route, last_id(request), &mut text)? == Found::Away {
-            response.status = StatusCode::SERVICE_UNAVAILABLE;
-        }
-        response.body.push(Bytes::from_vec(text)?)
+        let found = self.source.fill(route, last_id(request), &mut text)?;
+        give(response, found, text)
     }
 
-    // Passes a command on.
+    // Passes a command on, if it is one that may be.
     fn pass_on(&self, request: &Request<Bytes>, response: &mut Response) -> Result<(), AllocError>
         requires blank { IsBlank response.old }
-        requires route { asked_route request.now ≡ Some Route.Command }
         requires token { HasToken (token_of self.now) request.now }
-        ensures { OnOk result (IsServed POLICY.now request.now response.new ⊎ IsRefusal response.new) }
+        ensures { OnOk result (IsObeyed POLICY.now (token_of self.now) (S.tells self.now.source.now) request.now response.new) }
     {
         let line = request.body().as_slice();
         if !is_command(line) {
@@ -132,10 +126,8 @@ impl<'a, S: Source> Console<'a, S> {
         }
         add_headers(Route::Command, response)?;
         let mut text = Vec::new(self.alloc);
-        if self.source.command(line, &mut text)? == Found::Away {
-            response.status = StatusCode::SERVICE_UNAVAILABLE;
-        }
-        response.body.push(Bytes::from_vec(text)?)
+        let found = self.source.command(line, &mut text)?;
+        give(response, found, text)
     }
 
     // Whether commands are taken and the request has the token.
@@ -161,18 +153,42 @@ fn given_token(request: &Request<Bytes>) -> Option<&[u8]>
 }
 
 // The ID of the last event that the reader has: empty where it has none.
-fn last_id(request: &Request<Bytes>) -> &[u8] {
+fn last_id(request: &Request<Bytes>) -> &[u8]
+    ensures { result.now ≡ last_seen request.now }
+{
     match request.headers().get("last-event-id") {
         Some(value) => value.as_bytes(),
         None => b"".as_slice(),
     }
 }
 
+// Answers the page.
+fn show_page(response: &mut Response) -> Result<(), AllocError>
+    requires { IsBlank response.old }
+    ensures { OnOk result (IsPage POLICY.now PAGE.now response.new) }
+{
+    add_headers(Route::Page, response)?;
+    response.body.put_slice(PAGE.as_bytes())
+}
+
+// Answers a text of the source's, with the status for whether the station answered.
+fn give(response: &mut Response, found: Found, text: Vec<u8>) -> Result<(), AllocError>
+    requires { response.old.body.items ≡ [] }
+    ensures status { OnOk result (response.new.status ≡ status_of found) }
+    ensures body { OnOk result (response.new.body.items ≡ text.items) }
+    ensures headers { OnOk result (fields_of response.new ≡ fields_of response.old) }
+{
+    response.status = match found {
+        Found::Here => StatusCode::OK,
+        Found::Away => StatusCode::SERVICE_UNAVAILABLE,
+    };
+    response.body.push(Bytes::from_vec(text)?)
+}
+
 // Answers a status alone.
 fn refuse(response: &mut Response, status: StatusCode) -> Result<(), AllocError>
-    requires blank { IsBlank response.old }
-    requires refusal { 400 ≤ status }
-    ensures { OnOk result (IsRefusal response.new) }
+    requires { IsBlank response.old }
+    ensures { OnOk result (IsRefused status response.new) }
 {
     response.status = status;
     Ok(())
@@ -181,32 +197,37 @@ fn refuse(response: &mut Response, status: StatusCode) -> Result<(), AllocError>
 // Answers which methods are taken instead, where anything can be asked for.
 fn refuse_method(request: &Request<Bytes>, response: &mut Response) -> Result<(), AllocError>
     requires { IsBlank response.old }
-    ensures { OnOk result (IsRefusal response.new) }
+    ensures { OnOk result (IsAt IsWrongMethod (asked_route request.now) response.new) }
 {
     match Route::at(request.uri().path()) {
         None => refuse(response, StatusCode::NOT_FOUND),
-        Some(Route::Command) => refuse_but(response, HeaderValue::from_static("POST")),
-        Some(_) => refuse_but(response, HeaderValue::from_static("GET, HEAD")),
+        Some(route) => refuse_but(response, route),
     }
 }
 
-// Answers that only these methods are taken.
-fn refuse_but(response: &mut Response, taken: HeaderValue) -> Result<(), AllocError>
+// Answers that a route takes other methods.
+fn refuse_but(response: &mut Response, route: Route) -> Result<(), AllocError>
     requires { IsBlank response.old }
-    ensures { OnOk result (IsRefusal response.new) }
+    ensures { OnOk result (IsWrongMethod route response.new) }
 {
     response.status = StatusCode::METHOD_NOT_ALLOWED;
-    response.add_header(header::ALLOW, taken)
+    let methods = match route {
+        Route::Command => HeaderValue::from_static("POST"),
+        _ => HeaderValue::from_static("GET, HEAD"),
+    };
+    response.add_header(header::ALLOW, methods)
 }
 
 impl<'a, S: Source> Service for Console<'a, S> {
     ghost use Rattle.web_pages.specs.declared.headers.TheConstants.{POLICY};
+    ghost use Rattle.web_pages.specs.declared.page.TheConstants.{PAGE};
 
-    // The console stays as it is. A request that is not for one of its names gets 403, with no header and no body. Only a
-    // request that is taken gets more than a refusal, and what it gets has the headers of its route.
+    // The console stays as it is. A request that is not for one of its names gets 403, with no header and no body; any other
+    // one gets what is defined.
     ghost answers = { λ old request response new. (new ≡ old)
-        × (IsFor old.settings.now.names.first.items old.settings.now.names.second.items request ⊎ IsResponse 403 [] [] response)
-        × ((IsTaken (token_of old) request × IsServed POLICY.now request response) ⊎ IsRefusal response) };
+        × (((¬ IsFor old.settings.now.names.first.items old.settings.now.names.second.items request) × IsRefused 403 response)
+        ⊎ (IsFor old.settings.now.names.first.items old.settings.now.names.second.items request
+        × IsAnswered POLICY.now PAGE.now (token_of old) (S.shows old.source.now) (S.tells old.source.now) request response)) };
 
     fn call(
         &mut self,

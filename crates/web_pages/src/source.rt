@@ -1,4 +1,6 @@
 //! Where the console's answers come from.
+ghost use Rattle.std.specs.Prelude.{◌≡◌, [], IfOk};
+ghost use Rattle.web_pages.specs.Answers.{Shows, Tells};
 ghost use Rattle.web_pages.specs.Commands.{IsCommand};
 
 use crate::route::Route;
@@ -14,11 +16,21 @@ pub enum Found {
 
 /// Where the console's answers come from.
 pub trait Source {
-    /// Adds what is at a route to a text. Of events those behind the one with the ID `last`, and all where that is none of
-    /// theirs.
-    fn fill(&self, route: Route, last: &[u8], text: &mut Vec<u8>) -> Result<Found, AllocError>;
+    /// What it may show at a route, by the ID of the last event that the reader has.
+    ghost shows: { Self → Shows };
 
-    /// Gives a command to the station and adds its answer to a text.
+    /// What the station may answer a command.
+    ghost tells: { Self → Tells };
+
+    /// Writes what is at a route into an empty text: of events those after the one with the ID `last`, or all where no event has
+    /// that ID.
+    fn fill(&self, route: Route, last: &[u8], text: &mut Vec<u8>) -> Result<Found, AllocError>
+        requires { text.old.items ≡ [] }
+        ensures { IfOk result (λ found. shows self.now route last.now found text.new.items) };
+
+    /// Gives a command to the station and writes its answer into an empty text.
     fn command(&self, line: &[u8], text: &mut Vec<u8>) -> Result<Found, AllocError>
-        requires { IsCommand line.now };
+        requires command { IsCommand line.now }
+        requires empty { text.old.items ≡ [] }
+        ensures { IfOk result (λ found. tells self.now line.now found text.new.items) };
 }
