@@ -159,7 +159,7 @@ def transfer(server_program, put_program, workers=4, more=()):
             spent_there = server.spent() - before
     received = pathlib.Path("received", "image.received")
     if received.read_bytes() != pathlib.Path("image").read_bytes():
-        sys.exit("the file that came is another")
+        sys.exit("the received file differs")
     received.unlink()
     return took, spent, spent_there
 

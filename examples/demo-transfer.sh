@@ -67,7 +67,7 @@ done
 echo "The server listens. Compiling and starting the put: about half a minute."
 (runs cfdp_put --config "$work/spacecraft.toml" --bind "127.0.0.1:$at_put" --user alice --remote 2 --class 2 --rate 2000000 \
     "$work/image" image.received > "$work/put.log" 2>&1 < /dev/null) || true
-grep -q 'Transaction-Finished 0 complete retained' "$work/put.log" || tells "The put did not hear that the file is whole."
+grep -q 'Transaction-Finished 0 complete retained' "$work/put.log" || tells "The put wasn't notified that the receiver has the whole file."
 echo "What the sender's user received last:"
 echo "    $(grep 'Transaction-Finished' "$work/put.log")"
 echo "What the server shows of the transaction:"
@@ -75,5 +75,5 @@ says status | grep '"kind":"transaction"' | sed 's/^/    /'
 says quit > "$work/quit"
 wait "$serving" || tells "The server ended with status $?."
 serving=
-cmp "$work/image" "$work/received/image.received" || tells "The file that came is another."
-echo "The file came whole."
+cmp "$work/image" "$work/received/image.received" || tells "The received file differs."
+echo "The file arrived whole."

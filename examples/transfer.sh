@@ -77,8 +77,8 @@ exec 4>&-
 wait "$relay" || true
 echo "class $class ${closure[*]}, $octets octets: $(tail -n 1 relayed)"
 echo "the put ended with status $status: $(tail -n 1 printed)"
-echo "the server told: $(grep 'Transaction-Finished' served || echo nothing of an end)"
-cmp image received/image.received || tells "the file that came is another"
+echo "the server reported: $(grep 'Transaction-Finished' served || echo no end)"
+cmp image received/image.received || tells "the received file differs"
 # a sender in class 1 learns what became of its file only if it asks for closure
 [ "$status" = "$([ "$class${closure[*]}" = 1 ] && echo 2 || echo 0)" ] || tells "the put's status is $status"
-echo "the file came whole"
+echo "the file arrived whole"

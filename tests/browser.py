@@ -133,7 +133,7 @@ def look(tab, port, station):
         time.sleep(0.5)
         check(f"{width} pixels: the page isn't wider", tab.value("document.documentElement.scrollWidth") <= width)
     tab.value("document.getElementById('still').click()")
-    check("events are held still", wait_for(lambda: "held still" in tab.text("shown")))
+    check("events are paused", wait_for(lambda: "paused" in tab.text("shown")))
     tab.value("document.getElementById('still').click()")
     tab.value("document.getElementById('by-user').value = 'nobody'; document.getElementById('by-user').dispatchEvent(new Event('input'))")
     check("events are filtered", wait_for(lambda: tab.text("shown").startswith("0 of ")))
@@ -156,7 +156,7 @@ def look(tab, port, station):
         const turn = now => { pauses.push(now - before); before = now; box.scrollTop += 40;
             if (++turns < 180) requestAnimationFrame(turn); else done(pauses); };
         requestAnimationFrame(turn); })""")["result"].get("value")
-    print(f"     scrolling a thousand: {max(pauses):.0f} ms between two pictures at most, {sorted(pauses)[90]:.0f} ms in the middle, "
+    print(f"     scrolling a thousand: {max(pauses):.0f} ms between two frames at most, {sorted(pauses)[90]:.0f} ms in the middle, "
           f"{sum(pause > 100 for pause in pauses)} of 180 above 100 ms")
     faults = [fault for fault in tab.faults
               if fault.get("entry", {}).get("level", "error") in ("error", "warning") and "503" not in json.dumps(fault)]

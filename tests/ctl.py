@@ -162,7 +162,7 @@ def tables():
         check("a put that ends", ctl("put", "ops", "0", "2", "5", FILE, "b"), 0)
         time.sleep(0.6)
         run = ctl("status", "--width", "100")
-        check("status", run, 0, b"Under way")
+        check("status", run, 0, b"Active")
         text = run.stdout
         want("status, its octets", not any(octet < 32 and octet != 10 or octet == 127 for octet in text), text)
         want("status, its width", max(len(line.decode()) for line in text.split(b"\n")) <= 100, text)
@@ -201,7 +201,7 @@ def layout():
             want(f"{octets} octets", " ".join(run.stdout.decode().split("\n")[5].split()).endswith(" active " + wanted), run.stdout)
             want(f"{octets} octets, its heads", run.stdout.startswith(
                 b"Entity 1, cfdp_server 0.1, since 2026-11-26T12:00:00.000Z, now 2028-03-01T00:00:00.000Z\n"
-                b"Workers that read no more, since the socket failed: 2\n\nUnder way\n"), run.stdout)
+                b"Workers that stopped reading because their socket failed: 2\n\nActive\n"), run.stdout)
     with station(*said([{"kind": "user", "name": "ops\x1b", "waiting": 3, "capacity": 1024}])):
         run = ctl("status")
         want("a table", run.stdout == b"Users\nwaiting    of  user\n      3  1024  ops\\x1b\n\n", run.stdout)
@@ -240,7 +240,7 @@ def words_of_events():
          "refused: DecodeFault 3, times 2, from 192.0.2.1:4556"),
         ({**at, "kind": "start", "id": 2}, "the server starts as entity 2"),
         ({**at, "kind": "stored", "source": 1, "seq": 41, "status": "rejected"}, "1.41 file rejected"),
-        ({**at, "kind": "reads-ended"}, "a worker reads no more: its socket failed"),
+        ({**at, "kind": "reads-ended"}, "a worker stopped reading: its socket failed"),
         ({**at, "kind": "put", "user": "ops", "source": 1, "seq": 41, "peer": 7, "class": 2, "file": "a", "to": "b", "size": 9,
           "queued": 3}, "ops 1.41 put: a to b, 9 B, for entity 7 in class 2, file 3 of the outbox"),
         ({**at, "kind": "unsent", "queued": 3, "user": "ops", "destination": 7, "file": "a", "why": "refused 9 X\x07"},
@@ -322,7 +322,7 @@ def sends():
             want("a file that isn't there, before anything is sent", run.stdout == b"", run.stdout)
         check("the next number", ctl("send", "--to", "5", "--class", "1", "--closure", FILE), 0, b"queued 6: ")
         run = ctl("send", "--to", "5", "--class", "1", "--wait", FILE)
-        check("class 1 without closure", run, 0, b": all of it was sent, and no report was asked for\n")
+        check("class 1 without closure", run, 0, b": sent completely; no report was asked for\n")
         run = ctl("send", "--to", "5", "--class", "1", "--closure", "--wait", FILE)
         check("class 1 with closure", run, 0, b": finished: complete, retained\n")
         hundred = [f"{n}.bin" for n in range(100)]

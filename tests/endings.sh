@@ -9,7 +9,7 @@ trap 'rm -rf "$PWD"' EXIT
 # ends TITLE STATUS PRINTED TOLD: the run that was made last ended so.
 ends() {
     if [ "$status" != "$2" ] || [ "$(cat printed)" != "$3" ] || [ "$(cat told)" != "$4" ]; then
-        echo "$program, $1: status $status, printed: $(cat printed), told beside it: $(cat told)"
+        echo "$program, $1: status $status, printed: $(cat printed), on standard error: $(cat told)"
         exit 1
     fi
 }

@@ -6,5 +6,5 @@ program=$(realpath "$1")
 cd "$(dirname "$0")/../examples"
 for script in *.script; do
     timeout 60 "$program" < "$script" | diff "${script%.script}.printed" - \
-        || { echo "examples/$script: this is not what stands beside it"; exit 1; }
+        || { echo "examples/$script: this is not the expected text"; exit 1; }
 done

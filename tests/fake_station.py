@@ -7,16 +7,16 @@ usage: tests/fake_station.py SOCKET [OPTION..]
   --users A,B        users (ops)
   --step SECONDS     how long a file takes from its start to its end (0.3)
   --odd              names with quotes, control characters and octets that are no text
-  --vanish SECONDS   ends without a word, so long after the first send
-  --half             answers a status with the front of a line, and no more
+  --vanish SECONDS   ends without a word, this long after the first send
+  --half             answers a status with the beginning of a line only
   --busy             has no seat for anybody
   --old              knows no status and no follow
   --refuse           refuses each send: the outbox is full
   --lose NAME        the file that ends incomplete
   --unreadable NAME  the file that can't be read when its turn comes
-  --ended-reads N    workers that read no more (0)
+  --ended-reads N    workers that stopped reading (0)
   --reading A,B      files that are being read for Puts (none)
-  --stop SECONDS     answers nothing more, so long after the first send, and stays connected
+  --stop SECONDS     stops answering this long after the first send, and stays connected
   --say FILE         what a status says, and which events a follower receives: JSON with lists `status` and `events`
 """
 import argparse

@@ -57,7 +57,7 @@ GOOD = (EXAMPLES / "ground.toml").read_text(encoding="ascii").replace("@PEER@", 
 EIGHT_MORE = "".join(GOOD[GOOD.index("[[remote]]"):].replace("id = 1\n", f"id = {number}\n") for number in range(3, 11))
 # A change in a configuration, the fault that it causes, and what a check prints for the file.
 FAULTS = [
-    ("[[user]]", "[[user", 1, "the text is not TOML; look for a missing quote or bracket, or a key that stands twice"),
+    ("[[user]]", "[[user", 1, "the text is not TOML; look for a missing quote or bracket, or a key that is given twice"),
     ("capacity = 1024\n", "", 2, "`capacity` is missing"),
     ("capacity = 1024", 'capacity = "8"', 3, "the value of `capacity` has the wrong type; allowed: 1 to 1024"),
     ("check_limit = 20", "check_limit = 20\nchecksum = 15", 3, 'the value of `checksum` has the wrong type; allowed: "modular" and "null"'),
@@ -85,7 +85,7 @@ def check_rows():
         pathlib.Path(name).write_text(GOOD.replace(old, new), encoding="ascii")
         yield name, f"config fault {number}", f"{name}: {why}"
     yield "missing", "read fault", None
-    yield "folder", "read fault", "folder: it is a folder"
+    yield "folder", "read fault", "folder: is a folder"
 
 
 def checks(program):
@@ -108,7 +108,7 @@ def checks(program):
     want(f"{name} --check of a pipe", (ended.stderr, ended.returncode), (f"{name}: config fault 4\n", 1))
     told, errors, status = run([program, "--check"])
     want(f"{name} --check alone", (told, errors.splitlines()[0], errors.splitlines()[-1], status),
-         ("", f"{name}: usage", f"`{name} --help` has the options", 1))
+         ("", f"{name}: usage", f"`{name} --help` lists the options", 1))
     want(f"{name} --check alone, the second line", errors.splitlines()[1].split(": ")[1], "--config <config>")
 
 
@@ -121,13 +121,13 @@ def start_rows(taken):
     yield [*server, "localhost:1"], "usage", "--bind takes A.B.C.D:PORT"
     yield [*server, "127.0.0.1:0", "--rate", "99=5"], "usage", "--rate has a limit for an entity"
     yield [*server, taken], "bind fault", f"{taken}: "
-    yield [*server, "127.0.0.1:0", "--control", "missing/control"], "bind fault", "missing/control: another server answers there, it is"
+    yield [*server, "127.0.0.1:0", "--control", "missing/control"], "bind fault", "missing/control: another server answers there, the path is"
     yield [SERVER, "--config", "lanes", "--folder", ".", "--bind", "127.0.0.1:0"], "config fault 4", "lanes: the value of `put_lanes`"
     yield [*put, "3", "--user", "alice", "good", "b"], "usage", "--class takes 1 or 2"
     yield [*put, "2", "--user", "carol", "good", "b"], "usage", "good: no user has the name `carol`"
     yield [*put, "2", "--user", "alice", "missing", "b"], "read fault", "missing: "
-    yield [*put, "2", "--user", "alice", ".", "b"], "read fault", ".: it is no plain file"
-    yield [PUT, "--config", "folder", "--bind", "127.0.0.1:0", "--remote", "1", "--class", "1", "--user", "alice", "good", "b"], "read fault", "folder: it is a folder"
+    yield [*put, "2", "--user", "alice", ".", "b"], "read fault", ".: not a plain file"
+    yield [PUT, "--config", "folder", "--bind", "127.0.0.1:0", "--remote", "1", "--class", "1", "--user", "alice", "good", "b"], "read fault", "folder: is a folder"
 
 
 def starts():
@@ -151,4 +151,4 @@ with tempfile.TemporaryDirectory() as home:
     checks(PUT)
     starts()
     os.chdir("/")
-print("wrong starts: one line where nobody reads it, and what is wrong on a terminal and after --check")
+print("wrong starts: one line elsewhere; on a terminal and after --check also what is wrong")

@@ -20,4 +20,4 @@ if [ -n "$wrong" ]; then
     printf 'crates.txt: %s\n' "$wrong" >&2
     exit 1
 fi
-echo "crates.txt: the crates stand in layers"
+echo "crates.txt: the crates are in layers"

@@ -8,7 +8,7 @@ for program in "$@"; do
     helped=$("$program" --help | grep -o -- '^  --[a-z]*' | tr -d ' ' | sort)
     told=$(sed -n '/^\.SH OPTIONS/,/^\.SH [^O]/s/^\.BI* \\-\\-\([a-z]*\).*/--\1/p' "$manual/$name.1" | sort)
     if [ -z "$helped" ] || [ "$helped" != "$told" ]; then
-        echo "$name: its help has $(echo $helped), and its page of the manual $(echo $told)"
+        echo "$name: its help has $(echo $helped), and its manual page $(echo $told)"
         exit 1
     fi
 done

@@ -23,7 +23,7 @@ def play(program, title, script, printed, status=0):
     for place, line in enumerate(wanted + ["nothing more"]):
         answer = given[place] if place < len(given) else "nothing more"
         if answer != line:
-            sys.exit(f"{title}: line {place + 1} of what is printed is {answer[:300]!r}, not {line[:300]!r}")
+            sys.exit(f"{title}: line {place + 1} of the output is {answer[:300]!r}, not {line[:300]!r}")
     if run.returncode != status or run.stderr:
         sys.exit(f"{title}: status {run.returncode}, {run.stderr.decode()!r}")
 

@@ -74,7 +74,7 @@ class Server:
             if line.startswith(beginning):
                 return line
             time.sleep(0.01)
-        raise Wrong(f"{beginning} was never told")
+        raise Wrong(f"{beginning} was never printed")
 
     def ended(self):
         """How the server ended: its status, and what it printed."""

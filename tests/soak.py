@@ -152,7 +152,7 @@ def main():
                 run.kill()
         os.chdir("/")
         shutil.rmtree(home, ignore_errors=True)
-    print(f"{soak.whole} files of {soak.puts} came whole")
+    print(f"{soak.whole} of {soak.puts} files arrived whole")
     for name, (first, most) in held.items():
         print(f"{name}: at most {first} KiB in the first minute, and {most} KiB since")
         if most > first * 1.1 + 1_024:

@@ -91,7 +91,7 @@ def main():
     finally:
         os.chdir("/")
         shutil.rmtree(home)
-    print(f"{len(SERVER_FAULTS) + len(PUT_FAULTS)} starts are refused as they should")
+    print(f"{len(SERVER_FAULTS) + len(PUT_FAULTS)} starts are refused as they should be")
 
 
 main()

@@ -375,7 +375,7 @@ def main():
     console, port = start_console("--commands")
     console.stdout.readline()
     made = console.stdout.readline().decode().split()[-1]
-    check("a token is made up and printed", len(made) == 32 and
+    check("a new token is printed", len(made) == 32 and
           ask(port, "/command", method="POST", body=b"hold 5", more=[("X-Console-Token", made)])[0] == 200)
     stop(console)
     stop(station)

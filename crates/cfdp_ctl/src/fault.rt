@@ -28,10 +28,10 @@ impl CtlFault {
     pub(crate) fn text(self) -> Option<&'static str> {
         match self {
             CtlFault::Station(fault) => Some(fault.text()),
-            CtlFault::Words => Some("the words of the command line aren't text"),
+            CtlFault::Words => Some("the command line isn't UTF-8"),
             CtlFault::NoPath => Some("--control PATH is missing, and CFDP_CONTROL isn't set"),
             CtlFault::NoFolder => Some(
-                "this folder's path isn't known or isn't text: give absolute paths",
+                "the current folder's path is unknown or isn't UTF-8: give absolute paths",
             ),
             CtlFault::Output => None,
             CtlFault::Input => Some("the standard input can't be read"),

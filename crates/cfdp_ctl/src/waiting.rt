@@ -100,8 +100,7 @@ fn print_end<W: Write + Drop, E: Write + Drop>(
 // The words for a file that has ended.
 fn end_words<'a>(is_reported: bool, fate: Fate, event: &'a Event) -> &'a str {
     match fate {
-        Fate::Ended(End::Unreported) if !is_reported =>
-            "all of it was sent, and no report was asked for",
+        Fate::Ended(End::Unreported) if !is_reported => "sent completely; no report was asked for",
         _ => event.words.as_str(),
     }
 }

@@ -22,8 +22,8 @@ const SOON: EntityText<'static> = EntityText {
 };
 
 // The progress of a file that nobody answers: a line that is overwritten, and another one below the indications so far.
-const SHOWN: &str = "\r3 of 3 octets sent, the end is awaited
-\r3 of 3 octets sent, the end is awaited
+const SHOWN: &str = "\r3 of 3 octets sent, waiting for the end
+\r3 of 3 octets sent, waiting for the end
 ";
 
 // Puts that nobody at the remote's address answers: in class 2 the file is not acknowledged, and in class 1 with

@@ -13,5 +13,5 @@ some_sent : progress_text 40 512 ≡ codes "\r40 of 512 octets sent"
 unfolding digits
 some_sent = refl
 
-awaited : awaited_text 511 512 ++ awaited_text 512 512 ≡ codes ", the end is awaited"
+awaited : awaited_text 511 512 ++ awaited_text 512 512 ≡ codes ", waiting for the end"
 awaited = refl

@@ -11,4 +11,4 @@ progress_text reach size = codes "\r" ++ (decimal reach ++ (codes " of " ++ (dec
 
 -- what follows it once the whole file was sent
 abbrev pub awaited_text : ℕ → ℕ → List ℕ
-awaited_text reach size = if nat_lt reach size then [] else codes ", the end is awaited"
+awaited_text reach size = if nat_lt reach size then [] else codes ", waiting for the end"

@@ -84,13 +84,13 @@ fn push_progress(text: &mut String, reach: u64, size: u64) -> Result<(), AllocEr
     write!(text, "\r{reach} of {size} octets sent")
 }
 
-// Adds that the end is awaited, once the whole file was sent.
+// Adds that the program waits for the end, once the whole file was sent.
 fn push_awaited(text: &mut String, reach: u64, size: u64) -> Result<(), AllocError>
     ensures { OnOk result (string_bytes text.new ≡ string_bytes text.old ++ awaited_text reach size) }
 {
     if reach < size {
         Ok(())
     } else {
-        text.push_str(", the end is awaited")
+        text.push_str(", waiting for the end")
     }
 }

@@ -135,7 +135,7 @@ fn push_usage<R: Files>(
             Err(_) => push_put_complaint(alloc, text, line)?,
         }
     }
-    writeln!(text, "`cfdp_put --help` has the options")
+    writeln!(text, "`cfdp_put --help` lists the options")
 }
 
 // Adds which word of a command line that is right in itself doesn't fit the configuration.

@@ -111,7 +111,7 @@ fn push_meaning<R: Net + Files>(
         } else {
             push_complaint(alloc, text, line)?;
         }
-        return writeln!(text, "`cfdp_server --help` has the options");
+        return writeln!(text, "`cfdp_server --help` lists the options");
     }
     if let Ok(path) = check_words(alloc, line) {
         let started = started_with(path);

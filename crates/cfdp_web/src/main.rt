@@ -67,7 +67,7 @@ fn serve<
         return fail(errors, "no memory");
     };
     let Ok(keys) = RandomState::new(rt) else {
-        return fail(errors, "the system gives no random numbers");
+        return fail(errors, "no random numbers from the system");
     };
     let _said = greet(output, words, &token);
     let settings = Settings { names, token };

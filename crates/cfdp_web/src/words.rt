@@ -33,21 +33,21 @@ pub(crate) enum WordsFault {
 }
 
 /// What `--help` prints.
-pub(crate) const HELP: &str = "Shows a CFDP server in the browser, by its control socket.
+pub(crate) const HELP: &str = "Shows a CFDP server in the browser, over its control socket.
 
 Usage: cfdp_web --control PATH [--listen ADDR] [--name HOST:PORT] [--commands] [--token-file FILE]
 
   --control PATH     the server's control socket
-  --listen ADDR      where the console listens: A.B.C.D:PORT (127.0.0.1:4580 where it is left out)
-  --name HOST:PORT   another name by which browsers reach it, of which :80 may be left out (localhost and its port where
-                     there is none)
-  --commands         takes commands, too, from who has the token
-  --token-file FILE  the token, the first line of a file (one is made up and printed where it is left out)
+  --listen ADDR      where the console listens: A.B.C.D:PORT (default: 127.0.0.1:4580)
+  --name HOST:PORT   another name by which browsers reach the console; :80 may be omitted (default:
+                     localhost and the console's port)
+  --commands         also takes commands, from anyone with the token
+  --token-file FILE  a file whose first line is the token (default: a new token, which is printed)
   --help             prints this, and ends
   --version          prints the version, and ends
 
-The page is at http://ADDR/. Programs find /status.json, /events, /metrics and /healthz there. It listens until it is
-ended. Status 1: a fault of the program. 2: the command line is wrong.
+The page is at http://ADDR/. Programs find /status.json, /events, /metrics and /healthz there. The
+console runs until it is stopped. Status 1: a fault of the program. 2: the command line is wrong.
 ";
 
 /// What is printed if the command line is wrong.

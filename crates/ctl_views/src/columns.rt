@@ -80,7 +80,7 @@ pub(crate) const LAYOUTS: [Layout; 7] = [
     },
     Layout {
         rows: Rows::Of("transaction"),
-        title: "Under way",
+        title: "Active",
         shade: Shade::ByNotice,
         columns: &[
             Left(
@@ -208,7 +208,7 @@ pub(crate) const ENTITY: [Part; 8] = [
 
 /// The line of its counter of ended reads, if workers stopped reading.
 pub(crate) const ENDED_READS: [Part; 2] = [
-    Words("Workers that read no more, since the socket failed: "),
+    Words("Workers that stopped reading because their socket failed: "),
     Number("ended_reads", "?"),
 ];
 

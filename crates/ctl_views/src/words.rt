@@ -179,6 +179,6 @@ pub(crate) const KINDS: [Said; 9] = [
     Said {
         name: "reads-ended",
         tint: Always(Bad),
-        parts: &[Words("a worker reads no more: its socket failed")],
+        parts: &[Words("a worker stopped reading: its socket failed")],
     },
 ];

@@ -90,7 +90,7 @@ fn colour_of(alloc: Global, matches: &ArgMatches<'_>) -> Result<Colour, WordsFau
     };
     match colour_named(word) {
         Some(colour) => Ok(colour),
-        None => Err(bad_value(alloc, "colour", word, "is none of auto, always and never")),
+        None => Err(bad_value(alloc, "colour", word, "must be auto, always or never")),
     }
 }
 
@@ -219,7 +219,12 @@ fn transaction_asked(
     };
     match transaction_of(word) {
         Some(transaction) => Ok(Some(transaction)),
-        None => Err(bad_value(alloc, "transaction", word, "is no transaction: SOURCE.SEQ")),
+        None => Err(bad_value(
+            alloc,
+            "transaction",
+            word,
+            "is not a transaction (SOURCE.SEQ)",
+        )),
     }
 }
 
@@ -255,7 +260,7 @@ fn number_of(
     match decimal(word) {
         Some(number) if number >= least && number <= most => Ok(Some(number)),
         _ => Err(usage(format!(in alloc;
-            "error: --{name}: '{word}' is no number from {least} to {most}\n"
+            "error: --{name}: '{word}' is not a number from {least} to {most}\n"
         ))),
     }
 }
@@ -291,7 +296,9 @@ fn has_word(words: &[&str], word: &str) -> bool {
 fn no_words(alloc: Global, name: &str, others: &[&str]) -> Result<(), WordsFault> {
     match others.first() {
         None => Ok(()),
-        Some(other) => Err(usage(format!(in alloc; "error: {name} takes no word '{other}'\n"))),
+        Some(other) => Err(usage(format!(in alloc;
+            "error: {name} doesn't take the word '{other}'\n"
+        ))),
     }
 }
 

@@ -57,10 +57,10 @@ fn push_read<R: Files>(rt: &R, text: &mut String, started: &Started<'_>) -> Resu
         return Ok(());
     }
     let Some(source) = started.source else {
-        return writeln!(text, "{}: it can't be read", started.config);
+        return writeln!(text, "{}: can't be read", started.config);
     };
     match fs::metadata(rt, source) {
-        Ok(found) if !found.is_file() => writeln!(text, "{source}: it is no plain file"),
+        Ok(found) if !found.is_file() => writeln!(text, "{source}: not a plain file"),
         _ => push_unread(rt, text, source),
     }
 }
@@ -70,7 +70,7 @@ fn push_read<R: Files>(rt: &R, text: &mut String, started: &Started<'_>) -> Resu
 fn push_unread<R: Files>(rt: &R, text: &mut String, path: &str) -> Result<(), AllocError> {
     match fs::metadata(rt, path) {
         Err(error) => writeln!(text, "{path}: {error}"),
-        Ok(found) if found.is_dir() => writeln!(text, "{path}: it is a folder"),
+        Ok(found) if found.is_dir() => writeln!(text, "{path}: is a folder"),
         Ok(found) if !found.is_file() => Ok(()),
         Ok(_) => match File::open(rt, path) {
             Err(error) => writeln!(text, "{path}: {error}"),
@@ -115,7 +115,7 @@ fn push_bind<R: Net>(rt: &R, text: &mut String, started: &Started<'_>) -> Result
         (Err(error), _) => writeln!(text, "{}: {error}", started.bind),
         (Ok(_), Some(path)) => writeln!(
             text,
-            "{path}: another server answers there, it is no socket, or no socket can be made there"
+            "{path}: another server answers there, the path is not a socket, or no socket can be made there"
         ),
         (Ok(_), None) => Ok(()),
     }
@@ -125,7 +125,7 @@ fn push_numbers(text: &mut String, path: Option<&str>) -> Result<(), AllocError>
     match path {
         Some(path) => writeln!(
             text,
-            "{path}: it says no number, can't be read or written, or another program uses it; or no number is left"
+            "{path}: holds no number, can't be read or written, or is in use by another program; or the numbers are used up"
         ),
         None => Ok(()),
     }
@@ -160,7 +160,8 @@ fn allowed_at(key: Key) -> &'static str {
 // How to repair a fault of a configuration.
 fn remedy(fault: ConfigFault) -> &'static str {
     match fault {
-        ConfigFault::BadToml => "; look for a missing quote or bracket, or a key that stands twice",
+        ConfigFault::BadToml =>
+            "; look for a missing quote or bracket, or a key that is given twice",
         ConfigFault::UnknownKey(_) => "; look for a misspelled key",
         ConfigFault::UnknownUser => "; add a table [[user]], or correct the name",
         ConfigFault::TooManySources => "; allowed: 8",

@@ -41,27 +41,28 @@ pub struct PutWords<'a> {
 
 const HELP: &str = "Sends one file by CFDP over UDP, and prints its user's indications.
 
-Usage: cfdp_put --config FILE --bind ADDR --user NAME --remote ID --class N [--closure] [--rate N] [--first N]
-       [--numbers FILE] [--known-sources] SRC DST
+Usage: cfdp_put --config FILE --bind ADDR --user NAME --remote ID --class N [--closure]
+       [--rate N] [--first N] [--numbers FILE] [--known-sources] SRC DST
 
   --config FILE   the configuration of the entity, in TOML
   --bind ADDR     where it listens: A.B.C.D:PORT, all in decimal
-  --user NAME     the user who puts, as the configuration names it
-  --remote ID     the entity that receives, as the configuration numbers it
+  --user NAME     the user whose Put it is, by its name in the configuration
+  --remote ID     the receiving entity, by its ID in the configuration
   --class N       1 (unacknowledged) or 2 (acknowledged)
-  --closure       in class 1, too, the receiver is to say at the end what became of the file
-  --rate N        octets a second that leave for the file, 1 to 1000000000 (no limit where it is left out)
-  --first N       where the numbers of transactions begin, in place of the configuration's `first`
+  --closure       asks the receiver, in class 1 too, to report at the end what became of the file
+  --rate N        octets a second to send for the file, 1 to 1000000000 (default: no limit)
+  --first N       where the numbers of transactions begin, instead of the configuration's `first`
   --numbers FILE  keeps in this file where the numbers of the next run begin
   --known-sources drops datagrams from addresses that the configuration doesn't have
   SRC             the file to be sent
   DST             its name at the receiver
-  --check         with --config alone: reads the configuration, prints `ok` or what is wrong with it, and ends
+  --check         with --config alone: reads FILE, prints `ok` or what is wrong with it, and ends
   --help          prints this, and ends
   --version       prints the version, and ends
 
-Status 0: the receiver says that it has the whole file. 2: the transaction ended otherwise, as it always does in class 1 without
---closure, where the sender never learns what became of the file. 1: a fault of the program.
+Status 0: the receiver reports that it has the whole file. 2: the transaction ended otherwise, as
+it always does in class 1 without --closure, where the sender is not notified of what became of the
+file. 1: a fault of the program.
 ";
 
 /// What `--help` of the program prints.

@@ -47,29 +47,30 @@ pub struct ServerWords<'a> {
 
 const HELP: &str = "Receives and sends files by CFDP over UDP, as one entity.
 
-Usage: cfdp_server --config FILE --bind ADDR --folder DIR [--workers N] [--rate [ID=]N].. [--follow]
-       [--control PATH] [--log FILE] [--numbers FILE] [--known-sources] [--hold] [--tree] [--keep] [--retry N]
+Usage: cfdp_server --config FILE --bind ADDR --folder DIR [--workers N] [--rate [ID=]N]..
+       [--follow] [--control PATH] [--log FILE] [--numbers FILE] [--known-sources] [--hold]
+       [--tree] [--keep] [--retry N]
 
   --config FILE   the configuration of the entity, in TOML
   --bind ADDR     where it listens: A.B.C.D:PORT, all in decimal
   --folder DIR    where received files are kept
-  --workers N     threads that take datagrams, 1 to 16 (4 where it is left out)
-  --rate N        octets a second that leave for files under way, 1 to 1000000000 (no limit where it is left out)
-  --rate ID=N     the same for the files to one remote entity; may be given once for each
-  --follow        prints each user's indications as they come, as if they were taken between the commands
-  --control PATH  takes commands and answers at this socket, in place of standard input and output
+  --workers N     threads that take datagrams, 1 to 16 (default: 4)
+  --rate N        octets a second to send for files, 1 to 1000000000 (default: no limit)
+  --rate ID=N     the same for files to one remote entity; once for each entity
+  --follow        prints each user's indications as they are issued, between answers to commands
+  --control PATH  takes and answers commands at this socket, instead of standard input and output
   --log FILE      appends events to this file, one JSON object a line
   --numbers FILE  keeps in this file where the numbers of the next run begin
   --known-sources drops datagrams from addresses that the configuration doesn't have
-  --hold          nothing leaves for any remote entity until `release`
+  --hold          sends nothing to any remote entity until `release`
   --tree          slashes in a received file's name lead into folders
-  --keep          a file that is there stays, and the new one gets `.1`, `.2` .. behind its name
-  --retry N       tries for so many seconds to store a received file, 1 to 86400 (once where it is left out)
-  --check         with --config alone: reads the configuration, prints `ok` or what is wrong with it, and ends
+  --keep          keeps an existing file; the new one gets `.1`, `.2` .. appended to its name
+  --retry N       retries for N seconds, 1 to 86400, to store a received file (default: one attempt)
+  --check         with --config alone: reads FILE, prints `ok` or what is wrong with it, and ends
   --help          prints this, and ends
   --version       prints the version, and ends
 
-Commands come on the standard input, or by the socket, one a line:
+Commands, one a line, on standard input or over the socket:
   put USER LANE CLASS DEST SRC DST [closure]
   send USER CLASS DEST SRC DST [closure]
   outbox
@@ -80,7 +81,7 @@ Commands come on the standard input, or by the socket, one a line:
   trace SOURCE SEQ
   status
   quit
-By the socket also:
+Only over the socket:
   follow [N]
 ";
 

@@ -33,9 +33,9 @@ impl StationFault {
             StationFault::Gone => "the server went away",
             StationFault::TimedOut => "the server didn't answer in time",
             StationFault::TooLong => "the server's answer is too long",
-            StationFault::BadCommand => "a command is one line",
+            StationFault::BadCommand => "a command must be one line",
             StationFault::NoMemory => "no memory",
-            StationFault::System => "the system refuses a call",
+            StationFault::System => "a system call failed",
         }
     }
 }

@@ -74,7 +74,7 @@ pub(crate) const TOLD: [Told; 29] = [
     Told(
         Counter(
             "cfdp_ended_reads_total",
-            "Workers that read no more, since the socket failed.",
+            "Workers that stopped reading because their socket failed.",
         ),
         Entity,
         Counted("ended_reads"),

@@ -50,7 +50,7 @@ footer { max-width: 1600px; margin: 24px auto; padding: 0 16px; color: var(--dim
 <header>
 <h1 id="title">CFDP station</h1>
 <p id="facts"></p>
-<p id="state" role="status" aria-live="polite">The station is asked …</p>
+<p id="state" role="status" aria-live="polite">Asking the station ...</p>
 </header>
 <main>
 <section aria-labelledby="h-active"><h2 id="h-active">Transactions under way</h2>
@@ -72,7 +72,7 @@ footer { max-width: 1600px; margin: 24px auto; padding: 0 16px; color: var(--dim
 </div>
 <section aria-labelledby="h-events"><h2 id="h-events">Events</h2>
 <div class="bar">
-<label><input type="checkbox" id="still"> hold still</label>
+<label><input type="checkbox" id="still"> pause</label>
 <label>user <input id="by-user" size="10" autocomplete="off"></label>
 <label>transaction <input id="by-txn" size="12" placeholder="source.number" autocomplete="off"></label>
 <span id="shown" class="quiet"></span>
@@ -86,7 +86,7 @@ footer { max-width: 1600px; margin: 24px auto; padding: 0 16px; color: var(--dim
 <label>to entity <input name="to" required size="6" inputmode="numeric" pattern="[0-9]+"></label>
 <label>class <select name="class"><option>2</option><option>1</option></select></label>
 <label>file <input name="src" required></label>
-<label>its name there <input name="dst" required></label>
+<label>name at the receiver <input name="dst" required></label>
 <label><input type="checkbox" name="closure"> closure</label>
 <button>Send</button>
 </form></details>
@@ -212,7 +212,7 @@ const active = new Table("active", [
   ["State", tinted(t => [t.state + (t.notice ? " (" + t.notice + ")" : ""), t.state === "suspended" || t.notice ? "warn" : ""])],
   ["Last event", plain(since)],
   ["", buttons(t => [[t.state === "suspended" ? "Resume" : "Suspend", of(t.state === "suspended" ? "resume" : "suspend", t), asked(t)], ["Cancel", of("cancel", t), asked(t)], ["Report", of("report", t), asked(t)]])]
-], "Nothing is under way.");
+], "No transaction is under way.");
 function ending(t) {
   if (t.delivery === undefined) return ["✗ abandoned: " + condition(t.condition), "bad"];
   const words = t.delivery + ", " + t.status;
@@ -222,7 +222,7 @@ function ending(t) {
 const ended = new Table("ended", [
   ["Transaction", plain(key)], ["Direction", plain(direction)], ["User", plain(t => t.user || "")], ["File", named(names)],
   ["Octets", plain(t => octets(t.octets))], ["How it ended", tinted(ending)], ["Since", plain(since)]
-], "None has ended.");
+], "No transaction has ended.");
 const users = new Table("users", [
   ["User", plain(u => u.name)],
   ["Waiting", tinted(u => [u.waiting + " of " + u.capacity + (u.waiting >= u.capacity ? ", full" : ""), u.waiting >= u.capacity ? "bad" : u.waiting * 2 > u.capacity ? "warn" : ""])]
@@ -238,7 +238,7 @@ const outbox = new Table("outbox", [
   ["Number", plain(q => number(q, "number"))], ["User", plain(q => q.user)], ["To", plain(q => number(q, "destination"))],
   ["File", named(names)], ["Class", plain(q => String(q.class))], ["Since", plain(q => moment(q.since))],
   ["", buttons(q => [["Drop", "drop " + number(q, "number"), "file " + number(q, "number") + " of the outbox"]])]
-], "Nothing waits.");
+], "The outbox is empty.");
 const reading = new Table("reading", [["Since", plain(r => moment(r.since))], ["File", named(r => text(r, "file"))]], "No file is being read.");
 const refusals = new Table("refusals", [
   ["Refusal", plain(r => r.number + " " + r.name + (r.fault === undefined ? "" : ", fault " + r.fault))], ["Count", plain(r => String(r.count))],
@@ -285,7 +285,7 @@ function show(all) {
   const c = entity.counters || {}, log = all.logs[0];
   at("title").textContent = "CFDP entity " + number(entity, "id");
   document.title = "CFDP entity " + number(entity, "id");
-  at("facts").textContent = "version " + entity.version + ", up since " + moment(entity.started) + ", " + c.datagrams_in + " datagrams in, " + c.datagrams_out + " out, " + c.refused + " refused, " + c.stored + " files kept" + (log ? log.failing ? ", the log fails (" + log.lost + " events lost)" : ", log written" : "");
+  at("facts").textContent = "version " + entity.version + ", up since " + moment(entity.started) + ", " + c.datagrams_in + " datagrams in, " + c.datagrams_out + " out, " + c.refused + " refused, " + c.stored + " files kept" + (log ? log.failing ? ", the log can't be written (" + log.lost + " events lost)" : ", log written" : "");
 }
 async function status() {
   if (asking) return;
@@ -293,14 +293,14 @@ async function status() {
   try {
     const answer = await fetch("/status.json", { cache: "no-store", signal: AbortSignal.timeout(4000) });
     if (answer.status === 503) throw new Error("The station is gone");
-    if (!answer.ok) throw new Error("The console refuses (" + answer.status + ")");
+    if (!answer.ok) throw new Error("The console refuses requests (" + answer.status + ")");
     show(await answer.json());
     good = Date.now(); gone = 0;
     say("The station answers.", false);
   } catch (fault) {
     if (!gone) gone = Date.now();
     const what = fault.name === "TypeError" || fault.name === "TimeoutError" ? "The console can't be reached" : fault.message;
-    say(what + ", since " + clock(gone) + "." + (good ? " What is shown is from " + clock(good) + "." : ""), true);
+    say(what + ", since " + clock(gone) + "." + (good ? " The data shown is from " + clock(good) + "." : ""), true);
   }
   asking = false;
 }
@@ -324,7 +324,7 @@ function list() {
   const user = at("by-user").value.trim(), txn = at("by-txn").value.trim();
   const wanted = kept.filter(e => (user === "" || e.user === user) && (txn === "" || (e.source !== undefined && key(e) === txn)));
   at("events").replaceChildren(...wanted.slice(-1024).reverse().map(e => { const li = document.createElement("li"); li.textContent = shown(e); return li; }));
-  at("shown").textContent = wanted.length + " of " + kept.length + " events" + (at("still").checked ? ", held still" : "");
+  at("shown").textContent = wanted.length + " of " + kept.length + " events" + (at("still").checked ? ", paused" : "");
 }
 // Keeps the events of an answer. Those of another run are no continuation of what is kept.
 function take(answer) {
@@ -341,10 +341,10 @@ function take(answer) {
   } else if (missed === "") return;
   missed = "";
   if (!at("still").checked) list();
-  else at("shown").textContent = kept.length + " events, held still";
+  else at("shown").textContent = kept.length + " events, paused";
 }
 function miss() {
-  missed = "The events can't be asked for.";
+  missed = "The events can't be fetched.";
   at("shown").textContent = missed;
 }
 async function events() {
@@ -367,7 +367,7 @@ function quote(word) {
 async function command(line) {
   try {
     const answer = await fetch("/command", { method: "POST", body: line, headers: { "X-Console-Token": at("token").value, "Content-Type": "text/plain" }, signal: AbortSignal.timeout(8000) });
-    at("answer").textContent = line + ": " + (answer.status === 403 ? "the console takes no commands, or the token is wrong" : answer.status === 400 ? "that is no command" : (await answer.text()).trim());
+    at("answer").textContent = line + ": " + (answer.status === 403 ? "the console takes no commands, or the token is wrong" : answer.status === 400 ? "the console doesn't take this command" : (await answer.text()).trim());
   } catch (fault) { at("answer").textContent = line + ": the console can't be reached"; }
   status();
 }
