@@ -23,26 +23,15 @@ try:
 
 # the script program, proved and built
 build:
-	@echo "Proving the script program and all that it stands on, and building it: some minutes the first time."
-	@cd crates/cfdp_replay && rt run < /dev/null 2>&1 | tee build.log \
-	    | sed -un 's/^rt: chose --jobs [0-9]* for \(.*\)/    \1 .../p; s/^crate \([a-z_]*\): .*/    \1 is proved/p' \
-	    || { cat build.log; exit 1; }
-	@rm -f crates/cfdp_replay/build.log
-	@echo "The program: $(program)"
+	@tools/build.py cfdp_replay
 
-# the server, the put and the program that commands a server, proved and built, with as many crates side by side as there are
-# processors and memory for; in a folder of its own, which keeps what was proved
+# the server, the put and the program that commands a server, proved and built on all processors
 programs:
 	@tools/build.py cfdp_server cfdp_put cfdp_ctl
 
-# the console in the browser, proved and built: it stands on none of the server's crates, so this takes minutes
+# the console in the browser, proved and built: it uses none of the server's crates, so this takes minutes
 web:
-	@echo "Proving the console and all that it stands on, and building it: some minutes the first time."
-	@cd crates/cfdp_web && rt run -- --version < /dev/null 2>&1 | tee build.log \
-	    | sed -un 's/^rt: chose --jobs [0-9]* for \(.*\)/    \1 .../p; s/^crate \([a-z_]*\): .*/    \1 is proved/p' \
-	    || { cat build.log; exit 1; }
-	@rm -f crates/cfdp_web/build.log
-	@echo "The console: $(web)"
+	@tools/build.py cfdp_web
 
 # a file of 4 MiB crosses loopback, through a relay that loses and doubles datagrams
 transfer: programs
@@ -71,7 +60,8 @@ browser: web
 
 # each allocation refused in turn, and changed datagrams: the program for both is proved and built
 memory:
-	@cd crates/hostile_runs && rt run -- mutate 20000 < /dev/null
+	@tools/build.py hostile_runs
+	@$(hostile) mutate 20000
 	@tests/memory.py $(hostile)
 
 # the gate: every proof (but what a run on this machine kept), the must-fail edits, the tests and the programs, and how runs
@@ -102,7 +92,7 @@ test:
 
 # how fast and how large a run is; no part of the gate
 bench: build programs
-	@cd crates/benches && rt run -- eof-last 64 > /dev/null
+	@tools/build.py benches
 	python3 bench/bench.py $(program)
 	python3 bench/instructions.py $(program) crates/benches/out/benches
 	python3 bench/cores.py crates/benches/out/benches
