@@ -1,6 +1,7 @@
 //! What the console knows of its station.
-ghost use Rattle.std.specs.Prelude.{IfOk};
-ghost use Rattle.web_console.specs.Shown.{AddsShown, IsShownAway, IsShownHere};
+ghost use Rattle.std.specs.Prelude.{◌≡◌, [], IfOk};
+ghost use Rattle.std.specs.Option.{option_copied};
+ghost use Rattle.web_console.specs.Shown.{IsSeen, IsShown, IsShownAway, IsShownHere};
 
 use crate::events::Events;
 use crate::kept::{Kept, Lines};
@@ -160,14 +161,15 @@ fn text_of(lines: &Lines) -> Option<&str> {
     }
 }
 
-// Adds what a route makes of the lines of a status, if there are some.
+// Writes what a route makes of the lines of a status, if there are some, into an empty text.
 fn push_status(
     alloc: Global,
     route: Route,
     lines: Option<&str>,
     text: &mut Vec<u8>,
 ) -> Result<Found, AllocError>
-    ensures { IfOk result (λ found. AddsShown route lines.entry found text.old.items text.new.items) }
+    requires { text.old.items ≡ [] }
+    ensures { IfOk result (λ found. IsShown route (option_copied lines.entry) text.new.items found) }
 {
     match lines {
         Some(lines) => {
@@ -184,7 +186,7 @@ fn push_status(
 
 // What a route shows where the station answers with these lines.
 fn here_text(alloc: Global, route: Route, lines: &str) -> Result<Vec<u8>, AllocError>
-    ensures { IfOk result (λ text. IsShownHere route text.items) }
+    ensures { IfOk result (λ text. IsShownHere route lines.now text.items) }
 {
     match route {
         Route::Metrics => to_metrics(alloc, lines),
@@ -209,6 +211,12 @@ fn away_text(alloc: Global, route: Route) -> Result<(Found, Vec<u8>), AllocError
 }
 
 impl<'a, R: Wait + Net + Clock> Source for Watch<'a, R> {
+    // What a route may show, whatever the station answered.
+    ghost shows = { λ watch route last found text. IsSeen route found text };
+
+    // An answer is the station's own, or says why there is none.
+    ghost tells = { λ watch line found text. Unit {0} };
+
     fn fill(&self, route: Route, last: &[u8], text: &mut Vec<u8>) -> Result<Found, AllocError> {
         if route == Route::Events {
             self.events.lock(self.rt).append_to(last, text)?;
