@@ -64,8 +64,7 @@ memory:
 	@$(hostile) mutate 20000
 	@tests/memory.py $(hostile)
 
-# the gate: every proof (but what a run on this machine kept), the must-fail edits, the tests and the programs, and how runs
-# of the programs end
+# the gate: every proof from nothing, the must-fail edits, the tests and the programs, and how runs of the programs end
 test:
 	@tests/layers.sh
 	@tests/same.sh
