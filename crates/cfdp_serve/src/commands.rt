@@ -2,36 +2,32 @@
 use crate::answers::{
     push_bad_command, push_entity_refusal, push_no_memory, push_taken, push_traced,
 };
-use crate::console::Console;
+use crate::audience::Audience;
 use crate::outgoing::Outgoing;
 use crate::places::Places;
-use crate::reports::Reports;
-use answer_texts::push_bundle;
-use cfdp_types::{Octets, PutFault, PutRequest, TxnKey};
+use cfdp_types::{EntityId, Octets, PutFault, PutRequest, TxnKey};
 use entity_routing::Request;
 use entity_workers::Filestore;
-use indications::Bundle;
+use lane_table::Done;
 use program_desk::{Desk, Said, Step, wall_moment};
 use program_numbers::HeldNumbers;
-use program_seats::Asker;
+use program_seats::{Asker, Seats};
 use program_start::ProgramFault;
 use program_station::{Preparing, Station, flat};
 use program_tallies::{RefusalKind, Tallies};
 use server_lines::{Command, PutCommand};
-use shared_entity::EntityRefusal;
+use shared_entity::{Entity, EntityRefusal};
 use shared_lanes::{Names, NoGate};
 use station_lines::Moment;
 use std::alloc::{AllocError, Global};
-use std::io::Write;
 use std::rt::Files;
 use std::sync::Wait;
 use std::time::Clock;
 use txn_events::Refusal;
-use user_queues::UserPort;
 
-/// What the main thread of a server has: its station, the ports of its users, and where answers are printed.
+/// What the main thread of a server has, but for where answers are printed.
 #[derive(Drop)]
-pub(crate) struct Server<'a, N: Names, R: Files + Copy, S: Drop, W: Drop> {
+pub(crate) struct Server<'a, N: Names, R: Files + Copy, S: Drop> {
     pub(crate) rt: &'a R,
     pub(crate) alloc: Global,
     pub(crate) desk: &'a Desk,
@@ -40,14 +36,12 @@ pub(crate) struct Server<'a, N: Names, R: Files + Copy, S: Drop, W: Drop> {
     pub(crate) station: Station<'a, N, R, S>,
     /// The file of its numbers, where there is one.
     pub(crate) numbers: Option<HeldNumbers>,
-    pub(crate) ports: Vec<UserPort>,
-    /// Whether each user's indications are printed as they come.
-    pub(crate) follows: bool,
-    pub(crate) console: Console<'a, W>,
+    pub(crate) audience: Audience<'a, R>,
+    /// The seats of its clients, where it has a control socket.
+    pub(crate) seats: Option<&'a Seats>,
     /// Whether events say where the store kept a file: names may be others than the senders'.
     pub(crate) shows_places: bool,
     pub(crate) tallies: &'a Tallies,
-    pub(crate) reports: Reports<'a, R>,
     pub(crate) outgoing: Outgoing,
     pub(crate) started: Moment,
 }
@@ -91,13 +85,41 @@ fn end_of(refusal: &EntityRefusal) -> PutEnd {
     }
 }
 
+// The request for a Put.
+fn request_of(alloc: Global, put: &PutCommand, file: Octets) -> Result<Request, PutFault> {
+    let request = PutRequest::new(
+        alloc,
+        put.destination,
+        put.class,
+        put.source.as_slice(),
+        put.destination_name.as_slice(),
+        &[],
+        &[],
+    )?
+    .with_file(file);
+    Ok(Request::Put(put.lane, request.with_closure(put.closure)))
+}
+
+// Reports how far a transaction is.
+fn trace<N: Names, R: Wait + Copy>(
+    rt: &R,
+    alloc: Global,
+    entity: &Entity<N, R>,
+    key: TxnKey,
+    text: &mut String,
+) -> Result<(), AllocError> {
+    match entity.trace(rt, key) {
+        Ok(traced) => push_traced(text, traced),
+        Err(refusal) => push_entity_refusal(alloc, text, &refusal),
+    }
+}
+
 impl<
     'a,
     N: Names,
     R: Wait + Clock + Files + AllocGlobal + Copy + Drop,
     S: Filestore + Preparing + Places + Drop,
-    W: Write + Drop,
-> Server<'a, N, R, S, W> {
+> Server<'a, N, R, S> {
     /// Does what a line says, and adds its answer.
     pub(crate) fn obey(
         &mut self,
@@ -142,8 +164,8 @@ impl<
     fn do_command(&mut self, command: Command, text: &mut String) -> Result<(), AllocError> {
         match command {
             Command::Status => self.answer_status(text),
-            Command::Take(user) => self.take(user, text),
-            Command::Trace(key) => self.trace(key, text),
+            Command::Take(user) => self.audience.take(user, text),
+            Command::Trace(key) => trace(self.rt, self.alloc, self.station.entity(), key, text),
             Command::Ask(user, request) => {
                 let _end = self.ask(user, request, text)?;
                 Ok(())
@@ -154,14 +176,6 @@ impl<
             Command::Hold(remote) => self.hold(remote, text),
             Command::Release(remote) => self.release(remote, text),
             Command::Put(_) | Command::Follow(_) | Command::Quit => push_bad_command(text),
-        }
-    }
-
-    // Tells how far a transaction is.
-    fn trace(&mut self, key: TxnKey, text: &mut String) -> Result<(), AllocError> {
-        match self.station.entity().trace(self.rt, key) {
-            Ok(traced) => push_traced(text, traced),
-            Err(refusal) => push_entity_refusal(self.alloc, text, &refusal),
         }
     }
 
@@ -191,7 +205,11 @@ impl<
         text: &mut String,
     ) -> Result<PutEnd, AllocError> {
         let size = file.as_slice().len() as u64;
-        match self.request_for(put, file) {
+        let asked = match self.station.reserve() {
+            Ok(()) => request_of(self.alloc, put, file),
+            Err(AllocError) => Err(PutFault::NoMemory),
+        };
+        match asked {
             Ok(request) => self.put_covered(put, size, queued, request, text),
             Err(PutFault::NoMemory) => {
                 push_no_memory(text)?;
@@ -201,24 +219,6 @@ impl<
                 push_bad_command(text)?;
                 Ok(PutEnd::Refused)
             }
-        }
-    }
-
-    // What the entity is asked for a Put, with room for its file.
-    fn request_for(&mut self, put: &PutCommand, file: Octets) -> Result<Request, PutFault> {
-        let request = PutRequest::new(
-            self.alloc,
-            put.destination,
-            put.class,
-            put.source.as_slice(),
-            put.destination_name.as_slice(),
-            &[],
-            &[],
-        )?
-        .with_file(file);
-        match self.station.reserve() {
-            Ok(()) => Ok(Request::Put(put.lane, request.with_closure(put.closure))),
-            Err(AllocError) => Err(PutFault::NoMemory),
         }
     }
 
@@ -239,19 +239,14 @@ impl<
         }
         match self.ask(put.user, request, text)? {
             Asked::Taken(key) => {
-                self.note_put(put, size, queued, key);
+                if let Some(numbers) = &mut self.numbers {
+                    numbers.note_put(key);
+                }
+                self.audience.reports.put(put, size, queued, key);
                 Ok(PutEnd::Opened)
             }
             Asked::Refused(end) => Ok(end),
         }
-    }
-
-    // A Put has opened a transaction.
-    fn note_put(&mut self, put: &PutCommand, size: u64, queued: Option<u64>, key: TxnKey) {
-        if let Some(numbers) = &mut self.numbers {
-            numbers.note_put(key);
-        }
-        self.reports.put(put, size, queued, key);
     }
 
     // Asks the entity for something, in a user's name.
@@ -271,21 +266,29 @@ impl<
             _ => None,
         };
         match flat(entity.request(self.rt, &NoGate, user, request)) {
-            Ok(done) => {
-                let key = done.key;
-                if let Some(destination) = destination {
-                    self.station.begin(key, destination);
-                }
-                let pushed = push_taken(text, destination.is_some(), &done);
-                self.station.settle_own(done);
-                pushed?;
-                Ok(Asked::Taken(key))
-            }
+            Ok(done) => self.go_on(done, destination, text),
             Err(refusal) => {
                 self.refuse(&refusal, text)?;
                 Ok(Asked::Refused(end_of(&refusal)))
             }
         }
+    }
+
+    // Answers what the entity took, and carries out what the step gives. A Put has a destination.
+    fn go_on(
+        &mut self,
+        done: Done,
+        destination: Option<EntityId>,
+        text: &mut String,
+    ) -> Result<Asked, AllocError> {
+        let key = done.key;
+        if let Some(destination) = destination {
+            self.station.begin(key, destination);
+        }
+        let pushed = push_taken(text, destination.is_some(), &done);
+        self.station.settle_own(done);
+        pushed?;
+        Ok(Asked::Taken(key))
     }
 
     // Notes and answers what the entity refused.
@@ -296,59 +299,5 @@ impl<
             .note(self.rt, RefusalKind::of(refusal), at, None, &[]);
         self.station.send_echo(refusal);
         push_entity_refusal(self.alloc, text, refusal)
-    }
-
-    // Takes the bundle at the front of a user's queue, unless events report it.
-    fn take(&mut self, user: usize, text: &mut String) -> Result<(), AllocError> {
-        if self.reports.has_readers() {
-            return text.push_str("refused TakenByEvents\n");
-        }
-        match self.receive(user) {
-            Some(bundle) => self.print_bundle(&bundle, text),
-            None => text.push_str("none\n"),
-        }
-    }
-
-    // Takes the bundle at the front of a user's queue, if there is one.
-    fn next_bundle(&mut self, user: usize) -> Option<Bundle> {
-        for port in self.ports.iter_mut() {
-            if port.user() == user {
-                return port.take(self.rt);
-            }
-        }
-        None
-    }
-
-    // Takes the bundle at the front of a user's queue, if there is one, and reports it.
-    fn receive(&mut self, user: usize) -> Option<Bundle> {
-        let bundle = self.next_bundle(user)?;
-        self.reports.receive(&bundle);
-        Some(bundle)
-    }
-
-    // Adds the lines of a bundle.
-    fn print_bundle(&self, bundle: &Bundle, text: &mut String) -> Result<(), AllocError> {
-        let config = self.station.entity().config();
-        let name = config.name_of(bundle.user).unwrap_or("");
-        push_bundle(self.alloc, text, name, bundle)
-    }
-
-    /// Whether each user's bundles are taken as they come.
-    pub(crate) fn receives(&self) -> bool {
-        self.follows || self.reports.has_readers()
-    }
-
-    /// Takes and reports at most one bundle of each user, and prints it where that is wanted; whether there was one.
-    pub(crate) fn receive_each(&mut self, text: &mut String) -> Result<bool, AllocError> {
-        let mut has_received = false;
-        for user in 0..self.station.entity().users() {
-            if let Some(bundle) = self.receive(user) {
-                has_received = true;
-                if self.follows {
-                    self.print_bundle(&bundle, text)?;
-                }
-            }
-        }
-        Ok(has_received)
     }
 }

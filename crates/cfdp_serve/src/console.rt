@@ -12,8 +12,8 @@ pub(crate) enum Console<'a, W: Drop> {
 }
 
 impl<'a, W: Write + Drop> Console<'a, W> {
-    /// The clients' seats, where there are clients.
-    pub(crate) fn seats(&self) -> Option<&'a Seats> {
+    // The clients' seats, where there are clients.
+    fn seats(&self) -> Option<&'a Seats> {
         match self {
             Console::Printed(_) => None,
             Console::Seated(seats) => Some(*seats),

@@ -3,6 +3,7 @@
 #![tactic(auto)]
 
 mod answers;
+mod audience;
 mod commands;
 mod console;
 mod named;
@@ -13,6 +14,7 @@ mod reports;
 mod serving;
 mod showing;
 mod threads;
+mod turns;
 mod working;
 
 pub use serving::{serve, tell_words_fault};

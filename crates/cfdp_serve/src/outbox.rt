@@ -15,7 +15,6 @@ use shared_entity::Entity;
 use shared_lanes::Names;
 use station_lines::Moment;
 use std::alloc::AllocError;
-use std::io::Write;
 use std::rt::Files;
 use std::sync::Wait;
 use std::time::Clock;
@@ -28,8 +27,7 @@ impl<
     N: Names,
     R: Wait + Clock + Files + AllocGlobal + Copy + Drop,
     S: Filestore + Preparing + Places + Drop,
-    W: Write + Drop,
-> Server<'a, N, R, S, W> {
+> Server<'a, N, R, S> {
     /// A file waits from now on.
     pub(crate) fn queue(&mut self, send: SendCommand, text: &mut String) -> Result<(), AllocError> {
         let file = OutboxFile {
@@ -60,7 +58,7 @@ impl<
     /// The file with a number waits no more.
     pub(crate) fn withdraw(&mut self, number: u64, text: &mut String) -> Result<(), AllocError> {
         if let Some(waiting) = self.outgoing.withdraw(number) {
-            self.reports.fail(&waiting, "dropped");
+            self.audience.reports.fail(&waiting, "dropped");
             return text.push_str("ok\n");
         }
         text.push_str("refused NotQueued\n")
@@ -125,7 +123,7 @@ impl<
                 return Ok(());
             }
             Err(_) => {
-                self.reports.fail(&waiting, "read fault");
+                self.audience.reports.fail(&waiting, "read fault");
                 return Ok(());
             }
         };
@@ -143,7 +141,7 @@ impl<
             PutEnd::Passing => self.outgoing.give_back(waiting, now),
             PutEnd::Exhausted | PutEnd::Refused => {
                 let why = answer.as_str().lines().next().unwrap_or("");
-                self.reports.fail(&waiting, why);
+                self.audience.reports.fail(&waiting, why);
             }
         }
         Ok(())
@@ -183,7 +181,7 @@ impl<
             return text.push_str("refused UnknownRemote\n");
         }
         if !was_held {
-            self.reports.hold(Moment(at), remote);
+            self.audience.reports.hold(Moment(at), remote);
         }
         text.push_str("ok\n")
     }
@@ -201,7 +199,7 @@ impl<
         }
         self.outgoing.try_from(now);
         if was_held {
-            self.reports.release(remote);
+            self.audience.reports.release(remote);
         }
         text.push_str("ok\n")
     }

@@ -192,6 +192,9 @@ fn start<
     match server_words(alloc, words) {
         Ok(words) => {
             let mut config = load_config(rt, alloc, words.config)?;
+            if !has_limited(&config, &words) {
+                return Err(ProgramFault::Usage);
+            }
             let socket = open_socket(rt, words.bind)?;
             let numbers = match words.numbers {
                 Some(path) => Some(HeldNumbers::open(rt, alloc, path, Puts::Many, &mut config)?),
@@ -206,6 +209,18 @@ fn start<
         }
         Err(fault) => tell_about(&mut writer, fault),
     }
+}
+
+// Whether the configuration has each remote entity that the words give a limit.
+fn has_limited(config: &Config, words: &ServerWords<'_>) -> bool {
+    for rate in &words.rates {
+        if let Some(remote) = rate.remote
+            && config.remote_of(remote).is_none()
+        {
+            return false;
+        }
+    }
+    true
 }
 
 // Serves at an opened socket, by the reader's lines or by those of clients at a socket of their own.

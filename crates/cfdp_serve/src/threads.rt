@@ -1,8 +1,10 @@
 //! The threads of the server: one reads commands, beside those of each program.
+use crate::audience::Audience;
 use crate::commands::Server;
 use crate::console::Console;
 use crate::outgoing::Outgoing;
 use crate::reports::Reports;
+use crate::working::Serving;
 use entity_workers::Filestore;
 use program_desk::{Desk, Urgency, wall_moment};
 use program_numbers::HeldNumbers;
@@ -121,13 +123,16 @@ fn serve_reader<
         reader,
         writer,
     } = given;
-    let server = server_over(opened, ports, numbers, Console::Printed(writer))?;
+    let serving = Serving {
+        server: server_over(opened, ports, numbers, None)?,
+        console: Console::Printed(writer),
+    };
     let way_in = way_in_of(opened)?;
     let Ok(reader) = in_blocks(alloc, reader) else {
         return Err(ProgramFault::NoMemory);
     };
     run_commanded(
-        rt, alloc, files, entity, socket, desk, way_in, reader, server,
+        rt, alloc, files, entity, socket, desk, way_in, reader, serving,
     )
 }
 
@@ -153,11 +158,13 @@ fn serve_clients<
         desk,
         ..
     } = *opened;
-    let console = Console::<W>::Seated(control.seats);
-    let server = server_over(opened, ports, numbers, console)?;
+    let serving = Serving {
+        server: server_over(opened, ports, numbers, Some(control.seats))?,
+        console: Console::<W>::Seated(control.seats),
+    };
     let way_in = way_in_of(opened)?;
     run_controlled(
-        rt, alloc, files, entity, socket, desk, way_in, control, server,
+        rt, alloc, files, entity, socket, desk, way_in, control, serving,
     )
 }
 
@@ -191,30 +198,32 @@ fn way_in_of<'x, N: Names, R: Wait + Clock + Copy>(
 }
 
 // What the main thread of a server has.
-fn server_over<'x, N: Names, R: Wait + Clock + Files + AllocGlobal + Copy + Drop, W: Write + Drop>(
+fn server_over<'x, N: Names, R: Wait + Clock + Files + AllocGlobal + Copy + Drop>(
     opened: &Opened<'x, N, R>,
     ports: Vec<UserPort>,
     numbers: Option<HeldNumbers>,
-    console: Console<'x, W>,
-) -> Result<Server<'x, N, R, StationStore<R>, W>, ProgramFault> {
+    seats: Option<&'x Seats>,
+) -> Result<Server<'x, N, R, StationStore<R>>, ProgramFault> {
     let words = opened.words;
     let (alloc, config) = (opened.alloc, opened.entity.config());
-    let station = station_over(opened)?;
-    let events = events_of::<R>(alloc, words, console.seats())?;
+    let steps = Vec::with_capacity(alloc, opened.desk.step_room())?;
+    let outgoing = Outgoing::new(alloc, config)?;
+    let events = events_of::<R>(alloc, words, seats)?;
+    let reports = Reports::new(opened.rt, alloc, config, opened.tallies, events)?;
+    let follows = words.follow && seats.is_none();
+    let audience = Audience::new(opened.rt, alloc, config, ports, follows, reports);
     Ok(Server {
         rt: opened.rt,
         alloc,
         desk: opened.desk,
-        steps: Vec::with_capacity(alloc, opened.desk.step_room())?,
-        station,
+        steps,
+        station: station_over(opened)?,
         numbers,
-        ports,
-        follows: words.follow && console.seats().is_none(),
-        console,
+        audience,
+        seats,
         shows_places: words.tree || words.keep,
         tallies: opened.tallies,
-        reports: Reports::new(opened.rt, alloc, config, opened.tallies, events)?,
-        outgoing: Outgoing::new(alloc, config)?,
+        outgoing,
         started: Moment(wall_moment(opened.rt)),
     })
 }
@@ -232,11 +241,11 @@ fn station_over<'x, N: Names, R: Wait + Clock + Files + AllocGlobal + Copy + Dro
         words,
         ..
     } = *opened;
-    let folder = String::from_str(alloc, words.folder)?;
     let sender = PduSender::new(alloc, socket, entity.config(), &tallies.own, &tallies.links)?;
+    let folder = String::from_str(alloc, words.folder)?;
     let store = store_of(*rt, folder, words);
     let mut station = Station::new(rt, alloc, entity, sender, store, tallies, rest_of(words))?;
-    set_links(rt, &mut station, words)?;
+    set_links(rt, &mut station, words);
     Ok(station)
 }
 
@@ -269,24 +278,21 @@ fn rest_of(words: &ServerWords<'_>) -> Option<u64> {
     None
 }
 
-// Sets the limits of single remote entities, which the configuration has to have; and holds all links where that is wanted.
+// Sets the limits of single remote entities, which the configuration has; and holds all links if that is wanted.
 fn set_links<N: Names, R: Wait + Clock + Copy, S: Filestore + Preparing + Drop>(
     rt: &R,
     station: &mut Station<'_, N, R, S>,
     words: &ServerWords<'_>,
-) -> Result<(), ProgramFault> {
+) {
     station.try_for(words.retry.unwrap_or(0).saturating_mul(1_000));
     for rate in &words.rates {
-        if let Some(remote) = rate.remote
-            && !station.limit(remote, rate.octets)
-        {
-            return Err(ProgramFault::Usage);
+        if let Some(remote) = rate.remote {
+            let _is_there = station.limit(remote, rate.octets);
         }
     }
     if words.hold {
         hold_all(rt, station);
     }
-    Ok(())
 }
 
 // Nothing leaves for any remote entity until it is released.

@@ -1,0 +1,115 @@
+//! What users receive, and who reads it.
+use crate::reports::Reports;
+use answer_texts::push_bundle;
+use entity_config::Config;
+use indications::Bundle;
+use program_seats::{Asker, Seats};
+use std::alloc::{AllocError, Global};
+use std::mem;
+use std::rt::Files;
+use std::sync::Wait;
+use std::time::Clock;
+use user_queues::UserPort;
+
+/// The ports of a server's users, and those who read what the users receive.
+#[derive(Drop)]
+pub(crate) struct Audience<'a, R: Files> {
+    rt: &'a R,
+    alloc: Global,
+    config: &'a Config,
+    ports: Vec<UserPort>,
+    /// Whether each user's indications are printed as they are issued.
+    follows: bool,
+    pub(crate) reports: Reports<'a, R>,
+}
+
+impl<'a, R: Wait + Clock + Files> Audience<'a, R> {
+    /// The users of a configuration, by their ports.
+    pub(crate) fn new(
+        rt: &'a R,
+        alloc: Global,
+        config: &'a Config,
+        ports: Vec<UserPort>,
+        follows: bool,
+        reports: Reports<'a, R>,
+    ) -> Audience<'a, R> {
+        Audience {
+            rt,
+            alloc,
+            config,
+            ports,
+            follows,
+            reports,
+        }
+    }
+
+    /// Whether each user's bundles are taken as they are issued.
+    pub(crate) fn receives(&self) -> bool {
+        self.follows || self.reports.has_readers()
+    }
+
+    /// Takes and prints the bundle at the front of a user's queue, unless events report it.
+    pub(crate) fn take(&mut self, user: usize, text: &mut String) -> Result<(), AllocError> {
+        if self.reports.has_readers() {
+            return text.push_str("refused TakenByEvents\n");
+        }
+        match self.receive(user) {
+            Some(bundle) => self.print_bundle(&bundle, text),
+            None => text.push_str("none\n"),
+        }
+    }
+
+    /// Takes and reports at most one bundle of each user, and prints it if that is wanted. Answers whether there was one.
+    pub(crate) fn receive_each(&mut self, text: &mut String) -> Result<bool, AllocError> {
+        let mut has_received = false;
+        for user in 0..self.config.users() {
+            if let Some(bundle) = self.receive(user) {
+                has_received = true;
+                if self.follows {
+                    self.print_bundle(&bundle, text)?;
+                }
+            }
+        }
+        Ok(has_received)
+    }
+
+    /// Sends a client the last events, at most `most`, and all later ones. If memory for that runs out, the client is cut off.
+    pub(crate) fn follow(&mut self, seats: &Seats, asker: Asker, most: u64) {
+        if self.reports.follow(asker, most).is_err() {
+            seats.cut(self.rt, asker);
+        }
+    }
+
+    /// Lends the ports of the users, for `take_back`.
+    pub(crate) fn lend_ports(&mut self) -> Vec<UserPort> {
+        mem::replace(&mut self.ports, Vec::new(self.alloc))
+    }
+
+    /// Takes the ports back.
+    pub(crate) fn take_back(&mut self, ports: Vec<UserPort>) {
+        self.ports = ports;
+    }
+
+    // Takes the bundle at the front of a user's queue, if there is one, and reports it.
+    fn receive(&mut self, user: usize) -> Option<Bundle> {
+        let bundle = self.next_bundle(user)?;
+        self.reports.receive(&bundle);
+        Some(bundle)
+    }
+
+    // Takes the bundle at the front of a user's queue, if there is one.
+    fn next_bundle(&mut self, user: usize) -> Option<Bundle> {
+        for port in self.ports.iter_mut() {
+            if port.user() == user {
+                return port.take(self.rt);
+            }
+        }
+        None
+    }
+
+    // Adds the lines of a bundle.
+    fn print_bundle(&self, bundle: &Bundle, text: &mut String) -> Result<(), AllocError> {
+        let name = self.config.name_of(bundle.user).unwrap_or("");
+        push_bundle(self.alloc, text, name, bundle)
+    }
+}
