@@ -37,7 +37,7 @@ pub struct Forwarder<'a, R> {
     pub(crate) datagram: Vec<u8>,
     /// The number of octets of the last datagram, and its source address.
     last: Option<(usize, SocketAddr)>,
-    /// The source address that was looked up last, and the number in the configuration of its remote entity.
+    /// The source address that was looked up last, and the position of its remote entity in the configuration, from 0.
     known: Option<(SocketAddr, Option<usize>)>,
 }
 

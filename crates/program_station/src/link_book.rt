@@ -67,7 +67,7 @@ impl<'a> LinkBook<'a> {
         })
     }
 
-    /// The number of a remote entity in the configuration.
+    /// The position of a remote entity in the configuration, from 0.
     pub(crate) fn place_of(&self, id: EntityId) -> Option<usize> {
         self.links.iter().position(|link| link.id == id)
     }

@@ -24,7 +24,7 @@ IsOfTransaction word =
 abbrev pub IsOfRemote : List ℕ → Type 0
 IsOfRemote word = (word ≡ codes "hold") ⊎ (word ≡ codes "release")
 
--- a command that is passed on: in one line without control octets, on the outbox, a transaction or a remote entity
+-- a command that is passed on: in one line without octets below 32, on the outbox, a transaction or a remote entity
 abbrev pub IsCommand : List ℕ → Type 0
 IsCommand line =
     IsTrue (list_all (λ octet. nat_le 32 octet) line)

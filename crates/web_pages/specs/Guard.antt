@@ -35,7 +35,7 @@ IsFromOtherSite request =
     (value_of (codes "sec-fetch-site") request ≡ Some (codes "cross-site"))
     ⊎ (value_of (codes "sec-fetch-site") request ≡ Some (codes "same-site"))
 
--- the target is a path and names no host, and there is one Host
+-- the target names neither scheme nor host, and there is one Host
 pub record HasPlainTarget (request : Request (List ℕ)) : Type 0 where
   pub scheme : uri_scheme (head_of request).uri ≡ None
   pub authority : uri_authority (head_of request).uri ≡ None

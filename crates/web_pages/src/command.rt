@@ -5,15 +5,15 @@ ghost use Rattle.web_pages.specs.Commands.{IsCommand, IsOfOutbox, IsOfTransactio
 
 use crate::guard::is_same;
 
-/// Whether the console passes a command on: those of transactions, of the outbox and of remotes, in one line without control
-/// octets. Neither `quit` nor `follow` is one.
+/// Whether the console passes a command on: those of transactions, of the outbox and of remotes, in one line without octets
+/// below 32. Neither `quit` nor `follow` is one.
 pub fn is_command(line: &[u8]) -> bool
     ensures { IsTrue result ↔ IsCommand line.now }
 {
     is_plain(line) && is_known(first_word(line))
 }
 
-// Whether there are no control octets.
+// Whether there are no octets below 32.
 fn is_plain(line: &[u8]) -> bool
     ensures { result ≡ list_all (λ octet. nat_le 32 octet) line.now }
 {

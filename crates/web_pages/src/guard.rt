@@ -27,7 +27,7 @@ pub(crate) enum Verdict {
     OtherSite,
     /// It is neither.
     NotAllowed,
-    /// Its target has more than a path, or it has two hosts.
+    /// Its target names a scheme or a host, or it has two hosts.
     BadTarget,
 }
 
@@ -117,7 +117,7 @@ fn is_other_site(request: &Request<Bytes>) -> bool
     }
 }
 
-// Whether the target is a path alone, and there is one Host.
+// Whether the target names neither scheme nor host, and there is one Host.
 fn has_plain_target(request: &Request<Bytes>) -> bool
     ensures { IsTrue result ↔ HasPlainTarget request.now }
 {
