@@ -12,7 +12,7 @@ use std::sync::{Arc, Condvar, CondvarTimeouts, Mutex, Wait};
 use std::thread;
 use std::time::{Clock, Duration};
 use web_lines::{event_number, no_metrics, start_moment, to_document, to_metrics};
-use web_pages::{Found, Route, Source};
+use web_pages::{Found, Permit, Route, Source};
 
 // For how many milliseconds it rests before the station is asked for events again.
 const REST_MILLIS: u64 = 500;
@@ -227,8 +227,8 @@ impl<'a, R: Wait + Net + Clock> Source for Watch<'a, R> {
         }
     }
 
-    fn command(&self, line: &[u8], text: &mut Vec<u8>) -> Result<Found, AllocError> {
-        match self.ask(line, COMMAND_MILLIS) {
+    fn command(&self, permit: Permit<'_>, text: &mut Vec<u8>) -> Result<Found, AllocError> {
+        match self.ask(permit.line, COMMAND_MILLIS) {
             Ok(answer) => {
                 text.extend_from_slice(answer.as_slice())?;
                 Ok(Found::Here)

@@ -1,9 +1,9 @@
 //! The service: each request's answer.
-ghost use Rattle.std.specs.Prelude.{◌≡◌, ◌↔◌, ◌⊎◌, [], OnOk, IsTrue, codes};
-ghost use Rattle.std.specs.Option.{option_copied};
+ghost use Rattle.std.specs.Prelude.{◌≡◌, ◌⊎◌, [], OnOk};
+ghost use Rattle.http.specs.Request.{body_of};
 ghost use Rattle.http_server.specs.Response.{IsBlank, fields_of};
 ghost use Rattle.web_pages.specs.Answers.{IsAnswered, IsAt, IsObeyed, IsPage, IsPostedAt, IsReadAt, IsRefused, IsShown, IsWrongMethod, last_seen, status_of};
-ghost use Rattle.web_pages.specs.Guard.{IsFor, HasToken, value_of};
+ghost use Rattle.web_pages.specs.Guard.{IsFor, HasToken};
 ghost use Rattle.web_pages.specs.Routes.{asked_route};
 ghost use Rattle.web_pages.specs.Settings.{token_of};
 
@@ -11,8 +11,8 @@ use crate::command::is_command;
 use crate::guard::{Names, Verdict, is_for, judge};
 use crate::headers::{POLICY, add_headers};
 use crate::page::PAGE;
+use crate::permit::{Permit, permit_of};
 use crate::route::Route;
-use crate::secret::is_same_secret;
 use crate::source::{Found, Source};
 use bytes::{BufMut, Bytes};
 use http::{HeaderValue, Request, StatusCode, header};
@@ -87,13 +87,10 @@ impl<'a, S: Source> Console<'a, S> {
     {
         match Route::at(request.uri().path()) {
             None => refuse(response, StatusCode::NOT_FOUND),
-            Some(Route::Command) => {
-                if self.has_token(request) {
-                    self.pass_on(request, response)
-                } else {
-                    refuse(response, StatusCode::FORBIDDEN)
-                }
-            }
+            Some(Route::Command) => match permit_of(&self.settings.token, request) {
+                Some(permit) => self.pass_on(request, permit, response),
+                None => refuse(response, StatusCode::FORBIDDEN),
+            },
             Some(_) => refuse_method(request, response),
         }
     }
@@ -115,40 +112,24 @@ impl<'a, S: Source> Console<'a, S> {
     }
 
     // Passes a command on, if it is one that may be.
-    fn pass_on(&self, request: &Request<Bytes>, response: &mut Response) -> Result<(), AllocError>
+    fn pass_on(
+        &self,
+        request: &Request<Bytes>,
+        permit: Permit<'_>,
+        response: &mut Response,
+    ) -> Result<(), AllocError>
         requires blank { IsBlank response.old }
         requires token { HasToken (token_of self.now) request.now }
+        requires line { permit.line.now ≡ body_of request.now }
         ensures { OnOk result (IsObeyed POLICY.now (token_of self.now) (S.tells self.now.source.now) request.now response.new) }
     {
-        let line = request.body().as_slice();
-        if !is_command(line) {
+        if !is_command(permit.line) {
             return refuse(response, StatusCode::BAD_REQUEST);
         }
         add_headers(Route::Command, response)?;
         let mut text = Vec::new(self.alloc);
-        let found = self.source.command(line, &mut text)?;
+        let found = self.source.command(permit, &mut text)?;
         give(response, found, text)
-    }
-
-    // Whether commands are taken and the request has the token.
-    fn has_token(&self, request: &Request<Bytes>) -> bool
-        ensures { IsTrue result ↔ HasToken (token_of self.now) request.now }
-    {
-        match (&self.settings.token, given_token(request)) {
-            (Some(token), Some(given)) => !given.is_empty()
-                && is_same_secret(given, token.as_slice()),
-            _ => false,
-        }
-    }
-}
-
-// The token that a request brings.
-fn given_token(request: &Request<Bytes>) -> Option<&[u8]>
-    ensures { option_copied result ≡ value_of (codes "x-console-token") request.now }
-{
-    match request.headers().get("x-console-token") {
-        Some(value) => Some(value.as_bytes()),
-        None => None,
     }
 }
 

@@ -3,6 +3,7 @@ ghost use Rattle.std.specs.Prelude.{◌≡◌, [], IfOk};
 ghost use Rattle.web_pages.specs.Answers.{Shows, Tells};
 ghost use Rattle.web_pages.specs.Commands.{IsCommand};
 
+use crate::permit::Permit;
 use crate::route::Route;
 use std::alloc::AllocError;
 
@@ -28,9 +29,9 @@ pub trait Source {
         requires { text.old.items ≡ [] }
         ensures { IfOk result (λ found. shows self.now route last.now found text.new.items) };
 
-    /// Gives a command to the station and writes its answer into an empty text.
-    fn command(&self, line: &[u8], text: &mut Vec<u8>) -> Result<Found, AllocError>
-        requires command { IsCommand line.now }
+    /// Gives a command, which came with the token, to the station and writes its answer into an empty text.
+    fn command(&self, permit: Permit<'_>, text: &mut Vec<u8>) -> Result<Found, AllocError>
+        requires command { IsCommand permit.line.now }
         requires empty { text.old.items ≡ [] }
-        ensures { IfOk result (λ found. tells self.now line.now found text.new.items) };
+        ensures { IfOk result (λ found. tells self.now permit.entry.line.now found text.new.items) };
 }
