@@ -102,7 +102,9 @@ def routes(port):
     policy = headers.get("content-security-policy", "")
     check("/: the page", status == 200 and page.startswith(b"<!doctype html>") and headers["content-type"].startswith("text/html"))
     check("/: headers", headers.get("x-content-type-options") == "nosniff" and headers.get("referrer-policy") == "no-referrer"
-          and headers.get("x-frame-options") == "DENY" and "default-src 'none'" in policy and "unsafe-inline" not in policy)
+          and headers.get("x-frame-options") == "DENY")
+    check("/: the policy allows nothing else", re.sub(r"'sha256-[^']*'", "HASH", policy) == "default-src 'none'; style-src HASH; "
+          "script-src HASH; connect-src 'self'; base-uri 'none'; form-action 'none'; frame-ancestors 'none'")
     for tag in ("style", "script"):
         parts = re.findall(rb"<%s>(.*?)</%s>" % (tag.encode(), tag.encode()), page, re.S)
         hashes = ["'sha256-" + base64.b64encode(hashlib.sha256(part).digest()).decode() + "'" for part in parts]
@@ -215,6 +217,9 @@ def commands(port):
     check("no token: 403", ask(port, "/command", method="POST", body=b"hold 5")[0] == 403)
     check("another site: 403", give(b"hold 5", more=[("Sec-Fetch-Site", "cross-site")])[0] == 403)
     check("GET: 405", ask(port, "/command")[0] == 405)
+    check("GET with a body: 405", ask(port, "/command", body=b"hold 5", more=[("X-Console-Token", TOKEN)])[0] == 405)
+    time.sleep(0.6)
+    check("what is refused isn't passed on", json.loads(ask(port, "/status.json")[2])["remotes"][0]["held"] is False)
     sent = os.path.join(folder.name, "a file")
     with open(sent, "wb") as file:
         file.write(b"x" * 1000)
