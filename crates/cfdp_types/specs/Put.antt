@@ -11,7 +11,7 @@ use Rattle.cfdp_types.specs.declared.put_request.PutFault.TheVariants.{NoName, N
 pub record PutValue : Type 0 where
   pub destination : EntityId
   pub class : Class
-  -- whether the receiver is asked for a Finished PDU; in class 2 it always sends one
+  -- whether the receiver is asked for a Finished PDU; in class 2 it sends one unasked
   pub closure : Bool
   pub source_name : List ℕ
   pub destination_name : List ℕ
