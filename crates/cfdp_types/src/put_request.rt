@@ -175,7 +175,7 @@ impl PutRequest {
     }
 
     /// This request, with transaction closure or without: whether a class 1 receiver is asked for a Finished PDU.
-    /// In class 2 this changes nothing, as the receiver always sends one.
+    /// In class 2 this changes nothing, as the receiver sends one unasked.
     pub fn with_closure(self, closure: bool) -> PutRequest
         ensures { result ≡ record self { closure = closure } }
     {
