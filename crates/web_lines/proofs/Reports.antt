@@ -1,24 +1,12 @@
 -- Reports in the making: numbers behind numbers, families behind families.
-use Rattle.std.proofs.Common.{◌≡◌, ℕ, ◌+◌, ◌<◌, List, [], ◌∷◌, ◌++◌, length, take, get_or, map, refl, ap, sym, ◌∙◌, append-nil, arith}
+use Rattle.std.proofs.Common.{◌≡◌, ℕ, ◌+◌, ◌<◌, List, [], ◌∷◌, ◌++◌, length, take, get_or, map, refl, ap, sym, ◌∙◌, arith}
 use Rattle.std.proofs.lemmas.Grind.{common_steps}
 use Rattle.std.proofs.lemmas.List.{take_more}
-use Rattle.web_lines.specs.declared.labels.Labels.{Labels}
 use Rattle.web_lines.specs.declared.lines.Line.{Line}
 use Rattle.web_lines.specs.declared.told.Told.{Told}
 use Rattle.web_lines.specs.Document.{AreLinesOf}
 use Rattle.web_lines.specs.Families.{Row, row_of, told_rows}
-use Rattle.web_lines.specs.Metrics.{AddsCounts, AddsLine, AddsLines, AddsRows, AddsSamples, IsMetrics, Sample, head_text, sample_text, up_text}
-
--- one number is added
-pub one_sample : (name word : List ℕ) (labels : Labels) (number : ℕ) (old new : List ℕ) → word ≡ name
-    → new ≡ old ++ sample_text word labels number → AddsSamples name old new
-one_sample name word labels number old new same is =
-    let sample : Sample = record { labels = labels; number = number }
-    in (sample ∷ [], is ∙ ap (λ w. old ++ sample_text w labels number) same ∙ ap (λ t. old ++ t) (sym (append-nil _)))
-
--- numbers come behind numbers
-pub more_samples : (name a b c : List ℕ) → AddsSamples name a b → AddsSamples name b c → AddsSamples name a c
-more_samples name a b c (xs, b_is) (ys, c_is) = (xs ++ ys, grind (arith, common_steps))
+use Rattle.web_lines.specs.Metrics.{AddsLine, AddsLines, AddsRows, IsMetrics, counts_text, head_text, up_text}
 
 -- the numbers of one more line come behind those of lines
 pub one_more_line : (row : Row) (lines : List Line) (line : Line) (a b c : List ℕ) → AddsLines row lines a b → AddsLine row line b c
@@ -62,6 +50,6 @@ told_report rows lines a b rows_are report = rw (sym rows_are) report
 -- all numbers of a station that answers
 pub whole_metrics : (status : List ℕ) (known told_lines counted_lines : List Line) (old start told text : List ℕ) → AreLinesOf status known
     → told_lines ≡ known → counted_lines ≡ known → old ≡ [] → start ≡ old ++ up_text 1
-    → AddsRows told_rows told_lines start told → AddsCounts counted_lines told text → IsMetrics status text
+    → AddsRows told_rows told_lines start told → text ≡ told ++ counts_text counted_lines → IsMetrics status text
 whole_metrics status known told_lines counted_lines old start told text all told_same counted_same none start_is rows counts =
-    (known, all, (told, rw (start_is ∙ ap (λ t. t ++ up_text 1) none) at (rw told_same at rows), rw counted_same at counts))
+    (known, all, (told, rw (start_is ∙ ap (λ t. t ++ up_text 1) none) at (rw told_same at rows), counts ∙ ap (λ l. told ++ counts_text l) counted_same))

@@ -1,14 +1,16 @@
 -- Worked rows: families, numbers and names of kinds.
 use Rattle.std.proofs.Common.{◌≡◌, ◌||◌, ℕ, Bool, true, false, List, [], ◌∷◌, map, Some, None, codes, length, refl, rules}
 use Rattle.std.specs.Fmt.{digits}
-use Rattle.json.specs.Json.{boolean, member, no_members, number, object}
+use Rattle.json.specs.Json.{Json, boolean, member, no_members, number, object, string}
 use Rattle.std.specs.Str.{bytes_eq}
-use Rattle.web_lines.specs.declared.kind.Kind.TheVariants.{Entity, Queued}
-use Rattle.web_lines.specs.declared.labels.Labels.TheVariants.{Bare}
+use Rattle.web_lines.specs.declared.kind.Kind.TheVariants.{Entity, Log, Queued, Refusal, Remote, User}
+use Rattle.web_lines.specs.declared.state.State.TheVariants.{Active, Ended}
 use Rattle.web_lines.specs.Document.{document_text, named}
 use Rattle.web_lines.specs.Families.{all_heads, counter, gauge, told_rows}
-use Rattle.web_lines.specs.Numbers.{IsNumberAt, at_counter, at_member, at_truth}
-use Rattle.web_lines.specs.Metrics.{escaped, head_text, labels_text, sample_text}
+use Rattle.web_lines.specs.Labels.{labels_at}
+use Rattle.web_lines.specs.Numbers.{IsNumberAt, at_counter, at_known, at_member, at_truth}
+use Rattle.web_lines.specs.Metrics.{escaped, head_text, labels_text, sample_text, told_text}
+use Rattle.web_lines.specs.States.{count_in_state, state_in, state_named}
 
 -- a name is among these
 abbrev has : List ℕ → List (List ℕ) → Bool
@@ -33,9 +35,13 @@ heads : map head_text (gauge (codes "a") (codes "b c") ∷ counter (codes "d") (
 unfolding head_text
 heads = refl
 
-bare_number : sample_text (codes "n") Bare 70 ≡ codes "n 70\n"
+bare_number : sample_text (codes "n") [] 70 ≡ codes "n 70\n"
 unfolding sample_text labels_text digits
 bare_number = refl
+
+two_labels : labels_text ((codes "a", codes "1") ∷ (codes "b", codes "x\"") ∷ []) ≡ codes "{a=\"1\",b=\"x\\\"\"}"
+unfolding labels_text
+two_labels = refl
 
 labels_are_escaped : escaped (codes "a\\b\"c\nd") ≡ codes "a\\\\b\\\"c\\nd"
 labels_are_escaped = refl
@@ -57,3 +63,53 @@ number_of_a_counter = search rules
 
 number_that_is_missing : IsNumberAt (at_member (codes "workers")) (object no_members) None
 number_that_is_missing = refl
+
+-- the line of a remote entity, and of a refusal without and with a fault of decoding
+abbrev remote : Json
+remote = object (member (codes "id") (number (codes "7")) no_members)
+
+abbrev refusal : Json
+refusal = object (member (codes "name") (string (codes "NoRoute")) no_members)
+
+abbrev faulty : Json
+faulty = object (member (codes "name") (string (codes "DecodeFault")) (member (codes "fault") (number (codes "1")) no_members))
+
+remote_label : labels_at Remote (at_member (codes "octets_in")) remote ≡ Some ((codes "remote", codes "7") ∷ [])
+remote_label = refl
+
+reason_label : labels_at Refusal (at_member (codes "count")) refusal ≡ Some ((codes "reason", codes "NoRoute") ∷ [])
+reason_label = refl
+
+fault_label : labels_at Refusal (at_member (codes "count")) faulty ≡ Some ((codes "reason", codes "DecodeFault") ∷ (codes "fault", codes "1") ∷ [])
+fault_label = refl
+
+no_reason : labels_at Refusal (at_member (codes "count")) remote ≡ None
+no_reason = refl
+
+nameless_user : labels_at User (at_member (codes "waiting")) remote ≡ Some []
+nameless_user = refl
+
+no_version : labels_at Entity (at_known (codes "version")) remote ≡ None
+no_version = refl
+
+unlabelled : map (λ kind. labels_at kind (at_member (codes "workers")) remote) (Entity ∷ Log ∷ Queued ∷ []) ≡ Some [] ∷ Some [] ∷ Some [] ∷ []
+unlabelled = refl
+
+no_number_no_line : told_text (gauge (codes "a") (codes "b")) (Some []) None ≡ []
+no_number_no_line = refl
+
+no_labels_no_line : told_text (gauge (codes "a") (codes "b")) None (Some 1) ≡ []
+no_labels_no_line = refl
+
+zero_is_a_number : told_text (gauge (codes "a") (codes "b")) (Some []) (Some 0) ≡ codes "a 0\n"
+unfolding sample_text labels_text digits
+zero_is_a_number = refl
+
+states : map state_named (codes "active" ∷ codes "ended" ∷ codes "open" ∷ []) ≡ Some Active ∷ Some Ended ∷ None ∷ []
+states = refl
+
+state_of_a_line : state_in (object (member (codes "state") (string (codes "ended")) no_members)) ≡ Some Ended
+state_of_a_line = refl
+
+ended_twice : count_in_state Ended (Ended ∷ Active ∷ Ended ∷ []) ≡ 2
+ended_twice = refl

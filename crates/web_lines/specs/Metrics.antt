@@ -1,14 +1,15 @@
 -- Meaning. Text for Prometheus.
-use Rattle.std.specs.Prelude.{◌≡◌, ◌⊎◌, ◌==◌, ℕ, if◌then◌else◌, List, [], ◌∷◌, ◌++◌, Some, flat_map, codes, decimal}
+use Rattle.std.specs.Prelude.{◌≡◌, ◌⊎◌, ◌==◌, ℕ, Bool, true, false, if◌then◌else◌, List, [], ◌∷◌, ◌++◌, Option, Some, flat_map, codes, decimal}
 use Rattle.json.specs.Json.{Json, document}
-use Rattle.web_lines.specs.declared.labels.Label.{Label}
-use Rattle.web_lines.specs.declared.labels.Labels.{Labels}
-use Rattle.web_lines.specs.declared.labels.Labels.TheVariants.{Bare, One, Two}
 use Rattle.web_lines.specs.declared.lines.Line.{Line}
+use Rattle.web_lines.specs.declared.state.State.{State}
+use Rattle.web_lines.specs.declared.state.State.TheVariants.{Active, Suspended, Storing, Closing, Ended}
 use Rattle.web_lines.specs.Document.{AreLinesOf, count_of_kind, place_of}
 use Rattle.web_lines.specs.declared.kind.Kind.TheVariants.{Queued, Reading}
 use Rattle.web_lines.specs.Families.{Head, Row, outbox_head, reading_head, states_head, told_rows, up_head}
+use Rattle.web_lines.specs.Labels.{SaidLabel, labels_at}
 use Rattle.web_lines.specs.Numbers.{IsNumberAt}
+use Rattle.web_lines.specs.States.{count_in_state, name_of_state, states_of}
 
 -- an octet of a label's value: a backslash, a quote and a line feed have a backslash in front
 abbrev pub escaped_octet : ℕ → List ℕ
@@ -20,17 +21,16 @@ abbrev pub escaped : List ℕ → List ℕ
 escaped value = flat_map escaped_octet value
 
 -- a label
-abbrev pub label_text : Label → List ℕ
-label_text label = label.name.now ++ codes "=\"" ++ escaped label.value.now ++ codes "\""
+abbrev pub label_text : SaidLabel → List ℕ
+label_text label = label.0 ++ codes "=\"" ++ escaped label.1 ++ codes "\""
 
 -- labels in their braces, if there are some
-unfoldable pub labels_text : Labels → List ℕ
-labels_text Bare = []
-labels_text (One label) = codes "{" ++ label_text label ++ codes "}"
-labels_text (Two first second) = codes "{" ++ label_text first ++ codes "," ++ label_text second ++ codes "}"
+unfoldable pub labels_text : List SaidLabel → List ℕ
+labels_text [] = []
+labels_text (first ∷ others) = codes "{" ++ label_text first ++ flat_map (λ label. codes "," ++ label_text label) others ++ codes "}"
 
 -- the line of one number
-unfoldable pub sample_text : List ℕ → Labels → ℕ → List ℕ
+unfoldable pub sample_text : List ℕ → List SaidLabel → ℕ → List ℕ
 sample_text name labels number = name ++ labels_text labels ++ codes " " ++ decimal number ++ codes "\n"
 
 -- the two lines above a family's numbers
@@ -39,26 +39,9 @@ head_text head =
     codes "# HELP " ++ head.name ++ codes " " ++ head.help ++ codes "\n# TYPE " ++ head.name ++ codes " " ++ head.form
     ++ codes "\n"
 
--- a number with its labels
-pub record Sample : Type 0 where
-  pub labels : Labels
-  pub number : ℕ
-
--- the lines of a family's numbers, whose labels have escaped values
-abbrev pub samples_text : List ℕ → List Sample → List ℕ
-samples_text name samples = flat_map (λ sample. sample_text name sample.labels sample.number) samples
-
--- lines of a family's numbers come behind a text
-abbrev pub AddsSamples : List ℕ → List ℕ → List ℕ → Type 0
-AddsSamples name old new = (samples : List Sample) × (new ≡ old ++ samples_text name samples)
-
--- a family comes behind a text
-abbrev pub AddsFamily : Head → List ℕ → List ℕ → Type 0
-AddsFamily head old new = AddsSamples head.name (old ++ head_text head) new
-
 -- a family of one number without labels
 abbrev pub bare_text : Head → ℕ → List ℕ
-bare_text head number = head_text head ++ sample_text head.name Bare number
+bare_text head number = head_text head ++ sample_text head.name [] number
 
 -- whether the station answers: 1 where it does
 abbrev pub up_text : ℕ → List ℕ
@@ -72,21 +55,40 @@ outbox_text lines = bare_text outbox_head (count_of_kind Queued lines)
 abbrev pub reading_text : List Line → List ℕ
 reading_text lines = bare_text reading_head (count_of_kind Reading lines)
 
--- how many transactions are in each state, how many files wait and how many are being read come behind a text
-abbrev pub AddsCounts : List Line → List ℕ → List ℕ → Type 0
-AddsCounts lines old new = (states : List ℕ) × AddsFamily states_head old states × (new ≡ states ++ outbox_text lines ++ reading_text lines)
+-- how many transactions are in a state, by the states of all
+abbrev pub state_text : List State → State → List ℕ
+state_text states state = sample_text states_head.name ((codes "state", name_of_state state) ∷ []) (count_in_state state states)
 
--- a number stands in a line of the row's kind, at its place
-abbrev pub IsToldBy : Row → Line → ℕ → Type 0
-IsToldBy row line number =
-    (place_of line.kind ≡ place_of row.kind)
-    × ((value : Json) × (document line.text.now ≡ Some value) × IsNumberAt row.spot value (Some number))
+-- how many transactions are in the states that come late, and in each state
+abbrev pub late_states_text : List State → List ℕ
+late_states_text states = state_text states Storing ++ state_text states Closing ++ state_text states Ended
 
--- the number of a line comes behind a text, with some labels, or nothing does
+abbrev pub states_text : List State → List ℕ
+states_text states = head_text states_head ++ state_text states Active ++ state_text states Suspended ++ late_states_text states
+
+-- how many transactions are in each state, how many files wait and how many are being read
+abbrev pub counts_text : List Line → List ℕ
+counts_text lines = states_text (states_of lines) ++ outbox_text lines ++ reading_text lines
+
+-- the line of a number with its labels, where there are both
+abbrev pub told_text : Head → Option (List SaidLabel) → Option ℕ → List ℕ
+told_text head (Some labels) (Some number) = sample_text head.name labels number
+told_text head labels number = []
+
+-- a line is of a row's kind
+abbrev pub is_of_row : Row → Line → Bool
+is_of_row row line = place_of line.kind == place_of row.kind
+
+-- what a line says by a row, with its labels, comes behind a text
+abbrev pub AddsTold : Row → Line → List ℕ → List ℕ → Type 0
+AddsTold row line old new =
+    (value : Json) × (document line.text.now ≡ Some value)
+    × ((number : Option ℕ) × IsNumberAt row.spot value number × (new ≡ old ++ told_text row.head (labels_at row.kind row.spot value) number))
+
+-- that comes where the line is of the row's kind, and else nothing does
 abbrev pub AddsLine : Row → Line → List ℕ → List ℕ → Type 0
 AddsLine row line old new =
-    (new ≡ old)
-    ⊎ ((labels : Labels) × (number : ℕ) × IsToldBy row line number × (new ≡ old ++ sample_text row.head.name labels number))
+    ((is_of_row row line ≡ false) × (new ≡ old)) ⊎ ((is_of_row row line ≡ true) × AddsTold row line old new)
 
 -- the numbers of lines come behind a text, in order
 abbrev pub AddsLines : Row → List Line → List ℕ → List ℕ → Type 0
@@ -103,4 +105,4 @@ AddsRows (row ∷ rows) lines old new =
 abbrev pub IsMetrics : List ℕ → List ℕ → Type 0
 IsMetrics status text =
     (lines : List Line) × AreLinesOf status lines
-    × ((told : List ℕ) × AddsRows told_rows lines (up_text 1) told × AddsCounts lines told text)
+    × ((told : List ℕ) × AddsRows told_rows lines (up_text 1) told × (text ≡ told ++ counts_text lines))

@@ -2,60 +2,14 @@
 ghost use Rattle.std.specs.Prelude.{◌≡◌, ◌++◌, OnOk};
 ghost use Rattle.web_lines.specs.Document.{count_of_kind};
 ghost use Rattle.web_lines.specs.Families.{head_of, states_head};
-ghost use Rattle.web_lines.specs.Metrics.{AddsCounts, AddsFamily, AddsSamples, bare_text, outbox_text, reading_text};
+ghost use Rattle.web_lines.specs.Metrics.{bare_text, counts_text, head_text, late_states_text, outbox_text, reading_text, state_text, states_text};
 
 use crate::families::{Family, push_head};
 use crate::kind::Kind;
 use crate::labels::{Label, Labels, push_sample};
 use crate::lines::Line;
-use json::{Scratch, Value};
+use crate::state::{State, count_of, states_of};
 use std::alloc::{AllocError, Global};
-
-/// How many transactions are in each state.
-#[derive(Clone, Copy, Debug)]
-struct States {
-    active: u64,
-    suspended: u64,
-    storing: u64,
-    closing: u64,
-    ended: u64,
-}
-
-impl States {
-    // No transaction was counted.
-    fn new() -> States {
-        States {
-            active: 0,
-            suspended: 0,
-            storing: 0,
-            closing: 0,
-            ended: 0,
-        }
-    }
-
-    // Counts a transaction in a state.
-    fn count(&mut self, state: &str) {
-        match state {
-            "active" => self.active = self.active.saturating_add(1),
-            "suspended" => self.suspended = self.suspended.saturating_add(1),
-            "storing" => self.storing = self.storing.saturating_add(1),
-            "closing" => self.closing = self.closing.saturating_add(1),
-            "ended" => self.ended = self.ended.saturating_add(1),
-            _ => {}
-        }
-    }
-
-    // Each state with its count.
-    fn rows(self) -> [(&'static str, u64); 5] {
-        [
-            ("active", self.active),
-            ("suspended", self.suspended),
-            ("storing", self.storing),
-            ("closing", self.closing),
-            ("ended", self.ended),
-        ]
-    }
-}
 
 /// Adds how many transactions are in each state, how many files wait, and how many are being read.
 pub(crate) fn push_counted(
@@ -63,17 +17,27 @@ pub(crate) fn push_counted(
     text: &mut Vec<u8>,
     lines: &[Line<'_>],
 ) -> Result<(), AllocError>
-    ensures { OnOk result (AddsCounts lines.now text.old.items text.new.items) }
+    ensures { OnOk result (text.new.items ≡ text.old.items ++ counts_text lines.now) }
 {
-    let states = count_states(alloc, lines)?;
-    push_states(text, states)?;
+    let states = states_of(alloc, lines)?;
+    push_states(text, states.as_slice())?;
     push_outbox(text, lines)?;
     push_reading(text, lines)
 }
 
 // Adds how many transactions are in each state.
-fn push_states(text: &mut Vec<u8>, states: States) -> Result<(), AllocError>
-    ensures { OnOk result (AddsFamily states_head text.old.items text.new.items) }
+fn push_states(text: &mut Vec<u8>, states: &[State]) -> Result<(), AllocError>
+    ensures { OnOk result (text.new.items ≡ text.old.items ++ states_text states.now) }
+{
+    push_states_head(text)?;
+    push_state(text, states, State::Active)?;
+    push_state(text, states, State::Suspended)?;
+    push_late_states(text, states)
+}
+
+// Adds the two lines above these numbers.
+fn push_states_head(text: &mut Vec<u8>) -> Result<(), AllocError>
+    ensures { OnOk result (text.new.items ≡ text.old.items ++ head_text states_head) }
 {
     push_head(
         text,
@@ -81,53 +45,32 @@ fn push_states(text: &mut Vec<u8>, states: States) -> Result<(), AllocError>
             "cfdp_transactions",
             "Transactions by state: of each lane, the one that it runs or ran last.",
         ),
-    )?;
-    for (state, count) in states.rows() {
-        push_state(text, state, count)?;
-    }
-    Ok(())
+    )
+}
+
+// Adds how many transactions are in the states that come late.
+fn push_late_states(text: &mut Vec<u8>, states: &[State]) -> Result<(), AllocError>
+    ensures { OnOk result (text.new.items ≡ text.old.items ++ late_states_text states.now) }
+{
+    push_state(text, states, State::Storing)?;
+    push_state(text, states, State::Closing)?;
+    push_state(text, states, State::Ended)
 }
 
 // Adds how many transactions are in a state.
-fn push_state(text: &mut Vec<u8>, state: &str, count: u64) -> Result<(), AllocError>
-    ensures { OnOk result (AddsSamples states_head.name text.old.items text.new.items) }
+fn push_state(text: &mut Vec<u8>, states: &[State], state: State) -> Result<(), AllocError>
+    ensures { OnOk result (text.new.items ≡ text.old.items ++ state_text states.now state) }
 {
     let label = Label {
         name: "state",
-        value: state,
+        value: state.name(),
     };
-    push_sample(text, "cfdp_transactions", Labels::One(label), count)
-}
-
-// Counts transactions by their state.
-fn count_states(alloc: Global, lines: &[Line<'_>]) -> Result<States, AllocError> {
-    let mut scratch = Scratch::new(alloc);
-    let mut states = States::new();
-    for line in lines {
-        if line.kind == Kind::Transaction {
-            count_line(alloc, line.text, &mut scratch, &mut states)?;
-        }
-    }
-    Ok(states)
-}
-
-// Counts a transaction by its line.
-fn count_line(
-    alloc: Global,
-    line: &str,
-    scratch: &mut Scratch,
-    states: &mut States,
-) -> Result<(), AllocError> {
-    scratch.reserve(line.len())?;
-    let Ok(value) = Value::parse(alloc, line, scratch) else {
-        return Err(AllocError);
-    };
-    if let Some(member) = value.get("state")
-        && let Some(state) = member.as_str()
-    {
-        states.count(state);
-    }
-    Ok(())
+    push_sample(
+        text,
+        "cfdp_transactions",
+        Labels::One(label),
+        count_of(states, state),
+    )
 }
 
 // Adds how many files wait in the outbox.

@@ -1,5 +1,6 @@
 //! Numbers as Prometheus has them.
 ghost use Rattle.std.specs.Prelude.{◌≡◌, ◌++◌, OnOk};
+ghost use Rattle.web_lines.specs.Labels.{said_label, said_labels};
 ghost use Rattle.web_lines.specs.Metrics.{escaped, escaped_octet, label_text, labels_text, sample_text};
 
 use crate::text::{push_decimal, push_text};
@@ -48,7 +49,7 @@ fn push_escaped(text: &mut Vec<u8>, value: &[u8]) -> Result<(), AllocError>
 
 // Adds a label.
 fn push_label(text: &mut Vec<u8>, label: Label<'_>) -> Result<(), AllocError>
-    ensures { OnOk result (text.new.items ≡ text.old.items ++ label_text label.entry) }
+    ensures { OnOk result (text.new.items ≡ text.old.items ++ label_text (said_label label.entry)) }
 {
     push_text(text, label.name)?;
     push_text(text, "=\"")?;
@@ -59,7 +60,7 @@ fn push_label(text: &mut Vec<u8>, label: Label<'_>) -> Result<(), AllocError>
 // Adds labels in their braces, if there are some.
 #[tactic(auto, unfolding(crate::specs::Metrics::labels_text))]
 fn push_labels(text: &mut Vec<u8>, labels: Labels<'_>) -> Result<(), AllocError>
-    ensures { OnOk result (text.new.items ≡ text.old.items ++ labels_text labels.entry) }
+    ensures { OnOk result (text.new.items ≡ text.old.items ++ labels_text (said_labels labels.entry)) }
 {
     match labels {
         Labels::Bare => Ok(()),
@@ -86,7 +87,7 @@ pub(crate) fn push_sample(
     labels: Labels<'_>,
     number: u64,
 ) -> Result<(), AllocError>
-    ensures { OnOk result (text.new.items ≡ text.old.items ++ sample_text name.now labels.entry number) }
+    ensures { OnOk result (text.new.items ≡ text.old.items ++ sample_text name.now (said_labels labels.entry) number) }
 {
     push_text(text, name)?;
     push_labels(text, labels)?;

@@ -11,6 +11,7 @@ mod metrics;
 mod numbers;
 mod place;
 mod series;
+mod state;
 mod text;
 mod told;
 

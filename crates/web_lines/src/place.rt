@@ -1,7 +1,8 @@
 //! Where numbers and labels stand in lines.
-ghost use Rattle.std.specs.Prelude.{◌≡◌, None, codes, option_map, option_and_then};
+ghost use Rattle.std.specs.Prelude.{◌≡◌, None, codes, option_map, option_and_then, option_to_list};
 ghost use Rattle.json.specs.Find.{as_bool, get};
 ghost use Rattle.json.specs.Value.{value_view};
+ghost use Rattle.web_lines.specs.Labels.{entity_labels, label_at, labels_at, said_label, said_labels, with_label};
 ghost use Rattle.web_lines.specs.Numbers.{IsNumberAt, IsWholeNumber, bit, spot_of};
 
 use crate::kind::Kind;
@@ -86,20 +87,21 @@ fn known_in(value: &Value<'_>, name: &str) -> Option<u64>
 }
 
 /// The labels of the number at a place of a line; none where the line lacks what they say.
-pub(crate) fn labels_in<'a>(value: &Value<'a>, kind: Kind, place: Place) -> Option<Labels<'a>> {
+pub(crate) fn labels_in<'a>(value: &Value<'a>, kind: Kind, place: Place) -> Option<Labels<'a>>
+    ensures { option_map said_labels result ≡ labels_at kind (spot_of place) (value_view value.now) }
+{
     match kind {
         Kind::User => Some(one_or_bare(label_in(value, "user", "name"))),
         Kind::Remote => Some(one_or_bare(label_in(value, "remote", "id"))),
         Kind::Refusal => refusal_labels(value),
-        Kind::Entity => match place {
-            Place::Known(_) => entity_labels(value),
-            _ => Some(Labels::Bare),
-        },
+        Kind::Entity => entity_labels(value, place),
         _ => Some(Labels::Bare),
     }
 }
 
-fn one_or_bare(label: Option<Label<'_>>) -> Labels<'_> {
+fn one_or_bare(label: Option<Label<'_>>) -> Labels<'_>
+    ensures { said_labels result ≡ option_to_list (option_map said_label label.entry) }
+{
     match label {
         Some(label) => Labels::One(label),
         None => Labels::Bare,
@@ -107,7 +109,10 @@ fn one_or_bare(label: Option<Label<'_>>) -> Labels<'_> {
 }
 
 // The reason of a refusal, and the fault of decoding if it has one.
-fn refusal_labels<'a>(value: &Value<'a>) -> Option<Labels<'a>> {
+fn refusal_labels<'a>(value: &Value<'a>) -> Option<Labels<'a>>
+    ensures { option_map said_labels result
+        ≡ with_label (label_at (codes "reason") (codes "name") (value_view value.now)) (label_at (codes "fault") (codes "fault") (value_view value.now)) }
+{
     let reason = label_in(value, "reason", "name")?;
     match label_in(value, "fault", "fault") {
         Some(fault) => Some(Labels::Two(reason, fault)),
@@ -115,15 +120,24 @@ fn refusal_labels<'a>(value: &Value<'a>) -> Option<Labels<'a>> {
     }
 }
 
-// The entity's number and its version.
-fn entity_labels<'a>(value: &Value<'a>) -> Option<Labels<'a>> {
-    let id = label_in(value, "id", "id")?;
-    let version = label_in(value, "version", "version")?;
-    Some(Labels::Two(id, version))
+// The entity's number and its version, for the family that has its version.
+fn entity_labels<'a>(value: &Value<'a>, place: Place) -> Option<Labels<'a>>
+    ensures { option_map said_labels result ≡ entity_labels (spot_of place) (value_view value.now) }
+{
+    match place {
+        Place::Known(_) => {
+            let id = label_in(value, "id", "id")?;
+            let version = label_in(value, "version", "version")?;
+            Some(Labels::Two(id, version))
+        }
+        _ => Some(Labels::Bare),
+    }
 }
 
 // A label of this name with the text or the number of a member.
-fn label_in<'a>(value: &Value<'a>, name: &'static str, member: &str) -> Option<Label<'a>> {
+fn label_in<'a>(value: &Value<'a>, name: &'static str, member: &str) -> Option<Label<'a>>
+    ensures { option_map said_label result ≡ label_at name.now member.now (value_view value.now) }
+{
     let found = value.get(member)?;
     match found.as_str() {
         Some(value) => Some(Label { name, value }),
