@@ -3,14 +3,15 @@ use crate::answers::{
     push_bad_command, push_entity_refusal, push_no_memory, push_taken, push_traced,
 };
 use crate::audience::Audience;
-use crate::outgoing::Outgoing;
 use crate::places::Places;
+use crate::readiness::Readiness;
 use cfdp_types::{EntityId, Octets, PutFault, PutRequest, TxnKey};
 use entity_routing::Request;
 use entity_workers::Filestore;
 use lane_table::Done;
 use program_desk::{Desk, Said, Step, wall_moment};
 use program_numbers::HeldNumbers;
+use program_outbox::Outgoing;
 use program_seats::{Asker, Seats};
 use program_start::ProgramFault;
 use program_station::{Preparing, Station, flat};
@@ -43,6 +44,7 @@ pub(crate) struct Server<'a, N: Names, R: Files + Copy, S: Drop> {
     pub(crate) shows_places: bool,
     pub(crate) tallies: &'a Tallies,
     pub(crate) outgoing: Outgoing,
+    pub(crate) readiness: Readiness,
     pub(crate) started: Moment,
 }
 
@@ -82,6 +84,46 @@ fn end_of(refusal: &EntityRefusal) -> PutEnd {
     match refusal {
         EntityRefusal::Lane(refused) if refused.why == Refusal::SeqExhausted => PutEnd::Exhausted,
         _ => PutEnd::Refused,
+    }
+}
+
+// After an answer the server goes on.
+fn goes_on(written: Result<(), AllocError>) -> Result<Next, AllocError> {
+    written?;
+    Ok(Next::GoesOn)
+}
+
+// Answers `ok`, and says what comes next.
+fn answered(text: &mut String, next: Next) -> Result<Next, AllocError> {
+    text.push_str("ok\n")?;
+    Ok(next)
+}
+
+// What became of a file, once that is answered.
+fn ends(written: Result<(), AllocError>, end: PutEnd) -> Result<PutEnd, AllocError> {
+    written?;
+    Ok(end)
+}
+
+// That something was refused, once that is answered.
+fn refused(written: Result<(), AllocError>, end: PutEnd) -> Result<Asked, AllocError> {
+    written?;
+    Ok(Asked::Refused(end))
+}
+
+// That something is answered, whatever became of it.
+fn done<T: Copy>(end: Result<T, AllocError>) -> Result<(), AllocError> {
+    match end {
+        Ok(_) => Ok(()),
+        Err(error) => Err(error),
+    }
+}
+
+// Where a Put goes.
+fn destination_of(request: &Request) -> Option<EntityId> {
+    match request {
+        Request::Put(_, put) => Some(put.destination()),
+        _ => None,
     }
 }
 
@@ -128,12 +170,11 @@ impl<
         text: &mut String,
     ) -> Result<Next, AllocError> {
         match said {
-            Said::Command(command) => return self.obey_command(command, asker, text),
-            Said::Put(put, file) => self.put(&put, file, text)?,
-            Said::Nothing => push_bad_command(text)?,
-            Said::NoMemory => push_no_memory(text)?,
+            Said::Command(command) => self.obey_command(command, asker, text),
+            Said::Put(put, file) => goes_on(self.put(&put, file, text)),
+            Said::Nothing => goes_on(push_bad_command(text)),
+            Said::NoMemory => goes_on(push_no_memory(text)),
         }
-        Ok(Next::GoesOn)
     }
 
     // Does what a command says. Clients alone follow, and are answered before the server ends.
@@ -145,18 +186,9 @@ impl<
     ) -> Result<Next, AllocError> {
         match (command, asker) {
             (Command::Quit, None) => Ok(Next::Quits),
-            (Command::Quit, Some(_)) => {
-                text.push_str("ok\n")?;
-                Ok(Next::Quits)
-            }
-            (Command::Follow(most), Some(asker)) => {
-                text.push_str("ok\n")?;
-                Ok(Next::Follows(asker, most))
-            }
-            (other, _) => {
-                self.do_command(other, text)?;
-                Ok(Next::GoesOn)
-            }
+            (Command::Quit, Some(_)) => answered(text, Next::Quits),
+            (Command::Follow(most), Some(asker)) => answered(text, Next::Follows(asker, most)),
+            (other, _) => goes_on(self.do_command(other, text)),
         }
     }
 
@@ -166,10 +198,7 @@ impl<
             Command::Status => self.answer_status(text),
             Command::Take(user) => self.audience.take(user, text),
             Command::Trace(key) => trace(self.rt, self.alloc, self.station.entity(), key, text),
-            Command::Ask(user, request) => {
-                let _end = self.ask(user, request, text)?;
-                Ok(())
-            }
+            Command::Ask(user, request) => done(self.ask(user, request, text)),
             Command::Send(send) => self.queue(send, text),
             Command::Outbox => self.answer_outbox(text),
             Command::Drop(number) => self.withdraw(number, text),
@@ -187,10 +216,7 @@ impl<
         text: &mut String,
     ) -> Result<(), AllocError> {
         match file {
-            Ok(file) => {
-                let _end = self.put_file(put, file, None, text)?;
-                Ok(())
-            }
+            Ok(file) => done(self.put_file(put, file, None, text)),
             Err(ProgramFault::NoMemory) => push_no_memory(text),
             Err(_) => text.push_str("read fault\n"),
         }
@@ -211,14 +237,8 @@ impl<
         };
         match asked {
             Ok(request) => self.put_covered(put, size, queued, request, text),
-            Err(PutFault::NoMemory) => {
-                push_no_memory(text)?;
-                Ok(PutEnd::Passing)
-            }
-            Err(_) => {
-                push_bad_command(text)?;
-                Ok(PutEnd::Refused)
-            }
+            Err(PutFault::NoMemory) => ends(push_no_memory(text), PutEnd::Passing),
+            Err(_) => ends(push_bad_command(text), PutEnd::Refused),
         }
     }
 
@@ -231,13 +251,30 @@ impl<
         request: Request,
         text: &mut String,
     ) -> Result<PutEnd, AllocError> {
-        if let Some(numbers) = &mut self.numbers
-            && numbers.cover(self.rt).is_err()
-        {
-            text.push_str("numbers fault\n")?;
-            return Ok(PutEnd::Refused);
+        if !self.covers() {
+            return ends(text.push_str("numbers fault\n"), PutEnd::Refused);
         }
-        match self.ask(put.user, request, text)? {
+        let asked = self.ask(put.user, request, text);
+        self.note_put(put, size, queued, asked)
+    }
+
+    // Whether the file of numbers covers the next Put's number, where there is such a file.
+    fn covers(&mut self) -> bool {
+        match &mut self.numbers {
+            Some(numbers) => numbers.cover(self.rt).is_ok(),
+            None => true,
+        }
+    }
+
+    // Notes and reports a Put that was taken.
+    fn note_put(
+        &mut self,
+        put: &PutCommand,
+        size: u64,
+        queued: Option<u64>,
+        asked: Result<Asked, AllocError>,
+    ) -> Result<PutEnd, AllocError> {
+        match asked? {
             Asked::Taken(key) => {
                 if let Some(numbers) = &mut self.numbers {
                     numbers.note_put(key);
@@ -258,19 +295,12 @@ impl<
     ) -> Result<Asked, AllocError> {
         let entity = self.station.entity();
         if !entity.may_request(user, &request) {
-            push_bad_command(text)?;
-            return Ok(Asked::Refused(PutEnd::Refused));
+            return refused(push_bad_command(text), PutEnd::Refused);
         }
-        let destination = match &request {
-            Request::Put(_, put) => Some(put.destination()),
-            _ => None,
-        };
+        let destination = destination_of(&request);
         match flat(entity.request(self.rt, &NoGate, user, request)) {
             Ok(done) => self.go_on(done, destination, text),
-            Err(refusal) => {
-                self.refuse(&refusal, text)?;
-                Ok(Asked::Refused(end_of(&refusal)))
-            }
+            Err(refusal) => refused(self.refuse(&refusal, text), end_of(&refusal)),
         }
     }
 

@@ -6,7 +6,7 @@ use cfdp_types::{EntityId, Octets};
 use entity_routing::Place;
 use entity_workers::Filestore;
 use program_desk::{moment, wall_moment};
-use program_outbox::{OutboxFault, OutboxFile, Waiting};
+use program_outbox::{OutboxFault, OutboxFile, Outgoing};
 use program_start::ProgramFault;
 use program_station::Preparing;
 use program_status::push_outbox;
@@ -48,7 +48,7 @@ impl<
     /// Answers with a line for each file that waits, or that there was no memory for them.
     pub(crate) fn answer_outbox(&mut self, text: &mut String) -> Result<(), AllocError> {
         let config = self.station.entity().config();
-        if push_outbox(self.alloc, text, config, &self.outgoing.queued()).is_err() {
+        if push_outbox(self.alloc, text, config, &self.outgoing).is_err() {
             text.clear();
             return push_no_memory(text);
         }
@@ -75,14 +75,8 @@ impl<
         }
         self.note_lanes();
         let config = self.station.entity().config();
-        self.outgoing.note_held(config, &self.tallies.links);
-        match self.outgoing.begin_reading(now) {
-            Some(path) => {
-                self.desk.want_file(self.rt, path);
-                Ok(true)
-            }
-            None => Ok(false),
-        }
+        self.readiness.note_held(config, &self.tallies.links);
+        Ok(self.read_next(now))
     }
 
     // Notes which users have an idle lane.
@@ -90,61 +84,70 @@ impl<
         let (rt, entity) = (self.rt, self.station.entity());
         for user in 0..entity.users() {
             let is_idle = idle_lane(rt, entity, user, 0).is_some();
-            self.outgoing.note_lane(user, is_idle);
+            self.readiness.note_lane(user, is_idle);
         }
     }
 
-    // Puts the file of the outbox that is being read, once it was read.
+    // Has the file read whose turn it is; whether there is one.
+    fn read_next(&mut self, now: u64) -> bool {
+        let (idle, held) = (self.readiness.idle(), self.readiness.held());
+        if !self.outgoing.begin_reading(now, idle, held) {
+            return false;
+        }
+        match path_of(&self.outgoing) {
+            Some(path) => {
+                self.desk.want_file(self.rt, path);
+                true
+            }
+            None => {
+                self.outgoing.give_back(now);
+                false
+            }
+        }
+    }
+
+    // Puts the file of the outbox that is being read, once it was read. Where it can't be put yet, it comes back.
     fn put_read(&mut self, now: u64) -> Result<bool, AllocError> {
         let Some(file) = self.desk.take_file(self.rt) else {
             return Ok(false);
         };
-        if let Some(waiting) = self.outgoing.end_reading() {
-            self.put_queued(waiting, file, now)?;
+        let mut answer = String::new(self.alloc);
+        match self.put_queued(file, &mut answer)? {
+            PutEnd::Passing => self.outgoing.give_back(now),
+            PutEnd::Opened => drop(self.outgoing.finish()),
+            PutEnd::Exhausted | PutEnd::Refused => self.fail_read(answer.as_str()),
         }
         Ok(true)
     }
 
-    // Puts a file of the outbox that was read. Where it can't be put yet, it waits on.
+    // The file that was read is not put: its answer says why.
+    fn fail_read(&mut self, answer: &str) {
+        if let Some(waiting) = self.outgoing.finish() {
+            let why = answer.lines().next().unwrap_or("");
+            self.audience.reports.fail(&waiting, why);
+        }
+    }
+
+    // Puts the file of the outbox that was read, unless it was withdrawn meanwhile.
     fn put_queued(
         &mut self,
-        waiting: Waiting,
         file: Result<Octets, ProgramFault>,
-        now: u64,
-    ) -> Result<(), AllocError> {
-        if self.station.is_held(waiting.file.destination) {
-            self.outgoing.give_back(waiting, now);
-            return Ok(());
-        }
-        let file = match file {
-            Ok(file) => file,
-            Err(ProgramFault::NoMemory) => {
-                self.outgoing.give_back(waiting, now);
-                return Ok(());
-            }
-            Err(_) => {
-                self.audience.reports.fail(&waiting, "read fault");
-                return Ok(());
-            }
+        answer: &mut String,
+    ) -> Result<PutEnd, AllocError> {
+        let Some((mut put, number)) = put_of(&self.outgoing) else {
+            return Ok(PutEnd::Passing);
         };
-        let mut answer = String::new(self.alloc);
-        if answer.try_reserve(ANSWER_OCTETS).is_err() {
-            self.outgoing.give_back(waiting, now);
-            return Ok(());
+        if self.station.is_held(put.destination) || answer.try_reserve(ANSWER_OCTETS).is_err() {
+            return Ok(PutEnd::Passing);
         }
-        let (number, since) = (waiting.number, waiting.file.since);
-        let mut put = put_of(waiting);
-        let end = self.put_somewhere(&mut put, &file, number, &mut answer)?;
-        let waiting = waiting_of(put, number, since);
-        match end {
-            PutEnd::Opened => {}
-            PutEnd::Passing => self.outgoing.give_back(waiting, now),
-            PutEnd::Exhausted | PutEnd::Refused => {
-                let why = answer.as_str().lines().next().unwrap_or("");
-                self.audience.reports.fail(&waiting, why);
+        match file {
+            Ok(file) => self.put_somewhere(&mut put, &file, number, answer),
+            Err(ProgramFault::NoMemory) => Ok(PutEnd::Passing),
+            Err(_) => {
+                answer.push_str("read fault\n")?;
+                Ok(PutEnd::Refused)
             }
         }
-        Ok(())
     }
 
     // Puts a file into the first idle lane of its user that has a number left.
@@ -229,32 +232,23 @@ fn is_idle<N: Names, R: Wait + Copy>(rt: &R, entity: &Entity<N, R>, place: Place
     }
 }
 
-// The Put of a file of the outbox, in the user's first lane.
-fn put_of(waiting: Waiting) -> PutCommand {
-    let Waiting { user, file, .. } = waiting;
-    PutCommand {
-        user,
+// The path of the file that is to be read, where there is memory for it.
+fn path_of(outgoing: &Outgoing) -> Option<Octets> {
+    outgoing.reading()?.file.source.copy().ok()
+}
+
+// The Put of the file that was read, in the user's first lane, and its number in the outbox, where there is memory for it.
+fn put_of(outgoing: &Outgoing) -> Option<(PutCommand, u64)> {
+    let waiting = outgoing.reading()?;
+    let file = &waiting.file;
+    let put = PutCommand {
+        user: waiting.user,
         lane: 0,
         class: file.class,
         closure: file.closure,
         destination: file.destination,
-        source: file.source,
-        destination_name: file.destination_name,
-    }
-}
-
-// The file of the outbox that a Put is of.
-fn waiting_of(put: PutCommand, number: u64, since: u64) -> Waiting {
-    Waiting {
-        number,
-        user: put.user,
-        file: OutboxFile {
-            class: put.class,
-            destination: put.destination,
-            source: put.source,
-            destination_name: put.destination_name,
-            closure: put.closure,
-            since,
-        },
-    }
+        source: file.source.copy().ok()?,
+        destination_name: file.destination_name.copy().ok()?,
+    };
+    Some((put, waiting.number))
 }

@@ -51,7 +51,7 @@ impl<
             now: Moment(wall_moment(self.rt)),
             tallies: self.tallies,
             notes: &self.audience.reports.notes,
-            queued: self.outgoing.queued(),
+            outgoing: &self.outgoing,
             readings: readings.as_slice(),
             events: self.audience.reports.number(),
             log: self.audience.reports.log_status(),

@@ -2,12 +2,13 @@
 use crate::audience::Audience;
 use crate::commands::Server;
 use crate::console::Console;
-use crate::outgoing::Outgoing;
+use crate::readiness::Readiness;
 use crate::reports::Reports;
 use crate::working::Serving;
 use entity_workers::Filestore;
 use program_desk::{Desk, Urgency, wall_moment};
 use program_numbers::HeldNumbers;
+use program_outbox::Outgoing;
 use program_seats::Seats;
 use program_start::{FileReader, ProgramFault};
 use program_station::{Control, Preparing, Sources, Station, WayIn, run_commanded, run_controlled};
@@ -21,7 +22,7 @@ use shared_lanes::Names;
 use station_lines::Moment;
 use station_store::{Clash, Layout, StationStore};
 use std::alloc::{AllocError, Global};
-use std::io::{Read, Write};
+use std::io::{BufReader, Read, Write};
 use std::net::UdpSocket;
 use std::rt::Files;
 use std::sync::Wait;
@@ -110,6 +111,33 @@ fn serve_reader<
     ports: Vec<UserPort>,
     given: Given<I, W>,
 ) -> Result<u8, ProgramFault> {
+    let Given {
+        numbers,
+        reader,
+        writer,
+    } = given;
+    match in_blocks(opened.alloc, reader) {
+        Ok(reader) => serve_lines(opened, files, ports, numbers, reader, writer),
+        Err(_) => Err(ProgramFault::NoMemory),
+    }
+}
+
+// Serves by the lines of a reader that is read in blocks.
+fn serve_lines<
+    'x,
+    N: Names + Send + Sync,
+    R: Threads + Wait + Clock + Files + AllocGlobal + Copy + Drop + Send + Sync,
+    F: FileReader + Sync,
+    I: Read + Send + Drop,
+    W: Write + Drop,
+>(
+    opened: &Opened<'x, N, R>,
+    files: &'x F,
+    ports: Vec<UserPort>,
+    numbers: Option<HeldNumbers>,
+    reader: BufReader<I>,
+    writer: W,
+) -> Result<u8, ProgramFault> {
     let Opened {
         rt,
         alloc,
@@ -118,22 +146,19 @@ fn serve_reader<
         desk,
         ..
     } = *opened;
-    let Given {
-        numbers,
-        reader,
-        writer,
-    } = given;
-    let serving = Serving {
-        server: server_over(opened, ports, numbers, None)?,
-        console: Console::Printed(writer),
-    };
     let way_in = way_in_of(opened)?;
-    let Ok(reader) = in_blocks(alloc, reader) else {
-        return Err(ProgramFault::NoMemory);
-    };
-    run_commanded(
-        rt, alloc, files, entity, socket, desk, way_in, reader, serving,
-    )
+    match server_over(opened, ports, numbers, None) {
+        Ok(server) => {
+            let serving = Serving {
+                server,
+                console: Console::Printed(writer),
+            };
+            run_commanded(
+                rt, alloc, files, entity, socket, desk, way_in, reader, serving,
+            )
+        }
+        Err(fault) => Err(fault),
+    }
 }
 
 // Serves by the lines of clients.
@@ -158,14 +183,19 @@ fn serve_clients<
         desk,
         ..
     } = *opened;
-    let serving = Serving {
-        server: server_over(opened, ports, numbers, Some(control.seats))?,
-        console: Console::<W>::Seated(control.seats),
-    };
     let way_in = way_in_of(opened)?;
-    run_controlled(
-        rt, alloc, files, entity, socket, desk, way_in, control, serving,
-    )
+    match server_over(opened, ports, numbers, Some(control.seats)) {
+        Ok(server) => {
+            let serving = Serving {
+                server,
+                console: Console::<W>::Seated(control.seats),
+            };
+            run_controlled(
+                rt, alloc, files, entity, socket, desk, way_in, control, serving,
+            )
+        }
+        Err(fault) => Err(fault),
+    }
 }
 
 // The way in of a server's datagrams. What users receive is looked at within a millisecond where it is taken as it comes.
@@ -207,25 +237,41 @@ fn server_over<'x, N: Names, R: Wait + Clock + Files + AllocGlobal + Copy + Drop
     let words = opened.words;
     let (alloc, config) = (opened.alloc, opened.entity.config());
     let steps = Vec::with_capacity(alloc, opened.desk.step_room())?;
-    let outgoing = Outgoing::new(alloc, config)?;
+    let outgoing = Outgoing::new(alloc, config.users())?;
+    let readiness = Readiness::new(alloc, config)?;
+    let audience = audience_over(opened, ports, seats)?;
+    match station_over(opened) {
+        Ok(station) => Ok(Server {
+            rt: opened.rt,
+            alloc,
+            desk: opened.desk,
+            steps,
+            station,
+            numbers,
+            audience,
+            seats,
+            shows_places: words.tree || words.keep,
+            tallies: opened.tallies,
+            outgoing,
+            readiness,
+            started: Moment(wall_moment(opened.rt)),
+        }),
+        Err(fault) => Err(fault),
+    }
+}
+
+// The users of a server by their ports, and who reads what they receive.
+fn audience_over<'x, N: Names, R: Wait + Clock + Files + Copy>(
+    opened: &Opened<'x, N, R>,
+    ports: Vec<UserPort>,
+    seats: Option<&'x Seats>,
+) -> Result<Audience<'x, R>, AllocError> {
+    let words = opened.words;
+    let (rt, alloc, config) = (opened.rt, opened.alloc, opened.entity.config());
     let events = events_of::<R>(alloc, words, seats)?;
-    let reports = Reports::new(opened.rt, alloc, config, opened.tallies, events)?;
+    let reports = Reports::new(rt, alloc, config, opened.tallies, events)?;
     let follows = words.follow && seats.is_none();
-    let audience = Audience::new(opened.rt, alloc, config, ports, follows, reports);
-    Ok(Server {
-        rt: opened.rt,
-        alloc,
-        desk: opened.desk,
-        steps,
-        station: station_over(opened)?,
-        numbers,
-        audience,
-        seats,
-        shows_places: words.tree || words.keep,
-        tallies: opened.tallies,
-        outgoing,
-        started: Moment(wall_moment(opened.rt)),
-    })
+    Ok(Audience::new(rt, alloc, config, ports, follows, reports))
 }
 
 // The station of a server, with its store, and its links as the words say.

@@ -36,14 +36,27 @@ impl<
     /// Works in turns until `quit` or the end of the commands. A turn handles at most one command, one timer that has expired,
     /// a few PDUs of files under way and one deposit.
     fn work(self) -> Result<u8, ProgramFault> {
-        let Serving {
-            mut server,
-            mut console,
-        } = self;
-        server.audience.reports.start();
-        work(&mut server, &mut console)?;
-        Ok(0)
+        let mut serving = self;
+        status_of(work_through(&mut serving))
     }
+}
+
+// The exit status of a server that has ended.
+fn status_of(ended: Result<(), ProgramFault>) -> Result<u8, ProgramFault> {
+    match ended {
+        Ok(()) => Ok(0),
+        Err(fault) => Err(fault),
+    }
+}
+
+// Works with both parts of what serves.
+fn work_through<
+    N: Names,
+    R: Wait + Clock + Files + AllocGlobal + Copy + Drop,
+    S: Filestore + Preparing + Places + Drop,
+    W: Write + Drop,
+>(serving: &mut Serving<'_, N, R, S, W>) -> Result<(), ProgramFault> {
+    work(&mut serving.server, &mut serving.console)
 }
 
 fn work<
@@ -54,6 +67,7 @@ fn work<
 >(server: &mut Server<'_, N, R, S>, console: &mut Console<'_, W>) -> Result<(), ProgramFault> {
     let rt = server.rt;
     let mut text = String::new(server.alloc);
+    server.audience.reports.start();
     for _ in rt.forever() {
         let has_settled = server.settle();
         if !server.station.is_settled() {

@@ -1,1 +1,2 @@
 pub mod OutboxRows
+pub mod OutgoingRows

@@ -7,21 +7,21 @@ use Rattle.program_outbox.specs.declared.outbox.Waiting.{Waiting}
 use Rattle.program_outbox.specs.Outboxes.{OutboxValue, going, after_going, withdrawn, queued, number_place}
 
 -- a file for an entity
-abbrev file_for : ℕ → OutboxFile
+abbrev pub file_for : ℕ → OutboxFile
 file_for entity = record { class = Two; destination = record { 0 = entity }; source = []; destination_name = []; closure = false; since = 0 }
 
-abbrev waiting : ℕ → ℕ → ℕ → Waiting
+abbrev pub waiting : ℕ → ℕ → ℕ → Waiting
 waiting number user entity = record { number = number; user = user; file = file_for entity }
 
 -- two files of the first user, for two entities, and one of the second, each with a number
-abbrev two_users : OutboxValue
+abbrev pub two_users : OutboxValue
 two_users = record { waiting = waiting 1 0 7 ∷ waiting 2 0 8 ∷ waiting 3 1 7 ∷ []; turns = 0 ∷ 1 ∷ []; next = 4 }
 
-abbrev both : List Bool
+abbrev pub both : List Bool
 both = true ∷ true ∷ []
 
 -- an entity that is held
-abbrev held : ℕ → List EntityId
+abbrev pub held : ℕ → List EntityId
 held entity = record { 0 = entity } ∷ []
 
 -- the first user's first file goes, and then it is the second user's turn

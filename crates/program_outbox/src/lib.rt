@@ -1,6 +1,8 @@
-//! Files that wait until a sending lane of their user is idle.
+//! Files that wait until a sending lane of their user is idle, and those on their way there.
 #![tactic(auto)]
 
 mod outbox;
+mod outgoing;
 
 pub use outbox::{MOST_FILES, Outbox, OutboxFault, OutboxFile, Waiting};
+pub use outgoing::Outgoing;

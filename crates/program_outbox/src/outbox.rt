@@ -1,4 +1,4 @@
-ghost use Rattle.std.specs.Prelude.{◌≡◌, ◌≤◌, ◌<◌, ◌↔◌, ◌⊎◌, [], IfOk, IfSome, OnErr, Err, length, position, true};
+ghost use Rattle.std.specs.Prelude.{◌≡◌, ◌≤◌, ◌<◌, ◌↔◌, ◌⊎◌, [], IfOk, IfSome, OnErr, Err, ◌+◌, length, option_to_list, position, true};
 ghost use Rattle.std.specs.List.{list_any};
 ghost use Rattle.program_outbox.specs.Outboxes.{after_going, at_place, can_go, going, has_number, is_free, is_held, is_idle, number_place, queued, withdrawn};
 
@@ -102,6 +102,7 @@ impl Outbox {
     pub fn take(&mut self, idle: &[bool], held: &[EntityId]) -> Option<Waiting>
         ensures file { result ≡ going idle.now held.now self.old }
         ensures rest { self.new ≡ after_going idle.now held.now self.old }
+        ensures count { length self.new.waiting + length (option_to_list result) ≡ length self.old.waiting }
     {
         let turn = turn_place(&self.turns, &self.waiting, idle, held)?;
         let user = self.turns.remove(turn);
@@ -127,8 +128,8 @@ impl Outbox {
     }
 }
 
-// Whether a user has an idle lane.
-fn is_idle(idle: &[bool], user: usize) -> bool
+/// Whether a user has an idle lane.
+pub(crate) fn is_idle(idle: &[bool], user: usize) -> bool
     ensures { result ≡ is_idle idle.now user }
 {
     match idle.get(user) {
@@ -137,8 +138,8 @@ fn is_idle(idle: &[bool], user: usize) -> bool
     }
 }
 
-// Whether the link to an entity is held.
-fn is_held(held: &[EntityId], destination: EntityId) -> bool
+/// Whether the link to an entity is held.
+pub(crate) fn is_held(held: &[EntityId], destination: EntityId) -> bool
     ensures { result ≡ is_held held.now destination }
 {
     held.iter().any(|id| id.0 == destination.0)
@@ -188,8 +189,8 @@ fn place_of(waiting: &[Waiting], held: &[EntityId], user: usize) -> Option<usize
     waiting.iter().position(|one| is_free(held, user, one))
 }
 
-// The place of the file with this number.
-fn number_place(waiting: &[Waiting], number: u64) -> Option<usize>
+/// The place of the file with this number.
+pub(crate) fn number_place(waiting: &[Waiting], number: u64) -> Option<usize>
     ensures place { result ≡ position (has_number number) waiting.now }
     ensures range { IfSome result (λ place. place < length waiting.now) }
 {

@@ -7,7 +7,7 @@ use entity_config::Config;
 use entity_routing::Place;
 use lane_table::Glance;
 use program_desk::Reading;
-use program_outbox::{Outbox, Waiting};
+use program_outbox::{Outgoing, Waiting};
 use program_tallies::Tallies;
 use shared_entity::{Entity, EntityRefusal};
 use shared_lanes::Names;
@@ -25,16 +25,6 @@ const FEW_ROUNDS: u64 = 1_000;
 
 const WIDEST_ROUND: u64 = 512;
 
-/// The files that are to be sent and wait.
-#[derive(Clone, Copy)]
-pub struct Queued<'a> {
-    /// The file whose turn came, while it is being read.
-    pub reading: &'a [Waiting],
-    /// The files whose turn came, and which could not be put yet.
-    pub returned: &'a [Waiting],
-    pub outbox: &'a Outbox,
-}
-
 /// What a status shows besides the entity.
 #[derive(Clone, Copy)]
 pub struct Shown<'a> {
@@ -43,7 +33,8 @@ pub struct Shown<'a> {
     pub now: Moment,
     pub tallies: &'a Tallies,
     pub notes: &'a LaneNotes,
-    pub queued: Queued<'a>,
+    /// The files that are to be sent.
+    pub outgoing: &'a Outgoing,
     /// The files that are being read.
     pub readings: &'a [Reading],
     /// The number of the last event.
@@ -71,7 +62,7 @@ pub fn push_status<N: Names, R: Wait + Copy>(
     for user in 0..entity.users() {
         push_lanes(rt, alloc, text, entity, user, shown.notes)?;
     }
-    push_outbox(alloc, text, entity.config(), &shown.queued)?;
+    push_outbox(alloc, text, entity.config(), shown.outgoing)?;
     push_readings(alloc, text, shown.readings)?;
     push_remotes(alloc, text, entity, shown.tallies)?;
     push_refusals(rt, alloc, text, shown.tallies)
@@ -203,15 +194,15 @@ pub fn push_outbox(
     alloc: Global,
     text: &mut String,
     config: &Config,
-    queued: &Queued<'_>,
+    outgoing: &Outgoing,
 ) -> Result<(), AllocError> {
-    for waiting in queued.reading {
+    if let Some(waiting) = outgoing.reading() {
         push_waiting(alloc, text, config, waiting)?;
     }
-    for waiting in queued.returned {
+    for waiting in outgoing.returned() {
         push_waiting(alloc, text, config, waiting)?;
     }
-    for waiting in queued.outbox.waiting() {
+    for waiting in outgoing.waiting() {
         push_waiting(alloc, text, config, waiting)?;
     }
     Ok(())

@@ -1,0 +1,252 @@
+ghost use Rattle.std.specs.Prelude.{◌≡◌, ◌≤◌, ◌<◌, ◌↔◌, ◌⊎◌, ◌+◌, IfOk, IfSome, OnErr, Err, None, false, is_some, length, min, option_to_list, position, vec_capacity};
+ghost use Rattle.std.specs.Option.{option_copied};
+ghost use Rattle.program_outbox.specs.Outboxes.{after_going, has_number};
+ghost use Rattle.program_outbox.specs.Outgoings.{begun, can_leave, file_count, given_back, has_waiting, is_due, is_named, moment_until, named, next_file, queued_at, left_of, turn_of, without_named};
+
+use crate::outbox::{
+    MOST_FILES, Outbox, OutboxFault, OutboxFile, Waiting, is_held, is_idle, number_place,
+};
+use cfdp_types::EntityId;
+use std::alloc::{AllocError, Global};
+use std::marker::Model;
+
+/// After how many milliseconds the outbox is looked at again where no file's turn came.
+const LANE_REST_MS: u64 = 10;
+
+/// After how many milliseconds files that came back are tried again.
+const FILE_REST_MS: u64 = 1_000;
+
+/// The outbox with its files on their way: the one that is being read, which is at most one, and those that were read and
+/// couldn't be put yet. No more than `MOST_FILES` are in it. Moments are milliseconds of the caller's clock.
+#[derive(Drop)]
+pub struct Outgoing {
+    outbox: Outbox,
+    reading: Option<Waiting>,
+    is_reading: bool,
+    returned: Vec<Waiting>,
+    outbox_due: u64,
+    returned_due: u64,
+}
+
+impl Model for Outgoing {
+    ghost use Rattle.std.specs.Prelude.{◌≡◌, ◌≤◌, ◌+◌, length, vec_capacity, option_to_list, None, false};
+    ghost use Rattle.program_outbox.specs.Outgoings.{OutgoingValue};
+
+    ghost Value = { OutgoingValue };
+
+    ghost view = { λ o. record {
+      outbox = o.outbox;
+      reading = o.reading;
+      is_reading = o.is_reading;
+      returned = o.returned.items;
+      outbox_due = o.outbox_due;
+      returned_due = o.returned_due;
+    } };
+
+    ghost invariant = { λ o. (1024 ≤ vec_capacity o.returned)
+        × (length o.outbox.waiting + length o.returned.items + length (option_to_list o.reading) ≤ 1024)
+        × (o.is_reading ≡ false → o.reading ≡ None) };
+}
+
+impl Outgoing {
+    /// No file waits.
+    pub fn new(alloc: Global, users: usize) -> Result<Outgoing, AllocError>
+        ensures empty { IfOk result (λ outgoing. file_count outgoing ≡ 0) }
+        ensures turns { IfOk result (λ outgoing. length outgoing.outbox.turns ≡ users) }
+        ensures next { IfOk result (λ outgoing. outgoing.outbox.next ≡ 1) }
+        ensures idle { IfOk result (λ outgoing. outgoing.is_reading ≡ false) }
+        ensures due { IfOk result (λ outgoing. (outgoing.outbox_due ≡ 0) × (outgoing.returned_due ≡ 0)) }
+    {
+        Ok(Outgoing {
+            outbox: Outbox::new(alloc, users)?,
+            reading: None,
+            is_reading: false,
+            returned: Vec::with_capacity(alloc, MOST_FILES)?,
+            outbox_due: 0,
+            returned_due: 0,
+        })
+    }
+
+    /// Puts a user's file after all others, and has files tried from this moment on. Answers its number.
+    pub fn push(&mut self, user: usize, file: OutboxFile, now: u64) -> Result<u64, OutboxFault>
+        ensures ok { IfOk result (λ number. (number ≡ self.old.outbox.next) × (self.new ≡ queued_at user file now self.old)) }
+        ensures err { OnErr result (self.new ≡ self.old) }
+        ensures full { (result ≡ Err OutboxFault.Full)
+            ↔ ((1024 ≤ file_count self.old) ⊎ (self.old.outbox.next ≡ 18446744073709551615)) }
+    {
+        if self.file_count() >= MOST_FILES {
+            return Err(OutboxFault::Full);
+        }
+        let number = self.outbox.push(user, file)?;
+        self.try_from(now);
+        Ok(number)
+    }
+
+    // How many files are in it.
+    fn file_count(&self) -> usize
+        ensures { result ≡ file_count self.now }
+    {
+        let read = if self.reading.is_some() { 1 } else { 0 };
+        self.outbox.waiting().len() + self.returned.len() + read
+    }
+
+    /// Has files tried from a moment on.
+    pub fn try_from(&mut self, now: u64)
+        ensures { self.new ≡ record self.old { outbox_due = min self.old.outbox_due now } }
+    {
+        self.outbox_due = self.outbox_due.min(now);
+    }
+
+    /// The file that is being read, unless it was withdrawn meanwhile.
+    pub fn reading(&self) -> Option<&Waiting>
+        ensures { option_copied result ≡ self.now.reading }
+    {
+        self.reading.as_ref()
+    }
+
+    /// The files that came back since they couldn't be put yet, in that order.
+    pub fn returned(&self) -> &[Waiting]
+        ensures { result.now ≡ self.now.returned }
+    {
+        self.returned.as_slice()
+    }
+
+    /// The files whose turn has not come, in the order in which they came.
+    pub fn waiting(&self) -> &[Waiting]
+        ensures { result.now ≡ self.now.outbox.waiting }
+    {
+        self.outbox.waiting()
+    }
+
+    /// Takes out the file with a number. If it is being read, that goes on, and what is read will be put nowhere.
+    pub fn withdraw(&mut self, number: u64) -> Option<Waiting>
+        ensures file { result ≡ named number self.old }
+        ensures rest { self.new ≡ without_named number self.old }
+    {
+        if self.is_reading_of(number) {
+            return self.reading.take();
+        }
+        match number_place(&self.returned, number) {
+            Some(place) => Some(self.returned.remove(place)),
+            None => self.outbox.withdraw(number),
+        }
+    }
+
+    // Whether the file with a number is the one that is being read.
+    fn is_reading_of(&self, number: u64) -> bool
+        ensures { result ≡ is_named number self.now.reading }
+    {
+        match &self.reading {
+            Some(file) => file.number == number,
+            None => false,
+        }
+    }
+
+    /// Whether a file is being read.
+    pub fn is_reading(&self) -> bool
+        ensures { result ≡ self.now.is_reading }
+    {
+        self.is_reading
+    }
+
+    // Whether a file waits whose turn may come.
+    fn has_waiting(&self) -> bool
+        ensures { result ≡ has_waiting self.now }
+    {
+        !self.is_reading && (!self.returned.is_empty() || !self.outbox.waiting().is_empty())
+    }
+
+    /// Whether a file may be tried at a moment.
+    pub fn is_due(&self, now: u64) -> bool
+        ensures { result ≡ is_due now self.now }
+    {
+        now >= self.outbox_due && self.has_waiting()
+    }
+
+    /// A moment, or the one at which files are tried next if that comes before it.
+    pub fn next_moment(&self, until: u64) -> u64
+        ensures { result ≡ moment_until until self.now }
+    {
+        if self.has_waiting() {
+            until.min(self.outbox_due)
+        } else {
+            until
+        }
+    }
+
+    /// Has the file read whose turn it is, unless one is being read: one that waits, or else the first one that came back,
+    /// each for a user with an idle lane and an entity that isn't held. Answers whether there is one.
+    pub fn begin_reading(&mut self, now: u64, idle: &[bool], held: &[EntityId]) -> bool
+        ensures began { result ≡ is_some (next_file now idle.now held.now self.old) }
+        ensures after { self.new ≡ begun now idle.now held.now self.old }
+    {
+        if self.is_reading {
+            return false;
+        }
+        let tries_returned = now >= self.returned_due;
+        self.reading = next_file(
+            &mut self.outbox,
+            &mut self.returned,
+            tries_returned,
+            idle,
+            held,
+        );
+        self.is_reading = self.reading.is_some();
+        if !self.is_reading {
+            self.outbox_due = now.saturating_add(LANE_REST_MS);
+        }
+        self.is_reading
+    }
+
+    /// The file that was read leaves. None if it was withdrawn meanwhile.
+    pub fn finish(&mut self) -> Option<Waiting>
+        ensures file { result ≡ self.old.reading }
+        ensures rest { self.new ≡ record self.old { reading = None; is_reading = false } }
+    {
+        self.is_reading = false;
+        self.reading.take()
+    }
+
+    /// The file that was read couldn't be put yet. It comes back, after all others that did, and they are tried again a second
+    /// later.
+    pub fn give_back(&mut self, now: u64)
+        ensures { self.new ≡ given_back now self.old }
+    {
+        self.is_reading = false;
+        if let Some(waiting) = self.reading.take() {
+            self.returned_due = now.saturating_add(FILE_REST_MS);
+            self.returned.push_reserved(waiting);
+        }
+    }
+}
+
+// Takes out the file whose turn it is, of those that wait, or else of those that came back, if these are tried.
+fn next_file(
+    outbox: &mut Outbox,
+    returned: &mut Vec<Waiting>,
+    tries_returned: bool,
+    idle: &[bool],
+    held: &[EntityId],
+) -> Option<Waiting>
+    ensures file { result ≡ turn_of tries_returned idle.now held.now outbox.old returned.old.items }
+    ensures waiting { outbox.new ≡ after_going idle.now held.now outbox.old }
+    ensures returned { returned.new.items ≡ left_of tries_returned idle.now held.now outbox.old returned.old.items }
+    ensures room { vec_capacity returned.new ≡ vec_capacity returned.old }
+    ensures count { length outbox.new.waiting + length returned.new.items + length (option_to_list result)
+        ≡ length outbox.old.waiting + length returned.old.items }
+{
+    let waiting = outbox.take(idle, held);
+    if waiting.is_some() || !tries_returned {
+        return waiting;
+    }
+    let place = returned_place(returned, idle, held)?;
+    Some(returned.remove(place))
+}
+
+// Where the first file stands, of those that came back, that can leave.
+fn returned_place(returned: &[Waiting], idle: &[bool], held: &[EntityId]) -> Option<usize>
+    ensures place { result ≡ position (can_leave idle.now held.now) returned.now }
+    ensures range { IfSome result (λ place. place < length returned.now) }
+{
+    returned.iter().position(|one| is_idle(idle, one.user) && !is_held(held, one.file.destination))
+}
