@@ -1,13 +1,11 @@
 //! The entity of a run, over queues that bear the run's name.
 ghost use Rattle.shared_entity.specs.Opening.{AreQueuesFor};
 
-use crate::threads::{Given, Sockets, serve_over};
+use crate::threads::{Given, Sockets, Starting, serve_over};
 use entity_config::Config;
 use program_start::{FileReader, ProgramFault};
-use program_words::ServerWords;
 use shared_entity::{Entity, queues_of};
 use shared_lanes::Names;
-use std::alloc::Global;
 use std::io::{Read, Write};
 use std::marker::Brand;
 use std::rt::Files;
@@ -23,16 +21,13 @@ pub(crate) fn serve_named<
     I: Read + Send + Drop,
     W: Write + Drop,
 >(
-    rt: &R,
-    alloc: Global,
-    files: &F,
+    starting: &Starting<'_, R, F>,
     config: Config,
     sockets: Sockets<'_>,
-    words: &ServerWords<'_>,
     given: Given<I, W>,
 ) -> Result<u8, ProgramFault> {
-    let queues = queues_of(*rt, alloc, &config)?;
-    serve_opened::<Brand, R, F, I, W>(rt, alloc, files, config, queues, sockets, words, given)
+    let queues = queues_of(*starting.rt, starting.alloc, &config)?;
+    serve_opened::<Brand, R, F, I, W>(starting, config, queues, sockets, given)
 }
 
 fn serve_opened<
@@ -42,17 +37,14 @@ fn serve_opened<
     I: Read + Send + Drop,
     W: Write + Drop,
 >(
-    rt: &R,
-    alloc: Global,
-    files: &F,
+    starting: &Starting<'_, R, F>,
     config: Config,
     queues: Queues<R>,
     sockets: Sockets<'_>,
-    words: &ServerWords<'_>,
     given: Given<I, W>,
 ) -> Result<u8, ProgramFault>
     requires { AreQueuesFor N.queue N.lanes config queues }
 {
-    let (entity, ports) = Entity::<N, R>::open(alloc, config, queues)?;
-    serve_over(rt, alloc, files, &entity, ports, sockets, words, given)
+    let (entity, ports) = Entity::<N, R>::open(starting.alloc, config, queues)?;
+    serve_over(starting, &entity, ports, sockets, given)
 }

@@ -1,6 +1,6 @@
 //! How the server starts.
 use crate::named::serve_named;
-use crate::threads::{Given, Sockets};
+use crate::threads::{Given, Sockets, Starting};
 use entity_config::Config;
 use program_control::ControlSocket;
 use program_numbers::{HeldNumbers, Puts};
@@ -205,7 +205,13 @@ fn start<
                 reader,
                 writer,
             };
-            serve_at(rt, alloc, files, config, &socket, &words, given)
+            let starting = Starting {
+                rt,
+                alloc,
+                files,
+                words: &words,
+            };
+            serve_at(&starting, config, &socket, given)
         }
         Err(fault) => tell_about(&mut writer, fault),
     }
@@ -231,23 +237,20 @@ fn serve_at<
     I: Read + Send + Drop,
     W: Write + Drop,
 >(
-    rt: &R,
-    alloc: Global,
-    files: &F,
+    starting: &Starting<'x, R, F>,
     config: Config,
     datagrams: &'x UdpSocket,
-    words: &'x ServerWords<'x>,
     given: Given<I, W>,
 ) -> Result<u8, ProgramFault> {
-    let Some(path) = words.control else {
+    let Some(path) = starting.words.control else {
         let sockets = Sockets {
             datagrams,
             control: None,
         };
-        return serve_named(rt, alloc, files, config, sockets, words, given);
+        return serve_named(starting, config, sockets, given);
     };
-    let seats = Seats::new(alloc)?;
-    let Ok(socket) = ControlSocket::open(rt, alloc, path) else {
+    let seats = Seats::new(starting.alloc)?;
+    let Ok(socket) = ControlSocket::open(starting.rt, starting.alloc, path) else {
         return Err(ProgramFault::Bind);
     };
     let sockets = Sockets {
@@ -258,5 +261,5 @@ fn serve_at<
             seats: &seats,
         }),
     };
-    serve_named(rt, alloc, files, config, sockets, words, given)
+    serve_named(starting, config, sockets, given)
 }

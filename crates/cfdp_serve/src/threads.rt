@@ -35,6 +35,15 @@ const STEPS: usize = 1_024;
 
 const LINES: usize = 16;
 
+/// What a server starts from: its runtime, who reads files that are to be sent, and the words of its command line.
+#[derive(Drop)]
+pub(crate) struct Starting<'x, R, F> {
+    pub(crate) rt: &'x R,
+    pub(crate) alloc: Global,
+    pub(crate) files: &'x F,
+    pub(crate) words: &'x ServerWords<'x>,
+}
+
 /// The sockets of a server: for datagrams, and for clients where those command it.
 #[derive(Clone, Copy)]
 pub(crate) struct Sockets<'x> {
@@ -59,20 +68,24 @@ pub(crate) fn serve_over<
     I: Read + Send + Drop,
     W: Write + Drop,
 >(
-    rt: &R,
-    alloc: Global,
-    files: &F,
+    starting: &Starting<'_, R, F>,
     entity: &Entity<N, R>,
     ports: Vec<UserPort>,
     sockets: Sockets<'_>,
-    words: &ServerWords<'_>,
     given: Given<I, W>,
 ) -> Result<u8, ProgramFault> {
+    let Starting {
+        rt,
+        alloc,
+        files,
+        words,
+    } = *starting;
     let desk = Desk::new(alloc, STEPS, LINES)?;
     let tallies = Tallies::new(alloc, words.workers as usize, entity.config().remotes())?;
     let opened = Opened {
         rt,
         alloc,
+        files,
         entity,
         socket: sockets.datagrams,
         desk: &desk,
@@ -80,16 +93,17 @@ pub(crate) fn serve_over<
         words,
     };
     match sockets.control {
-        None => serve_reader(&opened, files, ports, given),
-        Some(control) => serve_clients::<N, R, F, W>(&opened, files, ports, given.numbers, control),
+        None => serve_reader(&opened, ports, given),
+        Some(control) => serve_clients::<N, R, F, W>(&opened, ports, given.numbers, control),
     }
 }
 
 // What is opened of a server before its threads start.
 #[derive(Drop)]
-struct Opened<'x, N: Names, R: Copy> {
+struct Opened<'x, N: Names, R: Copy, F> {
     rt: &'x R,
     alloc: Global,
+    files: &'x F,
     entity: &'x Entity<N, R>,
     socket: &'x UdpSocket,
     desk: &'x Desk,
@@ -106,8 +120,7 @@ fn serve_reader<
     I: Read + Send + Drop,
     W: Write + Drop,
 >(
-    opened: &Opened<'x, N, R>,
-    files: &'x F,
+    opened: &Opened<'x, N, R, F>,
     ports: Vec<UserPort>,
     given: Given<I, W>,
 ) -> Result<u8, ProgramFault> {
@@ -117,7 +130,7 @@ fn serve_reader<
         writer,
     } = given;
     match in_blocks(opened.alloc, reader) {
-        Ok(reader) => serve_lines(opened, files, ports, numbers, reader, writer),
+        Ok(reader) => serve_lines(opened, ports, numbers, reader, writer),
         Err(_) => Err(ProgramFault::NoMemory),
     }
 }
@@ -131,8 +144,7 @@ fn serve_lines<
     I: Read + Send + Drop,
     W: Write + Drop,
 >(
-    opened: &Opened<'x, N, R>,
-    files: &'x F,
+    opened: &Opened<'x, N, R, F>,
     ports: Vec<UserPort>,
     numbers: Option<HeldNumbers>,
     reader: BufReader<I>,
@@ -141,6 +153,7 @@ fn serve_lines<
     let Opened {
         rt,
         alloc,
+        files,
         entity,
         socket,
         desk,
@@ -169,8 +182,7 @@ fn serve_clients<
     F: FileReader + Sync,
     W: Write + Drop,
 >(
-    opened: &Opened<'x, N, R>,
-    files: &'x F,
+    opened: &Opened<'x, N, R, F>,
     ports: Vec<UserPort>,
     numbers: Option<HeldNumbers>,
     control: Control<'x>,
@@ -178,6 +190,7 @@ fn serve_clients<
     let Opened {
         rt,
         alloc,
+        files,
         entity,
         socket,
         desk,
@@ -199,8 +212,8 @@ fn serve_clients<
 }
 
 // The way in of a server's datagrams. What users receive is looked at within a millisecond where it is taken as it comes.
-fn way_in_of<'x, N: Names, R: Wait + Clock + Copy>(
-    opened: &Opened<'x, N, R>,
+fn way_in_of<'x, N: Names, R: Wait + Clock + Copy, F>(
+    opened: &Opened<'x, N, R, F>,
 ) -> Result<WayIn<'x, R>, ProgramFault> {
     let words = opened.words;
     let others = if words.follow || words.control.is_some() || words.log.is_some() {
@@ -228,8 +241,8 @@ fn way_in_of<'x, N: Names, R: Wait + Clock + Copy>(
 }
 
 // What the main thread of a server has.
-fn server_over<'x, N: Names, R: Wait + Clock + Files + AllocGlobal + Copy + Drop>(
-    opened: &Opened<'x, N, R>,
+fn server_over<'x, N: Names, R: Wait + Clock + Files + AllocGlobal + Copy + Drop, F>(
+    opened: &Opened<'x, N, R, F>,
     ports: Vec<UserPort>,
     numbers: Option<HeldNumbers>,
     seats: Option<&'x Seats>,
@@ -261,8 +274,8 @@ fn server_over<'x, N: Names, R: Wait + Clock + Files + AllocGlobal + Copy + Drop
 }
 
 // The users of a server by their ports, and who reads what they receive.
-fn audience_over<'x, N: Names, R: Wait + Clock + Files + Copy>(
-    opened: &Opened<'x, N, R>,
+fn audience_over<'x, N: Names, R: Wait + Clock + Files + Copy, F>(
+    opened: &Opened<'x, N, R, F>,
     ports: Vec<UserPort>,
     seats: Option<&'x Seats>,
 ) -> Result<Audience<'x, R>, AllocError> {
@@ -275,8 +288,8 @@ fn audience_over<'x, N: Names, R: Wait + Clock + Files + Copy>(
 }
 
 // The station of a server, with its store, and its links as the words say.
-fn station_over<'x, N: Names, R: Wait + Clock + Files + AllocGlobal + Copy + Drop>(
-    opened: &Opened<'x, N, R>,
+fn station_over<'x, N: Names, R: Wait + Clock + Files + AllocGlobal + Copy + Drop, F>(
+    opened: &Opened<'x, N, R, F>,
 ) -> Result<Station<'x, N, R, StationStore<R>>, ProgramFault> {
     let Opened {
         rt,
