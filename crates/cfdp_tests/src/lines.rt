@@ -1,9 +1,7 @@
-use script_io::{
-    BLOCK_OCTETS, LINE_OCTETS, NextLine, ReplayFault, conclude, in_blocks, next_line, write_whole,
-};
+use script_io::{BLOCK_OCTETS, LINE_OCTETS, NextLine, ReplayFault, in_blocks, next_line};
 use std::alloc::Global;
 use std::io;
-use std::io::{BufRead, Error, ErrorKind, Read, Write};
+use std::io::{BufRead, Error, ErrorKind, Read};
 use std::test::*;
 
 // A reader that answers with an error of this kind, mostly an interruption, some times in a row before each read, and
@@ -31,37 +29,14 @@ impl Read for SlowReader<'_> {
     }
 }
 
-// A writer that answers with an error of this kind, mostly an interruption, some times in a row before each write,
-// takes nothing in its first writes, then two octets at a time, and nothing once it is full.
-#[derive(Drop)]
-struct SlowWriter {
-    kind: ErrorKind,
-    times: u32,
-    left: u32,
-    idle: u32,
-    room: usize,
-    taken: Vec<u8>,
-}
-
-impl Write for SlowWriter {
-    fn write(&mut self, buf: &[u8]) -> io::Result<usize> {
-        if self.left > 0 {
-            self.left -= 1;
-            return Err(Error::from(self.kind));
-        }
-        self.left = self.times;
-        if self.idle > 0 {
-            self.idle -= 1;
-            return Ok(0);
-        }
-        let n = buf.len().min(2).min(self.room);
-        self.taken.extend_from_slice(&buf[..n])?;
-        self.room -= n;
-        Ok(n)
-    }
-
-    fn flush(&mut self) -> io::Result<()> {
-        Ok(())
+// A text, with how often each read of it is interrupted.
+fn slow(times: u32, text: &[u8]) -> SlowReader<'_> {
+    SlowReader {
+        kind: ErrorKind::Interrupted,
+        times,
+        left: times,
+        is_broken: false,
+        rest: text,
     }
 }
 
@@ -81,162 +56,79 @@ fn has_lines<B: BufRead>(
     next_line(reader, &mut line) == ending
 }
 
-#[test]
-fn lines(rt: HostRuntime) -> Result<(), Fail> {
-    let mut blocks = in_blocks(rt.alloc(), b"a b\n\n\r\nlast".as_slice())?;
-    let lines = [b"a b".as_slice(), b"", b"\r", b"last"];
-    assert!(rt; has_lines(rt.alloc(), &mut blocks, &lines, Ok(NextLine::End)));
-    assert!(rt; has_lines(rt.alloc(), &mut blocks, &[], Ok(NextLine::End)));
-    Ok(())
+fn reads_so(
+    alloc: Global,
+    reader: SlowReader<'_>,
+    lines: &[&[u8]],
+    ending: Result<NextLine, ReplayFault>,
+) -> Result<bool, ReplayFault> {
+    let mut blocks = in_blocks(alloc, reader)?;
+    Ok(has_lines(alloc, &mut blocks, lines, ending))
 }
 
-fn slow(times: u32, is_broken: bool, rest: &[u8]) -> SlowReader<'_> {
-    SlowReader {
-        kind: ErrorKind::Interrupted,
-        times,
-        left: times,
-        is_broken,
-        rest,
-    }
+#[test]
+fn lines(rt: HostRuntime) -> Result<(), Fail> {
+    let text = slow(0, b"a b\n\n\r\nlast");
+    let lines = [b"a b".as_slice(), b"", b"\r", b"last"];
+    assert!(rt; reads_so(rt.alloc(), text, &lines, Ok(NextLine::End))?);
+    Ok(())
 }
 
 #[test]
 fn interrupted_reads(rt: HostRuntime) -> Result<(), Fail> {
-    for (times, ending) in [
-        (999_999, Ok(NextLine::Line)),
-        (1_000_000, Err(ReplayFault::Read)),
-    ] {
-        let mut blocks = in_blocks(rt.alloc(), slow(times, false, b"ab\n"))?;
-        assert!(rt; has_lines(rt.alloc(), &mut blocks, &[], ending), "{times}");
-    }
-    Ok(())
-}
-
-// Reading each block of a line may be interrupted so often.
-#[test]
-fn interrupted_blocks(rt: HostRuntime) -> Result<(), Fail> {
-    let text = vec![in rt.alloc(); b'x'; BLOCK_OCTETS + 1]?;
-    let mut blocks = in_blocks(rt.alloc(), slow(999_999, false, text.as_slice()))?;
-    assert!(rt; has_lines(rt.alloc(), &mut blocks, &[], Ok(NextLine::Line)));
+    let line = Ok(NextLine::Line);
+    assert!(rt; reads_so(rt.alloc(), slow(999_999, b"ab\n"), &[], line)?);
+    let fault = Err(ReplayFault::Read);
+    assert!(rt; reads_so(rt.alloc(), slow(1_000_000, b"ab\n"), &[], fault)?);
     Ok(())
 }
 
 #[test]
 fn broken_reads(rt: HostRuntime) -> Result<(), Fail> {
-    let mut blocks = in_blocks(rt.alloc(), slow(0, true, b"ab\ncd"))?;
-    assert!(rt; has_lines(rt.alloc(), &mut blocks, &[b"ab"], Err(ReplayFault::Read)));
-    assert!(rt; has_lines(rt.alloc(), &mut blocks, &[], Err(ReplayFault::Read)));
+    let fault = Err(ReplayFault::Read);
+    let broken = SlowReader {
+        is_broken: true,
+        ..slow(0, b"ab\ncd")
+    };
+    assert!(rt; reads_so(rt.alloc(), broken, &[b"ab"], fault)?);
+    // it is not asked again, though it would continue
+    let broken = SlowReader {
+        kind: ErrorKind::TimedOut,
+        ..slow(1, b"ab\n")
+    };
+    assert!(rt; reads_so(rt.alloc(), broken, &[], fault)?);
     Ok(())
 }
 
-// A reader that failed is not asked again, though it would continue.
-#[test]
-fn read_that_fails_once(rt: HostRuntime) -> Result<(), Fail> {
-    let mut reader = slow(1, false, b"ab\n");
-    reader.kind = ErrorKind::TimedOut;
-    let mut blocks = in_blocks(rt.alloc(), reader)?;
-    assert!(rt; has_lines(rt.alloc(), &mut blocks, &[], Err(ReplayFault::Read)));
-    Ok(())
+// How many octets a line has, how often reading each block of it is interrupted, what follows, and what is read.
+const LONG: [(usize, u32, &[u8], NextLine); 5] = [
+    (BLOCK_OCTETS + 1, 999_999, b"\n", NextLine::Line),
+    (LINE_OCTETS, 0, b"", NextLine::Line),
+    (LINE_OCTETS, 0, b"\n", NextLine::Line),
+    (LINE_OCTETS + 1, 0, b"", NextLine::TooLong),
+    (LINE_OCTETS + 1, 0, b"\n", NextLine::TooLong),
+];
+
+fn long_text(alloc: Global, octets: usize, end: &[u8]) -> Result<Vec<u8>, ReplayFault> {
+    let mut text = vec![in alloc; b'x'; octets]?;
+    text.extend_from_slice(end)?;
+    Ok(text)
 }
 
-// Whether reading a text of one line gives this.
-fn gives<B: BufRead>(alloc: Global, reader: &mut B, expected: NextLine) -> bool {
+// What is read of a text, and how many octets the line then has.
+fn read(alloc: Global, reader: SlowReader<'_>) -> Result<(NextLine, usize), ReplayFault> {
+    let mut blocks = in_blocks(alloc, reader)?;
     let mut line = Vec::new(alloc);
-    next_line(reader, &mut line) == Ok(expected)
-        && (expected == NextLine::TooLong || line.len() == LINE_OCTETS)
+    let next = next_line(&mut blocks, &mut line)?;
+    Ok((next, line.len()))
 }
 
 #[test]
 fn long_lines(rt: HostRuntime) -> Result<(), Fail> {
-    for (octets, expected) in [
-        (LINE_OCTETS, NextLine::Line),
-        (LINE_OCTETS + 1, NextLine::TooLong),
-    ] {
-        let mut text = vec![in rt.alloc(); b'x'; octets]?;
-        assert!(rt;
-            gives(
-                rt.alloc(),
-                &mut in_blocks(rt.alloc(), text.as_slice())?,
-                expected
-            )
-        );
-        text.push(b'\n')?;
-        assert!(rt;
-            gives(
-                rt.alloc(),
-                &mut in_blocks(rt.alloc(), text.as_slice())?,
-                expected
-            )
-        );
+    for (octets, times, end, expected) in LONG {
+        let text = long_text(rt.alloc(), octets, end)?;
+        let (next, length) = read(rt.alloc(), slow(times, text.as_slice()))?;
+        assert!(rt; next == expected && (expected == NextLine::TooLong || length == octets));
     }
     Ok(())
-}
-
-// A writer with this much room, which gives this error so often before each write, and takes nothing for `idle` writes.
-fn writer_with(alloc: Global, kind: ErrorKind, times: u32, idle: u32, room: usize) -> SlowWriter {
-    SlowWriter {
-        kind,
-        times,
-        left: times,
-        idle,
-        room,
-        taken: Vec::new(alloc),
-    }
-}
-
-// Whether writing a text ends like this.
-fn writes_so(writer: &mut SlowWriter, expected: Result<(), ReplayFault>, taken: &[u8]) -> bool {
-    write_whole(writer, b"hello") == expected && writer.taken.as_slice() == taken
-}
-
-#[test]
-fn writes(rt: HostRuntime) {
-    let interrupted = ErrorKind::Interrupted;
-    for (kind, times, idle, room, expected, taken) in [
-        (interrupted, 0, 0, 9, Ok(()), b"hello".as_slice()),
-        (interrupted, 0, 0, 3, Err(ReplayFault::Write), b"hel"),
-        (interrupted, 0, 0, 0, Err(ReplayFault::Write), b""),
-        (interrupted, 0, 1, 9, Err(ReplayFault::Write), b""),
-        (interrupted, 999_999, 0, 9, Ok(()), b"hello"),
-        (interrupted, 1_000_000, 0, 9, Err(ReplayFault::Write), b""),
-        (ErrorKind::TimedOut, 1, 0, 9, Err(ReplayFault::Write), b""),
-    ] {
-        let mut writer = writer_with(rt.alloc(), kind, times, idle, room);
-        assert!(rt;
-            writes_so(&mut writer, expected, taken),
-            "{times} {idle} {room}"
-        );
-    }
-}
-
-// Whether these are the answers, the errors and the exit status at the end of a run. Both writers take two octets at a
-// time.
-fn ends_so(
-    alloc: Global,
-    ended: Result<(), ReplayFault>,
-    printed: &str,
-    told: &str,
-    status: u8,
-) -> bool {
-    let mut writer = writer_with(alloc, ErrorKind::Interrupted, 0, 0, 64);
-    let mut errors = writer_with(alloc, ErrorKind::Interrupted, 0, 0, 64);
-    conclude(ended, &mut writer, &mut errors) == status
-        && writer.taken.as_slice() == printed.as_bytes()
-        && errors.taken.as_slice() == told.as_bytes()
-}
-
-#[test]
-fn ends(rt: HostRuntime) {
-    for (ended, printed, told, status) in [
-        (Ok(()), "", "", 0),
-        (Err(ReplayFault::BadLine(7)), "line 7: bad line\n", "", 1),
-        (Err(ReplayFault::Read), "", "read fault\n", 1),
-        (Err(ReplayFault::Write), "", "write fault\n", 1),
-        (Err(ReplayFault::NoMemory), "", "no memory\n", 1),
-    ] {
-        assert!(rt;
-            ends_so(rt.alloc(), ended, printed, told, status),
-            "{printed}{told}"
-        );
-    }
 }

@@ -1,60 +1,17 @@
-use file_stores::{Filestore, FolderStore, MemoryStore, StoreFault, StoredFile};
+use file_stores::{Filestore, FolderStore, StoreFault};
 use std::fs;
-use std::rt::Files;
 use std::test::*;
 
-// Gives a store in memory a file.
-fn takes(store: &mut MemoryStore, name: &[u8], octets: &[u8]) -> bool {
-    store.calls() < 2 && store.deposit(name, octets).is_ok()
-}
-
-#[test]
-fn files_in_memory(rt: HostRuntime) {
-    let mut store = MemoryStore::new(rt.alloc());
-    assert!(rt; takes(&mut store, b"b", b"abc") && takes(&mut store, b"..", b""));
-    assert!(rt; are_kept(store.files()));
-    assert!(rt; (store.calls(), store.failures()) == (2, 0));
-}
-
-fn are_kept(files: &[StoredFile]) -> bool {
-    match files {
-        [first, second] => is_file(first, b"b", b"abc") && is_file(second, b"..", b""),
-        _ => false,
-    }
-}
-
-fn is_file(file: &StoredFile, name: &[u8], octets: &[u8]) -> bool {
-    file.name.as_slice() == name && file.octets.as_slice() == octets
-}
-
-#[test]
-fn numbers(rt: HostRuntime) {
-    assert!(rt; StoreFault::BadName.number() == 1 && StoreFault::Failed.number() == 2);
-}
-
-// An empty folder for one test.
-fn new_folder<R: Files + AllocGlobal>(rt: &R, name: &str) -> Result<String, Fail> {
-    let folder = format!(in rt.alloc(); "/tmp/file_stores_{name}")?;
-    let _ = fs::remove_dir_all(rt, folder.as_str());
-    fs::create_dir(rt, folder.as_str())?;
-    Ok(folder)
-}
+// The folder of these tests.
+const HOME: &str = "/tmp/file_stores";
 
 // A store in a folder.
-fn new_store<R: Files + AllocGlobal + Clone + Drop>(
-    rt: &R,
-    folder: &str,
-) -> Result<FolderStore<R>, Fail> {
-    let folder = String::from_str(rt.alloc(), folder)?;
-    Ok(FolderStore::new(rt.clone()?, folder))
+fn store_in(rt: &HostRuntime, folder: &str) -> Result<FolderStore<HostRuntime>, Fail> {
+    Ok(FolderStore::new(*rt, String::from_str(rt.alloc(), folder)?))
 }
 
 // Whether a folder has this many files.
-fn has_count<R: Files + AllocGlobal + Clone + Drop>(
-    rt: &R,
-    folder: &str,
-    expected: usize,
-) -> Result<bool, Fail> {
+fn has_count(rt: &HostRuntime, folder: &str, expected: usize) -> Result<bool, Fail> {
     let mut count = 0usize;
     for entry in fs::read_dir(rt, folder)? {
         let _ = entry?;
@@ -63,146 +20,90 @@ fn has_count<R: Files + AllocGlobal + Clone + Drop>(
     Ok(count == expected)
 }
 
-// Writes a file to the folder, without the store.
-fn write<R: Files + AllocGlobal>(
-    rt: &R,
-    folder: &str,
-    name: &str,
-    octets: &[u8],
-) -> Result<(), Fail> {
-    let path = format!(in rt.alloc(); "{folder}/{name}")?;
-    fs::write(rt, path.as_str(), octets)?;
-    Ok(())
-}
+// Files in the order in which they are given to a store, with their paths. An existing file is replaced as a whole, and a
+// file may have the name of a part: the eighth deposit's part would have this one.
+const FILES: [(&str, &str, &[u8]); 8] = [
+    ("b", "/tmp/file_stores/b", b"abc"),
+    ("empty", "/tmp/file_stores/empty", b""),
+    ("b", "/tmp/file_stores/b", b"z"),
+    ("c", "/tmp/file_stores/c", b"other"),
+    ("...", "/tmp/file_stores/...", b"abc"),
+    ("ä b", "/tmp/file_stores/ä b", b"abc"),
+    (".part", "/tmp/file_stores/.part", b"abc"),
+    (".part-8", "/tmp/file_stores/.part-8", b"abc"),
+];
 
-// Whether a folder has a file.
-fn has_file<R: Files + AllocGlobal>(
-    rt: &R,
-    folder: &str,
-    name: &str,
-    octets: &[u8],
-) -> Result<bool, Fail> {
-    let path = format!(in rt.alloc(); "{folder}/{name}")?;
-    Ok(fs::read(rt, path.as_str())?.as_slice() == octets)
-}
+const BAD_NAMES: [&[u8]; 7] = [b"", b".", b"..", b"a/b", b"/a", b"a\0b", b"a\xff"];
 
-// Gives a store a file, and checks it in the store's folder.
-fn keeps<R: Files + AllocGlobal, S: Files + AllocGlobal + Drop>(
-    rt: &R,
-    store: &mut FolderStore<S>,
-    folder: &str,
-    name: &str,
+// What a store answers to a file, where its calls can be counted.
+fn stored(
+    store: &mut FolderStore<HostRuntime>,
+    name: &[u8],
     octets: &[u8],
-) -> Result<bool, Fail> {
-    // a deposit requires that its call can be counted
-    if store.calls() >= 4 || store.deposit(name.as_bytes(), octets).is_err() {
-        return Ok(false);
+) -> Result<(), StoreFault> {
+    if store.calls() == u64::MAX {
+        return Err(StoreFault::Failed);
     }
-    has_file(rt, folder, name, octets)
+    store.deposit(name, octets)
 }
 
-// An existing file is replaced as a whole.
-fn replaces<R: Files + AllocGlobal, S: Files + AllocGlobal + Drop>(
-    rt: &R,
-    store: &mut FolderStore<S>,
-    folder: &str,
-) -> Result<bool, Fail> {
-    Ok(
-        keeps(rt, store, folder, "b", b"abc")?
-            && keeps(rt, store, folder, "empty", b"")?
-            && keeps(rt, store, folder, "b", b"z")?,
-    )
+fn is_file(rt: &HostRuntime, path: &str, octets: &[u8]) -> Result<bool, Fail> {
+    Ok(fs::read(rt, path)?.as_slice() == octets)
 }
 
-// A part that an earlier run left does no harm.
-fn keeps_files<R: Files + AllocGlobal + Clone + Drop>(rt: &R, folder: &str) -> Result<bool, Fail> {
-    let mut store = new_store(rt, folder)?;
-    write(rt, folder, ".part-1", b"left")?;
-    Ok(
-        replaces(rt, &mut store, folder)?
-            && keeps(rt, &mut store, folder, "c", b"other")?
-            && (store.calls(), store.failures()) == (4, 0)
-            && has_count(rt, folder, 4)?,
-    )
+fn keeps_files(rt: &HostRuntime, store: &mut FolderStore<HostRuntime>) -> Result<bool, Fail> {
+    for (name, path, octets) in FILES {
+        if stored(store, name.as_bytes(), octets).is_err() || !is_file(rt, path, octets)? {
+            return Ok(false);
+        }
+    }
+    Ok((store.calls(), store.failures()) == (8, 0))
 }
 
-#[test]
-fn files_in_a_folder(rt: HostRuntime) -> Result<(), Fail> {
-    let folder = new_folder(&rt, "files")?;
-    assert!(rt; keeps_files(&rt, folder.as_str())?);
-    fs::remove_dir_all(&rt, folder.as_str())?;
-    Ok(())
-}
-
-const BAD_NAMES: &[&[u8]] = &[b"", b".", b"..", b"a/b", b"/a", b"a\0b", b"a\xff"];
-
-// Whether a store refuses each of the bad names.
-fn refuses<S: Files + AllocGlobal + Drop>(store: &mut FolderStore<S>) -> bool {
+fn refuses_names(store: &mut FolderStore<HostRuntime>) -> bool {
     for name in BAD_NAMES {
-        if store.calls() >= 7 || store.deposit(name, b"abc") != Err(StoreFault::BadName) {
+        if stored(store, name, b"abc") != Err(StoreFault::BadName) {
             return false;
         }
     }
-    store.failures() == 7
+    (store.calls(), store.failures()) == (15, 7)
 }
 
-// Nothing of them is left in the folder.
-#[test]
-fn bad_names(rt: HostRuntime) -> Result<(), Fail> {
-    let folder = new_folder(&rt, "names")?;
-    assert!(rt; refuses(&mut new_store(&rt, folder.as_str())?));
-    assert!(rt; has_count(&rt, folder.as_str(), 0)?);
-    fs::remove_dir_all(&rt, folder.as_str())?;
-    Ok(())
-}
-
-// A file may have the name of a part: the fourth deposit's part would have this one.
-fn keeps_odd<R: Files + AllocGlobal + Clone + Drop>(rt: &R, folder: &str) -> Result<bool, Fail> {
-    let mut store = new_store(rt, folder)?;
-    Ok(
-        keeps(rt, &mut store, folder, "...", b"abc")?
-            && keeps(rt, &mut store, folder, "ä b", b"abc")?
-            && keeps(rt, &mut store, folder, ".part", b"abc")?
-            && keeps(rt, &mut store, folder, ".part-4", b"abc")?
-            && has_count(rt, folder, 4)?,
-    )
-}
-
-#[test]
-fn odd_names(rt: HostRuntime) -> Result<(), Fail> {
-    let folder = new_folder(&rt, "odd")?;
-    assert!(rt; keeps_odd(&rt, folder.as_str())?);
-    fs::remove_dir_all(&rt, folder.as_str())?;
-    Ok(())
+// A part that an earlier run left does no harm, and of bad names nothing is left.
+fn holds_files(rt: &HostRuntime) -> Result<bool, Fail> {
+    fs::write(rt, "/tmp/file_stores/.part-1", b"left")?;
+    let mut store = store_in(rt, HOME)?;
+    Ok(keeps_files(rt, &mut store)? && refuses_names(&mut store) && has_count(rt, HOME, 8)?)
 }
 
 // Whether a store in a folder keeps nothing of a file.
-fn fails<R: Files + AllocGlobal + Clone + Drop>(rt: &R, folder: &str) -> Result<bool, Fail> {
-    let mut store = new_store(rt, folder)?;
-    Ok(
-        store.calls() == 0
-            && store.deposit(b"b", b"abc") == Err(StoreFault::Failed)
-            && store.failures() == 1,
-    )
+fn fails(rt: &HostRuntime, folder: &str) -> Result<bool, Fail> {
+    let mut store = store_in(rt, folder)?;
+    let answer = stored(&mut store, b"b", b"abc");
+    Ok(answer == Err(StoreFault::Failed) && store.failures() == 1)
 }
 
-// A folder that was removed, one that is a file, and one without permission to write.
-#[test]
-fn folders_that_keep_nothing(rt: HostRuntime) -> Result<(), Fail> {
-    let folder = new_folder(&rt, "gone")?;
-    write(&rt, folder.as_str(), "b", b"abc")?;
-    assert!(rt; fails(&rt, "/tmp/file_stores_gone/b")?);
-    fs::remove_dir_all(&rt, folder.as_str())?;
-    assert!(rt; fails(&rt, folder.as_str())? && fails(&rt, "/proc")?);
-    Ok(())
-}
+// A file in place of a folder, one that is not there, one without permission to write, and one in which a folder has the
+// file's name.
+const FOLDERS: [&str; 4] = [
+    "/tmp/file_stores/b",
+    "/tmp/file_stores/gone",
+    "/proc",
+    "/tmp/file_stores/place",
+];
 
-// A file can't replace a folder: the part that was written next to it is removed again.
 #[test]
-fn place_of_a_folder(rt: HostRuntime) -> Result<(), Fail> {
-    let folder = new_folder(&rt, "place")?;
-    fs::create_dir(&rt, "/tmp/file_stores_place/b")?;
-    assert!(rt; fails(&rt, folder.as_str())? && has_count(&rt, folder.as_str(), 1)?);
-    fs::remove_dir_all(&rt, folder.as_str())?;
+fn folders(rt: HostRuntime) -> Result<(), Fail> {
+    let _ = fs::remove_dir_all(&rt, HOME);
+    fs::create_dir(&rt, HOME)?;
+    assert!(rt; holds_files(&rt)?);
+    fs::create_dir(&rt, "/tmp/file_stores/place")?;
+    fs::create_dir(&rt, "/tmp/file_stores/place/b")?;
+    for folder in FOLDERS {
+        assert!(rt; fails(&rt, folder)?, "{folder}");
+    }
+    // the part that was written beside the folder is removed again
+    assert!(rt; has_count(&rt, "/tmp/file_stores/place", 1)?);
+    fs::remove_dir_all(&rt, HOME)?;
     Ok(())
 }

@@ -1,9 +1,7 @@
-//! PDUs as values and as octets, as callers see them: one test vector for each kind, length and fault.
+//! PDUs as octets, as callers see them. `proofs/` has a vector for each kind, length and fault, which the checker computes.
 #![tactic(auto)]
 
 #[cfg(test)]
 mod codec;
-#[cfg(test)]
-mod headers;
 #[cfg(test)]
 mod pdus;

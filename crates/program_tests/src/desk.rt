@@ -1,7 +1,4 @@
-use cfdp_types::Octets;
-use program_desk::{Desk, NextLine, Said, read_files};
-use program_seats::Asker;
-use program_start::RuntimeFiles;
+use program_desk::{Desk, NextLine, Said};
 use server_lines::Command;
 use std::alloc::{AllocError, Global};
 use std::sync::Wait;
@@ -18,12 +15,7 @@ enum End {
 // The line that the main thread gets, as a letter.
 fn letter_of(next: NextLine) -> u8 {
     match next {
-        NextLine::Line(asked) => match asked.said {
-            Said::Command(_) => b'c',
-            Said::Put(..) => b'p',
-            Said::Nothing => b'n',
-            Said::NoMemory => b'o',
-        },
+        NextLine::Line(_) => b'l',
         NextLine::Awaited => b'a',
         NextLine::End => b'e',
         NextLine::NoMemory => b'm',
@@ -39,77 +31,45 @@ fn tell_end<R: Wait>(rt: &R, desk: &Desk, end: End) {
     }
 }
 
-// A command, a bad line, and two ends: the letters of what the main thread gets before and after them.
-fn found<R: Wait>(rt: &R, alloc: Global, first: End, second: End) -> Result<[u8; 5], AllocError> {
-    let desk = Desk::new(alloc, 1, 2)?;
+// The letters of what the main thread gets before a line is left, and behind it and two ends. No more is wanted of a
+// closed desk, and nobody waits at it.
+fn found<R: Wait>(rt: &R, desk: &Desk, first: End, second: End) -> ([u8; 4], bool) {
     let before = letter_of(desk.take_line(rt));
-    desk.leave_line(rt, Said::Command(Command::Quit), None);
-    desk.leave_line(rt, Said::Nothing, None);
-    tell_end(rt, &desk, first);
-    tell_end(rt, &desk, second);
-    let command = letter_of(desk.take_line(rt));
-    let nothing = letter_of(desk.take_line(rt));
-    let last = letter_of(desk.take_line(rt));
-    Ok([
-        before,
-        command,
-        nothing,
-        last,
-        letter_of(desk.take_line(rt)),
-    ])
+    let is_left = desk.leave_line(rt, Said::Command(Command::Quit), None);
+    tell_end(rt, desk, first);
+    tell_end(rt, desk, second);
+    let line = letter_of(desk.take_line(rt));
+    let end = letter_of(desk.take_line(rt));
+    let again = letter_of(desk.take_line(rt));
+    desk.close(rt);
+    let is_refused = !desk.leave_line(rt, Said::Nothing, None);
+    (
+        [before, line, end, again],
+        is_left && is_refused && desk.is_closed(),
+    )
 }
 
-// The lines that were left come first, and then the first end, whatever follows it.
-const ENDS: [(End, End, &[u8; 5]); 3] = [
-    (End::Over, End::NoMemory, b"acnee"),
-    (End::NoMemory, End::Over, b"acnmm"),
-    (End::Deserted, End::Over, b"acndd"),
+// The line that was left comes first, and then the first end, whatever follows it.
+const ENDS: [(End, End, [u8; 4]); 3] = [
+    (End::Over, End::NoMemory, *b"alee"),
+    (End::NoMemory, End::Over, *b"almm"),
+    (End::Deserted, End::Over, *b"aldd"),
 ];
+
+fn is_found<R: Wait>(
+    rt: &R,
+    alloc: Global,
+    ends: (End, End),
+    letters: [u8; 4],
+) -> Result<bool, AllocError> {
+    let desk = Desk::new(alloc, 1, 1)?;
+    Ok(found(rt, &desk, ends.0, ends.1) == (letters, true))
+}
 
 #[test]
 fn ends(rt: HostRuntime) -> Result<(), Fail> {
-    let alloc = rt.alloc();
     for (first, second, letters) in ENDS {
-        assert!(rt; found(&rt, alloc, first, second)? == *letters);
+        assert!(rt; is_found(&rt, rt.alloc(), (first, second), letters)?);
     }
-    Ok(())
-}
-
-// A line comes with the client that awaits its answer.
-#[test]
-fn askers(rt: HostRuntime) -> Result<(), Fail> {
-    let desk = Desk::new(rt.alloc(), 1, 1)?;
-    let asker = Asker { seat: 3, visit: 7 };
-    desk.leave_line(&rt, Said::Nothing, Some(asker));
-    match desk.take_line(&rt) {
-        NextLine::Line(asked) => assert_eq!(rt; asked.asker, Some(asker)),
-        _ => panic!(rt; "no line"),
-    }
-    Ok(())
-}
-
-// A thread that leaves work at a closed desk is answered that no more is wanted, and does not wait.
-#[test]
-fn closed(rt: HostRuntime) -> Result<(), Fail> {
-    let alloc = rt.alloc();
-    let desk = Desk::new(alloc, 1, 1)?;
-    assert!(rt; desk.leave_line(&rt, Said::Nothing, None));
-    desk.close(&rt);
-    assert!(rt; desk.is_closed());
-    assert!(rt; !desk.leave_line(&rt, Said::NoMemory, None));
-    assert!(rt; !desk.leave_line(&rt, Said::Nothing, None));
-    Ok(())
-}
-
-// A file that is wanted is read by the thread of `read_files`, which ends with the desk.
-#[test]
-fn files(rt: HostRuntime) -> Result<(), Fail> {
-    let alloc = rt.alloc();
-    let desk = Desk::new(alloc, 1, 1)?;
-    assert!(rt; desk.take_file(&rt).is_none() && desk.readings(&rt, alloc)?.is_empty());
-    desk.want_file(&rt, Octets::from_slice(alloc, b"\xff")?);
-    desk.close(&rt);
-    read_files(&rt, alloc, &RuntimeFiles::new(rt), &desk);
-    assert!(rt; desk.take_file(&rt).is_none());
     Ok(())
 }

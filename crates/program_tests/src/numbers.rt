@@ -8,14 +8,17 @@ const RUNS: &str = "numbers-of-runs";
 const NO_NUMBERS: &str = "no-numbers";
 
 fn open(rt: &HostRuntime, file: &str, first: u64) -> Result<NumberFile, NumbersFault> {
-    let Ok(path) = String::from_str(rt.alloc(), file) else {
-        return Err(NumbersFault::Unreadable);
-    };
-    NumberFile::open(rt, rt.alloc(), path, first, 10, 4)
+    match String::from_str(rt.alloc(), file) {
+        Ok(path) => NumberFile::open(rt, rt.alloc(), path, first, 10, 4),
+        Err(_) => Err(NumbersFault::Unreadable),
+    }
 }
 
 fn says(rt: &HostRuntime, file: &str, text: &str) -> bool {
-    fs::read_to_string(rt, file).is_ok_and(|found| found.as_str() == text)
+    match fs::read_to_string(rt, file) {
+        Ok(found) => found.as_str() == text,
+        Err(_) => false,
+    }
 }
 
 // Whether the next round is covered, and the file then has this text.
@@ -51,8 +54,7 @@ fn next_run(rt: &HostRuntime, first: u64) -> Option<u64> {
 #[test]
 fn runs(rt: HostRuntime) {
     assert!(rt; first_run(&rt));
-    assert_eq!(rt; next_run(&rt, 3), Some(15));
-    assert_eq!(rt; next_run(&rt, 20), Some(20));
+    assert!(rt; next_run(&rt, 3) == Some(15) && next_run(&rt, 20) == Some(20));
 }
 
 // Whether a file with this text is a fault, and stays unchanged.

@@ -1,48 +1,41 @@
-use program_seats::{Asker, Outbox, Seats, Way};
+use program_seats::{Asker, Seats};
+use std::alloc::Global;
+use std::sync::Wait;
 use std::test::*;
+use std::time::Clock;
 
-// Texts wait in order until they are taken, an end leaves those that wait, and a text without room cuts the way.
-#[test]
-fn outboxes(rt: HostRuntime) -> Result<(), Fail> {
-    let alloc = rt.alloc();
-    let mut outbox = Outbox::<3>::new(alloc);
-    let mut texts = Vec::new(alloc);
-    assert!(rt; outbox.is_empty() && outbox.put(b"a") && outbox.put(b"bc"));
-    outbox.take(&mut texts);
-    assert!(rt; texts.as_slice() == b"abc".as_slice() && outbox.is_empty());
-    assert!(rt; outbox.put(b"d"));
-    outbox.end();
-    assert!(rt; !outbox.put(b"e") && outbox.way() == Way::Ending);
-    outbox.take(&mut texts);
-    assert!(rt; texts.as_slice() == b"d".as_slice());
-    let mut outbox = Outbox::<3>::new(alloc);
-    assert!(rt; outbox.put(b"ab") && !outbox.put(b"cd"));
-    assert!(rt; outbox.is_empty() && outbox.way() == Way::Cut);
-    Ok(())
+const NOBODY: Asker = Asker { seat: 0, visit: 0 };
+
+const BEYOND: Asker = Asker {
+    seat: 1_000,
+    visit: 1,
+};
+
+// Whether nothing is done for an asker at a free seat: nobody asks, is answered or takes.
+fn is_nobody<R: Wait>(rt: &R, alloc: Global, seats: &Seats, asker: Asker) -> bool {
+    let is_alone = !seats.ask(rt, asker)
+        && !seats.wait_answer(rt, asker)
+        && !seats.answer(rt, asker, b"ok\n")
+        && !seats.take(rt, asker, &mut Vec::new(alloc));
+    seats.end(rt, asker);
+    seats.cut(rt, asker);
+    seats.leave(rt, asker);
+    is_alone
 }
 
-// At a free seat, nobody is answered, follows, asks or takes; and nobody may sit down once the seats are closed.
+// Nobody follows at a free seat, and nobody may sit down once the seats are closed.
+fn are_free<R: Wait + Clock>(rt: &R, alloc: Global, seats: &Seats) -> bool {
+    seats.follow(rt, NOBODY);
+    seats.tell(rt, b"event\n");
+    let are_nobody = is_nobody(rt, alloc, seats, NOBODY) && is_nobody(rt, alloc, seats, BEYOND);
+    let is_open = !seats.has_followers(rt) && !seats.is_closed(rt);
+    seats.close(rt);
+    seats.finish(rt);
+    are_nobody && is_open && seats.is_closed(rt)
+}
+
 #[test]
 fn free_seats(rt: HostRuntime) -> Result<(), Fail> {
-    let seats = Seats::new(rt.alloc())?;
-    let nobody = Asker { seat: 0, visit: 0 };
-    let beyond = Asker {
-        seat: 1_000,
-        visit: 1,
-    };
-    seats.follow(&rt, nobody);
-    seats.tell(&rt, b"event\n");
-    for asker in [nobody, beyond] {
-        assert!(rt; !seats.ask(&rt, asker) && !seats.wait_answer(&rt, asker));
-        assert!(rt; !seats.answer(&rt, asker, b"ok\n"));
-        assert!(rt; !seats.take(&rt, asker, &mut Vec::new(rt.alloc())));
-        seats.end(&rt, asker);
-        seats.cut(&rt, asker);
-        seats.leave(&rt, asker);
-    }
-    assert!(rt; !seats.has_followers(&rt) && !seats.is_closed(&rt));
-    seats.close(&rt);
-    seats.finish(&rt);
-    assert!(rt; seats.is_closed(&rt));
+    assert!(rt; are_free(&rt, rt.alloc(), &Seats::new(rt.alloc())?));
     Ok(())
 }

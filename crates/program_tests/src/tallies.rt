@@ -1,6 +1,8 @@
 use entity_routing::RouteRefusal;
 use pdu_reading::DecodeFault;
-use program_tallies::{Links, RefusalKind, RemoteTotals, Tallies, Totals};
+use program_tallies::{Ledger, Links, RefusalKind, RemoteTotals, Tallies, Totals};
+use std::alloc::{AllocError, Global};
+use std::sync::Wait;
 use std::test::*;
 use txn_events::Refusal;
 
@@ -8,10 +10,8 @@ const ODD: RefusalKind = RefusalKind::Route(RouteRefusal::DecodeFault(DecodeFaul
 
 const LATE: RefusalKind = RefusalKind::Lane(Refusal::OldTransaction);
 
-// The counts of two workers and the main thread are added up, for all remote entities and for each.
-#[test]
-fn traffic(rt: HostRuntime) -> Result<(), Fail> {
-    let tallies = Tallies::new(rt.alloc(), 2, 2)?;
+// Two workers take a datagram each of a remote entity and one of nobody; the main thread sends one, and can't send two.
+fn count(tallies: &Tallies) {
     for (place, worker) in tallies.workers.iter().enumerate() {
         worker.note_arrival(10, Some(place));
         worker.note_arrival(1, None);
@@ -20,6 +20,18 @@ fn traffic(rt: HostRuntime) -> Result<(), Fail> {
     tallies.own.note_departure(1, Some(100));
     tallies.own.note_departure(1, None);
     tallies.own.note_unaddressed();
+}
+
+const SECOND: RemoteTotals = RemoteTotals {
+    datagrams_in: 1,
+    octets_in: 10,
+    datagrams_out: 1,
+    octets_out: 100,
+    failed_sends: 1,
+};
+
+// The counts are added up, for all remote entities and for each.
+fn are_counted(tallies: &Tallies) -> bool {
     let totals = Totals {
         datagrams_in: 4,
         octets_in: 22,
@@ -30,50 +42,74 @@ fn traffic(rt: HostRuntime) -> Result<(), Fail> {
         foreign_datagrams: 2,
         ..Totals::default()
     };
-    assert!(rt; tallies.totals() == totals);
-    let second = RemoteTotals {
-        datagrams_in: 1,
-        octets_in: 10,
-        datagrams_out: 1,
-        octets_out: 100,
-        failed_sends: 1,
-    };
-    assert!(rt; tallies.remote_totals(1) == second);
-    assert!(rt; tallies.remote_totals(2) == RemoteTotals::default());
-    Ok(())
+    tallies.totals() == totals
+        && tallies.remote_totals(1) == SECOND
+        && tallies.remote_totals(2) == RemoteTotals::default()
 }
 
-// Each kind of refusal is counted, has its last case, and is reported once.
+// Two kinds of refusal; the first one twice, and once more after it was reported.
+fn note_first<R: Wait>(rt: &R, ledger: &Ledger) {
+    ledger.note(rt, ODD, 5_000, None, &[7; 100]);
+    ledger.note(rt, LATE, 5_001, None, &[]);
+    ledger.note(rt, ODD, 5_002, None, b"ab");
+}
+
+// Each kind has its count and its last case.
+fn has_cases<R: Wait>(rt: &R, alloc: Global, ledger: &Ledger) -> Result<bool, AllocError> {
+    let cases = ledger.cases(rt, alloc)?;
+    Ok(match cases.as_slice() {
+        [odd, late] => {
+            (odd.kind, odd.count, odd.last) == (ODD, 2, 5_002)
+                && odd.octets() == b"ab".as_slice()
+                && late.kind == LATE
+        }
+        _ => false,
+    })
+}
+
+// How many cases are reported now.
+fn reported<R: Wait>(rt: &R, alloc: Global, ledger: &Ledger) -> Result<usize, AllocError> {
+    Ok(ledger.take_unreported(rt, alloc)?.len())
+}
+
+// Whether one case is reported, with its first octets.
+fn reports_one<R: Wait>(rt: &R, alloc: Global, ledger: &Ledger) -> Result<bool, AllocError> {
+    let due = ledger.take_unreported(rt, alloc)?;
+    Ok(match due.as_slice() {
+        [odd] => odd.unreported() == 1 && odd.octets().len() == 64,
+        _ => false,
+    })
+}
+
+fn are_reported<R: Wait>(rt: &R, alloc: Global, ledger: &Ledger) -> Result<bool, AllocError> {
+    note_first(rt, ledger);
+    let is_known = ledger.total() == 3 && has_cases(rt, alloc, ledger)?;
+    let first = (reported(rt, alloc, ledger)?, reported(rt, alloc, ledger)?);
+    ledger.note(rt, ODD, 5_020, None, &[7; 100]);
+    Ok(is_known && first == (2, 0) && reports_one(rt, alloc, ledger)?)
+}
+
 #[test]
-fn refusals(rt: HostRuntime) -> Result<(), Fail> {
-    let alloc = rt.alloc();
-    let tallies = Tallies::new(alloc, 0, 0)?;
-    let ledger = &tallies.ledger;
-    ledger.note(&rt, ODD, 5_000, None, &[7; 100]);
-    ledger.note(&rt, LATE, 5_001, None, &[]);
-    ledger.note(&rt, ODD, 5_002, None, b"ab");
-    assert_eq!(rt; ledger.total(), 3);
-    let cases = ledger.cases(&rt, alloc)?;
-    assert!(rt; cases.len() == 2 && cases[0].kind == ODD && cases[0].count == 2);
-    assert!(rt; cases[0].last == 5_002 && cases[0].octets() == b"ab".as_slice());
-    assert_eq!(rt; ledger.take_unreported(&rt, alloc)?.len(), 2);
-    assert_eq!(rt; ledger.take_unreported(&rt, alloc)?.len(), 0);
-    ledger.note(&rt, ODD, 5_020, None, &[7; 100]);
-    let due = ledger.take_unreported(&rt, alloc)?;
-    assert!(rt; due.len() == 1 && due[0].unreported() == 1 && due[0].octets().len() == 64);
+fn counts(rt: HostRuntime) -> Result<(), Fail> {
+    let tallies = Tallies::new(rt.alloc(), 2, 2)?;
+    count(&tallies);
+    assert!(rt; are_counted(&tallies) && are_reported(&rt, rt.alloc(), &tallies.ledger)?);
     Ok(())
 }
 
 // A link is held from the first hold on, until it is released.
-#[test]
-fn links(rt: HostRuntime) -> Result<(), Fail> {
-    let links = Links::new(rt.alloc(), 2)?;
+fn is_held_once(links: &Links) -> bool {
     links.hold(1, 5);
     links.hold(1, 9);
     links.hold(2, 9);
-    assert!(rt; links.held_since(1) == Some(5) && links.is_held(1));
-    assert!(rt; !links.is_held(0) && !links.is_held(2));
-    assert!(rt; links.release(1) && !links.release(1) && !links.release(0));
-    assert_eq!(rt; links.held_since(1), None);
+    let is_held = links.held_since(1) == Some(5) && links.is_held(1);
+    let are_others_free = !links.is_held(0) && !links.is_held(2);
+    let is_released = links.release(1) && !links.release(1) && !links.release(0);
+    is_held && are_others_free && is_released && links.held_since(1).is_none()
+}
+
+#[test]
+fn links(rt: HostRuntime) -> Result<(), Fail> {
+    assert!(rt; is_held_once(&Links::new(rt.alloc(), 2)?));
     Ok(())
 }

@@ -1,76 +1,50 @@
-use std::alloc::Global;
+use std::alloc::{AllocError, Global};
 use std::test::Fail;
 use web_console::Events;
 
-// Events of a run, numbered from one on.
-fn events_of(alloc: Global, start: &[u8], count: u64) -> Result<Events, Fail> {
-    let mut events = Events::new(alloc);
-    events.begin(start)?;
-    for number in 1..=count {
-        events.push(number, b"{}".as_slice().to_vec(alloc)?)?;
-    }
-    Ok(events)
+fn push(alloc: Global, events: &mut Events, number: u64, json: &[u8]) -> Result<(), AllocError> {
+    events.push(number, Vec::from_slice(alloc, json)?)
 }
 
-// The events that are sent after this ID.
-fn told(alloc: Global, events: &Events, last: &[u8]) -> Result<Vec<u8>, Fail> {
-    let mut text = Vec::new(alloc);
-    events.append_to(last, &mut text)?;
-    Ok(text)
-}
-
-#[test]
-fn events_behind_an_id(rt: HostRuntime) -> Result<(), Fail> {
-    let events = events_of(rt.alloc(), b"2026-11-26".as_slice(), 3)?;
-    assert_eq!(rt;
-        told(rt.alloc(), &events, b"2026-11-26-2".as_slice())?.as_slice(),
-        b"retry: 1000\n\nid: 2026-11-26-3\ndata: {}\n\n".as_slice()
-    );
-    for other in [
-        b"".as_slice(),
-        b"2",
-        b"-2",
-        b"2026-11-26-",
-        b"2026-11-26-4",
-        b"2026-11-25-2",
-        b"2026-11-26-2x",
-        b"2026-11-26-99999999999999999999",
-    ] {
-        let text = told(rt.alloc(), &events, other)?;
-        assert!(rt;
-            text.as_slice()
-                .starts_with(b"retry: 1000\n\nid: 2026-11-26-1\n".as_slice())
-        );
-    }
-    Ok(())
-}
-
-#[test]
-fn another_run_begins(rt: HostRuntime) -> Result<(), Fail> {
-    let mut events = events_of(rt.alloc(), b"a".as_slice(), 3)?;
+// Events of a run, numbered from one on; the last one comes again with other octets.
+fn fill(alloc: Global, events: &mut Events, count: u64) -> Result<(), AllocError> {
     events.begin(b"a".as_slice())?;
-    events.push(3, b"[]".as_slice().to_vec(rt.alloc())?)?;
-    assert!(rt;
-        told(rt.alloc(), &events, b"a-2".as_slice())?
-            .as_slice()
-            .ends_with(b"\nid: a-3\ndata: {}\n\n".as_slice())
-    );
+    for number in 1..=count {
+        push(alloc, events, number, b"{}")?;
+    }
+    events.begin(b"a".as_slice())?;
+    push(alloc, events, count, b"[]")
+}
+
+// Replaces a text with the events that are sent after this ID.
+fn tell(events: &Events, last: &[u8], text: &mut Vec<u8>) -> Result<(), AllocError> {
+    text.clear();
+    events.append_to(last, text)
+}
+
+// The oldest events go; of those that stay all are told without an ID, and the last one after that of the one before.
+fn are_last(events: &Events, text: &mut Vec<u8>) -> Result<bool, AllocError> {
+    tell(events, b"", text)?;
+    let are_all = text
+        .as_slice()
+        .starts_with(b"retry: 1000\n\nid: a-6\n".as_slice());
+    tell(events, b"a-1028", text)?;
+    Ok(are_all && text.as_slice() == b"retry: 1000\n\nid: a-1029\ndata: {}\n\n".as_slice())
+}
+
+// Of another run only its own events are told.
+fn begins_anew(alloc: Global, events: &mut Events, text: &mut Vec<u8>) -> Result<bool, AllocError> {
     events.begin(b"b".as_slice())?;
-    events.push(2, b"[]".as_slice().to_vec(rt.alloc())?)?;
-    assert_eq!(rt;
-        told(rt.alloc(), &events, b"a-2".as_slice())?.as_slice(),
-        b"retry: 1000\n\nid: b-2\ndata: []\n\n".as_slice()
-    );
-    Ok(())
+    push(alloc, events, 2, b"[]")?;
+    tell(events, b"a-1028", text)?;
+    Ok(text.as_slice() == b"retry: 1000\n\nid: b-2\ndata: []\n\n".as_slice())
 }
 
 #[test]
-fn the_oldest_events_go(rt: HostRuntime) -> Result<(), Fail> {
-    let events = events_of(rt.alloc(), b"a".as_slice(), 1029)?;
-    let text = told(rt.alloc(), &events, b"".as_slice())?;
-    assert!(rt;
-        text.as_slice()
-            .starts_with(b"retry: 1000\n\nid: a-6\n".as_slice())
-    );
+fn events_of_two_runs(rt: HostRuntime) -> Result<(), Fail> {
+    let mut events = Events::new(rt.alloc());
+    let mut text = Vec::new(rt.alloc());
+    fill(rt.alloc(), &mut events, 1029)?;
+    assert!(rt; are_last(&events, &mut text)? && begins_anew(rt.alloc(), &mut events, &mut text)?);
     Ok(())
 }

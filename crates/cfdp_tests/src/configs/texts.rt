@@ -1,5 +1,4 @@
-//! Texts of configurations, and parts of them.
-use entity_config::{ConfigFault, Key, Section};
+//! The text of a configuration.
 
 // The text of examples/entity.toml.
 pub const EXAMPLE: &str =
@@ -58,24 +57,3 @@ recv2 = { nak_limit = "suspend", filestore_rejection = "cancel" }
 # The checksum of the files that are sent to it: "modular", or "null" for none. Modular where this key is left out.
 checksum = "modular"
 "#;
-
-/// Faults as they are printed, by their numbers.
-pub const PRINTED: &[(ConfigFault, u8, &str)] = &[
-    (ConfigFault::BadToml, 1, "the text is not TOML"),
-    (
-        ConfigFault::MissingKey(Key::Capacity),
-        2,
-        "`capacity` is missing",
-    ),
-    (
-        ConfigFault::WrongType(Key::ReceiveOne),
-        3,
-        "the value of `recv1` has the wrong type",
-    ),
-    (
-        ConfigFault::UnknownKey(Section::Entity),
-        5,
-        "the table `entity` has a key that is not known there",
-    ),
-    (ConfigFault::NoMemory, 12, "no memory"),
-];

@@ -1,0 +1,2 @@
+pub mod VectorRows
+pub mod LargeVectorRows

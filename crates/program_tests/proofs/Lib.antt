@@ -1,0 +1,2 @@
+pub mod StatusRows
+pub mod EventRows
