@@ -20,16 +20,11 @@ const WINDOW: u32 = 32;
 // How many milliseconds an end waits for the other before it gives up.
 const PATIENCE_MS: u64 = 1_000;
 
-// Two sockets that send to each other.
-fn two_sockets<R: Net>(rt: &R) -> Result<(UdpSocket, UdpSocket), Fault> {
-    let first = UdpSocket::bind(rt, "127.0.0.1:0")?;
-    let second = UdpSocket::bind(rt, "127.0.0.1:0")?;
-    first.connect(second.local_addr()?)?;
-    second.connect(first.local_addr()?)?;
-    let patience = Some(Duration::from_millis(PATIENCE_MS));
-    first.set_read_timeout(patience)?;
-    second.set_read_timeout(patience)?;
-    Ok((first, second))
+// Has a socket send to another, and wait for it no longer than that.
+fn turn_to(socket: &UdpSocket, other: &UdpSocket) -> Result<(), Fault> {
+    socket.connect(other.local_addr()?)?;
+    socket.set_read_timeout(Some(Duration::from_millis(PATIENCE_MS)))?;
+    Ok(())
 }
 
 // A datagram of this many octets.
@@ -72,15 +67,29 @@ fn take_all(socket: &UdpSocket, buffer: &mut [u8], count: u32) -> u32 {
     count
 }
 
-/// Sends datagrams over loopback; answers how many arrived.
-pub(crate) fn blast<R: Threads + Net>(rt: &R, alloc: Global, load: Load) -> Result<u64, Fault> {
-    let (sending, taking) = two_sockets(rt)?;
+// Sends datagrams from one socket to another; answers how many arrived.
+fn send_over<R: Threads>(
+    rt: &R,
+    alloc: Global,
+    sending: &UdpSocket,
+    taking: &UdpSocket,
+    load: Load,
+) -> Result<u64, Fault> {
+    turn_to(sending, taking)?;
+    turn_to(taking, sending)?;
     let sent = datagram(alloc, load.octets)?;
     let mut buffer = datagram(alloc, load.octets)?;
     let ((), came) = thread::join(
         rt,
-        || send_all(&sending, sent.as_slice(), load.datagrams),
-        || take_all(&taking, buffer.as_mut_slice(), load.datagrams),
+        || send_all(sending, sent.as_slice(), load.datagrams),
+        || take_all(taking, buffer.as_mut_slice(), load.datagrams),
     );
     Ok(u64::from(came))
+}
+
+/// Sends datagrams over loopback; answers how many arrived.
+pub(crate) fn blast<R: Threads + Net>(rt: &R, alloc: Global, load: Load) -> Result<u64, Fault> {
+    let sending = UdpSocket::bind(rt, "127.0.0.1:0")?;
+    let taking = UdpSocket::bind(rt, "127.0.0.1:0")?;
+    send_over(rt, alloc, &sending, &taking, load)
 }

@@ -105,25 +105,44 @@ fn read_words(rt: &HostRuntime) -> Result<Option<Wanted>, Fault> {
     }))
 }
 
+// The scenarios by their names.
+const NAMES: [(&str, Scenario); 15] = [
+    ("eof-last", Scenario::Receives(Coming::EofLast)),
+    (
+        "eof-first-rising",
+        Scenario::Receives(Coming::EofFirst(Order::Rising)),
+    ),
+    (
+        "eof-first-falling",
+        Scenario::Receives(Coming::EofFirst(Order::Falling)),
+    ),
+    (
+        "eof-first-mixed",
+        Scenario::Receives(Coming::EofFirst(Order::Mixed)),
+    ),
+    (
+        "single-octets-falling",
+        Scenario::Receives(Coming::SingleOctets),
+    ),
+    ("prompts", Scenario::Receives(Coming::Prompts)),
+    ("file-sent", Scenario::SendsOnce),
+    ("naks", Scenario::Sends(Parts::Segments)),
+    ("naks-of-octets", Scenario::Sends(Parts::Octets)),
+    ("timers", Scenario::Times),
+    ("one-thread", Scenario::Listed),
+    ("one-producer", Scenario::Shared { lanes: 1 }),
+    ("four-producers", Scenario::Shared { lanes: 4 }),
+    ("deliveries", Scenario::Deliveries),
+    ("blast", Scenario::Blast),
+];
+
 fn scenario_of(name: &str) -> Option<Scenario> {
-    match name {
-        "eof-last" => Some(Scenario::Receives(Coming::EofLast)),
-        "eof-first-rising" => Some(Scenario::Receives(Coming::EofFirst(Order::Rising))),
-        "eof-first-falling" => Some(Scenario::Receives(Coming::EofFirst(Order::Falling))),
-        "eof-first-mixed" => Some(Scenario::Receives(Coming::EofFirst(Order::Mixed))),
-        "single-octets-falling" => Some(Scenario::Receives(Coming::SingleOctets)),
-        "prompts" => Some(Scenario::Receives(Coming::Prompts)),
-        "file-sent" => Some(Scenario::SendsOnce),
-        "naks" => Some(Scenario::Sends(Parts::Segments)),
-        "naks-of-octets" => Some(Scenario::Sends(Parts::Octets)),
-        "timers" => Some(Scenario::Times),
-        "one-thread" => Some(Scenario::Listed),
-        "one-producer" => Some(Scenario::Shared { lanes: 1 }),
-        "four-producers" => Some(Scenario::Shared { lanes: 4 }),
-        "deliveries" => Some(Scenario::Deliveries),
-        "blast" => Some(Scenario::Blast),
-        _ => None,
+    for (other, scenario) in NAMES {
+        if name == other {
+            return Some(scenario);
+        }
     }
+    None
 }
 
 // Runs a scenario, and answers its count.

@@ -132,31 +132,34 @@ fn take(core: &mut ReceiverCore, pdu: Pdu) -> Result<(u64, bool), Fault> {
     step(core, &What::Pdu(pdu))
 }
 
-// Takes all that comes; how many PDUs are sent, and whether the file is given to its store at the end.
+// Takes all that comes; how many PDUs are sent. A whole file is given to its store at the end.
 fn take_all(
     alloc: Global,
     core: &mut ReceiverCore,
     file: &[u8],
     coming: Coming,
     count: u32,
-) -> Result<(u64, bool), Fault> {
+) -> Result<u64, Fault> {
     let (mut sent, mut is_given) = (0u64, false);
     for number in 0..coming.pdus(count) {
         let stepped = take(core, coming.pdu(alloc, file, count, number)?)?;
         sent = sent.saturating_add(stepped.0);
         is_given = stepped.1;
     }
-    Ok((sent, is_given))
-}
-
-/// Receives what comes of a file, and counts the PDUs that are sent.
-pub(crate) fn receive(alloc: Global, coming: Coming, count: u32) -> Result<u64, Fault> {
-    let file = file_of(alloc, coming.size(count))?;
-    let mut core = opened(alloc, coming.size(count))?;
-    let (sent, is_given) = take_all(alloc, &mut core, file.as_slice(), coming, count)?;
     if is_given == coming.is_whole() {
         Ok(sent)
     } else {
         Err(Fault::NotGiven)
     }
+}
+
+fn received(alloc: Global, file: &[u8], coming: Coming, count: u32) -> Result<u64, Fault> {
+    let mut core = opened(alloc, coming.size(count))?;
+    take_all(alloc, &mut core, file, coming, count)
+}
+
+/// Receives what comes of a file, and counts the PDUs that are sent.
+pub(crate) fn receive(alloc: Global, coming: Coming, count: u32) -> Result<u64, Fault> {
+    let file = file_of(alloc, coming.size(count))?;
+    received(alloc, file.as_slice(), coming, count)
 }

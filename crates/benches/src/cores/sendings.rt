@@ -74,40 +74,41 @@ fn step(core: &mut SenderCore, event: &What) -> Result<(), Fault> {
     Ok(())
 }
 
-// Steps a sender.
-fn tell(core: &mut SenderCore, event: What) -> Result<(), Fault> {
-    step(core, &event)
-}
-
 // Sends the Metadata, so many segments and the EOF.
-fn send(core: &mut SenderCore, segments: u32) -> Result<(), Fault> {
-    tell(core, What::Pump)?;
-    for _ in 0..segments {
-        tell(core, What::Pump)?;
+fn send(core: &mut SenderCore, segments: u32) -> Result<u64, Fault> {
+    for _ in 0..u64::from(segments) + 2 {
+        step(core, &What::Pump)?;
     }
-    tell(core, What::Pump)
+    Ok(u64::from(segments))
 }
 
 /// A file of so many segments that is sent once.
 pub(crate) fn file(alloc: Global, segments: u32) -> Result<u64, Fault> {
     let mut core = opened(alloc, segments.saturating_mul(SEGMENT))?;
-    send(&mut core, segments)?;
-    Ok(u64::from(segments))
+    send(&mut core, segments)
 }
 
-// Takes so many NAKs, and sends one part behind each.
-fn send_again(alloc: Global, core: &mut SenderCore, parts: Parts, count: u32) -> Result<(), Fault> {
+fn take(core: &mut SenderCore, nak: Pdu) -> Result<(), Fault> {
+    step(core, &What::Pdu(nak))
+}
+
+// Sends the file, takes so many NAKs, and sends one part behind each.
+fn send_again(
+    alloc: Global,
+    core: &mut SenderCore,
+    parts: Parts,
+    count: u32,
+) -> Result<u64, Fault> {
+    send(core, FILE / SEGMENT)?;
     for number in 0..count {
-        tell(core, What::Pdu(parts.nak(alloc, number)?))?;
-        tell(core, What::Pump)?;
+        take(core, parts.nak(alloc, number)?)?;
+        step(core, &What::Pump)?;
     }
-    Ok(())
+    Ok(u64::from(count))
 }
 
 /// A file that is sent, and so many NAKs, each for parts of it all over; one part is sent between two NAKs.
 pub(crate) fn naks(alloc: Global, parts: Parts, count: u32) -> Result<u64, Fault> {
     let mut core = opened(alloc, FILE)?;
-    send(&mut core, FILE / SEGMENT)?;
-    send_again(alloc, &mut core, parts, count)?;
-    Ok(u64::from(count))
+    send_again(alloc, &mut core, parts, count)
 }

@@ -1,16 +1,14 @@
 //! Timers that are armed again and again.
 use crate::fault::Fault;
 use cfdp_types::{EntityId, TimerKind, TimerOp, TxnKey};
-use std::alloc::Global;
+use std::alloc::{AllocError, Global};
 use timer_list::TimerList;
 
 /// Turns in which each tenth timer is armed again.
 const TURNS: u32 = 100;
 
-/// So many armed timers; in each turn each tenth is armed again, and the list is asked what is due. At the
-/// end some are taken out.
-pub(crate) fn turns(alloc: Global, count: u32) -> Result<u64, Fault> {
-    let mut timers = TimerList::new(alloc);
+// How many timers come due while so many are armed, each tenth again in each turn, and some are taken out.
+fn turn(timers: &mut TimerList, count: u32) -> Result<u64, AllocError> {
     for seq in 0..count {
         timers.apply(arming(seq, 0), 0)?;
     }
@@ -19,12 +17,19 @@ pub(crate) fn turns(alloc: Global, count: u32) -> Result<u64, Fault> {
         for seq in (turn % 10..count).step_by(10) {
             timers.apply(arming(seq, turn), u64::from(turn))?;
         }
-        due = due.saturating_add(taken(&mut timers, u64::from(turn)));
+        due = due.saturating_add(taken(timers, u64::from(turn)));
     }
     for _ in 0..TURNS {
-        due = due.saturating_add(taken(&mut timers, u64::MAX));
+        due = due.saturating_add(taken(timers, u64::MAX));
     }
     Ok(due)
+}
+
+/// So many armed timers; in each turn each tenth is armed again, and the list is asked what is due. At the
+/// end some are taken out.
+pub(crate) fn turns(alloc: Global, count: u32) -> Result<u64, Fault> {
+    let mut timers = TimerList::new(alloc);
+    Ok(turn(&mut timers, count)?)
 }
 
 // How many timers are taken out where one that is due is asked for.
