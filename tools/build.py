@@ -77,7 +77,7 @@ def prove(room, names):
                           text=True, errors="replace") as run:
         for line in run.stdout:
             printed.append(line)
-            if found := re.match(r"rt: (\w+) proved$", line):
+            if found := re.match(r"rt: (\w+) (?:proved$|is kept: )", line):
                 done += 1
                 print(f"    {done} of {len(names)} crates: {found[1]}", flush=True)
             elif re.match(r"rt: \w+: (its tests are|trying its must-fail edits)|must-fail ", line):
