@@ -58,11 +58,10 @@ deb: programs web
 browser: web
 	@tests/browser.py $(web) docs/pictures/console.png
 
-# each allocation refused in turn, and changed datagrams: the program for both is proved and built
+# each allocation refused in turn, and changed datagrams: the programs for both are proved and built
 memory:
-	@tools/build.py hostile_runs
-	@$(hostile) mutate 20000
-	@tests/memory.py $(hostile)
+	@tools/build.py hostile_runs cfdp_replay
+	@tests/memory.py $(hostile) $(program)
 
 # the gate: every proof from nothing, the must-fail edits, the tests and the programs, and how runs of the programs end
 test:
@@ -73,7 +72,7 @@ test:
 	@tests/endings.sh $(program)
 	@tests/examples.sh $(program)
 	@tests/scripts.py $(program)
-	@tests/memory.py $(hostile)
+	@tests/memory.py $(hostile) $(program)
 	@tests/terminal.py $(program)
 	@examples/transfer.sh $(server) $(put) 2 4194304 7 11
 	@examples/transfer.sh $(server) $(put) 1 1048576 0 0

@@ -1,7 +1,7 @@
-//! Calls besides those of the entities, each made once more if memory ran out.
+//! Calls besides those of the shared entity, each made once more if memory ran out.
 
-use crate::datagrams::GOOD;
-use crate::fault::Fault;
+use crate::datagrams::{GOOD, SHORTENED};
+use crate::reference;
 use crate::transcript::Transcript;
 use cfdp_types::{EntityId, TimerKind, TimerOp, TxnKey};
 use entity_config::{ConfigFault, read_config};
@@ -10,12 +10,20 @@ use ind_words::WordReader;
 use indications::{Indication, Side};
 use pdu_codec::{DecodeFault, Pdu, decode, encode};
 use std::alloc::{AllocError, Global};
+use std::mem;
 use timer_list::TimerList;
+use world_core::World;
 
 /// Makes all of the calls.
-pub(crate) fn make_all(alloc: Global, transcript: &mut Transcript) -> Result<(), Fault> {
+pub(crate) fn make_all(alloc: Global, transcript: &mut Transcript) -> Result<(), AllocError> {
     for octets in GOOD {
-        read_and_write(alloc, transcript, octets)?;
+        read_and_write(alloc, transcript, octets, octets)?;
+    }
+    for (octets, written) in SHORTENED {
+        read_and_write(alloc, transcript, octets, written)?;
+    }
+    if !open_world(alloc, transcript)? {
+        open_world(alloc, transcript)?;
     }
     if !configure(alloc, transcript)? {
         configure(alloc, transcript)?;
@@ -28,30 +36,75 @@ pub(crate) fn make_all(alloc: Global, transcript: &mut Transcript) -> Result<(),
 }
 
 // Reads a datagram, and writes it again.
-fn read_and_write(alloc: Global, transcript: &mut Transcript, octets: &[u8]) -> Result<(), Fault> {
-    let pdu = match decode(alloc, octets) {
-        Err(DecodeFault::NoMemory) => {
-            transcript.note_made("decode", false)?;
-            decode(alloc, octets)?
-        }
-        read => read?,
-    };
-    transcript.note_made("decode", true)?;
-    if !write_once(alloc, transcript, &pdu)? {
-        write_once(alloc, transcript, &pdu)?;
+fn read_and_write(
+    alloc: Global,
+    transcript: &mut Transcript,
+    octets: &[u8],
+    written: &[u8],
+) -> Result<(), AllocError> {
+    if !read_once(alloc, transcript, octets, written)? {
+        read_once(alloc, transcript, octets, written)?;
     }
     Ok(())
 }
 
-fn write_once(alloc: Global, transcript: &mut Transcript, pdu: &Pdu) -> Result<bool, Fault> {
+fn read_once(
+    alloc: Global,
+    transcript: &mut Transcript,
+    octets: &[u8],
+    written: &[u8],
+) -> Result<bool, AllocError> {
+    match &decode(alloc, octets) {
+        Ok(pdu) => {
+            transcript.note_made("decode", true)?;
+            write_back(alloc, transcript, pdu, written)?;
+            Ok(true)
+        }
+        Err(DecodeFault::NoMemory) => transcript.note_made("decode", false),
+        Err(_) => {
+            transcript.note("decode", "no PDU")?;
+            Ok(true)
+        }
+    }
+}
+
+fn write_back(
+    alloc: Global,
+    transcript: &mut Transcript,
+    pdu: &Pdu,
+    written: &[u8],
+) -> Result<(), AllocError> {
+    if !write_once(alloc, transcript, pdu, written)? {
+        write_once(alloc, transcript, pdu, written)?;
+    }
+    Ok(())
+}
+
+fn write_once(
+    alloc: Global,
+    transcript: &mut Transcript,
+    pdu: &Pdu,
+    written: &[u8],
+) -> Result<bool, AllocError> {
     let mut out = Vec::new(alloc);
     if encode(pdu, &mut out).is_err() {
-        return Ok(transcript.note_made("encode", false)?);
+        return transcript.note_made("encode", false);
     }
-    let made = hex::encode(alloc, out.as_slice());
-    let text = made.or_else(|_error| hex::encode(alloc, out.as_slice()))?;
-    transcript.note("encode", text.as_str())?;
+    let is_right = out.as_slice() == written;
+    transcript.note("encode", if is_right { "ok" } else { "other octets" })?;
     Ok(true)
+}
+
+// Opens an entity of one thread. It is not dropped, since the proof of what drops one is expensive.
+fn open_world(alloc: Global, transcript: &mut Transcript) -> Result<bool, AllocError> {
+    let config = reference(alloc)?;
+    match World::open(alloc, config) {
+        Ok(world) => {
+            mem::forget(world);
+            transcript.note_made("World::open", true)
+        }
+        Err(AllocError) => transcript.note_made("World::open", false),
+    }
 }
 
 // Two users, two remote entities, and a handler.
@@ -96,17 +149,16 @@ checksum = "null"
 "#;
 
 // Reads a configuration; answers whether there was memory for it.
-fn configure(alloc: Global, transcript: &mut Transcript) -> Result<bool, Fault> {
-    match read_config(alloc, CONFIG) {
+fn configure(alloc: Global, transcript: &mut Transcript) -> Result<bool, AllocError> {
+    match &read_config(alloc, CONFIG) {
         Ok(config) if config.users() == 2 && config.remotes() == 2 => {
-            Ok(transcript.note_made("read_config", true)?)
+            transcript.note_made("read_config", true)
         }
-        Ok(_) => {
+        Err(ConfigFault::NoMemory) => transcript.note_made("read_config", false),
+        _ => {
             transcript.note("read_config", "another configuration")?;
             Ok(true)
         }
-        Err(ConfigFault::NoMemory) => Ok(transcript.note_made("read_config", false)?),
-        Err(fault) => Err(Fault::Config(fault)),
     }
 }
 
@@ -114,7 +166,7 @@ fn configure(alloc: Global, transcript: &mut Transcript) -> Result<bool, Fault> 
 const TIMERS: u32 = 20;
 
 // Arms timers in one list, until they come due.
-fn arm_timers(alloc: Global, transcript: &mut Transcript) -> Result<(), Fault> {
+fn arm_timers(alloc: Global, transcript: &mut Transcript) -> Result<(), AllocError> {
     let mut timers = TimerList::new(alloc);
     for stamp in 0..TIMERS {
         let op = TimerOp::Arm {
@@ -143,11 +195,18 @@ fn arm_timers(alloc: Global, transcript: &mut Transcript) -> Result<(), Fault> {
 // How many segments a reader of words has room for.
 const SEGMENTS: u32 = 3;
 
-fn read_word(alloc: Global, transcript: &mut Transcript) -> Result<bool, Fault> {
-    let Ok(mut reader) = WordReader::with_room(alloc, Side::Receiver, SEGMENTS as usize) else {
-        return Ok(transcript.note_made("WordReader::with_room", false)?);
-    };
-    transcript.note_made("WordReader::with_room", true)?;
+fn read_word(alloc: Global, transcript: &mut Transcript) -> Result<bool, AllocError> {
+    match WordReader::with_room(alloc, Side::Receiver, SEGMENTS as usize) {
+        Ok(mut reader) => {
+            transcript.note_made("WordReader::with_room", true)?;
+            read_segments(transcript, &mut reader)?;
+            Ok(true)
+        }
+        Err(AllocError) => transcript.note_made("WordReader::with_room", false),
+    }
+}
+
+fn read_segments(transcript: &mut Transcript, reader: &mut WordReader) -> Result<(), AllocError> {
     for number in 0..SEGMENTS + 1 {
         let segment = Indication::FileSegmentRecv {
             offset: 8 * number,
@@ -159,11 +218,11 @@ fn read_word(alloc: Global, transcript: &mut Transcript) -> Result<bool, Fault> 
             if is_taken { "taken" } else { "no word" },
         )?;
     }
-    Ok(true)
+    Ok(())
 }
 
 // Copies a set of offsets.
-fn copy_gaps(alloc: Global, transcript: &mut Transcript) -> Result<(), Fault> {
+fn copy_gaps(alloc: Global, transcript: &mut Transcript) -> Result<(), AllocError> {
     let made = Gaps::with_room(alloc, 2);
     let mut gaps = made.or_else(|_error| Gaps::with_room(alloc, 2))?;
     for start in [0, 8] {
@@ -171,22 +230,27 @@ fn copy_gaps(alloc: Global, transcript: &mut Transcript) -> Result<(), Fault> {
             gaps.cover(start, start + 4)?;
         }
     }
-    let copy = match gaps.copy() {
-        Ok(copy) => copy,
-        Err(AllocError) => {
-            transcript.note_made("Gaps::copy", false)?;
-            gaps.copy()?
-        }
-    };
-    let made = missing_text(alloc, &copy);
-    let text = made.or_else(|_error| missing_text(alloc, &copy))?;
-    Ok(transcript.note("Gaps::copy", text.as_str())?)
+    if !copy_once(transcript, &gaps)? {
+        copy_once(transcript, &gaps)?;
+    }
+    Ok(())
 }
 
-fn missing_text(alloc: Global, gaps: &Gaps) -> Result<String, AllocError> {
-    let mut text = String::new(alloc);
-    for Run { start, end } in gaps.missing(16)? {
-        write!(text, "{start}-{end} ")?;
+fn copy_once(transcript: &mut Transcript, gaps: &Gaps) -> Result<bool, AllocError> {
+    match &gaps.copy() {
+        Ok(copy) => {
+            transcript.note_made("Gaps::copy", true)?;
+            note_missing(transcript, copy)?;
+            Ok(true)
+        }
+        Err(AllocError) => transcript.note_made("Gaps::copy", false),
     }
-    Ok(text)
+}
+
+fn note_missing(transcript: &mut Transcript, gaps: &Gaps) -> Result<(), AllocError> {
+    let made = gaps.missing(16);
+    for Run { start, end } in made.or_else(|_error| gaps.missing(16))? {
+        transcript.note_number("Gaps::missing", u64::from(start) * 100 + u64::from(end))?;
+    }
+    Ok(())
 }

@@ -1,12 +1,12 @@
 //! Files for a shared entity: two in one thread, event by event, then one through a worker.
 ghost use Rattle.shared_entity.specs.Opening.{AreQueuesFor};
 
-use crate::fault::Fault;
+use crate::reference;
 use crate::transcript::Transcript;
-use crate::working::{carry, note_sent};
-use crate::worlds::reference;
+use crate::working::{carry, note_intake};
 use cfdp_types::{EntityId, TxnKey};
 use entity_config::Config;
+use indications::{Bundle, IndicationKind};
 use lane_table::{Done, Refused};
 use shared_entity::{Entity, EntityRefusal, queues_of};
 use shared_lanes::{Names, NoGate};
@@ -14,30 +14,17 @@ use std::alloc::{AllocError, Global};
 use std::marker::Brand;
 use std::sync::Wait;
 use std::thread::Threads;
-use txn_events::Refusal;
 use user_queues::{Queues, UserPort};
 
 /// The answer of an entity whose gate has the lane step.
 pub(crate) type Answered = Result<Result<Done, Refused>, EntityRefusal>;
 
 // The Metadata and the EOF of an empty file in class 1, with two numbers: each file has a lane of its own.
-const EMPTY_FILES: [(&str, &[u8]); 4] = [
-    (
-        "deliver Metadata of 1 5",
-        b"\x24\x00\x0a\x00\x01\x05\x02\x07\x00\x00\x00\x00\x00\x01\x61\x01\x62",
-    ),
-    (
-        "deliver EOF of 1 5",
-        b"\x24\x00\x0a\x00\x01\x05\x02\x04\x00\x00\x00\x00\x00\x00\x00\x00\x00",
-    ),
-    (
-        "deliver Metadata of 1 6",
-        b"\x24\x00\x0a\x00\x01\x06\x02\x07\x00\x00\x00\x00\x00\x01\x61\x01\x62",
-    ),
-    (
-        "deliver EOF of 1 6",
-        b"\x24\x00\x0a\x00\x01\x06\x02\x04\x00\x00\x00\x00\x00\x00\x00\x00\x00",
-    ),
+const EMPTY_FILES: [&[u8]; 4] = [
+    b"\x24\x00\x0a\x00\x01\x05\x02\x07\x00\x00\x00\x00\x00\x01a\x01b",
+    b"\x24\x00\x0a\x00\x01\x05\x02\x04\x00\x00\x00\x00\x00\x00\x00\x00\x00",
+    b"\x24\x00\x0a\x00\x01\x06\x02\x07\x00\x00\x00\x00\x00\x01a\x01b",
+    b"\x24\x00\x0a\x00\x01\x06\x02\x04\x00\x00\x00\x00\x00\x00\x00\x00\x00",
 ];
 
 // How many bundles the first user may take, and one more.
@@ -48,12 +35,14 @@ pub(crate) fn play<R: Threads + Wait + Copy + Send + Sync>(
     rt: R,
     alloc: Global,
     transcript: &mut Transcript,
-) -> Result<(), Fault> {
+) -> Result<(), AllocError> {
     let config = reference(alloc)?;
     if !transcript.note_made("queues_of", queues_of(rt, alloc, &config).is_ok())? {
         transcript.note_made("queues_of", queues_of(rt, alloc, &config).is_ok())?;
     }
-    note_sent(&rt, alloc, transcript)?;
+    if !note_intake(&rt, alloc, transcript)? {
+        note_intake(&rt, alloc, transcript)?;
+    }
     if !open_once(rt, alloc, transcript)? {
         open_once(rt, alloc, transcript)?;
     }
@@ -65,7 +54,7 @@ fn open_once<R: Threads + Wait + Copy + Send + Sync>(
     rt: R,
     alloc: Global,
     transcript: &mut Transcript,
-) -> Result<bool, Fault> {
+) -> Result<bool, AllocError> {
     let config = reference(alloc)?;
     let Ok(queues) = queues_of(rt, alloc, &config) else {
         return Ok(false);
@@ -73,40 +62,40 @@ fn open_once<R: Threads + Wait + Copy + Send + Sync>(
     play_named::<Brand, R>(rt, alloc, transcript, config, queues)
 }
 
-// Opens an entity with named queues, and plays; answers whether there was memory.
+// Opens an entity with named queues, and plays; answers whether there was memory. The entity is closed and not dropped,
+// since the proof of what drops one is expensive.
 fn play_named<N: Names + Send + Sync, R: Threads + Wait + Copy + Send + Sync>(
     rt: R,
     alloc: Global,
     transcript: &mut Transcript,
     config: Config,
     queues: Queues<R>,
-) -> Result<bool, Fault>
+) -> Result<bool, AllocError>
     requires { AreQueuesFor N.queue N.lanes config queues }
 {
     match Entity::<N, R>::open(alloc, config, queues) {
         Ok((entity, ports)) => {
-            transcript.note("Entity::open", "ok")?;
-            deliver_all(&rt, transcript, &entity)?;
-            carry(&rt, alloc, transcript, &entity)?;
-            take_all(&rt, transcript, ports)?;
+            let played = play_open(&rt, alloc, transcript, &entity, ports);
+            entity.into_lanes();
+            played?;
             Ok(true)
         }
-        Err(AllocError) => {
-            transcript.note("Entity::open", "no memory")?;
-            Ok(false)
-        }
+        Err(AllocError) => transcript.note_made("Entity::open", false),
     }
 }
 
-// Delivers both files, of which the first is kept.
-fn deliver_all<N: Names, R: Wait + Copy>(
+// Delivers both files, of which the first is kept, and a datagram through a worker. Then the first user takes.
+fn play_open<N: Names + Send + Sync, R: Threads + Wait + Copy + Send + Sync>(
     rt: &R,
+    alloc: Global,
     transcript: &mut Transcript,
     entity: &Entity<N, R>,
+    ports: Vec<UserPort>,
 ) -> Result<(), AllocError> {
-    for (title, octets) in EMPTY_FILES {
-        if !transcript.note_answer(title, false, &flat(entity.deliver(rt, &NoGate, octets)))? {
-            transcript.note_answer(title, false, &flat(entity.deliver(rt, &NoGate, octets)))?;
+    transcript.note_made("Entity::open", true)?;
+    for octets in EMPTY_FILES {
+        if !deliver(rt, transcript, entity, octets)? {
+            deliver(rt, transcript, entity, octets)?;
         }
     }
     if !note_image(rt, transcript, entity)? {
@@ -115,7 +104,20 @@ fn deliver_all<N: Names, R: Wait + Copy>(
     if !note_stored(rt, transcript, entity)? {
         note_stored(rt, transcript, entity)?;
     }
-    Ok(())
+    if !carry(rt, alloc, transcript, entity)? {
+        carry(rt, alloc, transcript, entity)?;
+    }
+    take_all(rt, transcript, ports)
+}
+
+fn deliver<N: Names, R: Wait + Copy>(
+    rt: &R,
+    transcript: &mut Transcript,
+    entity: &Entity<N, R>,
+    octets: &[u8],
+) -> Result<bool, AllocError> {
+    let code = code_of(&entity.deliver(rt, &NoGate, octets));
+    note_code(transcript, "deliver", code)
 }
 
 // The transaction of the first file.
@@ -130,14 +132,13 @@ fn note_image<N: Names, R: Wait + Copy>(
     entity: &Entity<N, R>,
 ) -> Result<bool, AllocError> {
     match &entity.image(rt, FIRST, 1) {
-        Ok(_) => transcript.note_made("image of 1 5", true),
-        Err(EntityRefusal::Lane(refused)) if refused.why == Refusal::NoMemory => {
-            transcript.note_made("image of 1 5", false)
-        }
-        Err(refusal) => {
-            transcript.note("image of 1 5", refusal.name())?;
+        Ok(image) => {
+            let is_right = image.destination_name.as_slice() == b"b".as_slice()
+                && image.octets.as_slice().is_empty();
+            transcript.note("image", if is_right { "ok" } else { "another file" })?;
             Ok(true)
         }
+        Err(refusal) => note_code(transcript, "image", u64::from(refusal.number())),
     }
 }
 
@@ -146,17 +147,46 @@ fn note_stored<N: Names, R: Wait + Copy>(
     transcript: &mut Transcript,
     entity: &Entity<N, R>,
 ) -> Result<bool, AllocError> {
-    let answer = flat(entity.stored(rt, &NoGate, FIRST, 1, true));
-    transcript.note_answer("stored 1 5", false, &answer)
+    let code = code_of(&entity.stored(rt, &NoGate, FIRST, 1, true));
+    note_code(transcript, "stored", code)
 }
 
-/// The answer, in the form of a one-thread entity.
-pub(crate) fn flat(answer: Answered) -> Result<Done, EntityRefusal> {
+/// An answer as a number. That of a step has the number of its transaction, and with a digit each how many PDUs and how
+/// many operations on timers it gave, and the stamp of its deposit. A refusal has its own number.
+pub(crate) fn code_of(answer: &Answered) -> u64 {
     match answer {
-        Ok(Ok(done)) => Ok(done),
-        Ok(Err(refused)) => Err(EntityRefusal::Lane(refused)),
-        Err(refusal) => Err(refusal),
+        Ok(Ok(done)) => {
+            let pdus = done.pdus.as_slice().len() as u64;
+            let timers = done.timers.as_slice().len() as u64;
+            let stamp = match done.deposit {
+                Some(deposit) => u64::from(deposit.stamp),
+                None => 0,
+            };
+            let mut code = 0u64;
+            for number in [done.key.seq, pdus, timers, stamp] {
+                code = code.wrapping_mul(10).wrapping_add(number);
+            }
+            code
+        }
+        Ok(Err(refused)) => u64::from(refused.why.number()),
+        Err(refusal) => u64::from(refusal.number()),
     }
+}
+
+// The number of the refusal that memory ran out.
+const NO_MEMORY: u64 = 12;
+
+/// Notes an answer that is a number; answers whether there was memory.
+pub(crate) fn note_code(
+    transcript: &mut Transcript,
+    title: &str,
+    code: u64,
+) -> Result<bool, AllocError> {
+    if code == NO_MEMORY {
+        return transcript.note_made(title, false);
+    }
+    transcript.note_number(title, code)?;
+    Ok(true)
 }
 
 // Has the first user take all bundles that wait.
@@ -169,8 +199,28 @@ fn take_all<R: Wait>(
         return Ok(());
     };
     for _ in 0..TAKES {
-        let taken = port.take(rt);
-        transcript.note_taken("take alice", &taken)?;
+        note_taken(transcript, &port.take(rt))?;
     }
     Ok(())
+}
+
+// Notes a bundle as a number: that of its transaction, and a digit for its last indication.
+fn note_taken(transcript: &mut Transcript, taken: &Option<Bundle>) -> Result<(), AllocError> {
+    let Some(bundle) = taken else {
+        return transcript.note("take", "none");
+    };
+    let digit = match bundle.inds.as_slice().last() {
+        Some(told) => digit_of(told.kind()),
+        None => 0,
+    };
+    transcript.note_number("take", bundle.key.seq.wrapping_mul(10).wrapping_add(digit))
+}
+
+fn digit_of(kind: IndicationKind) -> u64 {
+    match kind {
+        IndicationKind::Metadata => 1,
+        IndicationKind::EofRecv => 2,
+        IndicationKind::End(_) => 3,
+        _ => 9,
+    }
 }

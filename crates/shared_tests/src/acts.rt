@@ -1,158 +1,134 @@
-//! Events for lanes, and their outcomes.
+//! Events for lanes, as data.
 
-use crate::told::{pause, put};
-use cfdp_types::{TimerKind, TxnKey};
+use crate::said::{Said, told};
+use crate::watch::{TURNS, Watch, pause};
+use cfdp_types::{Class, EntityId, PutRequest, TimerKind, TxnKey};
 use entity_routing::{Place, Request};
-use indications::Indication;
-use lane_table::Done;
-use pdu_codec::decode;
-use shared_entity::{Entity, EntityRefusal};
-use shared_lanes::{Gate, Held, Names, Point};
-use std::alloc::{AllocError, Global};
+use shared_entity::Entity;
+use shared_lanes::Names;
+use std::alloc::Global;
 use std::sync::Wait;
-use txn_events::{Event, Refusal};
 
-/// How often a thread tries.
-pub(crate) const TURNS: u32 = 1_000_000;
+/// The entity whose lanes receive the events.
+pub(crate) const LOCAL: u8 = 2;
 
-/// An event for a lane.
-#[derive(Drop)]
+/// An event. A transaction is named by its source and its number.
+#[derive(Clone, Copy)]
 pub(crate) enum Act {
-    Put(Place),
-    Suspend(usize, TxnKey),
-    Resume(usize, TxnKey),
-    Cancel(usize, TxnKey),
-    Report(usize, TxnKey),
-    Abandon(usize, TxnKey),
-    Pump(TxnKey),
-    Deliver([u8; 17]),
-    Acknowledge([u8; 10]),
-    /// A PDU that is read before the entity receives it.
-    Read(&'static [u8]),
-    Stored(TxnKey, u32),
-    Timer(TxnKey, TimerKind, u32),
+    /// A user puts the file `abc` from a lane, for an entity.
+    Put(Place, u8),
+    Cancel(usize, u8, u8),
+    Report(usize, u8, u8),
+    /// The Metadata and the EOF of an empty file in class 1.
+    Metadata(u8, u8),
+    Eof(u8, u8),
+    Deliver(&'static [u8]),
+    Pump(u8, u8),
+    Stored(u8, u8, u32),
+    /// Its inactivity timer expires.
+    Timer(u8, u8, u32),
 }
 
-/// The outcome of an event.
-#[derive(Drop)]
-pub(crate) enum Outcome {
-    Taken(Told),
-    Refused(Refusal),
-    Failed,
-}
-
-/// A step, and all indications of its transaction up to it.
-#[derive(Drop)]
-pub(crate) struct Told {
-    pub(crate) done: Done,
-    pub(crate) trace: Vec<Indication>,
-}
-
-// Has the lane take its event, and reads its trace under the same lock.
-#[derive(Drop)]
-struct Tracing {
-    alloc: Global,
-}
-
-impl<N: Names, R: Wait + Copy> Gate<N, R> for Tracing {
-    ghost use Rattle.std.specs.Prelude.{◌≡◌};
-
-    type Answer = Outcome;
-
-    ghost gives = { λ gate old event answer new. new ≡ new };
-
-    fn at(&self, _point: Point) {}
-
-    fn locked(&self, held: &mut Held<N, R>, event: &Event) -> Outcome {
-        match held.step(event) {
-            Ok(done) => match copy_of(self.alloc, held.trace()) {
-                Ok(trace) => Outcome::Taken(Told { done, trace }),
-                Err(AllocError) => Outcome::Failed,
-            },
-            Err(refused) => Outcome::Refused(refused.why),
-        }
+/// The transaction ID of a source and a number.
+pub(crate) fn key(source: u8, seq: u8) -> TxnKey {
+    TxnKey {
+        source: EntityId(u64::from(source)),
+        seq: u64::from(seq),
     }
 }
 
-fn copy_of(alloc: Global, trace: &[Indication]) -> Result<Vec<Indication>, AllocError> {
-    let mut copy = Vec::new(alloc);
-    for indication in trace {
-        copy.push(indication.copy()?)?;
-    }
-    Ok(copy)
+/// The Metadata of an empty file.
+pub(crate) fn metadata(source: u8, seq: u8) -> [u8; 17] {
+    [
+        0x24, 0, 10, 0, source, seq, LOCAL, 7, 0, 0, 0, 0, 0, 1, b'a', 1, b'b',
+    ]
 }
 
-// A user's request, except a Put.
-fn request_of(act: &Act) -> Option<(usize, Request)> {
-    match act {
-        Act::Suspend(user, key) => Some((*user, Request::Suspend(*key))),
-        Act::Resume(user, key) => Some((*user, Request::Resume(*key))),
-        Act::Cancel(user, key) => Some((*user, Request::Cancel(*key))),
-        Act::Report(user, key) => Some((*user, Request::Report(*key))),
-        Act::Abandon(user, key) => Some((*user, Request::Abandon(*key))),
-        _ => None,
-    }
+/// The EOF of an empty file.
+pub(crate) fn eof(source: u8, seq: u8) -> [u8; 17] {
+    [
+        0x24, 0, 10, 0, source, seq, LOCAL, 4, 0, 0, 0, 0, 0, 0, 0, 0, 0,
+    ]
 }
 
-fn ask<N: Names, R: Wait + Copy>(
-    rt: &R,
-    gate: &Tracing,
-    entity: &Entity<N, R>,
-    act: &Act,
-) -> Option<Result<Outcome, EntityRefusal>> {
-    let (user, request) = request_of(act)?;
-    if matches!(&request, Request::Put(_, _)) || !entity.may_request(user, &request) {
-        return None;
-    }
-    Some(entity.request(rt, gate, user, request))
-}
-
-fn read<N: Names, R: Wait + Copy>(
-    rt: &R,
-    gate: &Tracing,
-    entity: &Entity<N, R>,
-    octets: &[u8],
-) -> Option<Result<Outcome, EntityRefusal>> {
-    let pdu = decode(gate.alloc, octets).ok()?;
-    Some(entity.deliver_pdu(rt, gate, pdu))
-}
-
-/// Passes an event to its lane, once.
-pub(crate) fn tell_once<N: Names, R: Wait + Copy>(
-    rt: &R,
-    alloc: Global,
-    entity: &Entity<N, R>,
-    act: &Act,
-) -> Outcome {
-    let gate = Tracing { alloc };
-    let answer = match act {
-        Act::Put(place) => put(rt, alloc, entity, &gate, *place, 1),
-        Act::Pump(key) => Some(entity.pump(rt, &gate, *key)),
-        Act::Deliver(octets) => Some(entity.deliver(rt, &gate, octets)),
-        Act::Acknowledge(octets) => Some(entity.deliver(rt, &gate, octets)),
-        Act::Read(octets) => read(rt, &gate, entity, octets),
-        Act::Stored(key, stamp) => Some(entity.stored(rt, &gate, *key, *stamp, true)),
-        Act::Timer(key, kind, stamp) => Some(entity.timer(rt, &gate, *key, *kind, *stamp)),
-        _ => ask(rt, &gate, entity, act),
-    };
-    match answer {
-        Some(Ok(outcome)) => outcome,
-        _ => Outcome::Failed,
-    }
-}
-
-/// Passes an event to its lane, again and again while the user's queue is full.
+/// Passes an event to its lane.
 pub(crate) fn tell<N: Names, R: Wait + Copy>(
     rt: &R,
     alloc: Global,
     entity: &Entity<N, R>,
-    act: &Act,
-) -> Outcome {
-    for _ in 0..TURNS {
-        match tell_once(rt, alloc, entity, act) {
-            Outcome::Refused(Refusal::QueueFull) => pause(rt),
-            outcome => return outcome,
+    gate: &Watch<R>,
+    act: Act,
+) -> Said {
+    match act {
+        Act::Put(place, to) => put(rt, alloc, entity, gate, place, to),
+        Act::Cancel(user, source, seq) if user < entity.users() => {
+            told(entity.request(rt, gate, user, Request::Cancel(key(source, seq))))
+        }
+        Act::Report(user, source, seq) if user < entity.users() => {
+            told(entity.request(rt, gate, user, Request::Report(key(source, seq))))
+        }
+        Act::Cancel(..) | Act::Report(..) => NOT_ASKED,
+        Act::Metadata(source, seq) => deliver(rt, entity, gate, &metadata(source, seq)),
+        Act::Eof(source, seq) => deliver(rt, entity, gate, &eof(source, seq)),
+        Act::Deliver(octets) => deliver(rt, entity, gate, octets),
+        Act::Pump(source, seq) => told(entity.pump(rt, gate, key(source, seq))),
+        Act::Stored(source, seq, stamp) => {
+            told(entity.stored(rt, gate, key(source, seq), stamp, true))
+        }
+        Act::Timer(source, seq, stamp) => {
+            told(entity.timer(rt, gate, key(source, seq), TimerKind::Inactivity, stamp))
         }
     }
-    Outcome::Failed
+}
+
+fn deliver<N: Names, R: Wait + Copy>(
+    rt: &R,
+    entity: &Entity<N, R>,
+    gate: &Watch<R>,
+    octets: &[u8],
+) -> Said {
+    told(entity.deliver(rt, gate, octets))
+}
+
+// The number stands for what no entity answers: that there was no such request.
+const NOT_ASKED: Said = Said::Refused(0);
+
+fn put<N: Names, R: Wait + Copy>(
+    rt: &R,
+    alloc: Global,
+    entity: &Entity<N, R>,
+    gate: &Watch<R>,
+    place: Place,
+    to: u8,
+) -> Said {
+    if place.user >= entity.users() || place.lane >= entity.put_lanes() {
+        return NOT_ASKED;
+    }
+    let to = EntityId(u64::from(to));
+    match PutRequest::new(alloc, to, Class::One, b"a", b"b", &[], b"abc") {
+        Ok(file) => told(entity.request(rt, gate, place.user, Request::Put(place.lane, file))),
+        Err(_) => NOT_ASKED,
+    }
+}
+
+// The refusals of an event that comes too early: its transaction was not opened, its lane runs another, no deposit
+// waits, or the user's queue is full.
+const EARLY: [u8; 4] = [1, 3, 6, 13];
+
+/// Passes an event to its lane, again and again while it comes too early; answers whether the lane took it.
+pub(crate) fn tell_in_time<N: Names, R: Wait + Copy>(
+    rt: &R,
+    alloc: Global,
+    entity: &Entity<N, R>,
+    gate: &Watch<R>,
+    act: Act,
+) -> bool {
+    for _ in 0..TURNS {
+        match tell(rt, alloc, entity, gate, act) {
+            Said::Done { .. } => return true,
+            Said::Refused(number) if EARLY.contains(&number) => pause(rt),
+            Said::Refused(_) => return false,
+        }
+    }
+    false
 }

@@ -1,5 +1,5 @@
-//! The behaviour of an entity that threads share: the answer to each call, the indications that its users take, and
-//! that its lanes run side by side.
+//! The behaviour of an entity that threads share, and of workers round it: the answer to each call, the indications
+//! that its users take, and that its lanes and its workers run side by side.
 #![tactic(auto)]
 
 #[cfg(test)]
@@ -7,16 +7,22 @@ mod acts;
 #[cfg(test)]
 mod apart;
 #[cfg(test)]
+mod closing;
+#[cfg(test)]
 mod crowd;
 #[cfg(test)]
-mod deliveries;
+mod desk;
+#[cfg(test)]
+mod heard;
 #[cfg(test)]
 mod runs;
 #[cfg(test)]
+mod said;
+#[cfg(test)]
 mod steps;
 #[cfg(test)]
-mod told;
+mod store;
 #[cfg(test)]
-mod visits;
+mod watch;
 #[cfg(test)]
-mod words;
+mod workers;

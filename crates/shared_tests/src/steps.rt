@@ -1,53 +1,61 @@
 //! Steps at an entity in order, with a text for each.
 
-use crate::acts::{Act, Outcome, Told, tell_once};
+use crate::acts::{Act, LOCAL, key, tell};
+use crate::desk::Desk;
 use crate::runs::{Run, play};
-use crate::told::{push_line, taken};
-use cfdp_types::{EntityId, Image, TimerKind, TimerOp, TxnKey};
-use entity_config::{Config, read_config};
+use crate::said::{push_line, push_refusal};
+use crate::watch::Watch;
+use cfdp_types::{FileStatus, Image, TxnKey};
 use entity_routing::Place;
-use indications::{Phase, Side};
+use indications::{Bundle, Indication, IndicationKind, Phase};
 use shared_entity::{Entity, Glance, Traced};
 use shared_lanes::Names;
 use std::alloc::{AllocError, Global};
 use std::sync::Wait;
 use std::test::*;
-use test_configs::{EntityText, TWO_SOURCES, text_of};
 use user_queues::UserPort;
 
-/// One step.
-#[derive(Drop)]
+/// One step. A transaction is named by its source and its number.
+#[derive(Clone, Copy)]
 pub(crate) enum Step {
-    /// A lane receives an event. The text has the transaction that took the step, and the interval of its inactivity
-    /// timer if that was armed, or why no transaction took it.
     Tell(Act),
     /// Asks for the file of a deposit.
-    Image(TxnKey, u32),
+    Image(u8, u8, u32),
     /// Asks for the progress of a transaction.
-    Trace(TxnKey),
+    Trace(u8, u8),
     /// Looks at a lane.
     Look(Place),
-    /// Has each user take all bundles. The text has how many those were.
+    /// Has each user take all bundles.
     Take,
+    /// Makes a deposit.
+    Deposit(u8, u8, u32),
+    /// Continues the deposit that came back last.
+    Finish,
 }
 
-/// Plays steps, and adds lines for each.
+/// Plays steps, and adds lines for each, and for what the store keeps.
 pub(crate) fn take_steps<N: Names, R: Wait + Copy>(
     rt: &R,
     alloc: Global,
     text: &mut String,
     entity: &Entity<N, R>,
     ports: Vec<UserPort>,
+    fails_at: u64,
     steps: &[Step],
 ) -> Result<(), AllocError> {
     let mut ports = ports;
+    let mut desk = Desk::new(alloc, fails_at);
     for step in steps {
-        match step {
-            Step::Take => push_counts(rt, alloc, text, &mut ports)?,
-            _ => take_step(rt, alloc, text, entity, step)?,
+        match *step {
+            Step::Take => push_taken(rt, text, &mut ports)?,
+            Step::Deposit(source, seq, stamp) => {
+                desk.deposit(rt, text, entity, source, seq, stamp)?
+            }
+            Step::Finish => desk.finish(rt, text, entity)?,
+            step => take_step(rt, alloc, text, entity, step)?,
         }
     }
-    Ok(())
+    desk.push(text)
 }
 
 fn take_step<N: Names, R: Wait + Copy>(
@@ -55,63 +63,40 @@ fn take_step<N: Names, R: Wait + Copy>(
     alloc: Global,
     text: &mut String,
     entity: &Entity<N, R>,
-    step: &Step,
+    step: Step,
 ) -> Result<(), AllocError> {
     match step {
-        Step::Tell(act) => push_outcome(text, &tell_once(rt, alloc, entity, act)),
-        Step::Image(key, stamp) => push_image(rt, alloc, text, entity, *key, *stamp),
-        Step::Trace(key) => push_trace(rt, text, entity, *key),
-        Step::Look(place) => push_look(rt, text, entity, *place),
-        Step::Take => Ok(()),
+        Step::Tell(act) => tell(rt, alloc, entity, &Watch::new(*rt), act).push(text),
+        Step::Image(source, seq, stamp) => { push_image(rt, text, entity, key(source, seq), stamp) }
+        Step::Trace(source, seq) => push_trace(rt, text, entity, key(source, seq)),
+        Step::Look(place) => push_look(rt, text, entity, place),
+        _ => Ok(()),
     }
 }
 
-fn push_outcome(text: &mut String, outcome: &Outcome) -> Result<(), AllocError> {
-    match outcome {
-        Outcome::Taken(Told { done, .. }) => {
-            let (source, seq) = (done.key.source.0, done.key.seq);
-            write!(text, "{source}:{seq}")?;
-            push_waits(text, done.timers.as_slice())
-        }
-        Outcome::Refused(why) => push_line(text, why.name()),
-        Outcome::Failed => push_line(text, "failed"),
-    }
-}
-
-fn push_waits(text: &mut String, timers: &[TimerOp]) -> Result<(), AllocError> {
-    for timer in timers {
-        if let TimerOp::Arm {
-            kind: TimerKind::Inactivity,
-            ms,
-            ..
-        } = timer
-        {
-            write!(text, " {ms}")?;
-        }
-    }
-    text.push_str("\n")
-}
-
-// Adds a line for an image: names and octets in hex, or why there is none.
+// Adds a line for an image: its names and octets, or why there is none.
 fn push_image<N: Names, R: Wait + Copy>(
     rt: &R,
-    alloc: Global,
     text: &mut String,
     entity: &Entity<N, R>,
     key: TxnKey,
     stamp: u32,
 ) -> Result<(), AllocError> {
     match &entity.image(rt, key, stamp) {
-        Ok(image) => push_file(alloc, text, image),
-        Err(why) => push_line(text, why.name()),
+        Ok(image) => push_line(text, word_of_image(image), &[]),
+        Err(why) => push_refusal(text, why.number()),
     }
 }
 
-fn push_file(alloc: Global, text: &mut String, image: &Image) -> Result<(), AllocError> {
-    let from = hex::encode(alloc, image.source_name.as_slice())?;
-    let to = hex::encode(alloc, image.destination_name.as_slice())?;
-    let octets = hex::encode(alloc, image.octets.as_slice())?;
-    writeln!(text, "{from} {to} {octets}")
+fn word_of_image(image: &Image) -> &'static str {
+    if image.source_name.as_slice() == b"a".as_slice()
+        && image.destination_name.as_slice() == b"b".as_slice()
+        && image.octets.as_slice() == b"abc".as_slice()
+    {
+        "abc"
+    } else {
+        "another file"
+    }
 }
 
 // Adds a line for the progress of a transaction, or why that isn't reported.
@@ -121,9 +106,11 @@ fn push_trace<N: Names, R: Wait + Copy>(
     entity: &Entity<N, R>,
     key: TxnKey,
 ) -> Result<(), AllocError> {
-    match entity.trace(rt, key) {
-        Ok(Traced { entries, ended }) => writeln!(text, "{entries} {ended}"),
-        Err(why) => push_line(text, why.name()),
+    match &entity.trace(rt, key) {
+        Ok(Traced { entries, ended }) => {
+            push_line(text, "trace", &[u64::from(*entries), u64::from(*ended)])
+        }
+        Err(why) => push_refusal(text, why.number()),
     }
 }
 
@@ -135,201 +122,336 @@ fn push_look<N: Names, R: Wait + Copy>(
     place: Place,
 ) -> Result<(), AllocError> {
     match &entity.glance(rt, place) {
-        Ok(None) => push_line(text, "none"),
+        Ok(None) => push_line(text, "none", &[]),
         Ok(Some(glance)) => push_glance(text, glance),
-        Err(why) => push_line(text, why.name()),
+        Err(why) => push_refusal(text, why.number()),
     }
 }
 
 fn push_glance(text: &mut String, glance: &Glance) -> Result<(), AllocError> {
-    let (seq, peer) = (glance.key.seq, glance.peer.0);
-    let (end, phase) = (end_of(glance.end), phase_of(glance.phase));
-    let (progress, entries) = (glance.progress, glance.entries);
-    let size = match &glance.file {
-        Some(file) => file.size,
-        None => 0,
-    };
-    let ended = if glance.has_ended { ", ended" } else { "" };
-    writeln!(
-        text,
-        "{seq} {end} {peer} {phase} {progress} of {size}, {entries} events{ended}"
-    )
-}
-
-fn end_of(end: Side) -> &'static str {
-    match end {
-        Side::Sender => "sender",
-        Side::Receiver => "receiver",
-    }
-}
-
-fn phase_of(phase: Phase) -> &'static str {
-    match phase {
+    let word = match glance.phase {
         Phase::Active => "active",
         Phase::Suspended => "suspended",
         Phase::Storing => "storing",
         Phase::Closing => "closing",
-    }
+    };
+    let size = match &glance.file {
+        Some(file) => file.size,
+        None => 0,
+    };
+    let (seq, peer, progress) = (glance.key.seq, glance.peer.0, u64::from(glance.progress));
+    let (entries, has_ended) = (u64::from(glance.entries), u64::from(glance.has_ended));
+    push_line(text, word, &[seq, peer, progress, size, entries, has_ended])
 }
 
-fn push_counts<R: Wait>(
+// Has each user take all bundles, and adds a line for each indication.
+fn push_taken<R: Wait>(
     rt: &R,
-    alloc: Global,
     text: &mut String,
     ports: &mut Vec<UserPort>,
 ) -> Result<(), AllocError> {
     for port in ports.iter_mut() {
-        let count = taken(rt, alloc, port)?.len();
-        writeln!(text, "{count}")?;
+        for _ in 0..100 {
+            if !push_next(rt, text, port)? {
+                break;
+            }
+        }
     }
     Ok(())
 }
 
-// Alice's second transaction from entity 1, the one after it, and her first Put.
-const FIVE: TxnKey = TxnKey {
-    source: EntityId(1),
-    seq: 5,
-};
+fn push_next<R: Wait>(rt: &R, text: &mut String, port: &mut UserPort) -> Result<bool, AllocError> {
+    match &port.take(rt) {
+        Some(bundle) => {
+            push_bundle(text, bundle)?;
+            Ok(true)
+        }
+        None => Ok(false),
+    }
+}
 
-const SIX: TxnKey = TxnKey {
-    source: EntityId(1),
-    seq: 6,
-};
+fn push_bundle(text: &mut String, bundle: &Bundle) -> Result<(), AllocError> {
+    let (user, seq) = (bundle.user as u64, bundle.key.seq);
+    for told in bundle.inds.as_slice() {
+        match told {
+            Indication::TransactionFinished {
+                condition,
+                status,
+                ..
+            } => {
+                let code = u64::from(condition.code());
+                push_line(text, word_of_end(*status), &[user, seq, code])?
+            }
+            told => push_line(text, word_of(told), &[user, seq])?,
+        }
+    }
+    Ok(())
+}
 
-const FOUR: TxnKey = TxnKey {
-    source: EntityId(2),
-    seq: 4,
-};
+fn word_of_end(status: FileStatus) -> &'static str {
+    match status {
+        FileStatus::Discarded => "discarded",
+        FileStatus::Rejected => "rejected",
+        FileStatus::Retained => "retained",
+        FileStatus::Unreported => "unreported",
+    }
+}
 
-// The lane that receives it, and the lane from which she puts.
-const RECEIVES: Place = Place { user: 0, lane: 3 };
+fn word_of(told: &Indication) -> &'static str {
+    match told.kind() {
+        IndicationKind::Opening => "Transaction",
+        IndicationKind::EofSent => "EOF-Sent",
+        IndicationKind::EofRecv => "EOF-Recv",
+        IndicationKind::Metadata => "Metadata-Recv",
+        IndicationKind::Segment { .. } => "File-Segment-Recv",
+        _ => "notice",
+    }
+}
 
+// Alice's lanes that put, and the lanes in which she and bob receive odd numbers.
 const PUTS: Place = Place { user: 0, lane: 0 };
 
-const NOWHERE: Place = Place { user: 9, lane: 0 };
+const PUTS_TOO: Place = Place { user: 0, lane: 1 };
 
-// The Metadata of the file "abc", in class 1: of both transactions, and of one from entity 3.
-const METADATA: [u8; 17] = [0x24, 0, 10, 0, 1, 5, 2, 7, 0, 0, 0, 0, 3, 1, 0x61, 1, 0x62];
+const BOB_PUTS: Place = Place { user: 1, lane: 0 };
 
-const NEXT: [u8; 17] = [0x24, 0, 10, 0, 1, 6, 2, 7, 0, 0, 0, 0, 3, 1, 0x61, 1, 0x62];
+const RECEIVES: Place = Place { user: 0, lane: 3 };
 
-const OF_THREE: [u8; 17] = [0x24, 0, 10, 0, 3, 4, 2, 7, 0, 0, 0, 0, 3, 1, 0x61, 1, 0x62];
+/// The file `abc` from entity 1 with number 5, in class 1: its Metadata, its File Data and its EOF.
+pub(crate) const METADATA: &[u8] =
+    b"\x24\x00\x0a\x00\x01\x05\x02\x07\x00\x00\x00\x00\x03\x01a\x01b";
 
-// The File Data of the first, and its EOF.
-const OCTETS: &[u8] = &[0x34, 0, 7, 0, 1, 5, 2, 0, 0, 0, 0, 0x61, 0x62, 0x63];
+pub(crate) const FILE_DATA: &[u8] = b"\x34\x00\x07\x00\x01\x05\x02\x00\x00\x00\x00abc";
 
-const EOF: [u8; 17] = [
-    0x24, 0, 10, 0, 1, 5, 2, 4, 0, 0x61, 0x62, 0x63, 0, 0, 0, 0, 3,
-];
+pub(crate) const EOF: &[u8] = b"\x24\x00\x0a\x00\x01\x05\x02\x04\x00abc\x00\x00\x00\x00\x03";
 
-// A file is received and kept, while its lane is looked at. Then each call of a sender.
+// Files are put, and one is cancelled. Then one is received and kept, while its lane is looked at.
 const CALLS: &[Step] = &[
+    Step::Tell(Act::Put(PUTS, 1)),
+    Step::Tell(Act::Put(BOB_PUTS, 1)),
+    Step::Tell(Act::Cancel(1, LOCAL, 4)),
+    Step::Tell(Act::Put(PUTS, 1)),
+    Step::Tell(Act::Put(PUTS_TOO, 9)),
+    Step::Look(PUTS),
+    Step::Tell(Act::Pump(LOCAL, 5)),
+    Step::Tell(Act::Cancel(0, LOCAL, 4)),
+    Step::Tell(Act::Report(0, LOCAL, 4)),
+    Step::Take,
     Step::Look(RECEIVES),
     Step::Tell(Act::Deliver(METADATA)),
-    Step::Look(RECEIVES),
-    Step::Tell(Act::Read(OCTETS)),
+    Step::Tell(Act::Deliver(FILE_DATA)),
     Step::Look(RECEIVES),
     Step::Tell(Act::Deliver(EOF)),
     Step::Look(RECEIVES),
-    Step::Image(FIVE, 2),
-    Step::Trace(FIVE),
-    Step::Tell(Act::Stored(FIVE, 2)),
+    Step::Image(1, 5, 1),
+    Step::Image(1, 5, 2),
+    Step::Deposit(1, 5, 1),
+    Step::Trace(1, 5),
+    Step::Deposit(1, 5, 2),
+    Step::Trace(1, 5),
     Step::Look(RECEIVES),
-    Step::Trace(FIVE),
     Step::Take,
-    Step::Tell(Act::Deliver(NEXT)),
-    Step::Tell(Act::Timer(SIX, TimerKind::Inactivity, 0)),
-    Step::Look(PUTS),
-    Step::Tell(Act::Put(PUTS)),
-    Step::Look(PUTS),
-    Step::Tell(Act::Pump(FOUR)),
-    Step::Tell(Act::Suspend(0, FOUR)),
-    Step::Look(PUTS),
-    Step::Tell(Act::Resume(0, FOUR)),
-    Step::Tell(Act::Report(0, FOUR)),
-    Step::Tell(Act::Abandon(0, FOUR)),
-    Step::Tell(Act::Cancel(0, FOUR)),
-    Step::Look(NOWHERE),
+    Step::Tell(Act::Metadata(3, 5)),
+    Step::Tell(Act::Timer(3, 5, 0)),
+    Step::Take,
 ];
 
-const ANSWERS: &str = "none
-1:5 1000
-5 receiver 1 active 0 of 3, 1 events
-1:5 1000
-5 receiver 1 active 3 of 3, 2 events
-1:5
-5 receiver 1 storing 3 of 3, 3 events
-61 62 616263
-3 false
-1:5
-5 receiver 1 active 3 of 3, 4 events, ended
-4 true
-4
-0
-1:6 1000
-1:6
+const ANSWERS: &str = "step 4 0 0
+step 5 0 0
+refused 24
+refused 3
+refused 25
+active 4 1 0 3 1 0
+step 5 0 0
+step 4 0 0
+refused 2
+Transaction 0 4
+unreported 0 4 15
+Transaction 1 5
 none
-2:4
-4 sender 1 active 0 of 3, 1 events
-2:4
-2:4
-4 sender 1 suspended 0 of 3, 3 events
-2:4
-2:4
-2:4
-OldTransaction
-WrongLane
-";
-
-// A Put and two reports fill a queue that holds three bundles.
-const FILLED: &[Step] = &[
-    Step::Tell(Act::Put(PUTS)),
-    Step::Tell(Act::Report(0, FOUR)),
-    Step::Tell(Act::Report(0, FOUR)),
-    Step::Tell(Act::Report(0, FOUR)),
-    Step::Tell(Act::Report(0, FOUR)),
-    Step::Take,
-    Step::Tell(Act::Report(0, FOUR)),
-    // The inactivity interval of each lane.
-    Step::Tell(Act::Deliver(METADATA)),
-    Step::Tell(Act::Deliver(OF_THREE)),
-];
-
-const SAID: &str = "2:4
-2:4
-2:4
-QueueFull
-QueueFull
-3
-0
-2:4
-1:5 1000
-3:4 3000
+step 5 0 1000
+step 5 0 1000
+active 5 1 3 3 2 0
+step 5 2 0
+storing 5 1 3 3 3 0
+refused 6
+abc
+not asked 6
+trace 3 0
+told
+trace 4 1
+active 5 1 3 3 4 1
+Metadata-Recv 0 5
+File-Segment-Recv 0 5
+EOF-Recv 0 5
+retained 0 5 0
+step 5 0 3000
+step 5 0 0
+Metadata-Recv 1 5
+discarded 1 5 8
+store 1 0
+files 1 1 0
 ";
 
 #[test]
 fn each_call(rt: HostRuntime) -> Result<(), Fail> {
-    let alloc = rt.alloc();
-    let text = play(rt, alloc, Config::reference(alloc)?, Run::Steps(CALLS))?;
+    let text = play(rt, 8, Run::Steps(0, CALLS))?;
     assert_eq!(rt; text.as_str(), ANSWERS);
     Ok(())
 }
 
-/// Entity 2 with two users, each with its own source, and room for `capacity` bundles for each user.
-pub(crate) fn two_sources(alloc: Global, capacity: u16) -> Option<Config> {
-    let entity = EntityText {
-        capacity,
-        ..TWO_SOURCES
-    };
-    let text = text_of(alloc, &entity).ok()?;
-    read_config(alloc, text.as_str()).ok()
-}
+// A Put and two reports fill a queue that holds three bundles.
+const FILLED: &[Step] = &[
+    Step::Tell(Act::Put(PUTS, 1)),
+    Step::Tell(Act::Report(0, LOCAL, 4)),
+    Step::Tell(Act::Report(0, LOCAL, 4)),
+    Step::Tell(Act::Report(0, LOCAL, 4)),
+    Step::Take,
+    Step::Tell(Act::Report(0, LOCAL, 4)),
+];
 
-// Lanes behave as configured: how much a queue holds, and the parameters of each source.
+const SAID: &str = "step 4 0 0
+step 4 0 0
+step 4 0 0
+refused 13
+Transaction 0 4
+notice 0 4
+notice 0 4
+step 4 0 0
+store 0 0
+files 0 0 0
+";
+
 #[test]
 fn as_configured(rt: HostRuntime) -> Result<(), Fail> {
-    let config = two_sources(rt.alloc(), 3).ok_or("no configuration")?;
-    let text = play(rt, rt.alloc(), config, Run::Steps(FILLED))?;
+    let text = play(rt, 3, Run::Steps(0, FILLED))?;
     assert_eq!(rt; text.as_str(), SAID);
+    Ok(())
+}
+
+// A file is stored before its user's queue, which holds one bundle, has room for the indication.
+const NARROW: &[Step] = &[
+    Step::Tell(Act::Deliver(METADATA)),
+    Step::Take,
+    Step::Tell(Act::Deliver(FILE_DATA)),
+    Step::Take,
+    Step::Tell(Act::Deliver(EOF)),
+    Step::Deposit(1, 5, 2),
+    Step::Take,
+    Step::Finish,
+    Step::Take,
+];
+
+const STORED: &str = "step 5 0 1000
+Metadata-Recv 0 5
+step 5 0 1000
+File-Segment-Recv 0 5
+step 5 2 0
+kept 13
+EOF-Recv 0 5
+told
+retained 0 5 0
+store 1 0
+files 1 1 0
+";
+
+#[test]
+fn a_queue_of_one(rt: HostRuntime) -> Result<(), Fail> {
+    let text = play(rt, 1, Run::Steps(0, NARROW))?;
+    assert_eq!(rt; text.as_str(), STORED);
+    Ok(())
+}
+
+// Three files are received, and stored.
+const RECEPTIONS: &[Step] = &[
+    Step::Tell(Act::Metadata(1, 5)),
+    Step::Tell(Act::Eof(1, 5)),
+    Step::Tell(Act::Metadata(1, 6)),
+    Step::Tell(Act::Eof(1, 6)),
+    Step::Tell(Act::Metadata(3, 5)),
+    Step::Tell(Act::Eof(3, 5)),
+    Step::Take,
+    Step::Deposit(1, 5, 1),
+    Step::Take,
+    Step::Deposit(1, 6, 1),
+    Step::Take,
+    Step::Deposit(3, 5, 1),
+    Step::Take,
+];
+
+// The texts if the store's first, second or third call fails.
+const FIRST_FAILS: &str = "step 5 0 1000
+step 5 1 0
+step 6 0 1000
+step 6 1 0
+step 5 0 3000
+step 5 1 0
+Metadata-Recv 0 5
+EOF-Recv 0 5
+Metadata-Recv 0 6
+EOF-Recv 0 6
+Metadata-Recv 1 5
+EOF-Recv 1 5
+told
+rejected 0 5 4
+told
+retained 0 6 0
+told
+retained 1 5 0
+store 3 1
+files 2 0 2
+";
+
+const SECOND_FAILS: &str = "step 5 0 1000
+step 5 1 0
+step 6 0 1000
+step 6 1 0
+step 5 0 3000
+step 5 1 0
+Metadata-Recv 0 5
+EOF-Recv 0 5
+Metadata-Recv 0 6
+EOF-Recv 0 6
+Metadata-Recv 1 5
+EOF-Recv 1 5
+told
+retained 0 5 0
+told
+rejected 0 6 4
+told
+retained 1 5 0
+store 3 1
+files 2 0 2
+";
+
+const THIRD_FAILS: &str = "step 5 0 1000
+step 5 1 0
+step 6 0 1000
+step 6 1 0
+step 5 0 3000
+step 5 1 0
+Metadata-Recv 0 5
+EOF-Recv 0 5
+Metadata-Recv 0 6
+EOF-Recv 0 6
+Metadata-Recv 1 5
+EOF-Recv 1 5
+told
+retained 0 5 0
+told
+retained 0 6 0
+told
+rejected 1 5 4
+store 3 1
+files 2 0 2
+";
+
+// The lane of the file that the store doesn't keep is told so, and no other.
+#[test]
+fn a_store_that_fails(rt: HostRuntime) -> Result<(), Fail> {
+    for (fails_at, said) in [(1, FIRST_FAILS), (2, SECOND_FAILS), (3, THIRD_FAILS)] {
+        let text = play(rt, 8, Run::Steps(fails_at, RECEPTIONS))?;
+        assert_eq!(rt; text.as_str(), said);
+    }
     Ok(())
 }

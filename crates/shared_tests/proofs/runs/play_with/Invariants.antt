@@ -1,5 +1,5 @@
 use Rattle.shared_entity.specs.Opening.{queue_in, lanes_in}
-use Rattle.worker_tests.proofs.runs.play.Given as goal
+use Rattle.shared_tests.proofs.runs.play_with.Given as goal
 
 -- the queues that were just opened
 abbrev pub ghosts-play_named : goal.ghosts-play_named
