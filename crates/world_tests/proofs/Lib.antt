@@ -1,0 +1,2 @@
+pub mod DeskFacts
+pub mod SharedFacts

@@ -1,21 +1,34 @@
-//! Behaviour of one-thread entities that no script can show: files of two sources; two entities that receive each
-//! other's PDUs, in a worked run with its octets, and in a long one in which PDUs are lost, repeated and reordered
-//! pseudo-randomly. Also scripts with readers and writers that fail, and when their answers are written.
+//! Worked transactions that no script can show, step by step: with the code of either end, with lanes over both kinds of
+//! queue, and with one-thread entities of two sources, or two that receive each other's PDUs, also in a long run in which
+//! PDUs are lost, repeated and reordered pseudo-randomly. And scripts whose readers and writers fail, and when their
+//! answers are written.
 #![tactic(auto)]
 
 #[cfg(test)]
 mod broken_ends;
 #[cfg(test)]
+mod cores;
+#[cfg(test)]
+mod desks;
+#[cfg(test)]
+mod ends;
+#[cfg(test)]
 mod entities;
 #[cfg(test)]
-mod link;
+mod files;
 #[cfg(test)]
-mod paces;
+mod lanes;
+#[cfg(test)]
+mod notes;
 #[cfg(test)]
 mod seen;
 #[cfg(test)]
-mod sources;
+mod steps;
+#[cfg(test)]
+mod texts;
+#[cfg(test)]
+mod turns;
 #[cfg(test)]
 mod two_worlds;
 #[cfg(test)]
-mod worked_run;
+mod worked_runs;
