@@ -150,7 +150,7 @@ impl<
         }
     }
 
-    // Puts a file into the first idle lane of its user that has a number left.
+    // Puts a file into the first idle lane of its user that has a number left. Where none has, a busy lane may have one later.
     fn put_somewhere(
         &mut self,
         put: &mut PutCommand,
@@ -172,6 +172,9 @@ impl<
                 break;
             }
             put.lane = lane.saturating_add(1);
+        }
+        if end == PutEnd::Exhausted && has_busy_lane(rt, entity, put.user) {
+            return Ok(PutEnd::Passing);
         }
         Ok(end)
     }
@@ -221,6 +224,16 @@ fn idle_lane<N: Names, R: Wait + Copy>(
         }
     }
     None
+}
+
+// Whether a lane of a user runs a transaction.
+fn has_busy_lane<N: Names, R: Wait + Copy>(rt: &R, entity: &Entity<N, R>, user: usize) -> bool {
+    for lane in 0..entity.put_lanes() {
+        if !is_idle(rt, entity, Place { user, lane }) {
+            return true;
+        }
+    }
+    false
 }
 
 // Whether a lane has run no transaction, or none that is under way.

@@ -1,2 +1,3 @@
 pub mod OutboxRows
 pub mod OutgoingRows
+pub mod TurnFacts

@@ -4,7 +4,7 @@ use Rattle.cfdp_types.specs.declared.key.EntityId.{EntityId}
 use Rattle.cfdp_types.specs.declared.names.Class.TheVariants.{Two}
 use Rattle.program_outbox.specs.declared.outbox.OutboxFile.{OutboxFile}
 use Rattle.program_outbox.specs.declared.outbox.Waiting.{Waiting}
-use Rattle.program_outbox.specs.Outboxes.{OutboxValue, going, after_going, withdrawn, queued, number_place}
+use Rattle.program_outbox.specs.Outboxes.{OutboxValue, first_turns, going, after_going, withdrawn, queued, number_place}
 
 -- a file for an entity
 abbrev pub file_for : ℕ → OutboxFile
@@ -61,3 +61,7 @@ no_such_number = refl
 -- one more waits behind all others, with the next number
 next_number : (file : OutboxFile) → (queued 1 file two_users).next ≡ 5
 next_number file = refl
+
+-- at first the users' turns come by their numbers
+turns_at_first : first_turns 3 ≡ 0 ∷ 1 ∷ 2 ∷ []
+turns_at_first = refl

@@ -1,7 +1,7 @@
 -- Files on their way, computed.
 use Rattle.std.proofs.Common.{◌≡◌, true, false, [], ◌∷◌, Some, None, refl}
 use Rattle.program_outbox.specs.declared.outbox.OutboxFile.{OutboxFile}
-use Rattle.program_outbox.specs.Outgoings.{OutgoingValue, begun, file_count, given_back, is_due, moment_until, named, next_file, queued_at, without_named}
+use Rattle.program_outbox.specs.Outgoings.{OutgoingValue, begun, file_count, given_back, is_due, later, moment_until, named, next_file, queued_at, without_named}
 use Rattle.program_outbox.proofs.OutboxRows.{both, held, two_users, waiting}
 
 -- the files of two users wait, and one file of the second user came back, to be tried again from moment 50 on
@@ -50,6 +50,22 @@ its_moment = refl
 not_while_busy : next_file 50 (true ∷ false ∷ []) (held 7) (record one_back { outbox = record two_users { waiting = waiting 1 0 7 ∷ [] } }) ≡ None
 not_while_busy = refl
 
+-- nor does a file that came back go where its user's lanes are busy, or the link to its entity is held; the one behind it does
+abbrev two_back : OutgoingValue
+two_back = record one_back { outbox = record two_users { waiting = [] }; returned = waiting 9 1 8 ∷ waiting 6 0 7 ∷ [] }
+
+the_free_one : next_file 50 (true ∷ false ∷ []) [] two_back ≡ Some (waiting 6 0 7)
+the_free_one = refl
+
+not_the_held_one : next_file 50 both (held 8) two_back ≡ Some (waiting 6 0 7)
+not_the_held_one = refl
+
+the_other_is_left : (begun 50 both (held 8) two_back).returned ≡ waiting 9 1 8 ∷ []
+the_other_is_left = refl
+
+due_as_before : (begun 50 both (held 8) two_back).outbox_due ≡ 20
+due_as_before = refl
+
 -- where none can leave, the outbox is looked at again ten milliseconds later
 looked_at_again : (begun 50 [] [] one_back).outbox_due ≡ 60
 looked_at_again = refl
@@ -83,13 +99,42 @@ waiting_withdrawn = refl
 no_such_file : named 5 first_read ≡ None
 no_such_file = refl
 
--- a new file is tried at once
+named_as_it_is_read : named 1 first_read ≡ Some (waiting 1 0 7)
+named_as_it_is_read = refl
+
+without_a_waiting_one : file_count (without_named 3 first_read) ≡ 3
+without_a_waiting_one = refl
+
+-- where what was read had been withdrawn, nothing comes back, and the others are tried when they would have been
+nothing_comes_back : (given_back 30 (without_named 1 first_read)).returned ≡ waiting 9 1 8 ∷ []
+nothing_comes_back = refl
+
+tried_when_they_were : (given_back 30 (without_named 1 first_read)).returned_due ≡ 50
+tried_when_they_were = refl
+
+-- a moment has 64 bits
+latest_moment : later 18446744073709551615 10 ≡ 18446744073709551615
+latest_moment = refl
+
+-- files are tried from their moment on, and at once where a new one comes before it
+due : is_due 20 one_back ≡ true
+due = refl
+
+not_yet_due : is_due 19 one_back ≡ false
+not_yet_due = refl
+
 tried_at_once : (file : OutboxFile) → (queued_at 0 file 7 one_back).outbox_due ≡ 7
 tried_at_once file = refl
+
+no_later : (file : OutboxFile) → (queued_at 0 file 90 one_back).outbox_due ≡ 20
+no_later file = refl
 
 -- the main thread sleeps until files are tried, unless one is being read
 sleeps_until : moment_until 90 one_back ≡ 20
 sleeps_until = refl
+
+sleeps_no_longer : moment_until 15 one_back ≡ 15
+sleeps_no_longer = refl
 
 sleeps_on : moment_until 90 first_read ≡ 90
 sleeps_on = refl

@@ -1,6 +1,6 @@
 -- Meaning. Files that wait until a sending lane of their user is idle.
 use Rattle.std.specs.Prelude.{ℕ, ◌+◌, ◌==◌, ◌&&◌, Bool, false, not, List, [], ◌∷◌, ◌++◌, Option, Some, None, position, slice_get, option_to_list}
-use Rattle.std.specs.List.{remove, list_any}
+use Rattle.std.specs.List.{remove, list_any, range_with_len}
 use Rattle.cfdp_types.specs.declared.key.EntityId.{EntityId}
 use Rattle.program_outbox.specs.declared.outbox.OutboxFile.{OutboxFile}
 use Rattle.program_outbox.specs.declared.outbox.Waiting.{Waiting}
@@ -51,6 +51,10 @@ abbrev pub turn_place : List Bool → List EntityId → OutboxValue → Option �
 turn_place idle held outbox = position (can_go idle held outbox.waiting) outbox.turns
 
 -- ---- the effect of each call
+
+-- whose turns come at first: each user's, by their numbers
+abbrev pub first_turns : ℕ → List ℕ
+first_turns users = range_with_len 0 users
 
 -- one more file waits, after all others
 abbrev pub queued : ℕ → OutboxFile → OutboxValue → OutboxValue

@@ -7,7 +7,7 @@ use Rattle.program_outbox.specs.declared.outbox.Waiting.{Waiting}
 use Rattle.program_outbox.specs.Outboxes.{OutboxValue, after_going, at_place, going, has_number, is_held, is_idle, number_place, queued, withdrawn, without_place}
 
 -- files whose turn has not come; the file that is being read, unless it was withdrawn meanwhile; whether one is being read;
--- files that came back, in that order; the moments before which none is tried, and none that came back
+-- files that came back, in the order in which they did; the moments before which none is tried, and none that came back
 pub record OutgoingValue : Type 0 where
   pub outbox : OutboxValue
   pub reading : Option Waiting
@@ -108,7 +108,7 @@ begun now idle held o = if o.is_reading then o else record o {
   outbox_due = if is_some (next_file now idle held o) then o.outbox_due else later now 10;
 }
 
--- the file that was read comes back, after all others that did, and they are tried again a second later
+-- the file that was read comes back, after all others that did, and none of them is tried for a second
 abbrev pub given_back : ℕ → OutgoingValue → OutgoingValue
 given_back now o = record o {
   reading = None;

@@ -1,6 +1,6 @@
 ghost use Rattle.std.specs.Prelude.{◌≡◌, ◌≤◌, ◌<◌, ◌↔◌, ◌⊎◌, [], IfOk, IfSome, OnErr, Err, ◌+◌, length, option_to_list, position, true};
 ghost use Rattle.std.specs.List.{list_any};
-ghost use Rattle.program_outbox.specs.Outboxes.{after_going, at_place, can_go, going, has_number, is_free, is_held, is_idle, number_place, queued, withdrawn};
+ghost use Rattle.program_outbox.specs.Outboxes.{after_going, at_place, can_go, first_turns, going, has_number, is_free, is_held, is_idle, number_place, queued, withdrawn};
 
 use cfdp_types::{Class, EntityId, Octets};
 use std::alloc::{AllocError, Global};
@@ -62,7 +62,7 @@ impl Outbox {
     /// An empty outbox.
     pub fn new(alloc: Global, users: usize) -> Result<Outbox, AllocError>
         ensures waiting { IfOk result (λ outbox. outbox.waiting ≡ []) }
-        ensures turns { IfOk result (λ outbox. length outbox.turns ≡ users) }
+        ensures turns { IfOk result (λ outbox. outbox.turns ≡ first_turns users) }
         ensures next { IfOk result (λ outbox. outbox.next ≡ 1) }
     {
         let mut turns = Vec::with_capacity(alloc, users)?;

@@ -1,6 +1,6 @@
 ghost use Rattle.std.specs.Prelude.{◌≡◌, ◌≤◌, ◌<◌, ◌↔◌, ◌⊎◌, ◌+◌, IfOk, IfSome, OnErr, Err, None, false, is_some, length, min, option_to_list, position, vec_capacity};
 ghost use Rattle.std.specs.Option.{option_copied};
-ghost use Rattle.program_outbox.specs.Outboxes.{after_going, has_number};
+ghost use Rattle.program_outbox.specs.Outboxes.{after_going, first_turns, has_number};
 ghost use Rattle.program_outbox.specs.Outgoings.{begun, can_leave, file_count, given_back, has_waiting, is_due, is_named, moment_until, named, next_file, queued_at, left_of, turn_of, without_named};
 
 use crate::outbox::{
@@ -16,8 +16,8 @@ const LANE_REST_MS: u64 = 10;
 /// After how many milliseconds files that came back are tried again.
 const FILE_REST_MS: u64 = 1_000;
 
-/// The outbox with its files on their way: the one that is being read, which is at most one, and those that were read and
-/// couldn't be put yet. No more than `MOST_FILES` are in it. Moments are milliseconds of the caller's clock.
+/// The outbox with its files on their way: the one that is being read, if there is one, and those that were read and couldn't
+/// be put yet. No more than `MOST_FILES` are in it. Moments are milliseconds of the caller's clock.
 #[derive(Drop)]
 pub struct Outgoing {
     outbox: Outbox,
@@ -52,7 +52,7 @@ impl Outgoing {
     /// No file waits.
     pub fn new(alloc: Global, users: usize) -> Result<Outgoing, AllocError>
         ensures empty { IfOk result (λ outgoing. file_count outgoing ≡ 0) }
-        ensures turns { IfOk result (λ outgoing. length outgoing.outbox.turns ≡ users) }
+        ensures turns { IfOk result (λ outgoing. outgoing.outbox.turns ≡ first_turns users) }
         ensures next { IfOk result (λ outgoing. outgoing.outbox.next ≡ 1) }
         ensures idle { IfOk result (λ outgoing. outgoing.is_reading ≡ false) }
         ensures due { IfOk result (λ outgoing. (outgoing.outbox_due ≡ 0) × (outgoing.returned_due ≡ 0)) }
@@ -174,17 +174,19 @@ impl Outgoing {
         }
     }
 
-    /// Has the file read whose turn it is, unless one is being read: one that waits, or else the first one that came back,
-    /// each for a user with an idle lane and an entity that isn't held. Answers whether there is one.
+    /// Has the file read whose turn it is, unless one is being read: one that waits, or else the first one that came back, from
+    /// the moment on at which those are tried; each for a user with an idle lane and an entity that isn't held. Answers whether
+    /// there is one. Where there is none, files are tried again ten milliseconds later.
     pub fn begin_reading(&mut self, now: u64, idle: &[bool], held: &[EntityId]) -> bool
         ensures began { result ≡ is_some (next_file now idle.now held.now self.old) }
         ensures after { self.new ≡ begun now idle.now held.now self.old }
+        ensures kept { file_count self.new ≡ file_count self.old }
     {
         if self.is_reading {
             return false;
         }
         let tries_returned = now >= self.returned_due;
-        self.reading = next_file(
+        self.reading = take_turn(
             &mut self.outbox,
             &mut self.returned,
             tries_returned,
@@ -207,10 +209,11 @@ impl Outgoing {
         self.reading.take()
     }
 
-    /// The file that was read couldn't be put yet. It comes back, after all others that did, and they are tried again a second
-    /// later.
+    /// The file that was read couldn't be put yet. It comes back, after all others that did, and none of them is tried for a
+    /// second.
     pub fn give_back(&mut self, now: u64)
-        ensures { self.new ≡ given_back now self.old }
+        ensures after { self.new ≡ given_back now self.old }
+        ensures kept { file_count self.new ≡ file_count self.old }
     {
         self.is_reading = false;
         if let Some(waiting) = self.reading.take() {
@@ -221,7 +224,7 @@ impl Outgoing {
 }
 
 // Takes out the file whose turn it is, of those that wait, or else of those that came back, if these are tried.
-fn next_file(
+fn take_turn(
     outbox: &mut Outbox,
     returned: &mut Vec<Waiting>,
     tries_returned: bool,
