@@ -10,7 +10,7 @@ use Rattle.web_lines.specs.Families.{all_heads, counter, gauge, told_rows}
 use Rattle.web_lines.specs.Labels.{labels_at}
 use Rattle.web_lines.specs.Numbers.{IsNumberAt, at_counter, at_known, at_member, at_truth}
 use Rattle.web_lines.specs.Metrics.{escaped, head_text, labels_text, sample_text, told_text}
-use Rattle.web_lines.specs.States.{count_in_state, state_in, state_named}
+use Rattle.web_lines.specs.States.{count_in_state, name_of_state, state_in, state_named}
 
 -- a name is among these
 abbrev has : List ℕ → List (List ℕ) → Bool
@@ -86,8 +86,16 @@ fault_label = refl
 no_reason : labels_at Refusal (at_member (codes "count")) remote ≡ None
 no_reason = refl
 
-nameless_user : labels_at User (at_member (codes "waiting")) remote ≡ Some []
+nameless_user : labels_at User (at_member (codes "waiting")) remote ≡ None
 nameless_user = refl
+
+user_label : labels_at User (at_member (codes "waiting")) refusal ≡ Some ((codes "user", codes "NoRoute") ∷ [])
+user_label = refl
+
+entity_label : labels_at Entity (at_known (codes "version"))
+    (object (member (codes "id") (number (codes "2")) (member (codes "version") (string (codes "0.1")) no_members)))
+    ≡ Some ((codes "id", codes "2") ∷ (codes "version", codes "0.1") ∷ [])
+entity_label = refl
 
 no_version : labels_at Entity (at_known (codes "version")) remote ≡ None
 no_version = refl
@@ -110,6 +118,9 @@ states = refl
 
 state_of_a_line : state_in (object (member (codes "state") (string (codes "ended")) no_members)) ≡ Some Ended
 state_of_a_line = refl
+
+names_of_states : map name_of_state (Active ∷ Ended ∷ []) ≡ codes "active" ∷ codes "ended" ∷ []
+names_of_states = refl
 
 ended_twice : count_in_state Ended (Ended ∷ Active ∷ Ended ∷ []) ≡ 2
 ended_twice = refl

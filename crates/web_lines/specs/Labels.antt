@@ -27,9 +27,13 @@ said_labels (Two first second) = said_label first ∷ said_label second ∷ []
 abbrev pub word_of : Json → Option (List ℕ)
 word_of value = option_or (as_str value) (as_number value)
 
--- a label of this name, with what a member is
+-- a label of this name, whose value is a member's text or number
 abbrev pub label_at : List ℕ → List ℕ → Json → Option SaidLabel
 label_at name member value = option_map (λ word. (name, word)) (option_and_then word_of (get member value))
+
+-- one label, if it is there
+abbrev pub one_label : Option SaidLabel → Option (List SaidLabel)
+one_label label = option_map (λ label. label ∷ []) label
 
 -- both labels, or none
 abbrev pub both_labels : Option SaidLabel → Option SaidLabel → Option (List SaidLabel)
@@ -46,10 +50,10 @@ entity_labels (at_known name) value = both_labels (label_at (codes "id") (codes 
 entity_labels spot value = Some []
 
 -- the labels of the number at a place of a line: a user's name, a remote entity's number, a refusal's reason with its fault of
--- decoding; none where the line lacks what they say
+-- decoding if it has one; a line that lacks what they say has no number
 abbrev pub labels_at : Kind → Spot → Json → Option (List SaidLabel)
-labels_at User spot value = Some (option_to_list (label_at (codes "user") (codes "name") value))
-labels_at Remote spot value = Some (option_to_list (label_at (codes "remote") (codes "id") value))
+labels_at User spot value = one_label (label_at (codes "user") (codes "name") value)
+labels_at Remote spot value = one_label (label_at (codes "remote") (codes "id") value)
 labels_at Refusal spot value = with_label (label_at (codes "reason") (codes "name") value) (label_at (codes "fault") (codes "fault") value)
 labels_at Entity spot value = entity_labels spot value
 labels_at kind spot value = Some []

@@ -11,7 +11,7 @@ use Rattle.web_lines.specs.Labels.{SaidLabel, labels_at}
 use Rattle.web_lines.specs.Numbers.{IsNumberAt}
 use Rattle.web_lines.specs.States.{count_in_state, name_of_state, states_of}
 
--- an octet of a label's value: a backslash, a quote and a line feed have a backslash in front
+-- an octet of a label's value: a backslash and a quote have a backslash in front, and a line feed is written as a backslash and an n
 abbrev pub escaped_octet : ℕ → List ℕ
 escaped_octet octet =
     if octet == 92 then 92 ∷ 92 ∷ [] else (if octet == 34 then 92 ∷ 34 ∷ [] else (if octet == 10 then 92 ∷ 110 ∷ [] else octet ∷ []))
@@ -59,12 +59,9 @@ reading_text lines = bare_text reading_head (count_of_kind Reading lines)
 abbrev pub state_text : List State → State → List ℕ
 state_text states state = sample_text states_head.name ((codes "state", name_of_state state) ∷ []) (count_in_state state states)
 
--- how many transactions are in the states that come late, and in each state
-abbrev pub late_states_text : List State → List ℕ
-late_states_text states = state_text states Storing ++ state_text states Closing ++ state_text states Ended
-
+-- how many transactions are in each state
 abbrev pub states_text : List State → List ℕ
-states_text states = head_text states_head ++ state_text states Active ++ state_text states Suspended ++ late_states_text states
+states_text states = head_text states_head ++ flat_map (state_text states) (Active ∷ Suspended ∷ Storing ∷ Closing ∷ Ended ∷ [])
 
 -- how many transactions are in each state, how many files wait and how many are being read
 abbrev pub counts_text : List Line → List ℕ
@@ -85,7 +82,7 @@ AddsTold row line old new =
     (value : Json) × (document line.text.now ≡ Some value)
     × ((number : Option ℕ) × IsNumberAt row.spot value number × (new ≡ old ++ told_text row.head (labels_at row.kind row.spot value) number))
 
--- that comes where the line is of the row's kind, and else nothing does
+-- it comes where the line is of the row's kind; else nothing does
 abbrev pub AddsLine : Row → Line → List ℕ → List ℕ → Type 0
 AddsLine row line old new =
     ((is_of_row row line ≡ false) × (new ≡ old)) ⊎ ((is_of_row row line ≡ true) × AddsTold row line old new)

@@ -2,7 +2,7 @@
 use Rattle.std.specs.Prelude.{◌≡◌, ℕ, Bool, true, false, List, Option, Some, None, option_map, option_and_then, codes}
 use Rattle.std.specs.Option.{MatchOption, ok_or}
 use Rattle.std.specs.Str.Parse.{ParsesUnsigned}
-use Rattle.json.specs.Json.{Json}
+use Rattle.json.specs.Json.{Json, document}
 use Rattle.json.specs.Find.{get, as_bool, as_number}
 use Rattle.web_lines.specs.declared.place.Place.{Place}
 use Rattle.web_lines.specs.declared.place.Place.TheVariants.{Member, Counted, Truth, Known}
@@ -26,6 +26,10 @@ abbrev pub IsWholeNumber : Option Json → Option ℕ → Type 0
 IsWholeNumber None number = number ≡ None
 IsWholeNumber (Some value) number =
     MatchOption (as_number value) (number ≡ None) (λ text. ParsesUnsigned 64 10 text (ok_or number text))
+
+-- the whole number of a member of a text that is one JSON value, if there is one
+abbrev pub IsNumberIn : List ℕ → List ℕ → Option ℕ → Type 0
+IsNumberIn name text number = MatchOption (document text) (number ≡ None) (λ value. IsWholeNumber (get name value) number)
 
 -- 1 where it is true
 abbrev pub bit : Bool → ℕ

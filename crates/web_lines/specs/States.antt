@@ -47,6 +47,6 @@ place_of_state Storing = 2
 place_of_state Closing = 3
 place_of_state Ended = 4
 
--- how many of them are a state
+-- how many of the states are this one
 abbrev pub count_in_state : State → List State → ℕ
 count_in_state state states = count_by (λ other. place_of_state other == place_of_state state) states

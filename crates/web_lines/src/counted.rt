@@ -1,14 +1,14 @@
 //! Families that count lines.
-ghost use Rattle.std.specs.Prelude.{◌≡◌, ◌++◌, OnOk};
+ghost use Rattle.std.specs.Prelude.{◌≡◌, ◌++◌, OnOk, flat_map};
 ghost use Rattle.web_lines.specs.Document.{count_of_kind};
 ghost use Rattle.web_lines.specs.Families.{head_of, states_head};
-ghost use Rattle.web_lines.specs.Metrics.{bare_text, counts_text, head_text, late_states_text, outbox_text, reading_text, state_text, states_text};
+ghost use Rattle.web_lines.specs.Metrics.{bare_text, counts_text, head_text, outbox_text, reading_text, state_text, states_text};
 
 use crate::families::{Family, push_head};
 use crate::kind::Kind;
 use crate::labels::{Label, Labels, push_sample};
 use crate::lines::Line;
-use crate::state::{State, count_of, states_of};
+use crate::state::{STATES, State, count_of, states_of};
 use std::alloc::{AllocError, Global};
 
 /// Adds how many transactions are in each state, how many files wait, and how many are being read.
@@ -30,9 +30,17 @@ fn push_states(text: &mut Vec<u8>, states: &[State]) -> Result<(), AllocError>
     ensures { OnOk result (text.new.items ≡ text.old.items ++ states_text states.now) }
 {
     push_states_head(text)?;
-    push_state(text, states, State::Active)?;
-    push_state(text, states, State::Suspended)?;
-    push_late_states(text, states)
+    push_each_state(text, states, STATES.as_slice())
+}
+
+// Adds how many transactions are in each of these states.
+fn push_each_state(text: &mut Vec<u8>, states: &[State], all: &[State]) -> Result<(), AllocError>
+    ensures { OnOk result (text.new.items ≡ text.old.items ++ flat_map (state_text states.now) all.now) }
+{
+    for state in all {
+        push_state(text, states, *state)?;
+    }
+    Ok(())
 }
 
 // Adds the two lines above these numbers.
@@ -46,15 +54,6 @@ fn push_states_head(text: &mut Vec<u8>) -> Result<(), AllocError>
             "Transactions by state: of each lane, the one that it runs or ran last.",
         ),
     )
-}
-
-// Adds how many transactions are in the states that come late.
-fn push_late_states(text: &mut Vec<u8>, states: &[State]) -> Result<(), AllocError>
-    ensures { OnOk result (text.new.items ≡ text.old.items ++ late_states_text states.now) }
-{
-    push_state(text, states, State::Storing)?;
-    push_state(text, states, State::Closing)?;
-    push_state(text, states, State::Ended)
 }
 
 // Adds how many transactions are in a state.

@@ -1,23 +1,24 @@
 //! What a line says of a station or an event.
+ghost use Rattle.std.specs.Prelude.{IfOk, codes};
+ghost use Rattle.web_lines.specs.Numbers.{IsNumberIn};
+
 use crate::kind::Kind;
 use crate::lines::read_lines;
+use crate::place::whole_in;
 use json::{Error, Scratch, Value};
 use std::alloc::{AllocError, Global};
 
 /// The number of an event; none where the line is no JSON object with a number.
-pub fn event_number(alloc: Global, line: &str) -> Result<Option<u64>, AllocError> {
+pub fn event_number(alloc: Global, line: &str) -> Result<Option<u64>, AllocError>
+    ensures { IfOk result (IsNumberIn (codes "number") line.now) }
+{
     let mut scratch = Scratch::new(alloc);
     scratch.reserve(line.len())?;
     match Value::parse(alloc, line, &mut scratch) {
-        Ok(value) => Ok(number_in(&value, "number")),
+        Ok(value) => Ok(whole_in(&value, "number")),
         Err(Error::OutOfMemory) => Err(AllocError),
         Err(_) => Ok(None),
     }
-}
-
-/// The whole number of a member.
-pub(crate) fn number_in(value: &Value<'_>, name: &str) -> Option<u64> {
-    value.get(name)?.as_u64()
 }
 
 /// The moment at which a station started, as the entity's line of a status says it; none where no line does.

@@ -1,8 +1,8 @@
 //! Where numbers and labels stand in lines.
-ghost use Rattle.std.specs.Prelude.{◌≡◌, None, codes, option_map, option_and_then, option_to_list};
+ghost use Rattle.std.specs.Prelude.{◌≡◌, None, codes, option_map, option_and_then};
 ghost use Rattle.json.specs.Find.{as_bool, get};
 ghost use Rattle.json.specs.Value.{value_view};
-ghost use Rattle.web_lines.specs.Labels.{entity_labels, label_at, labels_at, said_label, said_labels, with_label};
+ghost use Rattle.web_lines.specs.Labels.{entity_labels, label_at, labels_at, one_label, said_label, said_labels, with_label};
 ghost use Rattle.web_lines.specs.Numbers.{IsNumberAt, IsWholeNumber, bit, spot_of};
 
 use crate::kind::Kind;
@@ -36,8 +36,8 @@ impl Place {
     }
 }
 
-// The whole number of a member.
-fn whole_in(value: &Value<'_>, name: &str) -> Option<u64>
+/// The whole number of a member.
+pub(crate) fn whole_in(value: &Value<'_>, name: &str) -> Option<u64>
     ensures { IsWholeNumber (get name.now (value_view value.now)) result }
 {
     match value.get(name) {
@@ -86,25 +86,26 @@ fn known_in(value: &Value<'_>, name: &str) -> Option<u64>
     }
 }
 
-/// The labels of the number at a place of a line; none where the line lacks what they say.
+/// The labels of the number at a place of a line. Where the line lacks what they say, it has no number.
 pub(crate) fn labels_in<'a>(value: &Value<'a>, kind: Kind, place: Place) -> Option<Labels<'a>>
     ensures { option_map said_labels result ≡ labels_at kind (spot_of place) (value_view value.now) }
 {
     match kind {
-        Kind::User => Some(one_or_bare(label_in(value, "user", "name"))),
-        Kind::Remote => Some(one_or_bare(label_in(value, "remote", "id"))),
+        Kind::User => one_label(label_in(value, "user", "name")),
+        Kind::Remote => one_label(label_in(value, "remote", "id")),
         Kind::Refusal => refusal_labels(value),
         Kind::Entity => entity_labels(value, place),
         _ => Some(Labels::Bare),
     }
 }
 
-fn one_or_bare(label: Option<Label<'_>>) -> Labels<'_>
-    ensures { said_labels result ≡ option_to_list (option_map said_label label.entry) }
+// One label, if it is there.
+fn one_label(label: Option<Label<'_>>) -> Option<Labels<'_>>
+    ensures { option_map said_labels result ≡ one_label (option_map said_label label.entry) }
 {
     match label {
-        Some(label) => Labels::One(label),
-        None => Labels::Bare,
+        Some(label) => Some(Labels::One(label)),
+        None => None,
     }
 }
 

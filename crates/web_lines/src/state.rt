@@ -19,6 +19,15 @@ pub(crate) enum State {
     Ended,
 }
 
+/// All states.
+pub(crate) const STATES: [State; 5] = [
+    State::Active,
+    State::Suspended,
+    State::Storing,
+    State::Closing,
+    State::Ended,
+];
+
 impl State {
     // The state of this name.
     fn named(name: &str) -> Option<State>
@@ -115,7 +124,7 @@ fn state_name<'a>(value: &Value<'a>) -> Option<&'a str>
     }
 }
 
-/// How many of them are a state.
+/// How many of the states are this one.
 pub(crate) fn count_of(states: &[State], state: State) -> u64
     ensures { result ≡ count_in_state state states.now }
 {

@@ -1,4 +1,4 @@
-//! What the console's numbers and events are, besides what their contracts say.
+//! The console's numbers with their labels, what lines say of a station, and which events are kept.
 #![tactic(auto)]
 
 #[cfg(test)]

@@ -1,6 +1,6 @@
 use std::alloc::Global;
 use std::test::Fail;
-use web_lines::to_metrics;
+use web_lines::{event_number, start_moment, to_metrics};
 
 const LINES: &str = r#"{"kind":"entity","id":2,"version":"0.1"}
 no JSON
@@ -22,5 +22,30 @@ fn have_labels(alloc: Global) -> Result<bool, Fail> {
 #[test]
 fn numbers_have_labels(rt: HostRuntime) -> Result<(), Fail> {
     assert!(rt; have_labels(rt.alloc())?);
+    Ok(())
+}
+
+const STARTED: &str = r#"{"kind":"log"}
+{"kind":"entity","started":"2026-11-26T12:00:00.000Z"}
+"#;
+
+fn is_start(started: Option<String>) -> bool {
+    match &started {
+        Some(moment) => moment.as_str() == "2026-11-26T12:00:00.000Z",
+        None => false,
+    }
+}
+
+fn lines_are_read(alloc: Global) -> Result<bool, Fail> {
+    let (seventh, none) = (
+        event_number(alloc, r#"{"number":7}"#)?,
+        event_number(alloc, "[]")?,
+    );
+    Ok(seventh == Some(7) && none.is_none() && is_start(start_moment(alloc, STARTED)?))
+}
+
+#[test]
+fn lines_say_when_and_which(rt: HostRuntime) -> Result<(), Fail> {
+    assert!(rt; lines_are_read(rt.alloc())?);
     Ok(())
 }
