@@ -262,6 +262,30 @@ def users_take_turns():
         want(len(puts) <= 3, True)
 
 
+# With four octets for numbers, two users and two lanes, each lane has this number left and no other.
+LAST = 1_073_741_823
+
+
+@case
+def lanes_without_numbers():
+    """A file waits for a busy lane where the idle one has used up its numbers, and fails once no lane can have any left."""
+    with station(SERVER, lanes=2, timer=60_000, first=LAST) as (one, _):
+        client = one.client()
+        want(client.ask("follow"), ["ok"])
+        write("a", b"abc")
+        numbers = [(2 * LAST + lane) * 2 for lane in (0, 1)]
+        for lane in (0, 1):
+            want(client.ask(f"put alice {lane} 2 2 a b"), ["ok", f"txn 1 {numbers[lane]}"])
+        want(client.ask("send alice 2 2 a c"), ["queued 1"])
+        want(client.ask(f"abandon alice 1 {numbers[0]}"), ["ok"])
+        time.sleep(1.5)
+        want([json.loads(line)["number"] for line in client.ask("outbox")], [1])
+        want(client.ask(f"abandon alice 1 {numbers[1]}"), ["ok"])
+        unsent = client.wait_event(lambda event: event["kind"] == "unsent", "the file's end")
+        want((unsent["queued"], unsent["why"]), (1, "refused 9 SeqExhausted"))
+        want(client.ask("outbox"), [])
+
+
 @case
 def names_in_quotes():
     """Quoted names may have any octets; without quotes a word is read as always."""

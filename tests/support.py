@@ -192,14 +192,14 @@ class Station(Running):
     """A server with a control socket in its own folder, and one remote entity."""
 
     def __init__(self, server, number, port, remote, peer, options=(), lanes=4, timer=300, limit=10,
-                 users=("alice", "bob"), around=None):
+                 users=("alice", "bob"), first=1, around=None):
         self.home = f"station{number}"
         self.port = port
         os.makedirs(f"{self.home}/received", exist_ok=True)
         config = f"{self.home}/config"
         pathlib.Path(config).write_text(
-            configuration(f"127.0.0.1:{peer}", users, timer, limit, id=number, remote=remote, octets=4, put_lanes=lanes,
-                          recv_lanes=8, capacity=1_024, segment=512, inactivity=3_000))
+            configuration(f"127.0.0.1:{peer}", users, timer, limit, id=number, remote=remote, octets=4, first=first,
+                          put_lanes=lanes, recv_lanes=8, capacity=1_024, segment=512, inactivity=3_000))
         words = [server, "--config", config, "--bind", f"127.0.0.1:{port}", "--folder", f"{self.home}/received", *options]
         super().__init__(words, f"{self.home}/control", env=around)
 
