@@ -7,8 +7,10 @@ octets=$1
 top=$(realpath "$(dirname "$0")/..")
 work=$(mktemp -d)
 serving=
+putting=
 leave() {
     if [ -n "$serving" ]; then kill "$serving" 2> /dev/null || true; fi
+    if [ -n "$putting" ]; then kill "$putting" 2> /dev/null || true; fi
     rm -rf "$work"
 }
 trap leave EXIT
@@ -50,23 +52,27 @@ print(*[one.getsockname()[1] for one in found])
 PORTS
 )
 sed "s/@PEER@/$at_put/" "$top/examples/transfer/ground.toml" > "$work/ground.toml"
-sed "s/@PEER@/$at_server/" "$top/examples/transfer/spacecraft.toml" > "$work/spacecraft.toml"
+# The put may be compiled first: it then repeats its EOF until the server is there.
+sed "s/@PEER@/$at_server/; s/^ack_limit = .*/ack_limit = 255/" "$top/examples/transfer/spacecraft.toml" > "$work/spacecraft.toml"
 mkdir "$work/received"
 head -c "$octets" /dev/urandom > "$work/image"
 
 echo "A file of $octets octets goes from cfdp_put to cfdp_server over loopback, in class 2, with nothing proved."
-echo "Compiling and starting the server: about a minute."
+echo "Compiling and starting both programs: one to two minutes."
 (runs cfdp_server --config "$work/ground.toml" --bind "127.0.0.1:$at_server" --folder "$work/received" \
     --control "$work/control" > "$work/server.log" 2>&1 < /dev/null) &
 serving=$!
+(runs cfdp_put --config "$work/spacecraft.toml" --bind "127.0.0.1:$at_put" --user alice --remote 2 --class 2 --rate 2000000 \
+    "$work/image" image.received > "$work/put.log" 2>&1 < /dev/null) &
+putting=$!
 for _ in $(seq 2400); do
     [ -S "$work/control" ] && break
     kill -0 "$serving" 2> /dev/null || tells "The server ended."
     sleep 0.1
 done
-echo "The server listens. Compiling and starting the put: about half a minute."
-(runs cfdp_put --config "$work/spacecraft.toml" --bind "127.0.0.1:$at_put" --user alice --remote 2 --class 2 --rate 2000000 \
-    "$work/image" image.received > "$work/put.log" 2>&1 < /dev/null) || true
+echo "The server listens."
+wait "$putting" || true
+putting=
 grep -q 'Transaction-Finished 0 complete retained' "$work/put.log" || tells "The put wasn't notified that the receiver has the whole file."
 echo "What the sender's user received last:"
 echo "    $(grep 'Transaction-Finished' "$work/put.log")"
