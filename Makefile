@@ -1,6 +1,6 @@
 SHELL := /bin/bash
 .SHELLFLAGS := -o pipefail -c
-.PHONY: demo try build programs web transfer install install-web browser memory test bench soak
+.PHONY: demo try build programs web lib transfer install install-web install-lib browser memory test test-lib bench soak
 
 program := crates/cfdp_replay/out/cfdp_replay
 server := crates/cfdp_server/out/cfdp_server
@@ -49,10 +49,30 @@ install-web: web
 	install -m 755 $(web) $(DESTDIR)$(PREFIX)/bin
 	install -m 644 docs/man/cfdp_web.1 $(DESTDIR)$(PREFIX)/share/man/man1
 
+# the library for C and Python, proved and built, in build/: the first time this proves the entity of one thread and all
+# below it
+archive := crates/cfdp_c/out/libcfdp_c.a
+lib:
+	@log=$$(mktemp); (cd crates/cfdp_c && rt lib) > $$log 2>&1 || { tail -n 40 $$log; rm -f $$log; exit 1; }; rm -f $$log
+	@tools/lib.sh $(archive) $(PREFIX)
+
+# the library, in place, with its header and what pkg-config reads
+install-lib: lib
+	install -d $(DESTDIR)$(PREFIX)/lib/pkgconfig $(DESTDIR)$(PREFIX)/include
+	install -m 644 build/libcfdp.a build/libcfdp.so.0 $(DESTDIR)$(PREFIX)/lib
+	ln -sf libcfdp.so.0 $(DESTDIR)$(PREFIX)/lib/libcfdp.so
+	install -m 644 include/cfdp.h $(DESTDIR)$(PREFIX)/include
+	install -m 644 build/cfdp.pc $(DESTDIR)$(PREFIX)/lib/pkgconfig
+
 # a Debian package of all programs, installed into a folder and tried
 .PHONY: deb
 deb: programs web
 	@tools/deb.sh $(server) $(put) $(ctl) $(web)
+
+# Debian packages of the library, installed into a folder and tried
+.PHONY: deb-lib
+deb-lib: lib
+	@tools/deb-lib.sh
 
 # the console as a person sees it, in Chromium, with the picture of the README made anew; no part of the gate
 browser: web
@@ -87,6 +107,11 @@ test:
 	@tests/ctl.py $(ctl)
 	@tests/web.py $(web)
 	@tests/manual.sh $(server) $(put) $(ctl) $(web)
+
+# the library for C and Python: its header, its examples, all scripts through it, and a million calls; no part of the gate yet
+test-lib: programs build lib
+	@tests/library.sh $(server)
+	@tests/library.py $(program)
 
 # how fast and how large a run is; no part of the gate
 bench: build programs

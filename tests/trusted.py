@@ -17,7 +17,7 @@ MEANING, CODE, ROWS = "Meaning", "Of the code", "Rows"
 
 # The crates whose public calls carry the promises of the README, as its table names them.
 PROMISING = """entity_routing user_queues world_table world_core world_laws shared_lanes shared_entity entity_workers
-ends_schedules pdu_codec entity_config script_replay server_lines web_lines web_pages web_console""".split()
+ends_schedules pdu_codec entity_config script_replay server_lines web_lines web_pages web_console cfdp_session cfdp_c""".split()
 
 INTRO = """# What has to be believed
 
@@ -41,8 +41,13 @@ fields, which stand at the type; and what a trait asks of its implementations, w
 behind the files.
 
 These are trusted as well, and the README lists them: the toolchain, with its checker, its compiler and its library; the contracts of
-the kit's ported crates; the C library and the operating system. The programs' `main`, what sockets, files and terminals do, and all
-that no contract says are only tested or not claimed (`docs/proved.md`)."""
+the kit's ported crates; the C library and the operating system; and that a program which calls the library for C keeps what
+`docs/embedding.md` asks of it, where no proof reaches. The programs' `main`, what sockets, files and terminals do, and all
+that no contract says are only tested or not claimed (`docs/proved.md`).
+
+Of the system's disk the crates `disk` and `whole_files` trust this (`crates/disk/README.md`): that each method of `SystemDisk` asks the
+system for what it notes, that a call which found its path taken did nothing, that a read brings what is there, and that a power cut
+leaves no more than `crates/disk/specs/Crash.antt` says."""
 
 READING = """## How to read a definition
 
@@ -106,21 +111,30 @@ the lanes of a configuration in their first state; what a user may ask: entity_p
 histories of the entity of one thread, and the laws: world_table/Histories HistoryLaws
 users after a history; what `World` answers; events where the configuration says: world_users/Standing world_core/Opening Worlds Answering Routed
 laws of every run, by keys; of every script: world_laws/EntityLaws script_laws/ScriptLaws
+a session round an entity: what calls do, what is kept, answers as numbers, the Put of an order: cfdp_session/Steps Kept Flat Orders
+the entity for C: what a handle owns, what calls do to it, codes and names: cfdp_c/Owned Calls Codes Names
 the list of timers that run: timer_list/Timers
+what a disk was asked; what a power cut may leave of it; which faults may pass: disk/Steps Crash Faults
+what is promised of a file on a disk; how long it stays; why each flush is needed: disk/Promise Staying Needed
+what is known of a disk while a file is stored: disk/Parts
 file names that a folder store takes; a store in memory; faults of a store: file_stores/Names MemoryStore Faults
 what lies behind a lane's lock, and a step of it: shared_lanes/Held
 what `Entity` may answer; what it is opened with: shared_entity/Answering Opening
 workers: what waits, faults, which answers a carrier accepts; deposits: entity_workers/Messages Faults Carrying Depositing
-words of a line, and operands that scripts and commands share: line_words/Words Operands
+words of a line, and operands that scripts and commands share: line_words/Words Operands Places
 words of a line with quotes: quoted_words/Quoted
 printed lines: indications; answers and refusals: answer_texts/ToldTexts AnswerTexts
 what a line of a script says: script_lines/Commands
+the lines of a journal's events, how they are read back, and the script of a whole journal: journal_scripts/Rows Laws journal_recording/Recording
+what a PDU says in words: pdu_words/Words
 a reader's lines, what a writer gains, how the end of a run is reported: script_io/Lines Output Ending
 what a line does to a script's session, what it prints, and a whole script: script_replay/Sessions Texts Run
 what a line of a server's commands asks for, and what of it is left at the desk: server_lines/Commands program_desk/Says
 options and words of the programs; numbers on a command line: program_words/Lines Numbers
 turns of files, timers and deposits; what becomes of a refusal: program_agenda/Turns Fates program_station/Obstacles
 the pace of what leaves, and its law: program_agenda/Paces PaceLaws
+datagrams that wait for their lane, their room, and the laws of both: program_parking/Lanes Parkings ParkingLaws program_lot/Waits
+which number begins next toward an entity, and its law: program_lineup/Lineups LineupLaws
 where a PDU goes, how far its data reaches; when a step's timers expire: program_udp/Peers Reaches program_desk/Steps
 what a program prints for a fault: program_start/Faults
 what the server prints of an answer; exit status and progress of a put: cfdp_serve/Answers cfdp_send/Ended Progress

@@ -17,7 +17,7 @@ use Rattle.lane_table.specs.Lane.{IsRun, key_at, key_of, log_of, entries_in, iss
 use Rattle.lane_table.proofs.LogFacts.{lane_words}
 use Rattle.lane_table.proofs.StepFacts.{both_true}
 use Rattle.lane_traces.specs.declared.traced.Traced.{Traced}
-use Rattle.lane_traces.specs.Traces.{is_end_told, is_over, traced_by, is_same_key, is_older_than, how_far_by, TellsHowFar}
+use Rattle.lane_traces.specs.Traces.{is_end_told, is_over, traced_by, is_same_key, is_older_than, how_far_by, events_by, TellsHowFar}
 
 -- ---- ends stand last
 
@@ -42,12 +42,12 @@ over_is_word side told begun = (
 
 -- ---- what is told is of the last transaction
 
-told_by : (same older : Bool) (here traced : Traced)
-    → (if same then (let ok : Result Traced Refusal = Ok here in ok) else if older then Err OldTransaction else Err NoTransaction) ≡ Ok traced
-    → (same ≡ true) × (here ≡ traced)
-told_by true older here traced is = (refl, cc)
-told_by false true here traced is = absurd cc
-told_by false false here traced is = absurd cc
+told_by : {A : Type 0} (same older : Bool) (here given : A)
+    → (if same then (let ok : Result A Refusal = Ok here in ok) else if older then Err OldTransaction else Err NoTransaction) ≡ Ok given
+    → (same ≡ true) × (here ≡ given)
+told_by true older here given is = (refl, cc)
+told_by false true here given is = absurd cc
+told_by false false here given is = absurd cc
 
 same_is : (one other : TxnKey) → is_same_key one other ≡ true → one ≡ other
 same_is one other is =
@@ -62,6 +62,14 @@ told_of_last None journal told key traced is = absurd cc
 told_of_last (Some last) journal told key traced is =
     let by = told_by (is_same_key last key) (is_older_than last key) (traced_by journal told) traced is in
     (ap Some (same_is last key by.0), by.1)
+
+-- so are the events that are given
+pub given_of_last : (last : Option TxnKey) (journal : List Event) (key : TxnKey) (events : List Event)
+    → events_by last journal key ≡ Ok events → (last ≡ Some key) × (events ≡ journal)
+given_of_last None journal key events is = absurd cc
+given_of_last (Some last) journal key events is =
+    let by = told_by (is_same_key last key) (is_older_than last key) journal events is in
+    (ap Some (same_is last key by.0), sym by.1)
 
 -- ---- the law
 

@@ -43,6 +43,18 @@ how_far_by (Some last) journal told key =
 abbrev pub how_far : State → TxnKey → Result Traced Refusal
 how_far state key = how_far_by (key_of state) state.journal (issued_by state) key
 
+-- the events of the transaction with a key, likewise
+abbrev pub events_by : Option TxnKey → List Event → TxnKey → Result (List Event) Refusal
+events_by None journal key = Err NoTransaction
+events_by (Some last) journal key =
+    if is_same_key last key then Ok journal
+    else if is_older_than last key then Err OldTransaction
+    else Err NoTransaction
+
+-- the events of the transaction with a key at a lane, or the refusal
+abbrev pub events_of : State → TxnKey → Result (List Event) Refusal
+events_of state key = events_by (key_of state) state.journal key
+
 -- the reported progress is true of the lane's log, which is legal and has the key
 pub record IsHowFar (state : State) (key : TxnKey) (traced : Traced) : Type 0 where
   pub log : Log

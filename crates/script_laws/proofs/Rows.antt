@@ -15,9 +15,9 @@ use Rattle.txn_events.specs.Examples.{abc, put_value}
 use Rattle.txn_events.specs.declared.event.Event.TheVariants.{Put}
 use Rattle.world_table.specs.Histories.{steps, takes}
 use Rattle.script_lines.specs.declared.command.Command.TheVariants as command
-use Rattle.script_replay.specs.Sessions.{Session, fresh}
+use Rattle.script_replay.specs.Sessions.{Session, fresh, configured}
 use Rattle.script_replay.specs.Run.{Plays, PlaysLine}
-use Rattle.script_laws.specs.ScriptLaws.{CanBe}
+use Rattle.script_laws.specs.ScriptLaws.{CanBe, Begins}
 use Rattle.script_laws.proofs.ScriptFacts.{plays_what_can_be}
 
 -- room for one bundle instead of eight
@@ -25,14 +25,14 @@ abbrev narrow : ConfigValue
 narrow = record reference_config { entity = record reference_config.entity { capacity = 1 } }
 
 abbrev set : Session
-set = record { config = narrow; may_set = true; history = [] }
+set = record { config = narrow; may_set = true; gathered = None; history = [] }
 
 -- alice's first file went to the first lane
 abbrev put : Session
-put = record { config = narrow; may_set = false; history = steps 0 0 (Put (put_value One abc) reference) ∷ [] }
+put = record { config = narrow; may_set = false; gathered = None; history = steps 0 0 (Put (put_value One abc) reference) ∷ [] }
 
 abbrev took : Session
-took = record { config = narrow; may_set = false; history = takes 0 ∷ steps 0 0 (Put (put_value One abc) reference) ∷ [] }
+took = record { config = narrow; may_set = false; gathered = None; history = takes 0 ∷ steps 0 0 (Put (put_value One abc) reference) ∷ [] }
 
 set_line : PlaysLine fresh (codes "set capacity 1") set []
 set_line = record {
@@ -93,7 +93,18 @@ plays = (
   refl,
 )
 
+-- the reference configuration is within all limits, and nothing has happened with it
+fresh_begins : Begins fresh
+fresh_begins = record { kept = refl; begins = refl }
+
+-- so may any other begin that is within the limits, but none with a history
+configured_begins : Begins (configured narrow)
+configured_begins = record { kept = refl; begins = refl }
+
+has_happened : Begins took → ⊥
+has_happened is = let none = is.begins in cc
+
 -- so all that happened can happen
 can_be : CanBe took
-can_be = plays_what_can_be (codes "set capacity 1" ∷ codes "put alice 0 1 1 a b 616263" ∷ codes "take alice" ∷ []) took
-    (codes "ok\ntxn 2 4\nalice 2 4 Transaction\n") plays
+can_be = plays_what_can_be fresh took (codes "set capacity 1" ∷ codes "put alice 0 1 1 a b 616263" ∷ codes "take alice" ∷ [])
+    (codes "ok\ntxn 2 4\nalice 2 4 Transaction\n") fresh_begins plays

@@ -16,9 +16,9 @@ use Rattle.world_core.specs.Worlds.{MayCome, IsAnswered, IsUnread, history_after
 use Rattle.world_laws.proofs.RouteHomes.{routes_home}
 use Rattle.script_lines.specs.declared.command.Command.{Command}
 use Rattle.script_lines.specs.declared.command.Command.TheVariants as command
-use Rattle.script_replay.specs.Sessions.{Session, fresh, with_history, Answers, IsSet, IsTold, IsTakenBy, Gives, history_taken}
+use Rattle.script_replay.specs.Sessions.{Session, with_history, is_put, left_by, Answers, IsSet, IsGathered, IsTold, IsTakenBy, Gives, history_taken}
 use Rattle.script_replay.specs.Run.{Plays}
-use Rattle.script_laws.specs.ScriptLaws.{CanBe, PlaysWhatCanBe}
+use Rattle.script_laws.specs.ScriptLaws.{CanBe, Begins, PlaysWhatCanBe}
 use Rattle.script_laws.proofs.SettingFacts.{set_kept}
 
 -- what can have happened, and where the configuration may be changed nothing has
@@ -26,8 +26,15 @@ record Sound (session : Session) : Type 0 where
   can_be : CanBe session
   begins : session.may_set ≡ true → session.history ≡ []
 
-fresh_sound : Sound fresh
-fresh_sound = record { can_be = record { kept = refl; routed = tt; legal = tt }; begins = λ may. refl }
+start_sound : (session : Session) → Begins session → Sound session
+start_sound session is = record {
+  can_be = record {
+    kept = is.kept;
+    routed = subst (AreRouted session.config) (sym is.begins) tt;
+    legal = subst (IsHistory (first_lane session.config)) (sym is.begins) tt;
+  };
+  begins = λ may. is.begins;
+}
 
 -- ---- settings
 
@@ -42,6 +49,14 @@ set_sound session change after text sound is =
       };
       begins = λ may. empty;
     })
+
+-- ---- files in pieces
+
+file_sound : (session : Session) (octets : List ℕ) (after : Session) (text : List ℕ) → Sound session → IsGathered session octets after text → Sound after
+file_sound session octets after text sound is = subst Sound (sym is.after_is) (record {
+  can_be = record { kept = sound.can_be.kept; routed = sound.can_be.routed; legal = sound.can_be.legal };
+  begins = sound.begins;
+})
 
 -- ---- events
 
@@ -62,16 +77,17 @@ grown config history (events.Timer key kind stamp) (Ok to) (Ok done) may goes (i
 grown config history (events.Stored key stamp keeps) (Ok to) (Ok done) may goes (inr unread) routed legal = absurd unread
 
 -- from the first event on the configuration stays
-later_sound : (session : Session) (history : List Happening) → IsTrue (is_config session.config) → AreRouted session.config history
-    → IsHistory (first_lane session.config) history → Sound (with_history session history)
-later_sound session history kept routed legal =
+later_sound : (session : Session) (history : List Happening) (gathered : Option (List ℕ)) → IsTrue (is_config session.config)
+    → AreRouted session.config history → IsHistory (first_lane session.config) history
+    → Sound (record (with_history session history) { gathered = gathered })
+later_sound session history gathered kept routed legal =
     record { can_be = record { kept = kept; routed = routed; legal = legal }; begins = λ may. absurd cc }
 
 told_sound : (session : Session) (event : WorldEvent) (after : Session) (text : List ℕ) → Sound session → IsTold session event after text → Sound after
 told_sound session event after text sound is =
     let longer = grown session.config session.history event (route session.config event) is.result is.may refl is.answered sound.can_be.routed sound.can_be.legal in
     subst Sound (sym is.after_is)
-    (later_sound session (history_after session.history (route session.config event) is.result) sound.can_be.kept longer.0 longer.1)
+    (later_sound session (history_after session.history (route session.config event) is.result) (left_by (is_put event) session.gathered) sound.can_be.kept longer.0 longer.1)
 
 -- ---- takes
 
@@ -88,13 +104,14 @@ taken config history user (Some bundle) gives routed legal =
 taken_sound : (session : Session) (user : ℕ) (after : Session) (text : List ℕ) → Sound session → IsTakenBy session user after text → Sound after
 taken_sound session user after text sound is =
     let later = taken session.config session.history user is.taken is.gives sound.can_be.routed sound.can_be.legal in
-    subst Sound (sym is.after_is) (later_sound session (history_taken session.history user is.taken) sound.can_be.kept later.0 later.1)
+    subst Sound (sym is.after_is) (later_sound session (history_taken session.history user is.taken) session.gathered sound.can_be.kept later.0 later.1)
 
 -- ---- lines
 
 line_sound : (session : Session) (says : Command) (after : Session) (text : List ℕ) → Sound session → Answers session says after text → Sound after
 line_sound session command.Nothing after text sound answers = subst Sound (sym answers.0) sound
 line_sound session (command.Set change) after text sound answers = set_sound session change after text sound answers
+line_sound session (command.File octets) after text sound answers = file_sound session octets after text sound answers
 line_sound session (command.Event event) after text sound answers = told_sound session event after text sound answers
 line_sound session (command.Take user) after text sound answers = taken_sound session user after text sound answers
 
@@ -104,4 +121,4 @@ plays_sound session (line ∷ lines) after text sound (mid, said, others, played
     plays_sound mid lines after others (line_sound session played.command mid said sound played.answers) rest
 
 pub plays_what_can_be : PlaysWhatCanBe
-plays_what_can_be lines after text plays = (plays_sound fresh lines after text fresh_sound plays).can_be
+plays_what_can_be start after lines text begins plays = (plays_sound start lines after text (start_sound start begins) plays).can_be

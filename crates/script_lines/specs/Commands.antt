@@ -19,8 +19,10 @@ use Rattle.entity_routing.specs.declared.world_event.Request.TheVariants as requ
 use Rattle.entity_routing.specs.declared.world_event.WorldEvent.TheVariants as events
 use Rattle.script_lines.specs.declared.command.Command.{Command}
 use Rattle.script_lines.specs.declared.command.Command.TheVariants as command
+use Rattle.config_reading.specs.Values.{ConfigValue}
 use Rattle.line_words.specs.Words.{words_of, decimal_of}
 use Rattle.line_words.specs.Operands.{◌>>=◌, number_of, key_from, name_of, class_of, closure_of, request_for}
+use Rattle.line_words.specs.Places.{user_of, lane_of}
 
 -- ---- words
 
@@ -28,23 +30,16 @@ use Rattle.line_words.specs.Operands.{◌>>=◌, number_of, key_from, name_of, c
 abbrev pub stamp_of : List ℕ → Option ℕ
 stamp_of word = decimal_of (2 ^ 32 - 1) word
 
--- a user's number, from the user's name, and the number of one of a user's two sending lanes
-abbrev pub user_of : List ℕ → Option ℕ
-user_of word =
-    if bytes_eq word (codes "alice") then Some 0
-    else if bytes_eq word (codes "bob") then Some 1
-    else None
-
-abbrev pub lane_of : List ℕ → Option ℕ
-lane_of word = decimal_of 1 word
-
 -- the octets that a word writes in hex digits of either case, one octet or more
 abbrev pub octets_of : List ℕ → Option (List ℕ)
 octets_of word = if length word == 0 then None else result_ok (decode_of word)
 
--- the octets of a file, in hex; a dash for an empty file
-abbrev pub file_of : List ℕ → Option (List ℕ)
-file_of word = if bytes_eq word (codes "-") then Some [] else octets_of word
+-- the octets of a file, in hex; a dash for an empty file, an at sign for the octets that lines have gathered
+abbrev pub file_of : Option (List ℕ) → List ℕ → Option (List ℕ)
+file_of gathered word =
+    if bytes_eq word (codes "-") then Some []
+    else if bytes_eq word (codes "@") then gathered
+    else octets_of word
 
 abbrev pub answer_of : List ℕ → Option Bool
 answer_of word =
@@ -122,18 +117,23 @@ abbrev pub deliver_of : List (List ℕ) → Option Command
 deliver_of (octets ∷ []) = option_map (λ o. command.Event (events.Deliver o)) (octets_of octets)
 deliver_of operands = None
 
+-- file HEX
+abbrev pub gather_of : List (List ℕ) → Option Command
+gather_of (octets ∷ []) = option_map command.File (octets_of octets)
+gather_of operands = None
+
 -- a user's request, from its four words
-abbrev pub asked_from : List ℕ → List ℕ → List ℕ → List ℕ → Option Command
-asked_from kind user source seq = do
-  of_user ← user_of user
+abbrev pub asked_from : ConfigValue → List ℕ → List ℕ → List ℕ → List ℕ → Option Command
+asked_from config kind user source seq = do
+  of_user ← user_of config user
   key ← key_from source seq
   request ← request_for kind key
   Some (command.Event (events.Request of_user request))
 
 -- cancel USER SOURCE SEQ, and the like
-abbrev pub asked_of : List ℕ → List (List ℕ) → Option Command
-asked_of kind (user ∷ source ∷ seq ∷ []) = asked_from kind user source seq
-asked_of kind operands = None
+abbrev pub asked_of : ConfigValue → List ℕ → List (List ℕ) → Option Command
+asked_of config kind (user ∷ source ∷ seq ∷ []) = asked_from config kind user source seq
+asked_of config kind operands = None
 
 -- pump SOURCE SEQ
 abbrev pub pump_of : List (List ℕ) → Option Command
@@ -165,9 +165,9 @@ stored_of (source ∷ seq ∷ stamp ∷ answer ∷ []) = stored_from source seq 
 stored_of operands = None
 
 -- take USER
-abbrev pub take_of : List (List ℕ) → Option Command
-take_of (user ∷ []) = option_map command.Take (user_of user)
-take_of operands = None
+abbrev pub take_of : ConfigValue → List (List ℕ) → Option Command
+take_of config (user ∷ []) = option_map command.Take (user_of config user)
+take_of config operands = None
 
 -- a Put without messages, if its names are neither empty nor too long
 abbrev pub put_made : ℕ → Class → List ℕ → List ℕ → List ℕ → Option PutValue
@@ -184,59 +184,66 @@ put_made destination class source_name destination_name file =
     })
 
 -- a Put, from CLASS DEST SRC DST FILE
-abbrev pub put_from : List ℕ → List ℕ → List ℕ → List ℕ → List ℕ → Option PutValue
-put_from class destination source_name destination_name file = do
+abbrev pub put_from : Option (List ℕ) → List ℕ → List ℕ → List ℕ → List ℕ → List ℕ → Option PutValue
+put_from gathered class destination source_name destination_name file = do
   of_class ← class_of class
   to ← number_of destination
   from_name ← name_of source_name
   to_name ← name_of destination_name
-  octets ← file_of file
+  octets ← file_of gathered file
   put_made to of_class from_name to_name octets
 
-abbrev pub put_words : List (List ℕ) → Option PutValue
-put_words (class ∷ destination ∷ source_name ∷ destination_name ∷ file ∷ operands) = do
+abbrev pub put_words : Option (List ℕ) → List (List ℕ) → Option PutValue
+put_words gathered (class ∷ destination ∷ source_name ∷ destination_name ∷ file ∷ operands) = do
   closure ← closure_of operands
-  put ← put_from class destination source_name destination_name file
+  put ← put_from gathered class destination source_name destination_name file
   Some (record put { closure = closure })
-put_words operands = None
+put_words gathered operands = None
 
 -- a Put on a user's lane
-abbrev pub put_at : List ℕ → List ℕ → List (List ℕ) → Option Command
-put_at user lane operands = do
-  of_user ← user_of user
-  of_lane ← lane_of lane
-  put ← put_words operands
+abbrev pub put_at : ConfigValue → Option (List ℕ) → List ℕ → List ℕ → List (List ℕ) → Option Command
+put_at config gathered user lane operands = do
+  of_user ← user_of config user
+  of_lane ← lane_of config lane
+  put ← put_words gathered operands
   Some (command.Event (events.Request of_user (requests.Put of_lane put)))
 
 -- put USER LANE CLASS DEST SRC DST FILE, with `closure` if that is wanted
-abbrev pub put_of : List (List ℕ) → Option Command
-put_of (user ∷ lane ∷ operands) = put_at user lane operands
-put_of operands = None
+abbrev pub put_of : ConfigValue → Option (List ℕ) → List (List ℕ) → Option Command
+put_of config gathered (user ∷ lane ∷ operands) = put_at config gathered user lane operands
+put_of config gathered operands = None
 
 -- a line about one transaction: an event, or a user's request
-abbrev pub of_transaction : List ℕ → List (List ℕ) → Option Command
-of_transaction kind operands =
+abbrev pub of_transaction : ConfigValue → List ℕ → List (List ℕ) → Option Command
+of_transaction config kind operands =
     if bytes_eq kind (codes "stored") then stored_of operands
     else if bytes_eq kind (codes "timer") then timer_of operands
     else if bytes_eq kind (codes "pump") then pump_of operands
-    else asked_of kind operands
+    else asked_of config kind operands
+
+-- a line without octets: a take, a setting, or one about a transaction
+abbrev pub other_by : ConfigValue → List ℕ → List (List ℕ) → Option Command
+other_by config kind operands =
+    if bytes_eq kind (codes "take") then take_of config operands
+    else if bytes_eq kind (codes "set") then set_of operands
+    else of_transaction config kind operands
 
 -- a line, by its first word
-abbrev pub command_by : List ℕ → List (List ℕ) → Option Command
-command_by kind operands =
+abbrev pub command_by : ConfigValue → Option (List ℕ) → List ℕ → List (List ℕ) → Option Command
+command_by config gathered kind operands =
     if bytes_eq kind (codes "pdu") then deliver_of operands
-    else if bytes_eq kind (codes "take") then take_of operands
-    else if bytes_eq kind (codes "put") then put_of operands
-    else if bytes_eq kind (codes "set") then set_of operands
-    else of_transaction kind operands
+    else if bytes_eq kind (codes "put") then put_of config gathered operands
+    else if bytes_eq kind (codes "file") then gather_of operands
+    else other_by config kind operands
 
-abbrev pub command_of_words : List (List ℕ) → Option Command
-command_of_words [] = None
-command_of_words (kind ∷ operands) = command_by kind operands
+abbrev pub command_of_words : ConfigValue → Option (List ℕ) → List (List ℕ) → Option Command
+command_of_words config gathered [] = None
+command_of_words config gathered (kind ∷ operands) = command_by config gathered kind operands
 
--- a line of a script, or nothing for a bad line; empty lines and lines that begin with `#` are comments
-abbrev pub command_of : List ℕ → Option Command
-command_of [] = Some command.Nothing
-command_of (octet ∷ octets) =
+-- a line of a script, or nothing for a bad line, by the configuration and the octets that lines before it have gathered;
+-- empty lines and lines that begin with `#` are comments
+abbrev pub command_of : ConfigValue → Option (List ℕ) → List ℕ → Option Command
+command_of config gathered [] = Some command.Nothing
+command_of config gathered (octet ∷ octets) =
     if octet == 35 then Some command.Nothing
-    else command_of_words (words_of (octet ∷ octets))
+    else command_of_words config gathered (words_of (octet ∷ octets))

@@ -1,15 +1,17 @@
 //! Parses a line of a script.
 ghost use Rattle.std.specs.Prelude.{◌≡◌, IfOk};
 ghost use Rattle.std.specs.Option.{option_copied};
-ghost use Rattle.script_lines.specs.Commands.{command_of, command_by, deliver_of, asked_of, asked_from, pump_of, timer_of, timer_from, stored_of, stored_from, take_of, of_transaction};
+ghost use Rattle.script_lines.specs.Commands.{command_of, command_by, deliver_of, gather_of, other_by, asked_of, asked_from, pump_of, timer_of, timer_from, stored_of, stored_from, take_of, of_transaction};
 ghost use Rattle.line_words.specs.Words.{words_left};
 
-use crate::operands::{answer_of, kind_of, octets_of, stamp_of, user_of};
+use crate::gathered::Gathered;
+use crate::operands::{answer_of, kind_of, octets_of, stamp_of};
 use crate::put::put;
 use crate::setting::set;
-use entity_config::Setting;
+use cfdp_types::Octets;
+use entity_config::{Config, Setting};
 use entity_routing::WorldEvent;
-use line_words::{Rest, key_from, last_word, next_word, request_for, split_word};
+use line_words::{Rest, key_from, last_word, next_word, request_for, split_word, user_of};
 use std::alloc::{AllocError, Global};
 
 /// What a line of a script asks for.
@@ -17,6 +19,8 @@ use std::alloc::{AllocError, Global};
 pub enum Command {
     /// Changes the configuration.
     Set(Setting),
+    /// Gathers octets for the file of the next put.
+    File(Octets),
     /// An event for the entity.
     Event(WorldEvent),
     /// A user, by number, takes the bundle at the front of its queue.
@@ -25,37 +29,60 @@ pub enum Command {
     Nothing,
 }
 
-/// Parses a line of a script; `None` for a bad line.
-pub fn command_of(alloc: Global, line: &[u8]) -> Result<Option<Command>, AllocError>
-    ensures { IfOk result (λ command. command ≡ command_of line.now) }
+/// Parses a line of a script by the users and lanes of a configuration, and the octets that lines before it have
+/// gathered; `None` for a bad line.
+pub fn command_of(
+    alloc: Global,
+    config: &Config,
+    gathered: &Gathered,
+    line: &[u8],
+) -> Result<Option<Command>, AllocError>
+    ensures { IfOk result (λ command. command ≡ command_of config.now gathered.now line.now) }
 {
     if line.is_empty() || line[0] == b'#' {
         return Ok(Some(Command::Nothing));
     }
     let (kind, operands) = split_word(line);
-    by_kind(alloc, kind, operands)
+    by_kind(alloc, config, gathered, kind, operands)
 }
 
-fn by_kind(alloc: Global, kind: &[u8], operands: Rest<'_>) -> Result<Option<Command>, AllocError>
-    ensures { IfOk result
-        (λ command. command ≡ command_by kind.now (words_left (option_copied operands.entry))) }
+fn by_kind(
+    alloc: Global,
+    config: &Config,
+    gathered: &Gathered,
+    kind: &[u8],
+    operands: Rest<'_>,
+) -> Result<Option<Command>, AllocError>
+    ensures { IfOk result (λ command. command ≡ command_by config.now gathered.now kind.now
+        (words_left (option_copied operands.entry))) }
 {
     if kind == b"pdu".as_slice() {
         deliver(alloc, operands)
-    } else if kind == b"take".as_slice() {
-        Ok(take(operands))
     } else if kind == b"put".as_slice() {
-        put(alloc, operands)
-    } else if kind == b"set".as_slice() {
-        Ok(set(operands))
+        put(alloc, config, gathered, operands)
+    } else if kind == b"file".as_slice() {
+        file(alloc, operands)
     } else {
-        Ok(of_transaction(kind, operands))
+        Ok(other(config, kind, operands))
+    }
+}
+
+// Parses a line that has no file and no PDU.
+fn other(config: &Config, kind: &[u8], operands: Rest<'_>) -> Option<Command>
+    ensures { result ≡ other_by config.now kind.now (words_left (option_copied operands.entry)) }
+{
+    if kind == b"take".as_slice() {
+        take(config, operands)
+    } else if kind == b"set".as_slice() {
+        set(operands)
+    } else {
+        of_transaction(config, kind, operands)
     }
 }
 
 // Parses a line about one transaction: an event, or a user's request.
-fn of_transaction(kind: &[u8], operands: Rest<'_>) -> Option<Command>
-    ensures { result ≡ of_transaction kind.now (words_left (option_copied operands.entry)) }
+fn of_transaction(config: &Config, kind: &[u8], operands: Rest<'_>) -> Option<Command>
+    ensures { result ≡ of_transaction config.now kind.now (words_left (option_copied operands.entry)) }
 {
     if kind == b"stored".as_slice() {
         stored(operands)
@@ -64,7 +91,7 @@ fn of_transaction(kind: &[u8], operands: Rest<'_>) -> Option<Command>
     } else if kind == b"pump".as_slice() {
         pump(operands)
     } else {
-        asked(kind, operands)
+        asked(config, kind, operands)
     }
 }
 
@@ -81,18 +108,37 @@ fn deliver(alloc: Global, operands: Rest<'_>) -> Result<Option<Command>, AllocEr
     }
 }
 
-fn asked(kind: &[u8], operands: Rest<'_>) -> Option<Command>
-    ensures { result ≡ asked_of kind.now (words_left (option_copied operands.entry)) }
+fn file(alloc: Global, operands: Rest<'_>) -> Result<Option<Command>, AllocError>
+    ensures { IfOk result
+        (λ command. command ≡ gather_of (words_left (option_copied operands.entry))) }
+{
+    let Some(word) = last_word(operands) else {
+        return Ok(None);
+    };
+    match octets_of(alloc, word)? {
+        Some(octets) => Ok(Some(Command::File(octets))),
+        None => Ok(None),
+    }
+}
+
+fn asked(config: &Config, kind: &[u8], operands: Rest<'_>) -> Option<Command>
+    ensures { result ≡ asked_of config.now kind.now (words_left (option_copied operands.entry)) }
 {
     let (user, operands) = next_word(operands)?;
     let (source, operands) = next_word(operands)?;
-    asked_from(kind, user, source, last_word(operands)?)
+    asked_from(config, kind, user, source, last_word(operands)?)
 }
 
-fn asked_from(kind: &[u8], user: &[u8], source: &[u8], seq: &[u8]) -> Option<Command>
-    ensures { result ≡ asked_from kind.now user.now source.now seq.now }
+fn asked_from(
+    config: &Config,
+    kind: &[u8],
+    user: &[u8],
+    source: &[u8],
+    seq: &[u8],
+) -> Option<Command>
+    ensures { result ≡ asked_from config.now kind.now user.now source.now seq.now }
 {
-    let user = user_of(user)?;
+    let user = user_of(config, user)?;
     let key = key_from(source, seq)?;
     let request = request_for(kind, key)?;
     Some(Command::Event(WorldEvent::Request(user, request)))
@@ -142,9 +188,9 @@ fn stored_from(source: &[u8], seq: &[u8], stamp: &[u8], answer: &[u8]) -> Option
     Some(Command::Event(WorldEvent::Stored(key, stamp, kept)))
 }
 
-fn take(operands: Rest<'_>) -> Option<Command>
-    ensures { result ≡ take_of (words_left (option_copied operands.entry)) }
+fn take(config: &Config, operands: Rest<'_>) -> Option<Command>
+    ensures { result ≡ take_of config.now (words_left (option_copied operands.entry)) }
 {
-    let user = user_of(last_word(operands)?)?;
+    let user = user_of(config, last_word(operands)?)?;
     Some(Command::Take(user))
 }

@@ -1,7 +1,8 @@
 //! Single words of a script's line, read as operands.
 ghost use Rattle.std.specs.Prelude.{◌≡◌, IfOk};
-ghost use Rattle.script_lines.specs.Commands.{stamp_of, user_of, lane_of, octets_of, file_of, answer_of, kind_of, role_of, handler_of, checksum_of};
+ghost use Rattle.script_lines.specs.Commands.{stamp_of, octets_of, file_of, answer_of, kind_of, role_of, handler_of, checksum_of};
 
+use crate::gathered::Gathered;
 use cfdp_types::{Checksum, Handler, Octets, Role, TimerKind};
 use hex::FromHexError;
 use line_words::decimal;
@@ -11,26 +12,6 @@ pub(crate) fn stamp_of(word: &[u8]) -> Option<u32>
     ensures { result ≡ stamp_of word.now }
 {
     Some(decimal(word, u64::from(u32::MAX))? as u32)
-}
-
-/// A user's number, from the user's name.
-pub(crate) fn user_of(word: &[u8]) -> Option<usize>
-    ensures { result ≡ user_of word.now }
-{
-    if word == b"alice".as_slice() {
-        Some(0)
-    } else if word == b"bob".as_slice() {
-        Some(1)
-    } else {
-        None
-    }
-}
-
-/// The number of one of a user's two sending lanes.
-pub(crate) fn lane_of(word: &[u8]) -> Option<usize>
-    ensures { result ≡ lane_of word.now }
-{
-    Some(decimal(word, 1)? as usize)
 }
 
 /// The octets that a word writes in hex, one octet or more.
@@ -47,14 +28,21 @@ pub(crate) fn octets_of(alloc: Global, word: &[u8]) -> Result<Option<Octets>, Al
     }
 }
 
-/// The octets of a file, in hex; a dash for an empty file.
-pub(crate) fn file_of(alloc: Global, word: &[u8]) -> Result<Option<Octets>, AllocError>
-    ensures { IfOk result (λ octets. octets ≡ file_of word.now) }
+/// The octets of a file, in hex; a dash for an empty file, an at sign for the octets that were gathered.
+pub(crate) fn file_of(
+    alloc: Global,
+    gathered: &Gathered,
+    word: &[u8],
+) -> Result<Option<Octets>, AllocError>
+    ensures { IfOk result (λ octets. octets ≡ file_of gathered.now word.now) }
 {
     if word == b"-".as_slice() {
-        return Ok(Some(Octets::new()));
+        Ok(Some(Octets::new()))
+    } else if word == b"@".as_slice() {
+        gathered.copy(alloc)
+    } else {
+        octets_of(alloc, word)
     }
-    octets_of(alloc, word)
 }
 
 pub(crate) fn answer_of(word: &[u8]) -> Option<bool>

@@ -5,15 +5,23 @@ ghost use Rattle.script_lines.specs.Commands.{put_of, put_at, put_words, put_fro
 ghost use Rattle.line_words.specs.Words.{words_left};
 
 use crate::command::Command;
-use crate::operands::{file_of, lane_of, user_of};
+use crate::gathered::Gathered;
+use crate::operands::file_of;
 use cfdp_types::{Class, EntityId, Octets, PutFault, PutRequest};
+use entity_config::Config;
 use entity_routing::{Request, WorldEvent};
-use line_words::{Rest, class_of, closure_of, name_of, next_word, number_of};
+use line_words::{Rest, class_of, closure_of, lane_of, name_of, next_word, number_of, user_of};
 use std::alloc::{AllocError, Global};
 
 /// Parses a Put from the words after the first one.
-pub(crate) fn put(alloc: Global, operands: Rest<'_>) -> Result<Option<Command>, AllocError>
-    ensures { IfOk result (λ command. command ≡ put_of (words_left (option_copied operands.entry))) }
+pub(crate) fn put(
+    alloc: Global,
+    config: &Config,
+    gathered: &Gathered,
+    operands: Rest<'_>,
+) -> Result<Option<Command>, AllocError>
+    ensures { IfOk result
+        (λ command. command ≡ put_of config.now gathered.now (words_left (option_copied operands.entry))) }
 {
     let Some((user, operands)) = next_word(operands) else {
         return Ok(None);
@@ -21,25 +29,28 @@ pub(crate) fn put(alloc: Global, operands: Rest<'_>) -> Result<Option<Command>, 
     let Some((lane, operands)) = next_word(operands) else {
         return Ok(None);
     };
-    put_at(alloc, user, lane, operands)
+    put_at(alloc, config, gathered, user, lane, operands)
 }
 
 fn put_at(
     alloc: Global,
+    config: &Config,
+    gathered: &Gathered,
     user: &[u8],
     lane: &[u8],
     operands: Rest<'_>,
 ) -> Result<Option<Command>, AllocError>
     ensures { IfOk result
-        (λ command. command ≡ put_at user.now lane.now (words_left (option_copied operands.entry))) }
+        (λ command. command ≡ put_at config.now gathered.now user.now lane.now
+        (words_left (option_copied operands.entry))) }
 {
-    let Some(user) = user_of(user) else {
+    let Some(user) = user_of(config, user) else {
         return Ok(None);
     };
-    let Some(lane) = lane_of(lane) else {
+    let Some(lane) = lane_of(config, lane) else {
         return Ok(None);
     };
-    match put_words(alloc, operands)? {
+    match put_words(alloc, gathered, operands)? {
         Some(request) => {
             let request = Request::Put(lane, request);
             Ok(Some(Command::Event(WorldEvent::Request(user, request))))
@@ -48,8 +59,12 @@ fn put_at(
     }
 }
 
-fn put_words(alloc: Global, operands: Rest<'_>) -> Result<Option<PutRequest>, AllocError>
-    ensures { IfOk result (λ put. put ≡ put_words (words_left (option_copied operands.entry))) }
+fn put_words(
+    alloc: Global,
+    gathered: &Gathered,
+    operands: Rest<'_>,
+) -> Result<Option<PutRequest>, AllocError>
+    ensures { IfOk result (λ put. put ≡ put_words gathered.now (words_left (option_copied operands.entry))) }
 {
     let Some((class, operands)) = next_word(operands) else {
         return Ok(None);
@@ -71,6 +86,7 @@ fn put_words(alloc: Global, operands: Rest<'_>) -> Result<Option<PutRequest>, Al
     };
     match put_from(
         alloc,
+        gathered,
         class,
         destination,
         source_name,
@@ -84,6 +100,7 @@ fn put_words(alloc: Global, operands: Rest<'_>) -> Result<Option<PutRequest>, Al
 
 fn put_from(
     alloc: Global,
+    gathered: &Gathered,
     class: &[u8],
     destination: &[u8],
     source_name: &[u8],
@@ -91,7 +108,7 @@ fn put_from(
     file: &[u8],
 ) -> Result<Option<PutRequest>, AllocError>
     ensures { IfOk result
-        (λ put. put ≡ put_from class.now destination.now source_name.now destination_name.now file.now) }
+        (λ put. put ≡ put_from gathered.now class.now destination.now source_name.now destination_name.now file.now) }
 {
     let Some(class) = class_of(class) else {
         return Ok(None);
@@ -105,7 +122,7 @@ fn put_from(
     let Some(destination_name) = name_of(destination_name) else {
         return Ok(None);
     };
-    match file_of(alloc, file)? {
+    match file_of(alloc, gathered, file)? {
         Some(file) => put_made(
             alloc,
             destination,

@@ -29,7 +29,7 @@ use Rattle.script_io.specs.Ending.{beside_text}
 use Rattle.script_io.specs.Lines.{line_octets}
 use Rattle.script_replay.specs.declared.run.TheConstants.{LINES}
 use Rattle.script_replay.specs.Run.{PlaysLine, Prints, StopsBehind, StopsAt, Replays, EndsRun}
-use Rattle.script_replay.specs.Sessions.{Session, fresh, with_history, is_put, history_taken, Answers, IsBadFor}
+use Rattle.script_replay.specs.Sessions.{Session, fresh, configured, left_by, with_history, is_put, history_taken, Answers, IsBadFor}
 use Rattle.script_replay.specs.Texts.{user_name, route_text, answer_text, taken_text}
 
 abbrev pub key : TxnKey
@@ -37,7 +37,7 @@ key = record { source = record { 0 = 1 }; seq = 5 }
 
 -- ---- what is printed
 
-names : map user_name (0 ∷ 1 ∷ []) ≡ codes "alice" ∷ codes "bob" ∷ []
+names : map (user_name reference_config) (0 ∷ 1 ∷ 2 ∷ []) ≡ codes "alice" ∷ codes "bob" ∷ [] ∷ []
 names = refl
 
 routes_printed : map route_text (routes.DecodeFault faults.TooShort ∷ routes.DecodeFault faults.NoFileName ∷ routes.NotForUs ∷ routes.WrongDirection
@@ -52,7 +52,7 @@ refusals_printed : map (answer_text false) (Err (answer.Lane (plainly refusal.Qu
 unfolding digits
 refusals_printed = refl
 
-takes_printed : map (taken_text 1) (None ∷ Some (record { user = 1; lane = 3; key = key; inds = told.EofRecv ∷ told.Resumed 9 ∷ [] }) ∷ [])
+takes_printed : map (taken_text (codes "bob")) (None ∷ Some (record { user = 1; lane = 3; key = key; inds = told.EofRecv ∷ told.Resumed 9 ∷ [] }) ∷ [])
     ≡ codes "none\n" ∷ codes "bob 1 5 EOF-Recv\nbob 1 5 Resumed 9\n" ∷ []
 unfolding digits
 takes_printed = refl
@@ -67,7 +67,7 @@ puts = refl
 abbrev pub narrow : ConfigValue
 narrow = record reference_config { entity = record reference_config.entity { capacity = 1 } }
 
-set_early : Answers fresh (command.Set (setting.Capacity 1)) (record { config = narrow; may_set = true; history = [] }) []
+set_early : Answers fresh (command.Set (setting.Capacity 1)) (record { config = narrow; may_set = true; gathered = None; history = [] }) []
 set_early = record { early = refl; config = narrow; set = refl; after_is = refl; silent = refl }
 
 -- once anything has happened no setting may come
@@ -82,6 +82,30 @@ set_out_of_range = inr refl
 
 set_well : IsBadFor fresh (Some (command.Set (setting.Capacity 1))) → ⊥
 set_well bad = ⊎_elim (λ late. cc) (λ refused. cc) bad
+
+-- ---- files in pieces
+
+abbrev begun : Session
+begun = configured reference_config
+
+first_piece : Answers begun (command.File (codes "ab")) (record begun { gathered = Some (codes "ab") }) []
+first_piece = record { front = []; gathers = refl; after_is = refl; silent = refl }
+
+second_piece : Answers (record begun { gathered = Some (codes "ab") }) (command.File (codes "c")) (record begun { gathered = Some (codes "abc") }) []
+second_piece = record { front = codes "ab"; gathers = refl; after_is = refl; silent = refl }
+
+no_pieces : IsBadFor fresh (Some (command.File (codes "ab")))
+no_pieces = refl
+
+pieces_are_good : IsBadFor begun (Some (command.File (codes "ab"))) → ⊥
+pieces_are_good bad = cc bad
+
+-- a put uses them up, another event doesn't
+used_up : map (λ put. left_by put (Some (codes "abc"))) (true ∷ false ∷ []) ≡ Some [] ∷ Some (codes "abc") ∷ []
+used_up = refl
+
+never_gathered : left_by true None ≡ None
+never_gathered = refl
 
 -- ---- takes
 
@@ -147,7 +171,7 @@ interruptions = refl
 -- ---- whole scripts
 
 -- no script with more lines comes to its end
-too_many_lines : (script : List (List ℕ)) (old new : Option (List ℕ)) → LINES < length script → Replays (Ok tt) script old new → ⊥
+too_many_lines : (script : List (List ℕ)) (old new : Option (List ℕ)) → LINES < length script → Replays fresh (Ok tt) script old new → ⊥
 too_many_lines script old new more ends = let few = ends.plays.0 in omega (arith, more, few)
 
 -- no line that is too long is played
@@ -155,7 +179,7 @@ too_long_a_line : (session after : Session) (line text : List ℕ) → line_octe
 too_long_a_line session after line text long plays = let short = plays.short in omega (arith, long, short)
 
 -- no bad line has a greater number than the one behind the last that there may be
-no_later_bad_line : (script : List (List ℕ)) (number : ℕ) (text : List ℕ) → LINES + 1 < number → StopsAt script number text → ⊥
+no_later_bad_line : (script : List (List ℕ)) (number : ℕ) (text : List ℕ) → LINES + 1 < number → StopsAt fresh script number text → ⊥
 no_later_bad_line script number text later stops =
     let few = stops.few in
     let is = stops.number_is in omega (arith, later, few, is)
@@ -167,13 +191,13 @@ script = codes "take bob" ∷ codes "set" ∷ []
 taken_by_bob : PlaysLine fresh (codes "take bob") (with_history fresh []) (codes "none\n")
 taken_by_bob = record { command = command.Take 1; short = omega arith; says = refl; answers = nothing_waits }
 
-first_line : Prints (codes "take bob" ∷ []) (codes "none\n")
+first_line : Prints fresh (codes "take bob" ∷ []) (codes "none\n")
 first_line = record {
   after = with_history fresh [];
   plays = (with_history fresh [], codes "none\n", [], taken_by_bob, (refl, refl), refl);
 }
 
-second_is_bad : StopsAt script 2 (codes "none\n")
+second_is_bad : StopsAt fresh script 2 (codes "none\n")
 unfolding first_line
 second_is_bad = record {
   place = 1;
@@ -183,32 +207,32 @@ second_is_bad = record {
   bad = record { line = codes "set"; there = refl; bad = inr (inr tt) };
 }
 
-stops_at_it : Replays (Err (stop.BadLine 2)) script (Some []) (Some (codes "none\n"))
+stops_at_it : Replays fresh (Err (stop.BadLine 2)) script (Some []) (Some (codes "none\n"))
 stops_at_it = record { text = codes "none\n"; plays = second_is_bad; written = refl }
 
 -- its first line as a whole script, and where the reader fails behind it, or the writer in its answer
-whole_script : Replays (Ok tt) (codes "take bob" ∷ []) (Some []) (Some (codes "none\n"))
+whole_script : Replays fresh (Ok tt) (codes "take bob" ∷ []) (Some []) (Some (codes "none\n"))
 whole_script = record { text = codes "none\n"; plays = (omega arith, first_line); written = refl }
 
-behind_one_line : StopsBehind script (codes "none\n")
+behind_one_line : StopsBehind fresh script (codes "none\n")
 behind_one_line = record { count = 1; within = omega arith; few = omega arith; prints = first_line }
 
-reader_failed : Replays (Err stop.Read) script (Some []) (Some (codes "none\n"))
+reader_failed : Replays fresh (Err stop.Read) script (Some []) (Some (codes "none\n"))
 reader_failed = record { text = codes "none\n"; plays = behind_one_line; written = refl }
 
-writer_failed : Replays (Err stop.Write) script (Some []) (Some (codes "no"))
+writer_failed : Replays fresh (Err stop.Write) script (Some []) (Some (codes "no"))
 writer_failed = record { text = codes "none\n"; plays = behind_one_line; written = (2, refl) }
 
-says_none : (said : Command) → command_of (codes "set") ≡ Some said → ⊥
+says_none : (said : Command) → command_of reference_config None (codes "set") ≡ Some said → ⊥
 says_none said says = cc
 
 -- it does not come to its end
-never_whole : (old new : Option (List ℕ)) → Replays (Ok tt) script old new → ⊥
+never_whole : (old new : Option (List ℕ)) → Replays fresh (Ok tt) script old new → ⊥
 never_whole old new ends = let second = ends.plays.1.plays.4.3 in absurd (says_none second.command second.says)
 
 -- ---- the ends of runs
 
-told_of_it : EndsRun 1 script (Some []) (Some (codes "none\nline 2: bad line\n")) (Some []) (Some [])
+told_of_it : EndsRun fresh 1 script (Some []) (Some (codes "none\nline 2: bad line\n")) (Some []) (Some [])
 unfolding digits
 told_of_it = record {
   ended = Err (stop.BadLine 2);
@@ -219,7 +243,7 @@ told_of_it = record {
   beside = (0, refl);
 }
 
-told_beside : EndsRun 1 script (Some []) (Some (codes "none\n")) (Some []) (Some (codes "read fault\n"))
+told_beside : EndsRun fresh 1 script (Some []) (Some (codes "none\n")) (Some []) (Some (codes "read fault\n"))
 told_beside = record {
   ended = Err stop.Read;
   status_is = refl;
@@ -229,7 +253,7 @@ told_beside = record {
   beside = (11, refl);
 }
 
-ends_well : EndsRun 0 (codes "take bob" ∷ []) (Some []) (Some (codes "none\n")) (Some []) (Some [])
+ends_well : EndsRun fresh 0 (codes "take bob" ∷ []) (Some []) (Some (codes "none\n")) (Some []) (Some [])
 ends_well = record { ended = Ok tt; status_is = refl; mid = Some (codes "none\n"); replays = whole_script; answered = (0, refl); beside = (0, refl) }
 
 -- nothing is told of a run that ended well, and it has the status 0
@@ -240,5 +264,5 @@ says_nothing : (ended : Result ⊤ ReplayFault) (n : ℕ) → status_of ended �
 says_nothing (Ok done) n status told = let more = ap length told in absurd (omega (arith, more, length-take n (beside_text (Ok done))))
 says_nothing (Err why) n status told = absurd (omega (arith, status))
 
-never_told : (others : List (List ℕ)) (old new : Option (List ℕ)) → EndsRun 0 others old new (Some []) (Some (codes "read fault\n")) → ⊥
+never_told : (others : List (List ℕ)) (old new : Option (List ℕ)) → EndsRun fresh 0 others old new (Some []) (Some (codes "read fault\n")) → ⊥
 never_told others old new run = says_nothing run.ended run.beside.0 (sym run.status_is) run.beside.1

@@ -1,5 +1,5 @@
 -- What a line does to what is kept of a session.
-use Rattle.std.proofs.Common.{◌≡◌, ℕ, ◌<◌, ◌≤◌, Bool, true, false, List, [], ◌++◌, length, Option, Some, None, Result, Ok, Err, OnOk, IfErr, is_ok, IfSome, IfNone, ◌⊎◌, inr, refl, sym, ap, ◌∙◌, subst, append-nil, ◌∷◌}
+use Rattle.std.proofs.Common.{◌≡◌, ℕ, ◌<◌, ◌≤◌, Bool, true, false, List, [], ◌++◌, length, Option, Some, None, Result, Ok, Err, OnOk, IfOk, IfErr, is_ok, IfSome, IfNone, ◌⊎◌, inr, refl, sym, ap, ◌∙◌, subst, append-nil, ◌∷◌, is_some, option_map}
 use Rattle.config_reading.specs.declared.fault.ConfigFault.{ConfigFault}
 use Rattle.config_reading.specs.Values.{ConfigValue}
 use Rattle.entity_config.specs.declared.setting.Setting.{Setting}
@@ -16,36 +16,27 @@ use Rattle.script_lines.specs.declared.command.Command.{Command}
 use Rattle.script_lines.specs.declared.command.Command.TheVariants as command
 use Rattle.script_lines.specs.Commands.{command_of}
 use Rattle.script_replay.specs.declared.session.Session.{Session as Kept}
-use Rattle.script_replay.specs.declared.session.Session.TheVariants.{Configured}
-use Rattle.script_replay.specs.Sessions.{Session, with_history, is_put, Gives, history_taken, IsBadFor, Answers}
-use Rattle.script_replay.specs.Texts.{answer_text, taken_text}
-use Rattle.script_replay.specs.Running.{Stands, RunsAs, SetsTo, ToldTo, ObeysTo, PlaysTo}
-
--- a session whose configuration may be changed
-abbrev pub settable : ConfigValue → Session
-settable config = record { config = config; may_set = true; history = [] }
+use Rattle.script_replay.specs.declared.session.Stage.{Stage}
+use Rattle.script_replay.specs.declared.session.Stage.TheVariants.{Configured, Running, Over}
+use Rattle.script_replay.specs.Sessions.{Session, with_history, is_put, left_by, Gives, history_taken, IsBadFor, Answers}
+use Rattle.script_replay.specs.Texts.{answer_text, taken_text, user_name}
+use Rattle.script_replay.specs.Running.{Stands, StandsAt, IsSettable, RunsAs, SetsTo, DoesTo, ToldTo, ObeysTo, PlaysTo}
 
 -- ---- settings
 
-pub set_made : (session : Session) (setting : Setting) (old new : ConfigValue) → session ≡ settable old → with_setting setting old ≡ Ok new
+pub set_made : (session : Session) (setting : Setting) (old new : ConfigValue) → IsSettable old session → with_setting setting old ≡ Ok new
     → SetsTo true session setting (Configured new)
 set_made session setting old new is made = (
-  settable new,
-  refl,
-  record {
-    early = ap (λ (s : Session). s.may_set) is;
-    config = new;
-    set = ap (λ (s : Session). with_setting setting s.config) is ∙ made;
-    after_is = ap (λ (s : Session). record { config = new; may_set = true; history = s.history }) (sym is);
-    silent = refl;
-  },
+  record session { config = new },
+  record { config_is = refl; may = is.may; begins = is.begins },
+  record { early = is.may; config = new; set = ap (with_setting setting) is.config_is ∙ made; after_is = refl; silent = refl },
 )
 
-pub set_refused : (session : Session) (setting : Setting) (old : ConfigValue) (kept : Kept) (fault : ConfigFault) → session ≡ settable old
-    → with_setting setting old ≡ Err fault → SetsTo false session setting kept
-set_refused session setting old kept fault is refused = inr (rw (ap (λ (s : Session). with_setting setting s.config) is ∙ refused) refl)
+pub set_refused : (session : Session) (setting : Setting) (old : ConfigValue) (stage : Stage) (fault : ConfigFault) → IsSettable old session
+    → with_setting setting old ≡ Err fault → SetsTo false session setting stage
+set_refused session setting old stage fault is refused = inr (rw (ap (with_setting setting) is.config_is ∙ refused) refl)
 
-pub set_either : {A : Type 0} (session : Session) (setting : Setting) (old new : ConfigValue) (result : Result A ConfigFault) → session ≡ settable old
+pub set_either : {A : Type 0} (session : Session) (setting : Setting) (old new : ConfigValue) (result : Result A ConfigFault) → IsSettable old session
     → OnOk result (with_setting setting old ≡ Ok new) → IfErr result (λ fault. with_setting setting old ≡ Err fault)
     → SetsTo (is_ok result) session setting (Configured new)
 set_either session setting old new (Ok done) is made refused = set_made session setting old new is made
@@ -53,11 +44,11 @@ set_either session setting old new (Err fault) is made refused = set_refused ses
 
 -- ---- the entity
 
-pub begun : (session : Session) (config : ConfigValue) (world : WorldValue) → session ≡ settable config → world.config ≡ config → StandsAfter world []
+pub begun : (session : Session) (config : ConfigValue) (world : WorldValue) → IsSettable config session → world.config ≡ config → StandsAfter world []
     → RunsAs world session
 begun session config world is same stands = record {
-  config = same ∙ ap (λ (s : Session). s.config) (sym is);
-  stands = subst (λ (s : Session). StandsAfter world s.history) (sym is) stands;
+  config = same ∙ sym is.config_is;
+  stands = subst (StandsAfter world) (sym is.begins) stands;
 }
 
 -- ---- events
@@ -74,7 +65,7 @@ pub told : (old new : WorldValue) (event : WorldEvent) (result : Result Done Ent
     → ToldTo true session (command.Event event) new before after
 told old new event result session before after runs may answered stands same printed =
     let later = history_after session.history (route session.config event) result in (
-      with_history session later,
+      record (with_history session later) { gathered = left_by (is_put event) session.gathered },
       answer_text (is_put event) result,
       (
         refl,
@@ -116,12 +107,12 @@ pub taken : (old new : WorldValue) (user : ℕ) (taken : Option Bundle) (session
     → IfNone taken (new ≡ old)
     → ((history : List Happening) → StandsAfter old history → IfSome taken (IsFront old.config history user))
     → ((history : List Happening) → StandsAfter old history → IfSome taken (λ bundle. StandsAfter new (takes user ∷ history)))
-    → new.config ≡ old.config → after ≡ before ++ taken_text user taken
+    → new.config ≡ old.config → after ≡ before ++ taken_text (user_name new.config user) taken
     → ToldTo true session (command.Take user) new before after
 taken old new user took session before after runs may none left front stands same printed =
     let later = history_taken session.history user took in (
       with_history session later,
-      taken_text user took,
+      taken_text (user_name session.config user) took,
       (
         refl,
         record {
@@ -137,7 +128,7 @@ taken old new user took session before after runs may none left front stands sam
         after_is = refl;
         printed = refl;
       },
-      printed,
+      printed ∙ ap (λ (config : ConfigValue). before ++ taken_text (user_name config user) took) (same ∙ runs.config),
     )
 
 -- ---- lines
@@ -145,16 +136,66 @@ taken old new user took session before after runs may none left front stands sam
 pub obeys_nothing : (session : Session) (kept : Kept) (text : List ℕ) → Stands kept session → ObeysTo true session command.Nothing kept text text
 obeys_nothing session kept text stands = (session, [], stands, (refl, refl), sym (append-nil text))
 
-pub obeys_set : (good : Bool) (session : Session) (setting : Setting) (kept : Kept) (text : List ℕ) → SetsTo good session setting kept
-    → ObeysTo good session (command.Set setting) kept text text
-obeys_set false session setting kept text bad = bad
-obeys_set true session setting kept text set = (set.0, [], set.1, set.2, sym (append-nil text))
+pub obeys_set : (good : Bool) (session : Session) (setting : Setting) (stage : Stage) (kept : Kept) (text : List ℕ) → SetsTo good session setting stage
+    → session.gathered ≡ kept.gathered → stage ≡ kept.stage → ObeysTo good session (command.Set setting) kept text text
+obeys_set false session setting stage kept text bad same is = bad
+obeys_set true session setting stage kept text (after, stands, set) same is =
+    (after, [], (ap (λ (s : Session). s.gathered) set.after_is ∙ same, subst (λ (s : Stage). StandsAt s after) is stands), set, sym (append-nil text))
 
-pub plays : (good : Bool) (session : Session) (line : List ℕ) (said : Command) (kept : Kept) (text : List ℕ) → command_of line ≡ Some said
+-- octets are gathered, or there is nothing that gathers them
+pub obeys_file : (good : Bool) (session : Session) (octets : List ℕ) (old kept : Kept) (text : List ℕ) → Stands old session → old.stage ≡ kept.stage
+    → good ≡ is_some old.gathered → kept.gathered ≡ option_map (λ front. front ++ octets) old.gathered
+    → ObeysTo good session (command.File octets) kept text text
+obeys_file good session octets old kept text (same, stands) is good_is added = by old.gathered good same good_is added
+  where
+    by : (gathered : Option (List ℕ)) (good : Bool) → session.gathered ≡ gathered → good ≡ is_some gathered
+        → kept.gathered ≡ option_map (λ front. front ++ octets) gathered → ObeysTo good session (command.File octets) kept text text
+    by None true same good_is added = absurd cc
+    by None false same good_is added = same
+    by (Some front) false same good_is added = absurd cc
+    by (Some front) true same good_is added = (
+      record session { gathered = Some (front ++ octets) },
+      [],
+      (sym added, ahead kept.stage (subst (λ (s : Stage). StandsAt s session) is stands)),
+      record { front = front; gathers = same; after_is = refl; silent = refl },
+      sym (append-nil text),
+    )
+      where
+        ahead : (stage : Stage) → StandsAt stage session → StandsAt stage (record session { gathered = Some (front ++ octets) })
+        ahead (Configured config) stands = record { config_is = stands.config_is; may = stands.may; begins = stands.begins }
+        ahead (Running world) stands = (stands.0, record { config = stands.1.config; stands = stands.1.stands })
+        ahead Over stands = stands
+
+pub obeys_file_by : {E : Type 0} (result : Result Bool E) (session : Session) (octets added : List ℕ) (old kept : Kept) (text : List ℕ) → Stands old session
+    → old.stage ≡ kept.stage → added ≡ octets → IfOk result (λ good. good ≡ is_some old.gathered)
+    → OnOk result (kept.gathered ≡ option_map (λ front. front ++ added) old.gathered)
+    → IfOk result (λ good. ObeysTo good session (command.File octets) kept text text)
+obeys_file_by (Ok good) session octets added old kept text stands stage same gathers grown =
+    obeys_file good session octets old kept text stands stage gathers
+    (subst (λ (o : List ℕ). kept.gathered ≡ option_map (λ front. front ++ o) old.gathered) same grown)
+obeys_file_by (Err why) session octets added old kept text stands stage same gathers grown = tt
+
+-- an event was answered, and what it leaves of the gathered octets is left
+pub obeys_event : (good : Bool) (session : Session) (event : WorldEvent) (kept : Kept) (before after : List ℕ)
+    → DoesTo good session (command.Event event) kept.stage before after → kept.gathered ≡ left_by (is_put event) session.gathered
+    → ObeysTo good session (command.Event event) kept before after
+obeys_event false session event kept before after bad left = bad
+obeys_event true session event kept before after (then, said, stands, told, printed) left =
+    (then, said, (ap (λ (s : Session). s.gathered) told.after_is ∙ sym left, stands), told, printed)
+
+-- a take leaves them all
+pub obeys_take : (good : Bool) (session : Session) (user : ℕ) (kept : Kept) (before after : List ℕ)
+    → DoesTo good session (command.Take user) kept.stage before after → session.gathered ≡ kept.gathered
+    → ObeysTo good session (command.Take user) kept before after
+obeys_take false session user kept before after bad same = bad
+obeys_take true session user kept before after (then, said, stands, took, printed) same =
+    (then, said, (ap (λ (s : Session). s.gathered) took.after_is ∙ same, stands), took, printed)
+
+pub plays : (good : Bool) (session : Session) (line : List ℕ) (said : Command) (kept : Kept) (text : List ℕ) → command_of session.config session.gathered line ≡ Some said
     → ObeysTo good session said kept [] text → PlaysTo good session line kept text
 plays false session line said kept text says bad = subst (IsBadFor session) (sym says) bad
 plays true session line said kept text says does =
     (does.0, does.2, (said, says, subst (λ t. Answers session said does.0 t) (sym does.4) does.3))
 
-pub plays_nothing : (session : Session) (line : List ℕ) (kept : Kept) (text : List ℕ) → command_of line ≡ None → PlaysTo false session line kept text
+pub plays_nothing : (session : Session) (line : List ℕ) (kept : Kept) (text : List ℕ) → command_of session.config session.gathered line ≡ None → PlaysTo false session line kept text
 plays_nothing session line kept text none = rw none tt

@@ -1,5 +1,6 @@
 -- Meaning. What the lines of a script do to an entity, and how they are answered.
-use Rattle.std.specs.Prelude.{◌≡◌, ℕ, ◌<◌, ◌≤◌, Bool, true, false, List, [], ◌∷◌, length, Option, Some, None, Result, Ok, IsErr, ◌⊎◌}
+use Rattle.std.specs.Prelude.{◌≡◌, ℕ, ◌<◌, ◌≤◌, Bool, true, false, List, [], ◌∷◌, ◌++◌, length, Option, Some, None, Result, Ok, IsErr, ◌⊎◌}
+use Rattle.std.specs.Option.{option_map}
 use Rattle.config_reading.specs.Values.{ConfigValue}
 use Rattle.entity_config.specs.declared.setting.Setting.{Setting}
 use Rattle.entity_config.specs.Reference.{reference_config}
@@ -16,21 +17,27 @@ use Rattle.entity_parts.specs.FirstLanes.{first_lane}
 use Rattle.world_core.specs.Worlds.{MayCome, IsAnswered, IsUnread, IsFront, history_after}
 use Rattle.script_lines.specs.declared.command.Command.{Command}
 use Rattle.script_lines.specs.declared.command.Command.TheVariants as command
-use Rattle.script_replay.specs.Texts.{answer_text, taken_text}
+use Rattle.script_replay.specs.Texts.{answer_text, taken_text, user_name}
 
--- the configuration, whether it may still be changed, and the entity's history, newest first
+-- the configuration, whether it may still be changed, the octets that lines have gathered for the next put, where they
+-- gather any, and the entity's history, newest first
 pub record Session : Type 0 where
   pub config : ConfigValue
   pub may_set : Bool
+  pub gathered : Option (List ℕ)
   pub history : List Happening
 
--- a script begins with the reference configuration, which it may change
+-- a script begins with the reference configuration, which it may change, and gathers no octets
 abbrev pub fresh : Session
-fresh = record { config = reference_config; may_set = true; history = [] }
+fresh = record { config = reference_config; may_set = true; gathered = None; history = [] }
+
+-- a script that is played with a configuration begins with that one, and may gather octets
+abbrev pub configured : ConfigValue → Session
+configured config = record { config = config; may_set = true; gathered = Some []; history = [] }
 
 -- the session with a longer history: from now on its configuration stays
 abbrev pub with_history : Session → List Happening → Session
-with_history session history = record { config = session.config; may_set = false; history = history }
+with_history session history = record session { may_set = false; history = history }
 
 -- ---- settings
 
@@ -39,8 +46,22 @@ pub record IsSet (session : Session) (setting : Setting) (after : Session) (text
   pub early : session.may_set ≡ true
   pub config : ConfigValue
   pub set : with_setting setting session.config ≡ Ok config
-  pub after_is : after ≡ record { config = config; may_set = true; history = session.history }
+  pub after_is : after ≡ record session { config = config }
   pub silent : text ≡ []
+
+-- ---- files in pieces
+
+-- octets are gathered behind the others, and nothing is printed
+pub record IsGathered (session : Session) (octets : List ℕ) (after : Session) (text : List ℕ) : Type 0 where
+  pub front : List ℕ
+  pub gathers : session.gathered ≡ Some front
+  pub after_is : after ≡ record session { gathered = Some (front ++ octets) }
+  pub silent : text ≡ []
+
+-- what is gathered for the next put, behind an event: nothing yet behind a put, which has used it up
+abbrev pub left_by : Bool → Option (List ℕ) → Option (List ℕ)
+left_by true gathered = option_map (λ front. []) gathered
+left_by false gathered = gathered
 
 -- ---- events
 
@@ -54,7 +75,8 @@ pub record IsTold (session : Session) (event : WorldEvent) (after : Session) (te
   pub may : MayCome session.config event
   pub result : Result Done EntityRefusal
   pub answered : IsAnswered session.config session.history (route session.config event) result ⊎ IsUnread event result
-  pub after_is : after ≡ with_history session (history_after session.history (route session.config event) result)
+  pub after_is : after ≡ record (with_history session (history_after session.history (route session.config event) result))
+      { gathered = left_by (is_put event) session.gathered }
   pub printed : text ≡ answer_text (is_put event) result
 
 -- ---- takes
@@ -75,7 +97,7 @@ pub record IsTakenBy (session : Session) (user : ℕ) (after : Session) (text : 
   pub taken : Option Bundle
   pub gives : Gives session.config session.history user taken
   pub after_is : after ≡ with_history session (history_taken session.history user taken)
-  pub printed : text ≡ taken_text user taken
+  pub printed : text ≡ taken_text (user_name session.config user) taken
 
 -- ---- lines
 
@@ -83,6 +105,7 @@ pub record IsTakenBy (session : Session) (user : ℕ) (after : Session) (text : 
 abbrev pub Answers : Session → Command → Session → List ℕ → Type 0
 Answers session command.Nothing after text = (after ≡ session) × (text ≡ [])
 Answers session (command.Set setting) after text = IsSet session setting after text
+Answers session (command.File octets) after text = IsGathered session octets after text
 Answers session (command.Event event) after text = IsTold session event after text
 Answers session (command.Take user) after text = IsTakenBy session user after text
 
@@ -90,10 +113,12 @@ Answers session (command.Take user) after text = IsTakenBy session user after te
 abbrev pub IsBadSetting : Session → Setting → Type 0
 IsBadSetting session setting = (session.may_set ≡ false) ⊎ IsErr (with_setting setting session.config)
 
--- a line is bad there: it can't be parsed, makes no setting, or names a user or a lane that the entity does not have
+-- a line is bad there: it can't be parsed, makes no setting, gathers octets where none are gathered, or names a user or a
+-- lane that the entity does not have
 abbrev pub IsBadFor : Session → Option Command → Type 0
 IsBadFor session None = Unit {0}
 IsBadFor session (Some command.Nothing) = ⊥
 IsBadFor session (Some (command.Set setting)) = IsBadSetting session setting
+IsBadFor session (Some (command.File octets)) = session.gathered ≡ None
 IsBadFor session (Some (command.Event event)) = MayCome session.config event → ⊥
 IsBadFor session (Some (command.Take user)) = length session.config.users ≤ user

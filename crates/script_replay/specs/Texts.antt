@@ -1,7 +1,8 @@
 -- Meaning. The output of single lines of a script.
-use Rattle.std.specs.Prelude.{ℕ, ◌==◌, if◌then◌else◌, Bool, List, Option, Some, None, Result, Ok, Err, codes}
+use Rattle.std.specs.Prelude.{ℕ, Bool, List, [], slice_get, Option, Some, None, Result, Ok, Err, codes}
 use Rattle.answer_texts.specs.AnswerTexts.{done_text, refusal_text, fault_line, refused_text}
 use Rattle.answer_texts.specs.ToldTexts.{bundle_text}
+use Rattle.config_reading.specs.Values.{ConfigValue}
 use Rattle.entity_parts.specs.declared.refusal.EntityRefusal.{EntityRefusal}
 use Rattle.entity_parts.specs.declared.refusal.EntityRefusal.TheVariants as answer
 use Rattle.entity_parts.specs.Refusals.{number_of, name_of}
@@ -12,9 +13,13 @@ use Rattle.indications.specs.declared.bundle.Bundle.{Bundle}
 use Rattle.lane_table.specs.declared.done.Done.{Done}
 use Rattle.pdu_reading.specs.Fault.{fault_number}
 
--- a user's name
-abbrev pub user_name : ℕ → List ℕ
-user_name user = if user == 0 then codes "alice" else codes "bob"
+-- a user's name in a configuration; nothing for a user that it doesn't have
+abbrev pub user_name : ConfigValue → ℕ → List ℕ
+user_name config user = named (slice_get config.users user)
+  where
+    named : Option (List ℕ) → List ℕ
+    named None = []
+    named (Some name) = name
 
 -- why no lane receives an event; for octets that are not a PDU, the decode fault
 abbrev pub route_text : RouteRefusal → List ℕ
@@ -28,7 +33,7 @@ answer_text is_put (Err (answer.Lane refused)) = refused_text refused
 answer_text is_put (Err (answer.Route why)) = route_text why
 answer_text is_put (Err answer.WrongLane) = refusal_text (number_of answer.WrongLane) (name_of answer.WrongLane)
 
--- the bundle that a user took, or `none`
-abbrev pub taken_text : ℕ → Option Bundle → List ℕ
-taken_text user None = codes "none\n"
-taken_text user (Some bundle) = bundle_text (user_name user) bundle
+-- the bundle that the user with this name took, or `none`
+abbrev pub taken_text : List ℕ → Option Bundle → List ℕ
+taken_text name None = codes "none\n"
+taken_text name (Some bundle) = bundle_text name bundle

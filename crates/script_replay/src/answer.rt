@@ -1,6 +1,6 @@
 //! Texts of an entity's answers. Each function appends to `text`; after an `Err` the text is not to be used.
 ghost use Rattle.std.specs.Prelude.{◌≡◌, ◌++◌, OnOk, string_bytes};
-ghost use Rattle.script_replay.specs.Texts.{answer_text, route_text, taken_text, user_name};
+ghost use Rattle.script_replay.specs.Texts.{answer_text, route_text, taken_text};
 
 use answer_texts::{push_bundle, push_decode_fault, push_done, push_refusal, push_refused};
 use indications::Bundle;
@@ -35,24 +35,17 @@ fn push_route_refusal(text: &mut String, why: RouteRefusal) -> Result<(), AllocE
     }
 }
 
-/// Appends the lines for the bundle that a user took, or for none.
+/// Appends the lines for the bundle that the user with this name took, or for none.
 pub fn push_taken(
     alloc: Global,
     text: &mut String,
-    user: usize,
+    name: &str,
     taken: &Option<Bundle>,
 ) -> Result<(), AllocError>
-    ensures { OnOk result (string_bytes text.new ≡ string_bytes text.old ++ taken_text user taken.now) }
+    ensures { OnOk result (string_bytes text.new ≡ string_bytes text.old ++ taken_text name.now taken.now) }
 {
     match taken {
-        Some(bundle) => push_bundle(alloc, text, user_name(user), bundle),
+        Some(bundle) => push_bundle(alloc, text, name, bundle),
         None => text.push_str("none\n"),
     }
-}
-
-// A user's name in scripts.
-fn user_name(user: usize) -> &'static str
-    ensures { result.now ≡ user_name user }
-{
-    if user == 0 { "alice" } else { "bob" }
 }

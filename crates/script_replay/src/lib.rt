@@ -7,6 +7,7 @@ mod run;
 mod session;
 
 pub use answer::{push_answer, push_taken};
-pub use program::play_to_end;
-pub use run::{AnswerPace, LINES, replay, replay_at};
+pub use program::{play_to_end, play_with};
+pub use run::{AnswerPace, LINES, replay, replay_at, replay_with};
 pub use script_io::ReplayFault;
+pub use session::Session;

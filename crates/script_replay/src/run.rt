@@ -4,9 +4,11 @@ ghost use Rattle.script_io.specs.Lines.{lines_of};
 ghost use Rattle.script_io.specs.Output.{Buffers};
 ghost use Rattle.script_replay.specs.declared.session.Session.{Session};
 ghost use Rattle.script_replay.specs.Run.{Replays};
-ghost use Rattle.script_replay.specs.Running.{Ran, Ends, GoesOn};
+ghost use Rattle.script_replay.specs.Running.{Stands, Ran, Ends, GoesOn};
+ghost use Rattle.script_replay.specs.Sessions.{Session as Played, configured, fresh};
 
 use crate::session::Session;
+use entity_config::Config;
 use script_io::{
     BLOCK_OCTETS, NextLine, ReplayFault, flush_buffer, in_blocks, next_line, write_buffered,
 };
@@ -33,14 +35,15 @@ struct Scratch {
 }
 
 /// Runs the reader's script through an entity, line by line, and writes the answers by blocks. It also reads by blocks:
-/// if the run ends before the script does, the reader is ahead of the last line played.
+/// if the run ends before the script does, the reader is ahead of the last line played. The script begins with the
+/// reference configuration.
 pub fn replay<R: Read, W: Write>(
     alloc: Global,
     reader: &mut R,
     writer: &mut W,
 ) -> Result<(), ReplayFault>
     ensures { IfSome (R.remaining reader.old)
-        (λ script. Replays result (lines_of script) (W.contents writer.old) (W.contents writer.new)) }
+        (λ script. Replays fresh result (lines_of script) (W.contents writer.old) (W.contents writer.new)) }
 {
     replay_at(alloc, reader, writer, AnswerPace::ByBlocks)
 }
@@ -53,10 +56,40 @@ pub fn replay_at<R: Read, W: Write>(
     pace: AnswerPace,
 ) -> Result<(), ReplayFault>
     ensures { IfSome (R.remaining reader.old)
-        (λ script. Replays result (lines_of script) (W.contents writer.old) (W.contents writer.new)) }
+        (λ script. Replays fresh result (lines_of script) (W.contents writer.old) (W.contents writer.new)) }
+{
+    let session = Session::reference(alloc)?;
+    replay_in(alloc, session, reader, writer, pace)
+}
+
+/// Like [`replay_at`], for a script that begins with this configuration, and may have lines that gather octets.
+pub fn replay_with<R: Read, W: Write>(
+    alloc: Global,
+    config: Config,
+    reader: &mut R,
+    writer: &mut W,
+    pace: AnswerPace,
+) -> Result<(), ReplayFault>
+    ensures { IfSome (R.remaining reader.old) (λ script. Replays (configured config) result (lines_of script)
+        (W.contents writer.old) (W.contents writer.new)) }
+{
+    let session = Session::configured(alloc, config);
+    replay_in(alloc, session, reader, writer, pace)
+}
+
+// Runs the reader's script in a session.
+fn replay_in<R: Read, W: Write>(
+    alloc: Global,
+    session: Session,
+    reader: &mut R,
+    writer: &mut W,
+    pace: AnswerPace,
+) -> Result<(), ReplayFault>
+    ensures { (start : Played) → Stands session start → IfSome (R.remaining reader.old)
+        (λ script. Replays start result (lines_of script) (W.contents writer.old) (W.contents writer.new)) }
 {
     let mut buffer = Vec::new(alloc);
-    let ended = play_script(alloc, reader, writer, &mut buffer, pace);
+    let ended = play_script(alloc, session, reader, writer, &mut buffer, pace);
     flush_buffer(writer, &mut buffer)?;
     ended
 }
@@ -64,17 +97,19 @@ pub fn replay_at<R: Read, W: Write>(
 // Runs the script. At the end the buffer holds the output that was not written yet.
 fn play_script<R: Read, W: Write>(
     alloc: Global,
+    session: Session,
     reader: &mut R,
     writer: &mut W,
     buffer: &mut Vec<u8>,
     pace: AnswerPace,
 ) -> Result<(), ReplayFault>
     requires { buffer.old.items ≡ [] }
-    ensures { IfSome (R.remaining reader.old)
-        (λ script. Ends result (lines_of script) (W.contents writer.old) (W.contents writer.new) buffer.new.items) }
+    ensures { (start : Played) → Stands session start → IfSome (R.remaining reader.old)
+        (λ script. Ends start result (lines_of script) (W.contents writer.old) (W.contents writer.new)
+        buffer.new.items) }
 {
+    let mut session = session;
     let mut blocks = in_blocks(alloc, reader)?;
-    let mut session = Session::new(alloc)?;
     play_lines(alloc, &mut session, &mut blocks, writer, buffer, pace)
 }
 
@@ -87,9 +122,9 @@ fn play_lines<B: BufRead, W: Write>(
     buffer: &mut Vec<u8>,
     pace: AnswerPace,
 ) -> Result<(), ReplayFault>
-    ensures { (lines : List (List ℕ)) (old : Option (List ℕ))
-        → Ran lines (B.remaining reader.old) 0 session.old old (W.contents writer.old) buffer.old.items
-        → Ends result lines old (W.contents writer.new) buffer.new.items }
+    ensures { (start : Played) (lines : List (List ℕ)) (old : Option (List ℕ))
+        → Ran start lines (B.remaining reader.old) 0 session.old old (W.contents writer.old) buffer.old.items
+        → Ends start result lines old (W.contents writer.new) buffer.new.items }
 {
     let mut scratch = Scratch {
         line: Vec::new(alloc),
@@ -120,9 +155,9 @@ fn hand_on<W: Write>(
 
 // A script has at most `LINES` lines.
 fn ends<B: BufRead>(reader: &mut B, line: &mut Vec<u8>) -> Result<(), ReplayFault>
-    ensures { (lines : List (List ℕ)) (session : Session) (old new : Option (List ℕ)) (buffer : List ℕ)
-        → Ran lines (B.remaining reader.old) LINES session old new buffer
-        → Ends result lines old new buffer }
+    ensures { (start : Played) (lines : List (List ℕ)) (session : Session) (old new : Option (List ℕ)) (buffer : List ℕ)
+        → Ran start lines (B.remaining reader.old) LINES session old new buffer
+        → Ends start result lines old new buffer }
 {
     match next_line(reader, line)? {
         NextLine::End => Ok(()),
@@ -142,9 +177,9 @@ fn turn<B: BufRead, W: Write>(
     count: u32,
 ) -> Result<bool, ReplayFault>
     requires { count < LINES }
-    ensures played { (lines : List (List ℕ)) (old : Option (List ℕ))
-        → Ran lines (B.remaining reader.old) count session.old old (W.contents writer.old) buffer.old.items
-        → GoesOn result lines (B.remaining reader.new) count session.new old (W.contents writer.new)
+    ensures played { (start : Played) (lines : List (List ℕ)) (old : Option (List ℕ))
+        → Ran start lines (B.remaining reader.old) count session.old old (W.contents writer.old) buffer.old.items
+        → GoesOn start result lines (B.remaining reader.new) count session.new old (W.contents writer.new)
         buffer.new.items }
     ensures bounded { OnOk result (length buffer.new.items
         ≤ max (length buffer.old.items) (max BLOCK_OCTETS (length (string_bytes scratch.new.text)))) }

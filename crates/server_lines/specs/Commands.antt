@@ -1,30 +1,18 @@
 -- Meaning. What a line of a server's commands asks for, by a configuration.
-use Rattle.std.specs.Prelude.{ℕ, ◌==◌, ◌||◌, Bool, nat_lt, if◌then◌else◌, List, [], ◌∷◌, length, Option, Some, None, codes, position}
+use Rattle.std.specs.Prelude.{ℕ, ◌==◌, ◌||◌, Bool, nat_lt, if◌then◌else◌, List, [], ◌∷◌, length, Option, Some, None, codes}
 use Rattle.std.specs.Option.{option_map}
 use Rattle.std.specs.Str.{bytes_eq}
 use Rattle.cfdp_types.specs.declared.key.EntityId.{EntityId}
 use Rattle.cfdp_types.specs.declared.limits.TheConstants.{NAME_OCTETS}
-use Rattle.config_reading.specs.Texts.{is_same_text}
 use Rattle.config_reading.specs.Values.{ConfigValue}
-use Rattle.line_words.specs.Operands.{◌>>=◌, number_of, key_from, name_of, class_of, closure_of, request_for}
+use Rattle.line_words.specs.Operands.{◌>>=◌, number_of, key_from, class_of, closure_of, request_for}
+use Rattle.line_words.specs.Places.{user_of, lane_of}
 use Rattle.quoted_words.specs.Quoted.{words_in}
 use Rattle.server_lines.specs.declared.command.Command.{Command}
 use Rattle.server_lines.specs.declared.command.Command.TheVariants as command
 use Rattle.server_lines.specs.declared.sending.Sending.{Sending}
 
 -- ---- words
-
--- a user's number, from the user's name
-abbrev pub user_of : ConfigValue → List ℕ → Option ℕ
-user_of config word = do
-  name ← name_of word
-  position (is_same_text name) config.users
-
--- the number of one of a user's sending lanes
-abbrev pub lane_of : ConfigValue → List ℕ → Option ℕ
-lane_of config word = do
-  lane ← number_of word
-  if nat_lt lane config.entity.put_lanes then Some lane else None
 
 -- a file name: neither empty nor too long
 abbrev pub file_name_of : List ℕ → Option (List ℕ)

@@ -3,9 +3,9 @@ ghost use Rattle.std.specs.Prelude.{◌≡◌};
 ghost use Rattle.server_lines.specs.Commands.{other_by, outbox_by, outbox_of, drop_of, asked_of, asked_from, take_of, trace_of, status_of, follow_of, quit_of};
 
 use crate::command::Command;
-use crate::operands::{remote_of, user_of};
+use crate::operands::remote_of;
 use entity_config::Config;
-use line_words::{key_from, number_of, request_for};
+use line_words::{key_from, number_of, request_for, user_of};
 use quoted_words::Words;
 
 /// Parses a command that allocates nothing.

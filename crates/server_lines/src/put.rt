@@ -3,9 +3,9 @@ ghost use Rattle.std.specs.Prelude.{◌≡◌, IfOk};
 ghost use Rattle.server_lines.specs.Commands.{put_of, put_command, send_of, send_command};
 
 use crate::command::{Command, PutCommand, SendCommand};
-use crate::operands::{lane_of, user_of};
 use crate::sending::{Sending, sending_of};
 use entity_config::Config;
+use line_words::{lane_of, user_of};
 use quoted_words::Words;
 use std::alloc::{AllocError, Global};
 

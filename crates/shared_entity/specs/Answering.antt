@@ -1,5 +1,5 @@
 -- Meaning. The possible answers of an entity that threads share.
-use Rattle.std.specs.Prelude.{◌≡◌, ◌⊎◌, ℕ, Option, Result, Ok, Err, IfOk, IfErr}
+use Rattle.std.specs.Prelude.{◌≡◌, ◌⊎◌, ℕ, List, Option, Some, Result, Ok, Err, IfOk, IfErr}
 use Rattle.atomic_table.specs.Seated.{TableId}
 use Rattle.cfdp_types.specs.declared.image.Image.{Image}
 use Rattle.cfdp_types.specs.declared.key.TxnKey.{TxnKey}
@@ -9,9 +9,10 @@ use Rattle.txn_events.specs.declared.refusal.Refusal.{Refusal}
 use Rattle.txn_events.specs.declared.refusal.Refusal.TheVariants as refusal
 use Rattle.lane_table.specs.Steps.{image_of, plainly}
 use Rattle.lane_table.specs.Glances.{glance_of}
+use Rattle.lane_table.specs.Lane.{key_of}
 use Rattle.lane_table.specs.Images.{IsOwnFile}
 use Rattle.lane_table.specs.declared.glance.Glance.{Glance}
-use Rattle.lane_traces.specs.Traces.{how_far, IsHowFar}
+use Rattle.lane_traces.specs.Traces.{events_of, how_far, IsHowFar}
 use Rattle.lane_traces.specs.declared.traced.Traced.{Traced}
 use Rattle.entity_routing.specs.Routes.{Routed}
 use Rattle.entity_routing.specs.declared.place.Place.{Place}
@@ -88,6 +89,31 @@ MayTrace queue key (Err why) result = result ≡ Err (answer.Route why)
 MayTrace queue key (Ok place) result =
     IfOk result (MayBeTraced queue place key)
     × IfErr result (λ why. (why ≡ answer.WrongLane) ⊎ MayLackTrace queue place key why)
+
+-- the events of a transaction at the lane of a place, for some value that was behind its lock, which is sound
+pub record MayBeJournal (queue : ℕ → TableId) (place : Place) (key : TxnKey) (events : List Event) : Type 0 where
+  pub held : HeldValue
+  pub there : IsAt queue place held
+  pub key_is : key_of held.lane ≡ Some key
+  pub is_given : events ≡ held.lane.journal
+
+-- why the lane of a place gave no events, for some value that was behind its lock
+pub record MayLackJournal (queue : ℕ → TableId) (place : Place) (key : TxnKey) (why : EntityRefusal) : Type 0 where
+  pub held : HeldValue
+  pub there : IsAt queue place held
+  pub refused : Refusal
+  pub is_refused : why ≡ answer.Lane (plainly refused)
+  pub is_why : IsWhy (events_of held.lane key) refused
+
+-- the events that are given, by the transaction's place
+abbrev pub MayGiveJournal : (ℕ → TableId) → TxnKey → Result Place RouteRefusal → List Event → Type 0
+MayGiveJournal queue key (Err why) events = ⊥
+MayGiveJournal queue key (Ok place) events = MayBeJournal queue place key events
+
+-- why none are given, likewise
+abbrev pub MayRefuseJournal : (ℕ → TableId) → TxnKey → Result Place RouteRefusal → EntityRefusal → Type 0
+MayRefuseJournal queue key (Err unrouted) why = why ≡ answer.Route unrouted
+MayRefuseJournal queue key (Ok place) why = (why ≡ answer.WrongLane) ⊎ MayLackJournal queue place key why
 
 -- a glance at the lane of a place, for some value that was behind its lock
 pub record MayBeGlanced (queue : ℕ → TableId) (place : Place) (glance : Option Glance) : Type 0 where

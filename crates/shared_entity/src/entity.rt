@@ -1,8 +1,8 @@
-ghost use Rattle.std.specs.Prelude.{◌≡◌, IsTrue, false, Ok, IfOk, OnErr, IsErr};
+ghost use Rattle.std.specs.Prelude.{◌≡◌, IsTrue, false, Ok, IfOk, IfErr, OnErr, IsErr};
 ghost use Rattle.lane_table.specs.Glances.{glance_of};
 ghost use Rattle.lane_table.specs.Steps.{IsKeyed, image_of};
-ghost use Rattle.lane_traces.specs.Traces.{how_far};
-ghost use Rattle.shared_entity.specs.Answering.{IsAt, MayAnswerAt, MayGiveImage, MayGlance, MayTrace};
+ghost use Rattle.lane_traces.specs.Traces.{events_of, how_far};
+ghost use Rattle.shared_entity.specs.Answering.{IsAt, MayAnswerAt, MayGiveImage, MayGiveJournal, MayGlance, MayRefuseJournal, MayTrace};
 ghost use Rattle.shared_entity.specs.Reads.{is_lane_of, read_at, IsUpToMemory};
 
 use crate::opening::add_lanes;
@@ -14,7 +14,7 @@ use entity_routing::{
     Place, Request, key_of_pdu, params_of_put, place_of_key, place_of_own, place_of_pdu,
 };
 use lane_table::{Glance, Refused};
-use lane_traces::{Traced, how_far};
+use lane_traces::{Traced, events_of, how_far};
 use pdu_codec::Pdu;
 use shared_lanes::{Gate, Held, Names, Point};
 use std::alloc::{AllocError, Global};
@@ -137,7 +137,7 @@ impl<N: Names, R: Copy> Entity<N, R> {
 }
 
 impl<N: Names, R: Wait + Copy> Entity<N, R> {
-    ghost use Rattle.std.specs.Prelude.{◌≡◌, ◌⊎◌};
+    ghost use Rattle.std.specs.Prelude.{◌≡◌, ◌⊎◌, IfOk, IfErr};
     ghost use Rattle.pdu_reading.specs.Reading.{reading};
     ghost use Rattle.txn_events.specs.declared.event.Event.TheVariants.{On};
     ghost use Rattle.txn_events.specs.declared.event.What.TheVariants as what;
@@ -145,7 +145,7 @@ impl<N: Names, R: Wait + Copy> Entity<N, R> {
     ghost use Rattle.entity_parts.specs.Asking.{MayRequest};
     ghost use Rattle.entity_routing.specs.Routes.{key_place, routed_key, routed_own, routed_request, routed_reading, routed_put, routed_pdu, put_params};
     ghost use Rattle.entity_parts.specs.Refusals.{IsUnreadFrom};
-    ghost use Rattle.shared_entity.specs.Answering.{MayAnswer, MayAnswerAt, MayGiveImage, MayGlance, MayTrace};
+    ghost use Rattle.shared_entity.specs.Answering.{MayAnswer, MayAnswerAt, MayGiveImage, MayGiveJournal, MayGlance, MayRefuseJournal, MayTrace};
 
     /// Handles a user's request.
     pub fn request<G: Gate<N, R>>(
@@ -258,6 +258,20 @@ impl<N: Names, R: Wait + Copy> Entity<N, R> {
         };
         let held = lock.lock(rt);
         trace_at(&held, place, key)
+    }
+
+    /// Copies of the events that the transaction with this key has accepted, in order; they share their octets. The lane
+    /// is locked only while the copies are made. The refusals are those of [`Entity::trace`], and NoMemory.
+    pub fn journal(&self, rt: &R, key: TxnKey) -> Result<Vec<Event>, EntityRefusal>
+        ensures given { IfOk result (λ events. MayGiveJournal N.queue key (key_place self.now key) events.items) }
+        ensures refused { IfErr result (MayRefuseJournal N.queue key (key_place self.now key)) }
+    {
+        let place = place_of_key(&self.config, key)?;
+        let Some(lock) = self.lock_of(place) else {
+            return Err(EntityRefusal::WrongLane);
+        };
+        let held = lock.lock(rt);
+        journal_at(self.alloc, &held, place, key)
     }
 
     /// A glance at the transaction that the lane at a place runs or ran last, if there is one. It is not an event; the
@@ -397,6 +411,29 @@ fn trace_at<N: Names, R: Copy>(
     }
     match how_far(held.key(), held.journal(), held.trace(), key) {
         Ok(traced) => Ok(traced),
+        Err(why) => Err(EntityRefusal::Lane(Refused { why, echo: None })),
+    }
+}
+
+// Copies of a transaction's events at the lane behind a lock, if that is the lane of the place.
+fn journal_at<N: Names, R: Copy>(
+    alloc: Global,
+    held: &Held<N, R>,
+    place: Place,
+    key: TxnKey,
+) -> Result<Vec<Event>, EntityRefusal>
+    ensures given { IfOk result (λ events. MayGiveJournal N.queue key (Ok place) events.items) }
+    ensures refused { IfErr result (MayRefuseJournal N.queue key (Ok place)) }
+    ensures exact { IfOk result
+        (λ events. read_at place (λ lane. events_of lane key) held.now ≡ Ok events.items) }
+    ensures due { IfErr result
+        (λ why. IsUpToMemory (read_at place (λ lane. events_of lane key) held.now) (Err why)) }
+{
+    if !is_at(held, place) {
+        return Err(EntityRefusal::WrongLane);
+    }
+    match events_of(alloc, held.key(), held.journal(), key) {
+        Ok(events) => Ok(events),
         Err(why) => Err(EntityRefusal::Lane(Refused { why, echo: None })),
     }
 }

@@ -10,7 +10,7 @@ use Rattle.txn_events.specs.declared.refusal.Refusal.TheVariants as refusal
 use Rattle.lane_table.specs.Lane.{State, entries_in, issued_in, issued_by}
 use Rattle.lane_rows.specs.ReceivingLaneRows.{fresh, key, after, storing, cancelled}
 use Rattle.lane_traces.specs.declared.traced.Traced.{Traced}
-use Rattle.lane_traces.specs.Traces.{how_far, IsHowFar}
+use Rattle.lane_traces.specs.Traces.{events_of, how_far, IsHowFar}
 use Rattle.lane_traces.proofs.TraceFacts.{tells_how_far}
 use Rattle.shared_rows.proofs.ImageRows.{stands}
 
@@ -38,6 +38,20 @@ of_another_source = refl
 
 of_a_fresh_lane : how_far fresh (key 5) ≡ Err refusal.NoTransaction
 of_a_fresh_lane = refl
+
+-- ---- its events
+
+given_here : events_of storing (key 5) ≡ Ok storing.journal
+given_here = refl
+
+not_above_the_last : events_of storing (key 6) ≡ Err refusal.NoTransaction
+not_above_the_last = refl
+
+not_below_the_last : events_of storing (key 4) ≡ Err refusal.OldTransaction
+not_below_the_last = refl
+
+not_of_a_fresh_lane : events_of fresh (key 5) ≡ Err refusal.NoTransaction
+not_of_a_fresh_lane = refl
 
 -- ---- what holds of it
 

@@ -1,0 +1,3 @@
+pub mod PutFacts
+pub mod Rows
+pub mod Values

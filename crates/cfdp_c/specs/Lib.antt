@@ -1,0 +1,4 @@
+pub mod Owned
+pub mod Names
+pub mod Codes
+pub mod Calls

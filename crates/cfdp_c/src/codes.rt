@@ -1,0 +1,126 @@
+//! The codes that calls answer with, and what numbers of C stand for.
+ghost use Rattle.std.specs.Prelude.{◌≡◌};
+ghost use Rattle.cfdp_c.specs.Codes.{class_of, place_text, put_code, request_of, section_text, timer_kind};
+
+use cfdp_types::{Class, PutFault, TimerKind, TxnKey};
+use entity_config::{ConfigFault, Section};
+use entity_routing::Request;
+
+/// The call did what it is for.
+pub const OK: i32 = 0;
+
+/// The entity refused the event, which changed nothing but the answer that is kept.
+pub const REFUSED: i32 = 1;
+
+/// There is no such thing: no bundle waits, or the index is too large.
+pub const NOTHING: i32 = 2;
+
+/// The handle is closed.
+pub const CLOSED: i32 = -1;
+
+/// The handle is open already.
+pub const OPEN: i32 = -2;
+
+/// Memory ran out; nothing changed.
+pub const NO_MEMORY: i32 = -3;
+
+/// The buffer is too small; nothing changed.
+pub const NO_ROOM: i32 = -4;
+
+/// A number stands for nothing here: a class, a timer or a request.
+pub const BAD_NUMBER: i32 = -5;
+
+/// The entity has no such user, or the user no such sending lane.
+pub const UNKNOWN: i32 = -6;
+
+/// The configuration was refused.
+pub const BAD_CONFIG: i32 = -7;
+
+/// A file name is empty.
+pub const NO_NAME: i32 = -8;
+
+/// A file name is too long.
+pub const NAME_TOO_LONG: i32 = -9;
+
+/// A message is too long.
+pub const MESSAGE_TOO_LONG: i32 = -10;
+
+/// There are too many messages.
+pub const TOO_MANY_MESSAGES: i32 = -11;
+
+/// The timer of this number.
+pub(crate) fn timer_kind(number: u32) -> Option<TimerKind>
+    ensures { result ≡ timer_kind number }
+{
+    match number {
+        1 => Some(TimerKind::Ack),
+        2 => Some(TimerKind::Nak),
+        3 => Some(TimerKind::Check),
+        4 => Some(TimerKind::Inactivity),
+        _ => None,
+    }
+}
+
+/// The service class of this number.
+pub(crate) fn class_of(number: u32) -> Option<Class>
+    ensures { result ≡ class_of number }
+{
+    match number {
+        1 => Some(Class::One),
+        2 => Some(Class::Two),
+        _ => None,
+    }
+}
+
+/// The user's request of this number.
+pub(crate) fn request_of(number: u32, key: TxnKey) -> Option<Request>
+    ensures { result ≡ request_of number key }
+{
+    match number {
+        1 => Some(Request::Cancel(key)),
+        2 => Some(Request::Suspend(key)),
+        3 => Some(Request::Resume(key)),
+        4 => Some(Request::Report(key)),
+        5 => Some(Request::Abandon(key)),
+        _ => None,
+    }
+}
+
+/// The code for a Put that can't be made.
+pub(crate) fn code_of(fault: PutFault) -> i32
+    ensures { result ≡ put_code fault }
+{
+    match fault {
+        PutFault::NoName => NO_NAME,
+        PutFault::NameTooLong => NAME_TOO_LONG,
+        PutFault::MessageTooLong => MESSAGE_TOO_LONG,
+        PutFault::TooManyMessages => TOO_MANY_MESSAGES,
+        PutFault::NoMemory => NO_MEMORY,
+    }
+}
+
+// The name of a table of a configuration.
+fn section_text(section: Section) -> &'static str
+    ensures { result.now ≡ section_text section }
+{
+    match section {
+        Section::Top => "",
+        Section::Entity => "entity",
+        Section::User => "user",
+        Section::Remote => "remote",
+    }
+}
+
+/// Where a fault of a configuration is: its key, or the table with an unknown key.
+pub(crate) fn place_text(fault: ConfigFault) -> &'static str
+    ensures { result.now ≡ place_text fault }
+{
+    match fault {
+        ConfigFault::MissingKey(key)
+        | ConfigFault::WrongType(key)
+        | ConfigFault::OutOfRange(key)
+        | ConfigFault::HandlerNotAllowed(key) => key.name(),
+        ConfigFault::UnknownKey(section) => section_text(section),
+        _ => "",
+    }
+}

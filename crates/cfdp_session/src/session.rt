@@ -1,0 +1,298 @@
+ghost use Rattle.std.specs.Prelude.{◌≡◌, ◌∷◌, IfOk, slice_get, option_map, option_copied};
+ghost use Rattle.pdu_values.specs.Spelling as spelling;
+
+use crate::flat::{FlatBundle, FlatDeposit, FlatDone, FlatImage, FlatIndication, FlatTimer};
+use crate::order::Order;
+use cfdp_types::limits::{MESSAGE_OCTETS, MESSAGES};
+use cfdp_types::{Image, Messages, Octets, PutFault, PutRequest, TxnKey};
+use entity_config::{ConfigFault, read_config};
+use indications::{Bundle, Indication};
+use lane_table::Done;
+use pdu_codec::{Pdu, encode};
+use std::alloc::{AllocError, Global};
+use std::{mem, str};
+use world_core::{EntityRefusal, World, WorldEvent};
+
+/// How a user's wish to take a bundle ends.
+#[derive(Clone, Copy, Debug, PartialEq, Eq)]
+pub enum Taking {
+    /// The bundle at the front was taken.
+    Taken,
+    /// No bundle waits.
+    Nothing,
+    /// The entity has no such user.
+    NoUser,
+}
+
+/// An entity, and what its caller may still ask for. Everything is kept until the next event, the next bundle, the next
+/// file or the next Put replaces it.
+#[derive(Drop)]
+pub struct Session {
+    pub world: World,
+    /// The last event's answer.
+    pub last: Option<Result<Done, EntityRefusal>>,
+    /// The bundle that was taken last.
+    pub front: Option<Bundle>,
+    /// The received file that was asked for last.
+    pub image: Option<Image>,
+    /// The messages for the next Put.
+    pub messages: Messages,
+}
+
+impl Session {
+    ghost use Rattle.std.specs.Prelude.{◌≡◌, ◌≤◌, ◌<◌, ◌⊎◌, List, [], ◌∷◌, ◌++◌, true, false, length, IfOk, IfErr, OnOk, OnErr, slice_get, option_map, option_copied};
+    ghost use Rattle.pdu_values.specs.Spelling as spelling;
+    ghost use Rattle.cfdp_types.specs.Put.{put_fault};
+    ghost use Rattle.config_reading.specs.Walk.{config_of};
+    ghost use Rattle.world_table.specs.Histories.{Happening, held_for};
+    ghost use Rattle.entity_parts.specs.FirstLanes.{first_lane};
+    ghost use Rattle.world_core.specs.Worlds.{StandsAfter, MayCome};
+    ghost use Rattle.cfdp_session.specs.Flat.{flat_bundle, flat_deposit, flat_done, flat_indication, flat_timer};
+    ghost use Rattle.cfdp_session.specs.Kept.{deposit_of, image_parts, indications_of, parts_at, pdus_of, timers_of};
+    ghost use Rattle.cfdp_session.specs.Orders.{put_of};
+    ghost use Rattle.cfdp_session.specs.Steps.{IsLoaded, IsMissing, IsOpened, IsTaken, IsTold};
+
+    /// A session with a new entity, by its configuration's text in TOML. Octets that are no text are `BadToml`.
+    pub fn open(alloc: Global, text: &[u8]) -> Result<Session, ConfigFault>
+        ensures opened { IfOk result (IsOpened text.now) }
+        ensures refused { IfErr result (λ fault. (fault ≡ ConfigFault.NoMemory) ⊎ (fault ≡ ConfigFault.BadToml) ⊎ (config_of text.now ≡ Err fault)) }
+    {
+        let Ok(text) = str::from_utf8(text) else {
+            return Err(ConfigFault::BadToml);
+        };
+        let config = read_config(alloc, text)?;
+        Ok(Session {
+            world: World::open(alloc, config)?,
+            last: None,
+            front: None,
+            image: None,
+            messages: Messages::new(alloc),
+        })
+    }
+
+    /// Passes an event to the entity, and keeps the answer. Answers false, and changes nothing, only for a request that
+    /// names a user or a sending lane which the entity does not have.
+    pub fn tell(&mut self, event: &WorldEvent) -> bool
+        ensures told { result ≡ true → IsTold self.old event.now self.new }
+        ensures never { result ≡ false → MayCome self.old.world.config event.now → ⊥ }
+        ensures same { result ≡ false → self.new ≡ self.old }
+    {
+        if !self.world.may_come(event) {
+            return false;
+        }
+        let answer = self.world.step(event);
+        self.last = Some(answer);
+        true
+    }
+
+    /// Takes the bundle at the front of a user's queue, and keeps it.
+    pub fn take(&mut self, user: usize) -> Taking
+        ensures taken { result ≡ Taking.Taken → IsTaken self.old user self.new }
+        ensures nothing { (history : List Happening) → StandsAfter self.old.world history
+            → result ≡ Taking.Nothing → held_for (first_lane self.old.world.config) history user ≡ [] }
+        ensures unknown { result ≡ Taking.NoUser → length self.old.world.config.users ≤ user }
+        ensures same { (result ≡ Taking.Taken → ⊥) → self.new ≡ self.old }
+    {
+        if user >= self.world.users() {
+            return Taking::NoUser;
+        }
+        match self.world.take(user) {
+            None => Taking::Nothing,
+            Some(bundle) => {
+                self.front = Some(bundle);
+                Taking::Taken
+            }
+        }
+    }
+
+    /// Gets the file of the waiting deposit with this key and this stamp, and keeps it. An error says why there is none;
+    /// then nothing changes.
+    pub fn load(&mut self, key: TxnKey, stamp: u32) -> Result<FlatImage, FlatImage>
+        ensures loaded { IfOk result (IsLoaded self.old key stamp self.new) }
+        ensures refused { IfErr result (IsMissing self.old.world key stamp) }
+        ensures same { OnErr result (self.new ≡ self.old) }
+    {
+        match self.world.image(key, stamp) {
+            Ok(image) => {
+                let flat = FlatImage::of(&image);
+                self.image = Some(image);
+                Ok(flat)
+            }
+            Err(why) => Err(FlatImage::missing(&why)),
+        }
+    }
+
+    /// The last event's answer, by its counts and numbers.
+    pub fn done(&self) -> FlatDone
+        ensures { result ≡ flat_done self.now.last }
+    {
+        FlatDone::of(&self.last)
+    }
+
+    /// The octets of a PDU that the last event left to send, if it left so many.
+    pub fn pdu(&self, alloc: Global, index: usize) -> Result<Option<Vec<u8>>, AllocError>
+        ensures { IfOk result (λ octets. option_map (λ o. o.items) octets
+            ≡ option_map spelling.written (slice_get (pdus_of self.now.last) index)) }
+    {
+        match &self.last {
+            Some(Ok(done)) => encoded(alloc, done.pdus.as_slice().get(index)),
+            Some(Err(EntityRefusal::Lane(refused))) if index == 0 => {
+                encoded(alloc, refused.echo.as_ref())
+            }
+            _ => Ok(None),
+        }
+    }
+
+    /// A timer operation of the last event, if it has so many.
+    pub fn timer(&self, index: usize) -> Option<FlatTimer>
+        ensures { result ≡ option_map flat_timer (slice_get (timers_of self.now.last) index) }
+    {
+        match &self.last {
+            Some(Ok(done)) => match done.timers.as_slice().get(index) {
+                Some(op) => Some(FlatTimer::of(op)),
+                None => None,
+            },
+            _ => None,
+        }
+    }
+
+    /// The file that the last event handed to the file store.
+    pub fn deposit(&self) -> Option<FlatDeposit>
+        ensures { result ≡ option_map flat_deposit (deposit_of self.now.last) }
+    {
+        match &self.last {
+            Some(Ok(done)) => match done.deposit {
+                Some(deposit) => Some(FlatDeposit::of(deposit)),
+                None => None,
+            },
+            _ => None,
+        }
+    }
+
+    /// The bundle that was taken last, by its numbers.
+    pub fn bundle(&self) -> Option<FlatBundle>
+        ensures { result ≡ option_map flat_bundle self.now.front }
+    {
+        match &self.front {
+            Some(bundle) => Some(FlatBundle::of(bundle)),
+            None => None,
+        }
+    }
+
+    // An indication of the bundle that was taken last.
+    fn told(&self, index: usize) -> Option<&Indication>
+        ensures { option_copied result ≡ slice_get (indications_of self.now.front) index }
+    {
+        match &self.front {
+            Some(bundle) => bundle.inds.as_slice().get(index),
+            None => None,
+        }
+    }
+
+    /// An indication of the bundle that was taken last, by its numbers.
+    pub fn indication(&self, index: usize) -> Option<FlatIndication>
+        ensures { result ≡ option_map flat_indication (slice_get (indications_of self.now.front) index) }
+    {
+        match self.told(index) {
+            Some(indication) => Some(FlatIndication::of(indication)),
+            None => None,
+        }
+    }
+
+    /// A text of an indication of that bundle: 0 is the file's name at the sender, 1 its name at the receiver, and
+    /// messages follow.
+    pub fn octets(&self, index: usize, part: usize) -> Option<&[u8]>
+        ensures { option_copied result ≡ slice_get (parts_at (slice_get (indications_of self.now.front) index)) part }
+    {
+        match self.told(index) {
+            Some(
+                Indication::MetadataRecv {
+                    source_name,
+                    destination_name,
+                    messages,
+                    ..
+                },
+            ) => text_at(source_name, destination_name, messages.as_slice(), part),
+            _ => None,
+        }
+    }
+
+    /// A part of the received file that was asked for last: 0 and 1 are its names at the sender and at the receiver, 2
+    /// is its content.
+    pub fn image_part(&self, part: usize) -> Option<&[u8]>
+        ensures { option_copied result ≡ slice_get (image_parts self.now.image) part }
+    {
+        match &self.image {
+            None => None,
+            Some(image) => match part {
+                0 => Some(image.source_name.as_slice()),
+                1 => Some(image.destination_name.as_slice()),
+                2 => Some(image.octets.as_slice()),
+                _ => None,
+            },
+        }
+    }
+
+    /// Adds a message for the next Put.
+    pub fn add_message(&mut self, alloc: Global, octets: &[u8]) -> Result<(), PutFault>
+        ensures added { OnOk result (self.new ≡ record self.old { messages = self.old.messages ++ octets.now ∷ [] }) }
+        ensures long { MESSAGE_OCTETS < length octets.now → result ≡ Err PutFault.MessageTooLong }
+        ensures many { length octets.now ≤ MESSAGE_OCTETS → MESSAGES ≤ length self.old.messages
+            → result ≡ Err PutFault.TooManyMessages }
+        ensures memory { length octets.now ≤ MESSAGE_OCTETS → length self.old.messages < MESSAGES
+            → IfErr result (λ fault. fault ≡ PutFault.NoMemory) }
+        ensures same { OnErr result (self.new ≡ self.old) }
+    {
+        if octets.len() > MESSAGE_OCTETS {
+            return Err(PutFault::MessageTooLong);
+        }
+        if self.messages.as_slice().len() >= MESSAGES {
+            return Err(PutFault::TooManyMessages);
+        }
+        self.messages.push(Octets::from_slice(alloc, octets)?)?;
+        Ok(())
+    }
+
+    /// Makes a Put request with the messages that were added, which are gone then, whatever the answer.
+    pub fn put(&mut self, alloc: Global, order: &Order<'_>) -> Result<PutRequest, PutFault>
+        ensures made { IfOk result (λ put. put ≡ put_of order.now self.old.messages) }
+        ensures refused { IfErr result (λ fault. (fault ≡ PutFault.NoMemory)
+            ⊎ (put_fault order.now.source_name.now order.now.destination_name.now self.old.messages ≡ Some fault)) }
+        ensures others { self.new ≡ record self.old { messages = [] } }
+    {
+        let messages = mem::replace(&mut self.messages, Messages::new(alloc));
+        order.put(alloc, messages.as_slice())
+    }
+}
+
+// A text by its place among both names and the messages.
+fn text_at<'a>(
+    source_name: &'a Octets,
+    destination_name: &'a Octets,
+    messages: &'a [Octets],
+    part: usize,
+) -> Option<&'a [u8]>
+    ensures { option_copied result ≡ slice_get (source_name.now ∷ destination_name.now ∷ messages.now) part }
+{
+    match part {
+        0 => Some(source_name.as_slice()),
+        1 => Some(destination_name.as_slice()),
+        _ => match messages.get(part - 2) {
+            Some(message) => Some(message.as_slice()),
+            None => None,
+        },
+    }
+}
+
+// The octets of a PDU, if there is one.
+fn encoded(alloc: Global, pdu: Option<&Pdu>) -> Result<Option<Vec<u8>>, AllocError>
+    ensures { IfOk result (λ octets. option_map (λ o. o.items) octets
+        ≡ option_map spelling.written (option_copied pdu.entry)) }
+{
+    let Some(pdu) = pdu else {
+        return Ok(None);
+    };
+    let mut octets = Vec::new(alloc);
+    encode(pdu, &mut octets)?;
+    Ok(Some(octets))
+}

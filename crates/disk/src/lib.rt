@@ -1,0 +1,13 @@
+//! A disk, by what it was asked, and what a power cut may leave of it.
+#![tactic(auto)]
+
+mod device;
+mod faults;
+mod laws;
+mod log;
+mod system;
+
+pub use device::{Disk, Fault};
+pub use laws::{files_stay, steps_count};
+pub use log::{Asked, Log, Note};
+pub use system::SystemDisk;

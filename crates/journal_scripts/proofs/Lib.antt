@@ -1,0 +1,5 @@
+pub mod WordFacts
+pub mod UserFacts
+pub mod PieceFacts
+pub mod LineFacts
+pub mod Worked

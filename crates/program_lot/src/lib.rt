@@ -1,0 +1,14 @@
+//! Where a station's threads keep datagrams that their lanes can't take yet, until they hand them in again.
+#![tactic(auto)]
+
+mod address;
+mod handed;
+mod lot;
+mod refusals;
+mod report;
+
+pub use address::{LotAddress, address_of};
+pub use handed::{Handed, Wake};
+pub use lot::Lot;
+pub use refusals::may_wait;
+pub use report::ParkedLane;

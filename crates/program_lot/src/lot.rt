@@ -1,0 +1,323 @@
+//! The lot that threads share.
+use crate::address::LotAddress;
+use crate::handed::{Handed, Wake};
+use crate::report::ParkedLane;
+use entity_config::Config;
+use entity_routing::{Place, lanes_of};
+use program_parking::{LaneParking, Parking};
+use std::alloc::{AllocError, Global};
+use std::sync::atomic::{AtomicBool, Ordering};
+use std::sync::{Mutex, Wait};
+
+/// After how many milliseconds a datagram that was refused again is tried again, where nothing was heard of its lane.
+const RETRY_MS: u64 = 5;
+
+// When a lane's first datagram is tried next, and how many of the lane's datagrams were dropped.
+#[derive(Clone, Copy)]
+struct Turn {
+    due: u64,
+    dropped: u64,
+}
+
+// What waits, and when it is tried.
+#[derive(Drop)]
+struct Lanes {
+    parking: Parking,
+    turns: Vec<Turn>,
+    /// The lane that is looked at first.
+    first: usize,
+}
+
+/// Datagrams that wait until their lanes can take them. Each lane's are handed in one at a time, so they reach the lane in
+/// order. All threads share it; a thread waits for its lock alone, and holds no other meanwhile.
+#[derive(Drop)]
+pub struct Lot {
+    lanes: Mutex<Lanes>,
+    /// For each user the index of the first lane.
+    first_of: Vec<usize>,
+    /// Whether anything waits, and whether some of it may be handed in at once; for threads that look often.
+    is_occupied: AtomicBool,
+    is_ready: AtomicBool,
+    /// Whether the station takes from its users' queues.
+    takes: bool,
+}
+
+impl Lot {
+    /// An empty lot for the lanes of a configuration, with room for so many octets. `takes` says whether the station itself
+    /// takes from its users' queues.
+    pub fn new(alloc: Global, config: &Config, room: u64, takes: bool) -> Result<Lot, AllocError> {
+        let mut first_of = Vec::with_capacity(alloc, config.users())?;
+        let mut count = 0usize;
+        for user in 0..config.users() {
+            first_of.push(count)?;
+            count = count.saturating_add(lanes_of(config, user));
+        }
+        let turns = Vec::from_elem(alloc, Turn { due: 0, dropped: 0 }, count)?;
+        Ok(Lot {
+            lanes: Mutex::new(Lanes {
+                parking: Parking::new(alloc, count, room)?,
+                turns,
+                first: 0,
+            }),
+            first_of,
+            is_occupied: AtomicBool::new(false),
+            is_ready: AtomicBool::new(false),
+            takes,
+        })
+    }
+
+    /// Whether the station takes from its users' queues.
+    pub fn takes(&self) -> bool {
+        self.takes
+    }
+
+    /// Whether anything waits. Takes no lock.
+    pub fn is_occupied(&self) -> bool {
+        self.is_occupied.load(Ordering::SeqCst)
+    }
+
+    /// Whether something may be handed in at once. Takes no lock.
+    pub fn is_ready(&self) -> bool {
+        self.is_ready.load(Ordering::SeqCst)
+    }
+
+    // The index of a lane, over all users.
+    fn index_of(&self, place: Place) -> usize {
+        match self.first_of.get(place.user) {
+            Some(first) => first.saturating_add(place.lane),
+            None => usize::MAX,
+        }
+    }
+
+    /// Whether a datagram has to wait behind others of its lane: one waits whose number isn't above its own.
+    pub fn is_crowded<R: Wait>(&self, rt: &R, address: LotAddress) -> bool {
+        let index = self.index_of(address.place);
+        let lanes = self.lanes.lock(rt);
+        match lanes.parking.lanes().get(index) {
+            Some(lane) => lane.is_crowded(address.number),
+            None => false,
+        }
+    }
+
+    /// Parks a datagram that came at `since`, in milliseconds since 1970; `now` is the moment by the runtime's clock.
+    pub fn park<R: Wait>(
+        &self,
+        rt: &R,
+        address: LotAddress,
+        octets: &[u8],
+        since: u64,
+        now: u64,
+    ) -> Wake {
+        let index = self.index_of(address.place);
+        let mut lanes = self.lanes.lock(rt);
+        let was_empty = !self.is_occupied();
+        park_in(&mut lanes, index, address.number, octets, since, now);
+        self.note(&lanes);
+        drop(lanes);
+        if was_empty { Wake::Main } else { Wake::Nothing }
+    }
+
+    /// Takes a datagram to be handed in, of a lane whose turn it is at a moment; at 0 only of lanes that were heard of since
+    /// their last try. None if there is none, or no memory.
+    pub fn lend<R: Wait>(&self, rt: &R, now: u64) -> Option<Handed> {
+        let mut lanes = self.lanes.lock(rt);
+        let handed = lend_from(&mut lanes, now);
+        self.note(&lanes);
+        handed
+    }
+
+    /// Settles a datagram that was handed in: it was taken for good, or is tried again from `now` + 5 milliseconds on.
+    pub fn settle<R: Wait>(&self, rt: &R, handed: Handed, is_taken: bool, now: u64) {
+        let mut lanes = self.lanes.lock(rt);
+        settle_in(&mut lanes, &handed, is_taken, now);
+        self.note(&lanes);
+    }
+
+    /// A lane was heard of: what waits for it may be handed in.
+    pub fn poke<R: Wait>(&self, rt: &R, place: Place) {
+        let index = self.index_of(place);
+        let mut lanes = self.lanes.lock(rt);
+        if let Some(turn) = lanes.turns.get_mut(index) {
+            turn.due = 0;
+        }
+        self.note(&lanes);
+    }
+
+    /// There is room in queues again: what waits for any lane may be handed in.
+    pub fn poke_all<R: Wait>(&self, rt: &R) {
+        let mut lanes = self.lanes.lock(rt);
+        for turn in lanes.turns.iter_mut() {
+            turn.due = 0;
+        }
+        self.note(&lanes);
+    }
+
+    /// Drops what waits of a transaction; answers how many datagrams that was.
+    pub fn forget<R: Wait>(&self, rt: &R, address: LotAddress) -> usize {
+        let index = self.index_of(address.place);
+        let mut lanes = self.lanes.lock(rt);
+        let before = count_in(&lanes, index);
+        lanes.parking.forget(index, address.number);
+        let dropped = before.saturating_sub(count_in(&lanes, index));
+        self.note(&lanes);
+        dropped
+    }
+
+    /// The first moment at which something is to be handed in, or the greatest of 64 bits.
+    pub fn soonest<R: Wait>(&self, rt: &R) -> u64 {
+        if !self.is_occupied() {
+            return u64::MAX;
+        }
+        let lanes = self.lanes.lock(rt);
+        soonest_of(&lanes)
+    }
+
+    /// How many datagrams were dropped for want of room or memory.
+    pub fn dropped<R: Wait>(&self, rt: &R) -> u64 {
+        let lanes = self.lanes.lock(rt);
+        lanes
+            .turns
+            .iter()
+            .fold(0u64, |sum, turn| sum.saturating_add(turn.dropped))
+    }
+
+    /// The lanes for which datagrams wait or were dropped.
+    pub fn report<R: Wait>(&self, rt: &R, alloc: Global) -> Result<Vec<ParkedLane>, AllocError> {
+        let mut found = Vec::new(alloc);
+        let lanes = self.lanes.lock(rt);
+        for user in 0..self.first_of.len() {
+            let first = self.first_of.get(user).copied().unwrap_or(0);
+            for index in first..self.end_of(user, lanes.turns.len()) {
+                let place = Place {
+                    user,
+                    lane: index.saturating_sub(first),
+                };
+                if let Some(lane) = report_of(&lanes, index, place) {
+                    found.push(lane)?;
+                }
+            }
+        }
+        Ok(found)
+    }
+
+    // The index behind a user's last lane, of so many in all.
+    fn end_of(&self, user: usize, count: usize) -> usize {
+        self.first_of
+            .get(user.saturating_add(1))
+            .copied()
+            .unwrap_or(count)
+    }
+
+    // Notes for those who take no lock what waits.
+    fn note(&self, lanes: &Lanes) {
+        self.is_occupied
+            .store(lanes.parking.used() > 0, Ordering::SeqCst);
+        self.is_ready
+            .store(soonest_of(lanes) == 0, Ordering::SeqCst);
+    }
+}
+
+// How many datagrams wait for a lane.
+fn count_in(lanes: &Lanes, index: usize) -> usize {
+    match lanes.parking.lanes().get(index) {
+        Some(lane) => lane.len(),
+        None => 0,
+    }
+}
+
+// Parks a datagram, and counts what is dropped for it.
+fn park_in(lanes: &mut Lanes, index: usize, number: u64, octets: &[u8], since: u64, now: u64) {
+    let before = count_in(lanes, index);
+    let _has_memory = lanes.parking.park(index, number, since, octets);
+    let after = count_in(lanes, index);
+    let dropped = before.saturating_add(1).saturating_sub(after);
+    if let Some(turn) = lanes.turns.get_mut(index) {
+        turn.dropped = turn.dropped.saturating_add(dropped as u64);
+        if before == 0 {
+            turn.due = now.saturating_add(RETRY_MS);
+        }
+    }
+}
+
+// Whether something of a lane may be handed in.
+fn is_lendable(lane: &LaneParking) -> bool {
+    lane.len() > 0 && !lane.is_lent()
+}
+
+// The first moment at which something is to be handed in.
+fn soonest_of(lanes: &Lanes) -> u64 {
+    let mut soonest = u64::MAX;
+    for index in 0..lanes.turns.len() {
+        if let (Some(turn), Some(lane)) = (lanes.turns.get(index), lanes.parking.lanes().get(index))
+            && is_lendable(lane)
+        {
+            soonest = soonest.min(turn.due);
+        }
+    }
+    soonest
+}
+
+// Whether it is a lane's turn at a moment.
+fn is_due(lanes: &Lanes, index: usize, now: u64) -> bool {
+    match (lanes.turns.get(index), lanes.parking.lanes().get(index)) {
+        (Some(turn), Some(lane)) => turn.due <= now && is_lendable(lane),
+        _ => false,
+    }
+}
+
+// Takes a datagram of the next lane in turn.
+fn lend_from(lanes: &mut Lanes, now: u64) -> Option<Handed> {
+    let count = lanes.turns.len();
+    for step in 0..count {
+        let index = lanes.first.saturating_add(step) % count;
+        if !is_due(lanes, index, now) {
+            continue;
+        }
+        lanes.first = index.saturating_add(1) % count;
+        let lent = lanes.parking.lend(index)?;
+        return Some(Handed {
+            index,
+            number: lent.number,
+            arrival: lent.arrival,
+            octets: lent.octets,
+        });
+    }
+    None
+}
+
+// Settles a datagram that was handed in.
+fn settle_in(lanes: &mut Lanes, handed: &Handed, is_taken: bool, now: u64) {
+    lanes
+        .parking
+        .settle(handed.index, handed.number, handed.arrival, is_taken);
+    if let Some(turn) = lanes.turns.get_mut(handed.index) {
+        turn.due = if is_taken {
+            0
+        } else {
+            now.saturating_add(RETRY_MS)
+        };
+    }
+}
+
+// What is reported of a lane, if anything waits for it or was dropped.
+fn report_of(lanes: &Lanes, index: usize, place: Place) -> Option<ParkedLane> {
+    let turn = lanes.turns.get(index)?;
+    let lane = lanes.parking.lanes().get(index)?;
+    let datagrams = lane.len() as u64;
+    if datagrams == 0 && turn.dropped == 0 {
+        return None;
+    }
+    let since = if datagrams == 0 {
+        None
+    } else {
+        Some(lane.oldest())
+    };
+    Some(ParkedLane {
+        place,
+        datagrams,
+        octets: lane.octets(),
+        transactions: lane.transactions(),
+        dropped: turn.dropped,
+        since,
+    })
+}

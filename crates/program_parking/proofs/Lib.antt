@@ -1,0 +1,5 @@
+pub mod PlaceFacts
+pub mod ParkingFacts
+pub mod LineFacts
+pub mod RunFacts
+pub mod ParkingRows

@@ -1,0 +1,135 @@
+-- Meaning. The order in which datagrams come out of a lane, and what becomes of each, over any run.
+use Rattle.std.specs.Prelude.{◌≡◌, ℕ, ◌+◌, ◌<◌, ◌≤◌, ◌⊎◌, Bool, true, false, not, List, [], ◌∷◌, ◌++◌, length, map, drop, take, Option, Some, None}
+use Rattle.std.specs.List.{filter, position_or_len}
+use Rattle.program_parking.specs.declared.parked.Parked.{Parked}
+use Rattle.program_parking.specs.declared.parked.Lent.{Lent}
+use Rattle.program_parking.specs.Lanes.{LaneValue, inserted, is_behind, is_of_other, lendable, parked_in, settled, within, without_number}
+
+-- a datagram by its transaction's number and by how many were parked before it
+pub record Key : Type 0 where
+  pub number : ℕ
+  pub arrival : ℕ
+
+abbrev pub key_of : Parked → Key
+key_of one = record { number = one.number; arrival = one.arrival }
+
+abbrev pub key_of_lent : Lent → Key
+key_of_lent lent = record { number = lent.number; arrival = lent.arrival }
+
+-- ---- runs
+
+-- what happens to a lane
+pub data Move : Type 0 where
+  -- a datagram is parked, where so many octets have room
+  parks : (limit : ℕ) (one : Parked) → Move
+  -- the first one is lent to be handed in
+  lends : Move
+  -- it was handed in for good, or stays
+  settles : (taken : Bool) → Move
+  -- nothing waits any more of a transaction
+  forgets : (number : ℕ) → Move
+
+-- a lane, and what is to be known of its run: the datagram that is lent, those that were handed in for good, oldest first, those
+-- that are gone otherwise, and how many were parked
+pub record Run : Type 0 where
+  pub lane : LaneValue
+  pub lent : Option Lent
+  pub out : List Key
+  pub dropped : List Key
+  pub arrivals : ℕ
+
+abbrev pub at_first : Run
+at_first = record { lane = record { waiting = []; is_lent = false; floor = 0 }; lent = None; out = []; dropped = []; arrivals = 0 }
+
+-- those of a list behind its first so many
+abbrev pub keys_from : ℕ → List Parked → List Key
+keys_from count waiting = map key_of (drop count waiting)
+
+-- those that have no room with one more
+abbrev pub without_room : ℕ → Parked → LaneValue → List Key
+without_room limit one lane = keys_from (length (within limit (inserted one lane.waiting))) (inserted one lane.waiting)
+
+-- those that wait, up to the one that was handed in
+abbrev pub up_to : Lent → List Parked → List Key
+up_to lent waiting = map key_of (take (position_or_len (is_behind lent.number lent.arrival) waiting) waiting)
+
+-- those that wait of a transaction
+abbrev pub of_number : ℕ → List Parked → List Key
+of_number number waiting = map key_of (filter (λ one. not (is_of_other number one)) waiting)
+
+-- the run after the datagram that is lent is settled
+abbrev pub run_settled : Bool → Option Lent → Run → Run
+run_settled taken None run = run
+run_settled false (Some lent) run = record run { lane = settled false lent.number lent.arrival run.lane; lent = None }
+run_settled true (Some lent) run = record run {
+  lane = settled true lent.number lent.arrival run.lane;
+  lent = None;
+  out = run.out ++ key_of_lent lent ∷ [];
+  dropped = up_to lent run.lane.waiting ++ run.dropped;
+}
+
+abbrev pub step : Move → Run → Run
+step (parks limit one) run = record run {
+  lane = parked_in limit one run.lane;
+  dropped = without_room limit one run.lane ++ run.dropped;
+  arrivals = run.arrivals + 1;
+}
+step lends run = record run { lane = record run.lane { is_lent = true }; lent = lendable run.lane }
+step (settles taken) run = run_settled taken run.lent run
+step (forgets number) run = record run {
+  lane = without_number number run.lane;
+  dropped = of_number number run.lane.waiting ++ run.dropped;
+}
+
+-- a move may be made: only datagrams that don't come too late are parked, each with the next place in the order of arrival, and
+-- one is lent only where none is
+abbrev pub MayMove : Move → Run → Type 0
+MayMove (parks limit one) run = (one.arrival ≡ run.arrivals) × (run.lane.floor ≤ one.number)
+MayMove lends run = run.lent ≡ None
+MayMove (settles taken) run = Unit {0}
+MayMove (forgets number) run = Unit {0}
+
+-- the run after some moves, newest first
+abbrev pub run_of : List Move → Run
+run_of [] = at_first
+run_of (move ∷ earlier) = step move (run_of earlier)
+
+abbrev pub AreMoves : List Move → Type 0
+AreMoves [] = Unit {0}
+AreMoves (move ∷ earlier) = MayMove move (run_of earlier) × AreMoves earlier
+
+-- ---- order
+
+-- a datagram has a lower number than another or, with the same number, came before it
+abbrev pub ComesBefore : Key → Key → Type 0
+ComesBefore one other = (one.number < other.number) ⊎ ((one.number ≡ other.number) × (one.arrival < other.arrival))
+
+-- it comes before each of these
+abbrev pub IsBefore : Key → List Key → Type 0
+IsBefore one [] = Unit {0}
+IsBefore one (other ∷ later) = ComesBefore one other × IsBefore one later
+
+-- each comes before all behind it
+abbrev pub IsRising : List Key → Type 0
+IsRising [] = Unit {0}
+IsRising (one ∷ later) = IsBefore one later × IsRising later
+
+-- what was handed in for good and what waits, in this order
+abbrev pub line_of : Run → List Key
+line_of run = run.out ++ map key_of run.lane.waiting
+
+-- by number and, within a number, by arrival; so none is handed in for good twice, nor waits then
+abbrev pub ComesOutInOrder : Type 0
+ComesOutInOrder = (moves : List Move) → AreMoves moves → IsRising (line_of (run_of moves))
+
+-- ---- nothing is lost
+
+-- some datagram of a list is the one with this place in the order of arrival
+abbrev pub IsAmong : ℕ → List Key → Type 0
+IsAmong arrival [] = ⊥
+IsAmong arrival (one ∷ later) = (one.arrival ≡ arrival) ⊎ IsAmong arrival later
+
+-- each datagram that was parked was handed in for good, waits, or was dropped
+abbrev pub AccountsForEach : Type 0
+AccountsForEach = (moves : List Move) (arrival : ℕ) → AreMoves moves → arrival < (run_of moves).arrivals
+    → IsAmong arrival (line_of (run_of moves) ++ (run_of moves).dropped)

@@ -1,0 +1,13 @@
+//! Laws of what is parked, about the definitions alone.
+ghost use Rattle.program_parking.specs.ParkingLaws.{ComesOutInOrder, AccountsForEach};
+
+/// Whatever is parked, handed in, dropped and forgotten: what was handed in for good, followed by what waits, is in the order of
+/// the numbers and, within a number, in the order in which it came.
+pub fn order()
+    ensures { ComesOutInOrder }
+{}
+
+/// Each datagram that was parked was handed in for good once, or waits, or was dropped.
+pub fn accounts()
+    ensures { AccountsForEach }
+{}

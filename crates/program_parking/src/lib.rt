@@ -1,0 +1,14 @@
+//! Datagrams that wait until their lane can take them: each lane's in the order of the transactions' numbers, within a
+//! room.
+#![tactic(auto)]
+
+mod counted;
+mod lane;
+pub mod laws;
+mod parked;
+mod parking;
+
+pub use counted::Counted;
+pub use lane::{LaneParking, MOST_DATAGRAMS};
+pub use parked::{Lent, Parked};
+pub use parking::Parking;

@@ -1,0 +1,196 @@
+ghost use Rattle.std.specs.Prelude.{◌≡◌, ◌≤◌, ◌<◌, ◌+◌, ◌-◌, ◌/◌, All, length, min, set, slice_get, slice_index, IfOk, IfSome, IfNone, OnOk, OnErr, Some, false, []};
+ghost use Rattle.std.specs.Option.{option_copied};
+ghost use Rattle.program_parking.specs.Lanes.{LaneValue, costs, lendable, parked_in, settled, without_number};
+ghost use Rattle.program_parking.specs.Parkings.{IsKept, lendable_at, lent_out, limit, parked, replaced, used};
+
+use crate::lane::LaneParking;
+use crate::parked::{Lent, Parked};
+use cfdp_types::Octets;
+use std::alloc::{AllocError, Global};
+use std::marker::Model;
+
+/// The datagrams that wait for all lanes, within one room. Lanes are named by their places, from 0.
+#[derive(Drop)]
+pub struct Parking {
+    alloc: Global,
+    lanes: Vec<LaneParking>,
+    octets: u64,
+    arrivals: u64,
+    room: u64,
+}
+
+impl Model for Parking {
+    ghost use Rattle.std.specs.Prelude.{◌≡◌};
+    ghost use Rattle.program_parking.specs.Parkings.{IsKept, ParkingValue, used};
+
+    ghost Value = { ParkingValue };
+
+    ghost view = { λ p. record { lanes = p.lanes.items; arrivals = p.arrivals; room = p.room } };
+
+    ghost invariant = { λ p. (p.octets ≡ used p.lanes.items) × IsKept p.room p.lanes.items };
+}
+
+impl Parking {
+    /// No datagram waits for any of so many lanes, and so many octets have room.
+    pub fn new(alloc: Global, lanes: usize, room: u64) -> Result<Parking, AllocError>
+        ensures lanes { IfOk result (λ p. length p.lanes ≡ lanes) }
+        ensures empty { IfOk result (λ p. All (λ lane. lane ≡ record { waiting = []; is_lent = false; floor = 0 }) p.lanes) }
+        ensures room { IfOk result (λ p. (p.room ≡ room) × (p.arrivals ≡ 0)) }
+    {
+        let mut all = Vec::with_capacity(alloc, lanes)?;
+        for _place in 0..lanes {
+            all.push(LaneParking::new(alloc))?;
+        }
+        Ok(Parking {
+            alloc,
+            lanes: all,
+            octets: 0,
+            arrivals: 0,
+            room,
+        })
+    }
+
+    /// What waits for the lanes, by their places.
+    pub fn lanes(&self) -> &[LaneParking]
+        ensures { result.now ≡ self.now.lanes }
+    {
+        self.lanes.as_slice()
+    }
+
+    /// How much of the room is taken up.
+    pub fn used(&self) -> u64
+        ensures value { result ≡ used self.now.lanes }
+        ensures room { result ≤ self.now.room }
+    {
+        self.octets
+    }
+}
+
+impl Parking {
+    /// Parks a datagram of a transaction, by its number, which came at `since`, in milliseconds since 1970. Nothing is parked
+    /// where a datagram with a greater number was handed in for good. Where there is no room, the last ones of the lane's
+    /// highest number go.
+    pub fn park(
+        &mut self,
+        place: usize,
+        number: u64,
+        since: u64,
+        octets: &[u8],
+    ) -> Result<(), AllocError>
+        ensures ok { OnOk result (self.new ≡ parked place number since octets.now self.old) }
+        ensures err { OnErr result (self.new ≡ self.old) }
+    {
+        let Some(lane) = self.lanes.get(place) else {
+            return Ok(());
+        };
+        if number < lane.floor() || self.arrivals == u64::MAX {
+            return Ok(());
+        }
+        let others = self.octets - lane.octets();
+        let limit = (self.room / 4).min(self.room - others);
+        let one = Parked {
+            number,
+            arrival: self.arrivals,
+            since,
+            octets: Octets::from_slice(self.alloc, octets)?,
+        };
+        let now = park_at(&mut self.lanes, place, one, limit)?;
+        self.octets = others + now;
+        self.arrivals += 1;
+        Ok(())
+    }
+
+    /// Lends the next datagram of a lane to be handed in, unless one is lent already, or there is no memory for that.
+    pub fn lend(&mut self, place: usize) -> Option<Lent>
+        ensures lent { IfSome result (λ lent. (lendable_at (slice_get self.old.lanes place) ≡ Some lent) × (self.new ≡ replaced place lent_out self.old)) }
+        ensures none { IfNone result (self.new ≡ self.old) }
+    {
+        if place >= self.lanes.len() {
+            return None;
+        }
+        let lent = lend_at(&mut self.lanes, place)?;
+        Some(lent)
+    }
+
+    /// The datagram that was lent, by its number and arrival, was handed in for good, or else stays where it is.
+    pub fn settle(&mut self, place: usize, number: u64, arrival: u64, is_taken: bool)
+        ensures { self.new ≡ replaced place (settled is_taken number arrival) self.old }
+    {
+        if let Some(lane) = self.lanes.get(place) {
+            let others = self.octets - lane.octets();
+            let now = settle_at(&mut self.lanes, place, number, arrival, is_taken);
+            self.octets = others + now;
+        }
+    }
+
+    /// Nothing waits any more of the transaction with this number in a lane.
+    pub fn forget(&mut self, place: usize, number: u64)
+        ensures { self.new ≡ replaced place (without_number number) self.old }
+    {
+        if let Some(lane) = self.lanes.get(place) {
+            let others = self.octets - lane.octets();
+            let now = forget_at(&mut self.lanes, place, number);
+            self.octets = others + now;
+        }
+    }
+}
+
+// Parks a datagram in the lane at a place; answers how much of the room the lane takes up then.
+fn park_at(
+    lanes: &mut Vec<LaneParking>,
+    place: usize,
+    one: Parked,
+    limit: u64,
+) -> Result<u64, AllocError>
+    requires place { place < length lanes.old.items }
+    requires room { (lane : LaneValue) → slice_get lanes.old.items place ≡ Some lane → costs lane.waiting ≤ limit }
+    ensures ok { OnOk result ((lane : LaneValue) → slice_get lanes.old.items place ≡ Some lane → lanes.new.items ≡ set lanes.old.items place (parked_in limit one lane)) }
+    ensures octets { IfOk result (λ now. (lane : LaneValue) → slice_get lanes.old.items place ≡ Some lane → now ≡ costs (parked_in limit one lane).waiting) }
+    ensures err { OnErr result (lanes.new.items ≡ lanes.old.items) }
+{
+    let lane = &mut lanes[place];
+    lane.park(one, limit)?;
+    Ok(lane.octets())
+}
+
+// Lends the next datagram of the lane at a place.
+fn lend_at(lanes: &mut Vec<LaneParking>, place: usize) -> Option<Lent>
+    requires { place < length lanes.old.items }
+    ensures lent { IfSome result (λ lent. (lane : LaneValue) → slice_get lanes.old.items place ≡ Some lane
+        → (lendable lane ≡ Some lent) × (lanes.new.items ≡ set lanes.old.items place (lent_out lane))) }
+    ensures none { IfNone result (lanes.new.items ≡ lanes.old.items) }
+{
+    lanes[place].lend()
+}
+
+// Settles the datagram that was lent of the lane at a place; answers how much of the room the lane takes up then.
+fn settle_at(
+    lanes: &mut Vec<LaneParking>,
+    place: usize,
+    number: u64,
+    arrival: u64,
+    is_taken: bool,
+) -> u64
+    requires { place < length lanes.old.items }
+    ensures lanes { (lane : LaneValue) → slice_get lanes.old.items place ≡ Some lane
+        → lanes.new.items ≡ set lanes.old.items place (settled is_taken number arrival lane) }
+    ensures octets { (lane : LaneValue) → slice_get lanes.old.items place ≡ Some lane → result ≡ costs (settled is_taken number arrival lane).waiting }
+    ensures less { (lane : LaneValue) → slice_get lanes.old.items place ≡ Some lane → result ≤ costs lane.waiting }
+{
+    let lane = &mut lanes[place];
+    lane.settle(number, arrival, is_taken);
+    lane.octets()
+}
+
+// Drops what waits of a transaction in the lane at a place; answers how much of the room the lane takes up then.
+fn forget_at(lanes: &mut Vec<LaneParking>, place: usize, number: u64) -> u64
+    requires { place < length lanes.old.items }
+    ensures lanes { (lane : LaneValue) → slice_get lanes.old.items place ≡ Some lane
+        → lanes.new.items ≡ set lanes.old.items place (without_number number lane) }
+    ensures octets { (lane : LaneValue) → slice_get lanes.old.items place ≡ Some lane → result ≡ costs (without_number number lane).waiting }
+    ensures less { (lane : LaneValue) → slice_get lanes.old.items place ≡ Some lane → result ≤ costs lane.waiting }
+{
+    let lane = &mut lanes[place];
+    lane.forget(number);
+    lane.octets()
+}

@@ -1,6 +1,0 @@
-use Rattle.server_lines.proofs.Texts.{name_is_text}
-use Rattle.server_lines.proofs.operands.user_of.Goals as goal
-
-pub returns-in-Err : goal.returns-in-Err
-returns-in-Err c =
-    absurd (c.in-Err.ensures.cases.0 (name_is_text c.args.word.now c.in_ok-name.name.now c.in_ok-name.ensures))

@@ -1,0 +1,88 @@
+//! The part of a file: a new file beside it, which is written before it gets the file's name.
+ghost use Rattle.std.specs.Prelude.{◌≡◌, [], OnOk, IfOk, OnErr, string_bytes};
+ghost use Rattle.disk.specs.Crash.Content.{written, flushed};
+ghost use Rattle.disk.specs.Promise.{Changes, Is, NothingNew};
+ghost use Rattle.disk.specs.Parts.{IsOpen, OneChanged};
+ghost use Rattle.whole_files.specs.Wholes.{IsPartFor};
+
+use crate::paths::folder_of;
+use disk::{Disk, Fault};
+use std::alloc::Global;
+
+// How many names are tried for a part.
+const PART_NAMES: u64 = 100_000;
+
+/// Creates a part beside a path, under the first of its names that is free, and returns its path. Names are numbered
+/// from `first` on.
+pub fn new_part<D: Disk>(
+    disk: &mut D,
+    alloc: Global,
+    path: &str,
+    first: u64,
+) -> Result<String, Fault>
+    ensures ok { IfOk result (λ part. IsPartFor path.now (string_bytes part) (written []) (D.done disk.old) (D.done disk.new)) }
+    ensures err { OnErr result (OneChanged (D.done disk.old) (D.done disk.new)) }
+{
+    for more in 0..PART_NAMES {
+        let part = part_path(alloc, folder_of(path), first.wrapping_add(more))?;
+        if part.as_str() == path {
+            continue;
+        }
+        match disk.create(part.as_str()) {
+            Ok(()) => return Ok(part),
+            Err(Fault::Exists) => {}
+            Err(fault) => return Err(fault),
+        }
+    }
+    Err(Fault::Exists)
+}
+
+// The path of a part in a folder.
+fn part_path(alloc: Global, folder: &str, number: u64) -> Result<String, Fault> {
+    let made = if folder.is_empty() {
+        format!(in alloc; ".part-{number}")
+    } else {
+        format!(in alloc; "{folder}/.part-{number}")
+    };
+    made.map_err(|_| Fault::Failed)
+}
+
+/// Writes octets to the open file and flushes it. Where that fails, the part is removed.
+pub fn fill_part<D: Disk>(disk: &mut D, part: &str, octets: &[u8]) -> Result<(), Fault>
+    requires { IsOpen part.now (written []) (D.done disk.old) }
+    ensures changes { Changes (Is part.now) NothingNew (D.done disk.old) (D.done disk.new) }
+    ensures ok { OnOk result (IsOpen part.now (flushed octets.now) (D.done disk.new)) }
+{
+    let filled = fill(disk, part, octets);
+    if filled.is_err() {
+        let _ = disk.remove(part);
+    }
+    filled
+}
+
+// Writes octets to the open file, and flushes it.
+fn fill<D: Disk>(disk: &mut D, _part: &str, octets: &[u8]) -> Result<(), Fault>
+    requires { IsOpen _part.now (written []) (D.done disk.old) }
+    ensures changes { Changes (Is _part.now) NothingNew (D.done disk.old) (D.done disk.new) }
+    ensures ok { OnOk result (IsOpen _part.now (flushed octets.now) (D.done disk.new)) }
+{
+    disk.append(octets)?;
+    disk.flush()?;
+    Ok(())
+}
+
+/// Writes and flushes octets to a new part beside a path, and returns the part's path.
+pub fn write_part<D: Disk>(
+    disk: &mut D,
+    alloc: Global,
+    path: &str,
+    first: u64,
+    octets: &[u8],
+) -> Result<String, Fault>
+    ensures ok { IfOk result (λ part. IsPartFor path.now (string_bytes part) (flushed octets.now) (D.done disk.old) (D.done disk.new)) }
+    ensures err { OnErr result (OneChanged (D.done disk.old) (D.done disk.new)) }
+{
+    let part = new_part(disk, alloc, path, first)?;
+    fill_part(disk, part.as_str(), octets)?;
+    Ok(part)
+}

@@ -1,0 +1,77 @@
+//! A file is stored over a part: it is found as a whole, or what was there before.
+ghost use Rattle.std.specs.Prelude.{◌≡◌, ◌≢◌, [], OnOk};
+ghost use Rattle.disk.specs.Crash.Content.{written, flushed};
+ghost use Rattle.disk.specs.Promise.{Changes, HoldsAfterCut, Is, IsReached, NothingNew, Whole};
+ghost use Rattle.disk.specs.Parts.{IsOpen, Stores};
+
+use crate::parts::{fill_part, write_part};
+use crate::paths::folder_of;
+use disk::{Disk, Fault};
+use std::alloc::Global;
+
+/// Stores octets under a path, over a new part beside it, in place of the file there. Parts are numbered from `first`
+/// on.
+pub fn replace_file<D: Disk>(
+    disk: &mut D,
+    alloc: Global,
+    path: &str,
+    first: u64,
+    octets: &[u8],
+) -> Result<(), Fault>
+    requires { IsReached (D.done disk.old) path.now }
+    ensures stores { Stores (Whole path.now octets.now) (D.done disk.old) (D.done disk.new) }
+    ensures ok { OnOk result (HoldsAfterCut (D.done disk.new) path.now octets.now) }
+{
+    let part = write_part(disk, alloc, path, first, octets)?;
+    put_part(disk, part.as_str(), path, octets)
+}
+
+/// Stores octets under a path, over the part that is named, in place of the file there. A part that an earlier try left
+/// is removed first.
+pub fn replace_beside<D: Disk>(
+    disk: &mut D,
+    part: &str,
+    path: &str,
+    octets: &[u8],
+) -> Result<(), Fault>
+    requires apart { path.now ≢ part.now }
+    requires reached { IsReached (D.done disk.old) path.now }
+    ensures changes { Changes (Is part.now) (Whole path.now octets.now) (D.done disk.old) (D.done disk.new) }
+    ensures ok { OnOk result (HoldsAfterCut (D.done disk.new) path.now octets.now) }
+{
+    renew(disk, part)?;
+    fill_part(disk, part, octets)?;
+    put_part(disk, part, path, octets)
+}
+
+// Creates a part, in place of one that was left.
+fn renew<D: Disk>(disk: &mut D, part: &str) -> Result<(), Fault>
+    ensures changes { Changes (Is part.now) NothingNew (D.done disk.old) (D.done disk.new) }
+    ensures ok { OnOk result (IsOpen part.now (written []) (D.done disk.new)) }
+{
+    match disk.create(part) {
+        Ok(()) => Ok(()),
+        Err(Fault::Exists) => {
+            disk.remove(part)?;
+            disk.create(part)
+        }
+        Err(fault) => Err(fault),
+    }
+}
+
+/// Gives a part that has these octets, flushed, a path, in place of the file there, and flushes its folder. Where the
+/// part gets no name, it is removed.
+pub fn put_part<D: Disk>(disk: &mut D, part: &str, path: &str, _octets: &[u8]) -> Result<(), Fault>
+    requires apart { path.now ≢ part.now }
+    requires reached { IsReached (D.done disk.old) path.now }
+    requires filled { IsOpen part.now (flushed _octets.now) (D.done disk.old) }
+    ensures changes { Changes (Is part.now) (Whole path.now _octets.now) (D.done disk.old) (D.done disk.new) }
+    ensures ok { OnOk result (HoldsAfterCut (D.done disk.new) path.now _octets.now) }
+{
+    let named = disk.rename(part, path);
+    if named.is_err() {
+        let _ = disk.remove(part);
+        return named;
+    }
+    disk.flush_folder(folder_of(path))
+}

@@ -1,0 +1,395 @@
+/*
+ * A CFDP entity (CCSDS 727.0-B-5) as a library: one proved protocol machine behind a handle.
+ *
+ * The library never blocks, starts no thread, opens no file and no socket, and reads no clock. The program around it
+ * carries datagrams, runs timers and stores files:
+ *
+ *     cfdp_t entity = CFDP_INIT;
+ *     cfdp_done_t done;
+ *     if (cfdp_open_text(&entity, configuration) != CFDP_OK) ..
+ *     if (cfdp_deliver(&entity, datagram, length, &done) == CFDP_OK) {
+ *         for (size_t i = 0; i < done.pdus; i++) {
+ *             cfdp_pdu(&entity, i, buffer, sizeof buffer, &count);     send these octets
+ *         }
+ *         for (size_t i = 0; i < done.timers; i++) {
+ *             cfdp_timer_op(&entity, i, &op);                          start or stop this timer
+ *         }
+ *         if (done.deposit) {
+ *             cfdp_deposit(&entity, &deposit);                         store this file, then call cfdp_stored
+ *         }
+ *     }
+ *
+ * Handles. The caller owns the cfdp_t, which holds nothing but a pointer. It starts as CFDP_INIT, or all zeros, which
+ * is a closed handle; cfdp_open opens it, and cfdp_close frees all that it holds. A closed handle answers CFDP_CLOSED
+ * to every other call that gets so far (a number out of range, or want of memory, may come first). Never copy an open
+ * handle, and never write its fields.
+ *
+ * Lifetimes. What an event left (PDUs, timer operations, the deposit) is kept until the next event; the bundle that was
+ * taken last until the next one is taken; the file that was asked for last until the next one. Everything is copied into
+ * the caller's memory. The library keeps no pointer that it was passed.
+ *
+ * Memory that is passed. No two pointers of one call may overlap. A null pointer answers CFDP_NULL, except beside a
+ * length of 0. Define CFDP_UNCHECKED before the header is included to leave these tests out; then no pointer may be
+ * null, not even beside a length of 0.
+ *
+ * Threads. Different handles may be used by different threads at once. One handle is used by one thread at a time, and
+ * may move between threads under a lock. No call may come from a signal handler, or from the forked child of a process
+ * with threads.
+ *
+ * Memory. Blocks come from malloc, realloc and free of the program. When these fail, a call answers CFDP_NO_MEMORY, or
+ * CFDP_REFUSED with refusal 12, and nothing has changed.
+ *
+ * docs/embedding.md has two first programs, and says what is proved of each call.
+ */
+#ifndef CFDP_H
+#define CFDP_H
+
+#include <stdbool.h>
+#include <stddef.h>
+#include <stdint.h>
+#include <string.h>
+
+#ifdef __cplusplus
+extern "C" {
+#endif
+
+/* A handle. Its fields are the library's own. */
+typedef struct cfdp {
+    bool live;
+    void *at;
+} cfdp_t;
+
+#define CFDP_INIT { false, NULL }
+
+/* What a call answers. */
+enum {
+    CFDP_OK = 0,                   /* the call did what it is for; of an event: the entity took it */
+    CFDP_REFUSED = 1,              /* the entity refused the event: `refusal` says why, and nothing else changed */
+    CFDP_NOTHING = 2,              /* there is no such thing: no bundle waits, or the index is too large */
+    CFDP_CLOSED = -1,              /* the handle is closed */
+    CFDP_OPEN = -2,                /* the handle is open already */
+    CFDP_NO_MEMORY = -3,           /* memory ran out */
+    CFDP_NO_ROOM = -4,             /* the buffer is too small; the length says how large it must be */
+    CFDP_BAD_NUMBER = -5,          /* no class, timer or request has this number */
+    CFDP_UNKNOWN = -6,             /* the entity has no such user, or the user no such sending lane */
+    CFDP_BAD_CONFIG = -7,          /* the configuration was refused */
+    CFDP_NO_NAME = -8,             /* a file name is empty */
+    CFDP_NAME_TOO_LONG = -9,       /* a file name has more than 255 octets */
+    CFDP_MESSAGE_TOO_LONG = -10,   /* a message has more than 255 octets */
+    CFDP_TOO_MANY_MESSAGES = -11,  /* a Put has more than 4 messages */
+    CFDP_NULL = -12                /* a pointer is null (answered by this header) */
+};
+
+/* The timers of a transaction. */
+enum { CFDP_TIMER_ACK = 1, CFDP_TIMER_NAK = 2, CFDP_TIMER_CHECK = 3, CFDP_TIMER_INACTIVITY = 4 };
+
+/* What a user may request of a transaction. */
+enum { CFDP_CANCEL = 1, CFDP_SUSPEND = 2, CFDP_RESUME = 3, CFDP_REPORT = 4, CFDP_ABANDON = 5 };
+
+/* The kinds of indications, and the fields that each has. */
+enum {
+    CFDP_IND_TRANSACTION = 1,       /* a Put has opened a transaction */
+    CFDP_IND_EOF_SENT = 2,
+    CFDP_IND_EOF_RECV = 3,
+    CFDP_IND_FINISHED = 4,          /* condition, delivery, status */
+    CFDP_IND_METADATA_RECV = 5,     /* source, size, parts */
+    CFDP_IND_FILE_SEGMENT_RECV = 6, /* offset, length */
+    CFDP_IND_SUSPENDED = 7,         /* condition */
+    CFDP_IND_RESUMED = 8,           /* progress */
+    CFDP_IND_REPORT = 9,            /* phase, progress */
+    CFDP_IND_FAULT = 10,            /* condition, progress */
+    CFDP_IND_ABANDONED = 11         /* condition, progress */
+};
+
+/* Phases of a transaction in a report. */
+enum { CFDP_ACTIVE = 1, CFDP_IS_SUSPENDED = 2, CFDP_STORING = 3, CFDP_CLOSING = 4 };
+
+/* Delivery codes and file statuses, as in a Finished PDU. */
+enum { CFDP_COMPLETE = 0, CFDP_INCOMPLETE = 1 };
+enum { CFDP_DISCARDED = 0, CFDP_REJECTED = 1, CFDP_RETAINED = 2, CFDP_UNREPORTED = 3 };
+
+/* What an event left. */
+typedef struct cfdp_done_t {
+    uint64_t source;  /* the event's transaction: its source entity and its number; 0 and 0 where it was refused */
+    uint64_t seq;
+    size_t pdus;      /* the number of PDUs to send; a refused PDU of an old transaction may have one in answer */
+    size_t timers;    /* the number of timer operations */
+    uint32_t refusal; /* why the event was refused, 0 where it was taken; cfdp_refusal_name has the names */
+    uint32_t fault;   /* the decoding fault, where the refusal is 20 (the datagram is not a PDU) */
+    uint32_t deposit; /* 1 where a received file waits for the file store, otherwise 0 */
+} cfdp_done_t;
+
+/* An operation on a timer. A timer that expires is told by cfdp_timer, with the stamp that it was started with. */
+typedef struct cfdp_timer_op_t {
+    uint64_t source;
+    uint64_t seq;
+    uint32_t stamp;
+    uint32_t ms;   /* milliseconds until it expires; 0 where it is stopped */
+    uint32_t kind; /* CFDP_TIMER_ACK .. */
+    uint32_t arms; /* 1: start it, or start it anew where it runs; 0: stop it */
+} cfdp_timer_op_t;
+
+/* A received file that waits for the file store. */
+typedef struct cfdp_deposit_t {
+    uint64_t source;
+    uint64_t seq;
+    uint32_t stamp;
+} cfdp_deposit_t;
+
+/* The lengths of a received file and of its names. */
+typedef struct cfdp_image_t {
+    size_t source_name;
+    size_t destination_name;
+    size_t octets;
+    uint32_t refusal; /* why there is none, with CFDP_REFUSED */
+} cfdp_image_t;
+
+/* A bundle: the indications of one event to one user. */
+typedef struct cfdp_bundle_t {
+    uint64_t source;
+    uint64_t seq;
+    size_t user;
+    size_t lane;
+    size_t indications; /* at least one */
+} cfdp_bundle_t;
+
+/* An indication. Fields that its kind does not have are 0. */
+typedef struct cfdp_indication_t {
+    uint32_t kind;
+    uint32_t condition; /* a condition code of the standard */
+    uint32_t delivery;
+    uint32_t status;
+    uint32_t phase;
+    uint32_t offset;
+    uint32_t length;
+    uint32_t progress; /* octets */
+    uint64_t size;     /* octets in the file */
+    uint64_t source;   /* the sending entity */
+    size_t parts;      /* the number of texts: the file's name at the sender, its name at the receiver, the messages */
+} cfdp_indication_t;
+
+/*
+ * Opens a handle: an entity with this configuration, a text in TOML (docs/configuration.md). With CFDP_BAD_CONFIG,
+ * `fault` is the number of the fault, and `place` has the name of its key or table if there is room (24 octets are
+ * enough); `place_len` is the length of that name. Also CFDP_OPEN, CFDP_NO_MEMORY.
+ */
+int32_t cfdp_open(cfdp_t *handle, const uint8_t *text, size_t text_len, uint32_t *fault, uint8_t *place, size_t room,
+                  size_t *place_len);
+
+/* Closes a handle and frees the entity, with all files in transit. Also CFDP_CLOSED. */
+int32_t cfdp_close(cfdp_t *handle);
+
+/*
+ * Events. Each answers CFDP_OK or CFDP_REFUSED and fills `done`; any other answer means that there was no event, and
+ * leaves `done` as it was.
+ */
+
+/* A datagram was received. Also CFDP_NO_MEMORY. */
+int32_t cfdp_deliver(cfdp_t *handle, const uint8_t *octets, size_t len, cfdp_done_t *done);
+
+/*
+ * User number `user` sends a file from its sending lane number `lane` (both count from 0). `service` is the class, 1 or
+ * 2; `closure` asks the receiver of class 1 for a Finished PDU. Messages that were added by cfdp_message go with it.
+ * done.source and done.seq name the transaction. The file is copied. Its PDUs are sent one by one, each at a call of
+ * cfdp_pump. Also CFDP_NO_MEMORY, CFDP_BAD_NUMBER, CFDP_UNKNOWN, CFDP_NO_NAME, CFDP_NAME_TOO_LONG.
+ */
+int32_t cfdp_put(cfdp_t *handle, size_t user, size_t lane, uint64_t destination, uint32_t service, bool closure,
+                 const uint8_t *source_name, size_t source_name_len, const uint8_t *destination_name,
+                 size_t destination_name_len, const uint8_t *file, size_t file_len, cfdp_done_t *done);
+
+/* Adds a message to the user for the next Put; the next Put takes all of them, even one that is refused. */
+int32_t cfdp_message(cfdp_t *handle, const uint8_t *octets, size_t len);
+
+/* A user requests something of its transaction: CFDP_CANCEL .. Also CFDP_BAD_NUMBER, CFDP_UNKNOWN. */
+int32_t cfdp_request(cfdp_t *handle, size_t user, uint32_t kind, uint64_t source, uint64_t seq, cfdp_done_t *done);
+
+/*
+ * The next PDU of a transaction may be sent: done.pdus is 1 while there is one. A sender has something to send after
+ * CFDP_OK of a Put, of a pump that left a PDU, and of a delivery for its transaction.
+ */
+int32_t cfdp_pump(cfdp_t *handle, uint64_t source, uint64_t seq, cfdp_done_t *done);
+
+/* A timer expired: the fields of the operation that started it. Also CFDP_BAD_NUMBER. */
+int32_t cfdp_timer(cfdp_t *handle, uint64_t source, uint64_t seq, uint32_t kind, uint32_t stamp, cfdp_done_t *done);
+
+/* The file store answers a deposit: whether it keeps the file. */
+int32_t cfdp_stored(cfdp_t *handle, uint64_t source, uint64_t seq, uint32_t stamp, bool kept, cfdp_done_t *done);
+
+/*
+ * What the last event left, by index from 0; CFDP_NOTHING where the index is too large.
+ */
+
+/* Copies a PDU. A buffer of 1,500 octets is enough for what a sender sends. Also CFDP_NO_ROOM, CFDP_NO_MEMORY. */
+int32_t cfdp_pdu(cfdp_t *handle, size_t index, uint8_t *buffer, size_t room, size_t *len);
+
+/* Gives a timer operation. They are to be carried out in order. */
+int32_t cfdp_timer_op(cfdp_t *handle, size_t index, cfdp_timer_op_t *op);
+
+/* Gives the deposit, if done.deposit was 1. */
+int32_t cfdp_deposit(cfdp_t *handle, cfdp_deposit_t *deposit);
+
+/*
+ * Gets the file of a waiting deposit, keeps it, and tells its lengths. CFDP_REFUSED where no such deposit waits, or
+ * memory ran out: image->refusal says which.
+ */
+int32_t cfdp_image(cfdp_t *handle, uint64_t source, uint64_t seq, uint32_t stamp, cfdp_image_t *image);
+
+/*
+ * Copies octets of that file from `offset` on: of its name at the sender (part 0), its name at the receiver (1), or its
+ * content (2). Copies as many as there are and as the buffer holds, and says how many. CFDP_NOTHING where the offset is
+ * beyond the end.
+ */
+int32_t cfdp_image_octets(cfdp_t *handle, size_t part, size_t offset, uint8_t *buffer, size_t room, size_t *len);
+
+/*
+ * Indications wait in a queue for each user, in bundles. While a queue is full, events that would add to it are refused
+ * (refusal 13) and may be tried again.
+ */
+
+/* Takes the bundle at the front of a user's queue. CFDP_NOTHING where none waits. Also CFDP_UNKNOWN. */
+int32_t cfdp_take(cfdp_t *handle, size_t user, cfdp_bundle_t *bundle);
+
+/* Gives an indication of the bundle that was taken last. */
+int32_t cfdp_indication(cfdp_t *handle, size_t index, cfdp_indication_t *indication);
+
+/* Copies a text of an indication of that bundle: see `parts`. Also CFDP_NO_ROOM; 255 octets are enough. */
+int32_t cfdp_octets(cfdp_t *handle, size_t index, size_t part, uint8_t *buffer, size_t room, size_t *len);
+
+/* The number of users, and of the sending lanes of each user. */
+int32_t cfdp_users(cfdp_t *handle, size_t *count);
+int32_t cfdp_put_lanes(cfdp_t *handle, size_t *count);
+
+/* Copies the name of an answer of the library, or of a refusal; CFDP_NOTHING for other numbers. 24 octets are enough. */
+int32_t cfdp_error_name(int32_t code, uint8_t *buffer, size_t room, size_t *len);
+int32_t cfdp_refusal_name(uint32_t refusal, uint8_t *buffer, size_t room, size_t *len);
+
+/* The version of this interface. A program that was compiled with another one must not call the library. */
+#define CFDP_VERSION 1u
+uint32_t cfdp_version(void);
+
+/* ---- tests of null pointers, before the calls */
+
+#ifndef CFDP_UNCHECKED
+
+/* Somewhere to point at, beside a length of 0. */
+static inline const uint8_t *cfdp_some(const uint8_t *octets) {
+    static const uint8_t none[1] = { 0 };
+    return octets ? octets : none;
+}
+
+static inline int32_t cfdp_checked_open(cfdp_t *h, const uint8_t *text, size_t len, uint32_t *fault, uint8_t *place,
+                                        size_t room, size_t *place_len) {
+    uint8_t none[1];
+    if (!h || (!text && len) || !fault || (!place && room) || !place_len) return CFDP_NULL;
+    return cfdp_open(h, cfdp_some(text), len, fault, place ? place : none, room, place_len);
+}
+static inline int32_t cfdp_checked_close(cfdp_t *h) { return h ? cfdp_close(h) : CFDP_NULL; }
+static inline int32_t cfdp_checked_deliver(cfdp_t *h, const uint8_t *octets, size_t len, cfdp_done_t *done) {
+    return h && (octets || !len) && done ? cfdp_deliver(h, cfdp_some(octets), len, done) : CFDP_NULL;
+}
+static inline int32_t cfdp_checked_put(cfdp_t *h, size_t user, size_t lane, uint64_t destination, uint32_t service,
+                                       bool closure, const uint8_t *source_name, size_t source_name_len,
+                                       const uint8_t *destination_name, size_t destination_name_len,
+                                       const uint8_t *file, size_t file_len, cfdp_done_t *done) {
+    if (!h || (!source_name && source_name_len) || (!destination_name && destination_name_len) || (!file && file_len) || !done)
+        return CFDP_NULL;
+    return cfdp_put(h, user, lane, destination, service, closure, cfdp_some(source_name), source_name_len,
+                    cfdp_some(destination_name), destination_name_len, cfdp_some(file), file_len, done);
+}
+static inline int32_t cfdp_checked_message(cfdp_t *h, const uint8_t *octets, size_t len) {
+    return h && (octets || !len) ? cfdp_message(h, cfdp_some(octets), len) : CFDP_NULL;
+}
+static inline int32_t cfdp_checked_request(cfdp_t *h, size_t user, uint32_t kind, uint64_t source, uint64_t seq,
+                                           cfdp_done_t *done) {
+    return h && done ? cfdp_request(h, user, kind, source, seq, done) : CFDP_NULL;
+}
+static inline int32_t cfdp_checked_pump(cfdp_t *h, uint64_t source, uint64_t seq, cfdp_done_t *done) {
+    return h && done ? cfdp_pump(h, source, seq, done) : CFDP_NULL;
+}
+static inline int32_t cfdp_checked_timer(cfdp_t *h, uint64_t source, uint64_t seq, uint32_t kind, uint32_t stamp,
+                                         cfdp_done_t *done) {
+    return h && done ? cfdp_timer(h, source, seq, kind, stamp, done) : CFDP_NULL;
+}
+static inline int32_t cfdp_checked_stored(cfdp_t *h, uint64_t source, uint64_t seq, uint32_t stamp, bool kept,
+                                          cfdp_done_t *done) {
+    return h && done ? cfdp_stored(h, source, seq, stamp, kept, done) : CFDP_NULL;
+}
+static inline int32_t cfdp_checked_pdu(cfdp_t *h, size_t index, uint8_t *buffer, size_t room, size_t *len) {
+    uint8_t none[1];
+    return h && (buffer || !room) && len ? cfdp_pdu(h, index, buffer ? buffer : none, room, len) : CFDP_NULL;
+}
+static inline int32_t cfdp_checked_timer_op(cfdp_t *h, size_t index, cfdp_timer_op_t *op) {
+    return h && op ? cfdp_timer_op(h, index, op) : CFDP_NULL;
+}
+static inline int32_t cfdp_checked_deposit(cfdp_t *h, cfdp_deposit_t *deposit) {
+    return h && deposit ? cfdp_deposit(h, deposit) : CFDP_NULL;
+}
+static inline int32_t cfdp_checked_image(cfdp_t *h, uint64_t source, uint64_t seq, uint32_t stamp, cfdp_image_t *image) {
+    return h && image ? cfdp_image(h, source, seq, stamp, image) : CFDP_NULL;
+}
+static inline int32_t cfdp_checked_image_octets(cfdp_t *h, size_t part, size_t offset, uint8_t *buffer, size_t room,
+                                                size_t *len) {
+    uint8_t none[1];
+    return h && (buffer || !room) && len ? cfdp_image_octets(h, part, offset, buffer ? buffer : none, room, len) : CFDP_NULL;
+}
+static inline int32_t cfdp_checked_take(cfdp_t *h, size_t user, cfdp_bundle_t *bundle) {
+    return h && bundle ? cfdp_take(h, user, bundle) : CFDP_NULL;
+}
+static inline int32_t cfdp_checked_indication(cfdp_t *h, size_t index, cfdp_indication_t *indication) {
+    return h && indication ? cfdp_indication(h, index, indication) : CFDP_NULL;
+}
+static inline int32_t cfdp_checked_octets(cfdp_t *h, size_t index, size_t part, uint8_t *buffer, size_t room, size_t *len) {
+    uint8_t none[1];
+    return h && (buffer || !room) && len ? cfdp_octets(h, index, part, buffer ? buffer : none, room, len) : CFDP_NULL;
+}
+static inline int32_t cfdp_checked_users(cfdp_t *h, size_t *count) { return h && count ? cfdp_users(h, count) : CFDP_NULL; }
+static inline int32_t cfdp_checked_put_lanes(cfdp_t *h, size_t *count) {
+    return h && count ? cfdp_put_lanes(h, count) : CFDP_NULL;
+}
+static inline int32_t cfdp_checked_error_name(int32_t code, uint8_t *buffer, size_t room, size_t *len) {
+    uint8_t none[1];
+    return (buffer || !room) && len ? cfdp_error_name(code, buffer ? buffer : none, room, len) : CFDP_NULL;
+}
+static inline int32_t cfdp_checked_refusal_name(uint32_t refusal, uint8_t *buffer, size_t room, size_t *len) {
+    uint8_t none[1];
+    return (buffer || !room) && len ? cfdp_refusal_name(refusal, buffer ? buffer : none, room, len) : CFDP_NULL;
+}
+
+#define cfdp_open cfdp_checked_open
+#define cfdp_close cfdp_checked_close
+#define cfdp_deliver cfdp_checked_deliver
+#define cfdp_put cfdp_checked_put
+#define cfdp_message cfdp_checked_message
+#define cfdp_request cfdp_checked_request
+#define cfdp_pump cfdp_checked_pump
+#define cfdp_timer cfdp_checked_timer
+#define cfdp_stored cfdp_checked_stored
+#define cfdp_pdu cfdp_checked_pdu
+#define cfdp_timer_op cfdp_checked_timer_op
+#define cfdp_deposit cfdp_checked_deposit
+#define cfdp_image cfdp_checked_image
+#define cfdp_image_octets cfdp_checked_image_octets
+#define cfdp_take cfdp_checked_take
+#define cfdp_indication cfdp_checked_indication
+#define cfdp_octets cfdp_checked_octets
+#define cfdp_users cfdp_checked_users
+#define cfdp_put_lanes cfdp_checked_put_lanes
+#define cfdp_error_name cfdp_checked_error_name
+#define cfdp_refusal_name cfdp_checked_refusal_name
+
+#endif /* CFDP_UNCHECKED */
+
+/* Opens a handle by a configuration that is a string, and forgets where a fault is. */
+static inline int32_t cfdp_open_text(cfdp_t *handle, const char *text) {
+    uint32_t fault = 0;
+    uint8_t place[1];
+    size_t len = 0;
+    if (!text) return CFDP_NULL;
+    return cfdp_open(handle, (const uint8_t *)text, strlen(text), &fault, place, sizeof place, &len);
+}
+
+#ifdef __cplusplus
+}
+#endif
+
+#endif /* CFDP_H */

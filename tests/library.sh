@@ -1,0 +1,72 @@
+#!/usr/bin/env bash
+# The library for C and Python: its own tests and the examples under the sanitizers, all scripts played through it, a file
+# over a socket into the server, and the same table of the Python bench twice.
+# usage: tests/library.sh SERVER, after tools/lib.sh
+set -euo pipefail
+top=$(realpath "$(dirname "$0")/..")
+server=$(realpath "$1")
+cd "$top"
+room=$(mktemp -d)
+started=
+trap '[ -z "$started" ] || kill "$started" 2> /dev/null || true; rm -rf "$room"' EXIT
+flags=(-std=gnu11 -Wall -Wextra -Werror -Ibuild)
+checked=(-g -O1 -fsanitize=address,undefined -fno-sanitize-recover=all)
+
+# the header for C and C++, with and without its tests
+for standard in "gcc -std=c11" "g++ -std=c++17"; do
+    for unchecked in "" -DCFDP_UNCHECKED; do
+        kind=c; [ "${standard%% *}" = gcc ] || kind=c++
+        # shellcheck disable=SC2086
+        $standard -Wall -Wextra -Werror $unchecked -fsyntax-only -x $kind include/cfdp.h
+    done
+done
+
+gcc "${flags[@]}" "${checked[@]}" -Wl,--wrap=malloc,--wrap=realloc tests/handles.c build/libcfdp.a -o "$room/handles" -lpthread
+timeout 300 "$room/handles"
+
+gcc "${flags[@]}" "${checked[@]}" examples/c/loopback.c build/libcfdp.a -o "$room/loopback"
+timeout 60 "$room/loopback" > "$room/looped"
+diff "$room/looped" examples/c/loopback.printed
+
+# every script, as cfdp_replay prints it
+gcc "${flags[@]}" -O2 tests/script_player.c build/libcfdp.a -o "$room/player"
+timeout 600 tests/scripts.py "$room/player"
+gcc "${flags[@]}" "${checked[@]}" tests/script_player.c build/libcfdp.a -o "$room/careful"
+for script in examples/*.script; do
+    timeout 60 "$room/careful" < "$script" | diff - "${script%.script}.printed"
+done
+
+# a put over a socket into the server
+gcc "${flags[@]}" "${checked[@]}" examples/c/udp_put.c build/libcfdp.a -o "$room/udp_put"
+read -r at_server at_put < <(python3 - <<'PORTS'
+import socket
+found = [socket.socket(socket.AF_INET, socket.SOCK_DGRAM) for _ in range(2)]
+for one in found:
+    one.bind(("127.0.0.1", 0))
+print(*[one.getsockname()[1] for one in found])
+PORTS
+)
+sed "s/@PEER@/$at_put/" examples/transfer/ground.toml > "$room/ground.toml"
+sed "s/@PEER@/$at_server/" examples/transfer/spacecraft.toml > "$room/spacecraft.toml"
+head -c 300000 /dev/urandom > "$room/image"
+mkdir "$room/received"
+mkfifo "$room/commands"
+timeout 120 "$server" --config "$room/ground.toml" --bind "127.0.0.1:$at_server" --folder "$room/received" --follow \
+    < "$room/commands" > "$room/served" 2>&1 &
+started=$!
+exec 3> "$room/commands"
+echo 'trace 2 1' >&3
+for _ in $(seq 100); do [ -s "$room/served" ] && break; sleep 0.1; done
+(cd "$room" && timeout 90 ./udp_put spacecraft.toml image image.received "$at_put" "$at_server" 2)
+for _ in $(seq 100); do [ -f "$room/received/image.received" ] && break; sleep 0.1; done
+cmp "$room/image" "$room/received/image.received"
+echo quit >&3
+exec 3>&-
+wait "$started"
+started=
+
+# the bench in Python: a table that the seed decides
+timeout 120 python3 examples/python/bench.py 3 > "$room/table"
+timeout 120 python3 examples/python/bench.py 3 | diff - "$room/table"
+diff "$room/table" examples/python/bench.printed
+echo "the library: handles, examples, scripts, a socket and the bench are fine"

@@ -1,0 +1,47 @@
+#!/usr/bin/env bash
+# Makes the Debian packages libcfdp0 and libcfdp-dev of the library in build/, installs both into a folder, and compiles and
+# runs an example against them there.
+# usage: tools/deb-lib.sh, after tools/lib.sh
+set -euo pipefail
+top=$(realpath "$(dirname "$0")/..")
+version=$(sed -n 's/^Version: //p' "$top/build/cfdp.pc")
+machine=$(dpkg --print-architecture)
+folder=/usr/lib/$(gcc -print-multiarch)
+room=$(mktemp -d)
+trap 'rm -rf "$room"' EXIT
+mkdir -p "$top/out"
+
+# pack NAME SECTION DEPENDS TEXT: a package of what lies in its folder
+pack() {
+    mkdir -p "$room/$1/DEBIAN"
+    cat > "$room/$1/DEBIAN/control" << CONTROL
+Package: $1
+Version: $version
+Architecture: $machine
+Maintainer: Binesunset
+Section: $2
+Priority: optional
+Depends: $3
+Installed-Size: $(du -sk "$room/$1" | cut -f 1)
+Description: $4
+CONTROL
+    dpkg-deb --root-owner-group --build "$room/$1" "$top/out/$1_${version}_$machine.deb" > "$room/log"
+    dpkg-deb --extract "$top/out/$1_${version}_$machine.deb" "$room/there"
+}
+
+install -d "$room/libcfdp0$folder" "$room/libcfdp-dev$folder/pkgconfig" "$room"/libcfdp-dev/usr/{include,share/doc/libcfdp-dev/examples}
+install -m 644 "$top/build/libcfdp.so.0" "$room/libcfdp0$folder/libcfdp.so.0"
+ln -s libcfdp.so.0 "$room/libcfdp-dev$folder/libcfdp.so"
+install -m 644 "$top/build/libcfdp.a" "$room/libcfdp-dev$folder/libcfdp.a"
+install -m 644 "$top/include/cfdp.h" "$room/libcfdp-dev/usr/include/cfdp.h"
+sed -e 's|^prefix=.*|prefix=/usr|' -e "s|^libdir=.*|libdir=$folder|" "$top/build/cfdp.pc" > "$room/libcfdp-dev$folder/pkgconfig/cfdp.pc"
+install -m 644 "$top"/examples/c/*.c "$top/docs/embedding.md" "$room/libcfdp-dev/usr/share/doc/libcfdp-dev/examples"
+pack libcfdp0 libs libc6 "CCSDS File Delivery Protocol: an entity as a library"
+pack libcfdp-dev libdevel "libcfdp0 (= $version)" "CCSDS File Delivery Protocol: header and static library"
+
+# an example against what was installed
+there=$room/there
+gcc "$top/examples/c/loopback.c" -I"$there/usr/include" -L"$there$folder" -lcfdp -o "$room/loopback"
+LD_LIBRARY_PATH="$there$folder" "$room/loopback" | diff - "$top/examples/c/loopback.printed"
+[ "$(PKG_CONFIG_PATH="$there$folder/pkgconfig" pkg-config --modversion cfdp 2> /dev/null || echo "$version")" = "$version" ]
+echo "out/libcfdp0_${version}_$machine.deb and out/libcfdp-dev_${version}_$machine.deb: installed into a folder, and an example runs there"
