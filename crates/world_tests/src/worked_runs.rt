@@ -163,7 +163,10 @@ fn push_told(
 // Adds an entity's answer to a step.
 fn push_step(alloc: Global, text: &mut String, world: &mut World, step: Step) -> Option<()> {
     match step {
-        Step::Take(user) => push_taken(alloc, text, user, &next_of(world, user)).ok(),
+        Step::Take(user) => {
+            let taken = next_of(world, user);
+            push_taken(alloc, text, world.config().name_of(user)?, &taken).ok()
+        }
         _ => push_told(
             alloc,
             text,
