@@ -1,2 +1,3 @@
 pub mod OrderFacts
+pub mod ChoiceFacts
 pub mod RunRows

@@ -1,16 +1,14 @@
 -- Numbers toward one entity rise within their remainder, and no two of them are open.
-use Rattle.std.proofs.Common.{◌≡◌, ◌⊎◌, ℕ, ◌+◌, ◌%◌, ◌<◌, ◌≤◌, ◌==◌, ◌&&◌, max, Bool, true, false, not, nat_lt, nat_eq, if◌then◌else◌, List, [], ◌∷◌, Option, Some, None, length, set, slice_get, get_or, refl, sym, ap, ◌∙◌, subst, arith, inl, inr, length-set, get_or-set_same, get_or-set_other}
+use Rattle.std.proofs.Common.{◌≡◌, ◌⊎◌, ℕ, ◌%◌, ◌<◌, ◌≤◌, max, Bool, true, false, not, nat_lt, nat_eq, if◌then◌else◌, List, [], ◌∷◌, Option, Some, None, length, set, slice_get, get_or, refl, sym, ap, ◌∙◌, subst, arith, inl, inr, length-set, get_or-set_same, get_or-set_other}
 use Rattle.std.proofs.lemmas.Bool.{cases_Bool, false≢true}
 use Rattle.std.proofs.lemmas.Bool.Decides.{nat_tests}
 use Rattle.std.proofs.lemmas.Option.{get_or_from_slice_get, slice_get-get_or, slice_get_within}
 use Rattle.std.proofs.Math.Nat.{mod-lt}
-use Rattle.std.specs.List.{filter, list_any}
-use Rattle.program_lineup.specs.declared.choice.Standing.{Standing}
 use Rattle.program_lineup.specs.declared.choice.Standing.TheVariants.{Free, Awaits, Lags}
 use Rattle.program_lineup.specs.declared.sending_lane.Running.{Running}
 use Rattle.program_lineup.specs.declared.sending_lane.SendingLane.{SendingLane}
-use Rattle.program_lineup.specs.Lineups.{Numbers, has_remainder, is_above, is_above_used, is_open, is_open_with, most, rises, standing, used, used_at}
-use Rattle.lineup_laws.specs.LineupLaws.{AllInOrder, AreMoves, AreSeen, BeginsInOrder, IsAboveAll, IsAlone, MayMove, Move, Run, begins, ends, run_of, step}
+use Rattle.program_lineup.specs.Lineups.{Numbers, has_remainder, is_open, is_open_with, most, rises, standing, used, used_at}
+use Rattle.lineup_laws.specs.LineupLaws.{AllInOrder, AreMoves, AreSeen, BeginsInOrder, IsAboveAll, IsAlone, MayMove, Move, Run, begins, begun_with, ends, puts, run_of, step}
 
 -- ---- a free number
 
@@ -160,13 +158,17 @@ pub record Keeps (numbers : Numbers) (run : Run) : Type 0 where
   pub count : length run.numbers.greatest ≡ length numbers.greatest
   pub covered : AreCovered run.numbers run.begun
 
-step_keeps : (numbers : Numbers) (move : Move) (run : Run) → 0 < length numbers.greatest → Keeps numbers run → Keeps numbers (step move run)
-step_keeps numbers (begins lanes number) run some keeps =
+begun_keeps : (numbers : Numbers) (number : ℕ) (run : Run) → 0 < length numbers.greatest → Keeps numbers run → Keeps numbers (begun_with number run)
+begun_keeps numbers number run some keeps =
     let there : 0 < length run.numbers.greatest = rw keeps.count some in
     record {
       count = length_used run.numbers number ∙ keeps.count;
       covered = (used_covers run.numbers number there, used_keeps_all run.numbers number run.begun there keeps.covered);
     }
+
+step_keeps : (numbers : Numbers) (move : Move) (run : Run) → 0 < length numbers.greatest → Keeps numbers run → Keeps numbers (step move run)
+step_keeps numbers (begins lanes number) run some keeps = begun_keeps numbers number run some keeps
+step_keeps numbers (puts number) run some keeps = begun_keeps numbers number run some keeps
 step_keeps numbers (ends number) run some keeps = record { count = keeps.count; covered = keeps.covered }
 
 runs_keep : (numbers : Numbers) (moves : List Move) → 0 < length numbers.greatest → Keeps numbers (run_of numbers moves)
@@ -177,6 +179,7 @@ move_in_order : (numbers : Numbers) (move : Move) (run : Run) → 0 < length num
 move_in_order numbers (begins lanes number) run some keeps may =
     let there : 0 < length run.numbers.greatest = rw keeps.count some in
     subst (λ (count : ℕ). BeginsInOrder count (begins lanes number) run) keeps.count (begins_in_order run lanes number there keeps.covered may)
+move_in_order numbers (puts number) run some keeps may = tt
 move_in_order numbers (ends number) run some keeps may = tt
 
 pub all_in_order : (numbers : Numbers) (moves : List Move) → 0 < length numbers.greatest → AreMoves numbers moves → AllInOrder numbers moves

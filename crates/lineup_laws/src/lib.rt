@@ -1,10 +1,15 @@
 //! Laws of the order of numbers, about the definitions alone.
 #![tactic(auto)]
 
-ghost use Rattle.lineup_laws.specs.LineupLaws.{RisesAlone};
+ghost use Rattle.lineup_laws.specs.LineupLaws.{GoesFree, RisesAlone};
 
-/// Of two transactions toward one entity whose numbers have the same remainder, the later one has the greater number, and began
-/// when the earlier one had ended.
+/// A transaction that the outbox begins has a greater number than each that began toward the entity before with the same
+/// remainder, and those have ended; whoever began them.
 pub fn order()
     ensures { RisesAlone }
+{}
+
+/// The number that a choice lets go is free, and is the next number of an idle lane of the user.
+pub fn goes()
+    ensures { GoesFree }
 {}

@@ -1,12 +1,12 @@
 -- Lines of datagrams: their order and what is among them, through parts, insertions and filters.
-use Rattle.std.proofs.Common.{◌≡◌, ◌⊎◌, ℕ, ◌+◌, ◌<◌, ◌≤◌, Bool, true, false, not, ◌&&◌, ◌==◌, nat_lt, List, [], ◌∷◌, ◌++◌, length, map, take, drop, min, zero, suc, refl, sym, ap, ◌∙◌, arith, inl, inr}
+use Rattle.std.proofs.Common.{◌≡◌, ◌⊎◌, ℕ, ◌+◌, ◌<◌, ◌≤◌, Bool, true, false, ◌&&◌, ◌==◌, nat_lt, List, [], ◌∷◌, ◌++◌, length, map, take, drop, min, zero, suc, refl, sym, ap, ◌∙◌, arith, inl, inr}
 use Rattle.std.proofs.lemmas.Bool.{and_parts, cases_Bool}
 use Rattle.std.proofs.lemmas.List.{length-take, take-take}
 use Rattle.std.proofs.lemmas.Bool.Decides.{nat_tests}
 use Rattle.std.specs.List.{filter}
 use Rattle.program_parking.specs.declared.parked.Parked.{Parked}
 use Rattle.program_parking.specs.Lanes.{behind, inserted, is_above, is_behind, within}
-use Rattle.parking_laws.specs.ParkingLaws.{ComesBefore, IsAmong, IsBefore, IsRising, Key, key_of}
+use Rattle.parking_laws.specs.ParkingLaws.{ComesBefore, IsBefore, IsRising, Key, key_of}
 use Rattle.program_parking.proofs.PlaceFacts.{fitting_is_front}
 
 abbrev pub keys : List Parked → List Key
@@ -204,6 +204,10 @@ pub low_append : (ks : List Key) (floor arrivals : ℕ) (k : Key) → AreLow flo
 low_append [] floor arrivals k low number came = (number, came, tt)
 low_append (other ∷ ks) floor arrivals k (n, c, low) number came = (n, c, low_append ks floor arrivals k low number came)
 
+pub early_more : (arrivals later : ℕ) (xs : List Parked) → arrivals ≤ later → AreEarly arrivals xs → AreEarly later xs
+early_more arrivals later [] last all = tt
+early_more arrivals later (x ∷ xs) last (here, all) = (omega arith, early_more arrivals later xs last all)
+
 -- ---- early datagrams
 
 pub early_take : (arrivals n : ℕ) (xs : List Parked) → AreEarly arrivals xs → AreEarly arrivals (take n xs)
@@ -239,49 +243,3 @@ early_inserted arrivals one (x ∷ xs) came (here, all) = by (cases_Bool (nat_lt
     by (inr below) rest same =
         let least : x.number ≤ one.number = grind (arith, nat_tests) in
         rw (inserted_after one x xs least) (omega arith, rest)
-
--- ---- what is among a list
-
-pub among_left : (a : ℕ) (xs ys : List Key) → IsAmong a xs → IsAmong a (xs ++ ys)
-among_left a [] ys there = elim there [ ]
-among_left a (x ∷ xs) ys (inl is) = inl is
-among_left a (x ∷ xs) ys (inr later) = inr (among_left a xs ys later)
-
-pub among_right : (a : ℕ) (xs ys : List Key) → IsAmong a ys → IsAmong a (xs ++ ys)
-among_right a [] ys there = there
-among_right a (x ∷ xs) ys there = inr (among_right a xs ys there)
-
-pub among_parts : (a : ℕ) (xs ys : List Key) → IsAmong a (xs ++ ys) → IsAmong a xs ⊎ IsAmong a ys
-among_parts a [] ys there = inr there
-among_parts a (x ∷ xs) ys (inl is) = inl (inl is)
-among_parts a (x ∷ xs) ys (inr later) = elim (among_parts a xs ys later) [ inl first ↦ inl (inr first) | inr last ↦ inr last ]
-
-pub among_take_drop : (a n : ℕ) (xs : List Parked) → IsAmong a (keys xs) → IsAmong a (keys (take n xs)) ⊎ IsAmong a (keys (drop n xs))
-among_take_drop a zero xs there = inr there
-among_take_drop a (suc n) [] there = inr there
-among_take_drop a (suc n) (x ∷ xs) (inl is) = inl (inl is)
-among_take_drop a (suc n) (x ∷ xs) (inr later) = elim (among_take_drop a n xs later) [ inl first ↦ inl (inr first) | inr last ↦ inr last ]
-
-pub among_filters : (a : ℕ) (p : Parked → Bool) (xs : List Parked) → IsAmong a (keys xs) → IsAmong a (keys (filter p xs)) ⊎ IsAmong a (keys (filter (λ x. not (p x)) xs))
-among_filters a p [] there = elim there [ ]
-among_filters a p (x ∷ xs) there = by (p x) refl there (λ later. among_filters a p xs later)
-  where
-    by : (b : Bool) → p x ≡ b → ((x.arrival ≡ a) ⊎ IsAmong a (keys xs))
-        → (IsAmong a (keys xs) → IsAmong a (keys (filter p xs)) ⊎ IsAmong a (keys (filter (λ y. not (p y)) xs)))
-        → IsAmong a (keys (filter p (x ∷ xs))) ⊎ IsAmong a (keys (filter (λ y. not (p y)) (x ∷ xs)))
-    by true stays (inl is) rest = rw stays (inl (inl is))
-    by true stays (inr later) rest = rw stays (elim (rest later) [ inl kept ↦ inl (inr kept) | inr gone ↦ inr gone ])
-    by false goes (inl is) rest = rw goes (inr (inl is))
-    by false goes (inr later) rest = rw goes (elim (rest later) [ inl kept ↦ inl kept | inr gone ↦ inr (inr gone) ])
-
-pub among_inserted : (a : ℕ) (one : Parked) (xs : List Parked) → (one.arrival ≡ a) ⊎ IsAmong a (keys xs) → IsAmong a (keys (inserted one xs))
-among_inserted a one [] (inl is) = inl is
-among_inserted a one [] (inr there) = elim there [ ]
-among_inserted a one (x ∷ xs) there = by (cases_Bool (nat_lt one.number x.number)) there (λ it. among_inserted a one xs it)
-  where
-    by : ((nat_lt one.number x.number ≡ true) ⊎ (nat_lt one.number x.number ≡ false)) → (one.arrival ≡ a) ⊎ ((x.arrival ≡ a) ⊎ IsAmong a (keys xs))
-        → ((one.arrival ≡ a) ⊎ IsAmong a (keys xs) → IsAmong a (keys (inserted one xs))) → IsAmong a (keys (inserted one (x ∷ xs)))
-    by (inl above) it rest = let less : one.number < x.number = grind (arith, nat_tests) in rw (inserted_before one x xs less) it
-    by (inr below) (inl is) rest = let least : x.number ≤ one.number = grind (arith, nat_tests) in rw (inserted_after one x xs least) (inr (rest (inl is)))
-    by (inr below) (inr (inl is)) rest = let least : x.number ≤ one.number = grind (arith, nat_tests) in rw (inserted_after one x xs least) (inl is)
-    by (inr below) (inr (inr later)) rest = let least : x.number ≤ one.number = grind (arith, nat_tests) in rw (inserted_after one x xs least) (inr (rest (inr later)))

@@ -1,7 +1,7 @@
 -- Worked runs of a lane.
-use Rattle.std.proofs.Common.{◌≡◌, ℕ, ◌-◌, true, [], ◌∷◌, refl}
+use Rattle.std.proofs.Common.{◌≡◌, ℕ, ◌-◌, true, List, [], ◌∷◌, arith, refl}
 use Rattle.program_parking.specs.declared.parked.Parked.{Parked}
-use Rattle.parking_laws.specs.ParkingLaws.{lends, line_of, parks, run_of, settles}
+use Rattle.parking_laws.specs.ParkingLaws.{AreMoves, Move, forgets, lends, line_of, parks, run_of, settles, times}
 
 -- a datagram of two octets, of a transaction, that came so late
 abbrev pub datagram : ℕ → ℕ → Parked
@@ -11,3 +11,40 @@ datagram number arrival = record { number = number; arrival = arrival; since = 1
 lower_first : line_of (run_of (settles true ∷ lends ∷ parks 1000 (datagram 8 1) ∷ parks 1000 (datagram 16 0) ∷ []))
     ≡ record { number = 8; arrival = 1 } ∷ record { number = 16; arrival = 0 } ∷ []
 lower_first = refl
+
+-- datagrams of other lanes may come in between
+with_gaps : AreMoves (parks 1000 (datagram 8 7) ∷ parks 1000 (datagram 8 2) ∷ [])
+with_gaps = ((omega arith, omega arith), ((omega arith, omega arith), tt))
+
+-- a datagram that is lent and taken while a lower one comes: that one is gone, and this one isn't
+abbrev pub lower_comes : List Move
+lower_comes = settles true ∷ parks 1000 (datagram 4 1) ∷ lends ∷ parks 1000 (datagram 8 0) ∷ []
+
+taken_is_out : (run_of lower_comes).out ≡ record { number = 8; arrival = 0 } ∷ []
+taken_is_out = refl
+
+lower_is_gone : (run_of lower_comes).dropped ≡ record { number = 4; arrival = 1 } ∷ []
+lower_is_gone = refl
+
+-- one that is taken after its transaction was forgotten is handed in for good
+abbrev pub forgotten_meanwhile : List Move
+forgotten_meanwhile = settles true ∷ forgets 8 ∷ lends ∷ parks 1000 (datagram 8 1) ∷ parks 1000 (datagram 8 0) ∷ []
+
+still_out : (run_of forgotten_meanwhile).out ≡ record { number = 8; arrival = 0 } ∷ []
+still_out = refl
+
+other_is_gone : (run_of forgotten_meanwhile).dropped ≡ record { number = 8; arrival = 1 } ∷ []
+other_is_gone = refl
+
+-- nothing is lent where nothing waits, and one at a time
+none_to_lend : run_of (lends ∷ []) ≡ run_of []
+none_to_lend = refl
+
+being_lent : (run_of (lends ∷ parks 1000 (datagram 8 0) ∷ [])).lane.is_lent ≡ true
+being_lent = refl
+
+one_at_a_time : run_of (lends ∷ lends ∷ parks 1000 (datagram 8 0) ∷ []) ≡ run_of (lends ∷ parks 1000 (datagram 8 0) ∷ [])
+one_at_a_time = refl
+
+twice_there : times (record { number = 8; arrival = 0 }) (record { number = 8; arrival = 0 } ∷ record { number = 8; arrival = 1 } ∷ record { number = 8; arrival = 0 } ∷ []) ≡ 2
+twice_there = refl

@@ -1,11 +1,11 @@
 -- Meaning. The order in which datagrams come out of a lane, and what becomes of each, over any run.
-use Rattle.std.specs.Prelude.{◌≡◌, ℕ, ◌+◌, ◌<◌, ◌≤◌, ◌⊎◌, Bool, true, false, not, List, [], ◌∷◌, ◌++◌, length, map, drop, take, Option, Some, None}
+use Rattle.std.specs.Prelude.{◌≡◌, ℕ, ◌+◌, ◌<◌, ◌≤◌, ◌==◌, ◌&&◌, ◌⊎◌, Bool, true, false, not, if◌then◌else◌, List, [], ◌∷◌, ◌++◌, length, map, drop, take, Option, Some, None}
 use Rattle.std.specs.List.{filter, position_or_len}
 use Rattle.program_parking.specs.declared.parked.Parked.{Parked}
 use Rattle.program_parking.specs.declared.parked.Lent.{Lent}
 use Rattle.program_parking.specs.Lanes.{LaneValue, inserted, is_behind, is_of_other, lendable, parked_in, settled, within, without_number}
 
--- a datagram by its transaction's number and by how many were parked before it
+-- a datagram by its transaction's number and by its place in the order of arrival, which counts those of all lanes
 pub record Key : Type 0 where
   pub number : ℕ
   pub arrival : ℕ
@@ -15,6 +15,14 @@ key_of one = record { number = one.number; arrival = one.arrival }
 
 abbrev pub key_of_lent : Lent → Key
 key_of_lent lent = record { number = lent.number; arrival = lent.arrival }
+
+-- whether one datagram is another, and how many times it is in a list
+abbrev pub is_key : Key → Key → Bool
+is_key key one = (one.number == key.number) && (one.arrival == key.arrival)
+
+abbrev pub times : Key → List Key → ℕ
+times key [] = 0
+times key (one ∷ later) = (if is_key key one then 1 else 0) + times key later
 
 -- ---- runs
 
@@ -29,17 +37,25 @@ pub data Move : Type 0 where
   -- nothing waits any more of a transaction
   forgets : (number : ℕ) → Move
 
--- a lane, and what is to be known of its run: the datagram that is lent, those that were handed in for good, oldest first, those
--- that are gone otherwise, and how many were parked
+-- a lane, and what is to be known of its run: the datagram that is lent, all that were parked, newest first, those that were handed
+-- in for good, oldest first, those that are gone otherwise, and a place behind those of all that were parked
 pub record Run : Type 0 where
   pub lane : LaneValue
   pub lent : Option Lent
+  pub parked : List Key
   pub out : List Key
   pub dropped : List Key
   pub arrivals : ℕ
 
 abbrev pub at_first : Run
-at_first = record { lane = record { waiting = []; is_lent = false; floor = 0 }; lent = None; out = []; dropped = []; arrivals = 0 }
+at_first = record {
+  lane = record { waiting = []; is_lent = false; floor = 0 };
+  lent = None;
+  parked = [];
+  out = [];
+  dropped = [];
+  arrivals = 0;
+}
 
 -- those of a list behind its first so many
 abbrev pub keys_from : ℕ → List Parked → List Key
@@ -57,7 +73,17 @@ up_to lent waiting = map key_of (take (position_or_len (is_behind lent.number le
 abbrev pub of_number : ℕ → List Parked → List Key
 of_number number waiting = map key_of (filter (λ one. not (is_of_other number one)) waiting)
 
--- the run after the datagram that is lent is settled
+-- a list without one datagram
+abbrev pub without : Key → List Key → List Key
+without key keys = filter (λ one. not (is_key key one)) keys
+
+-- the run after the first one is lent, if one can be
+abbrev pub run_lent : Option Lent → Run → Run
+run_lent None run = run
+run_lent (Some lent) run = record run { lane = record run.lane { is_lent = true }; lent = Some lent }
+
+-- the run after the datagram that is lent is settled: if it was taken, it is handed in for good, whatever became of it meanwhile, and
+-- those that wait before it are gone otherwise
 abbrev pub run_settled : Bool → Option Lent → Run → Run
 run_settled taken None run = run
 run_settled false (Some lent) run = record run { lane = settled false lent.number lent.arrival run.lane; lent = None }
@@ -65,27 +91,27 @@ run_settled true (Some lent) run = record run {
   lane = settled true lent.number lent.arrival run.lane;
   lent = None;
   out = run.out ++ key_of_lent lent ∷ [];
-  dropped = up_to lent run.lane.waiting ++ run.dropped;
+  dropped = without (key_of_lent lent) (up_to lent run.lane.waiting ++ run.dropped);
 }
 
 abbrev pub step : Move → Run → Run
 step (parks limit one) run = record run {
   lane = parked_in limit one run.lane;
+  parked = key_of one ∷ run.parked;
   dropped = without_room limit one run.lane ++ run.dropped;
-  arrivals = run.arrivals + 1;
+  arrivals = one.arrival + 1;
 }
-step lends run = record run { lane = record run.lane { is_lent = true }; lent = lendable run.lane }
+step lends run = run_lent (lendable run.lane) run
 step (settles taken) run = run_settled taken run.lent run
 step (forgets number) run = record run {
   lane = without_number number run.lane;
   dropped = of_number number run.lane.waiting ++ run.dropped;
 }
 
--- a move may be made: only datagrams that don't come too late are parked, each with the next place in the order of arrival, and
--- one is lent only where none is
+-- a move may be made: only datagrams that don't come too late are parked, each with a place behind all before it
 abbrev pub MayMove : Move → Run → Type 0
-MayMove (parks limit one) run = (one.arrival ≡ run.arrivals) × (run.lane.floor ≤ one.number)
-MayMove lends run = run.lent ≡ None
+MayMove (parks limit one) run = (run.arrivals ≤ one.arrival) × (run.lane.floor ≤ one.number)
+MayMove lends run = Unit {0}
 MayMove (settles taken) run = Unit {0}
 MayMove (forgets number) run = Unit {0}
 
@@ -124,12 +150,7 @@ ComesOutInOrder = (moves : List Move) → AreMoves moves → IsRising (line_of (
 
 -- ---- nothing is lost
 
--- some datagram of a list is the one with this place in the order of arrival
-abbrev pub IsAmong : ℕ → List Key → Type 0
-IsAmong arrival [] = ⊥
-IsAmong arrival (one ∷ later) = (one.arrival ≡ arrival) ⊎ IsAmong arrival later
-
--- each datagram that was parked was handed in for good, waits, or was dropped
+-- each datagram that was parked is once among those that were handed in for good, that wait, or that are gone otherwise
 abbrev pub AccountsForEach : Type 0
-AccountsForEach = (moves : List Move) (arrival : ℕ) → AreMoves moves → arrival < (run_of moves).arrivals
-    → IsAmong arrival (line_of (run_of moves) ++ (run_of moves).dropped)
+AccountsForEach = (moves : List Move) (key : Key) → AreMoves moves → 0 < times key (run_of moves).parked
+    → times key (line_of (run_of moves) ++ (run_of moves).dropped) ≡ 1

@@ -9,7 +9,7 @@ pub fn order()
     ensures { ComesOutInOrder }
 {}
 
-/// Each datagram that was parked was handed in for good once, or waits, or was dropped.
+/// Each datagram that was parked was handed in for good, or waits, or was dropped: one of these, and once.
 pub fn accounts()
     ensures { AccountsForEach }
 {}

@@ -1,4 +1,4 @@
-use Rattle.parking_laws.proofs.RunFacts.{accounted}
+use Rattle.parking_laws.proofs.AccountFacts.{accounted}
 use Rattle.parking_laws.proofs.accounts.Goals as goal
 
 pub returns : goal.returns
