@@ -124,6 +124,8 @@ def look(tab, port, station):
     check("transactions with a bar", wait_for(lambda: tab.value("document.querySelectorAll('#active progress').length") >= 1))
     check("a rate", wait_for(lambda: "/s" in tab.text("active")))
     check("queues, remotes, refusals", "ops" in tab.text("users") and "192.0.2.5" in tab.text("remotes") and "DecodeFault" in tab.text("refusals"))
+    check("lanes for which datagrams wait", "17 KiB" in tab.text("parked")
+          and tab.value("document.getElementById('s-parked').classList.contains('hidden')") is False)
     check("names are text", "<img src=x onerror=" in tab.text("active") + tab.text("ended")
           and tab.value("document.images.length") == 0 and tab.value("document.scripts.length") == 1)
     check("an event", wait_for(lambda: "start" in tab.text("events")))
@@ -145,6 +147,7 @@ def look(tab, port, station):
     os.unlink(control)
     start(sys.executable, os.path.join(here, "fake_station.py"), control, "--transactions", "1000")
     check("the station is back", wait_for(lambda: "The station answers" in tab.text("state")))
+    check("no datagram waits", wait_for(lambda: tab.value("document.getElementById('s-parked').classList.contains('hidden')") is True))
     check("a thousand transactions", wait_for(lambda: tab.value("document.querySelectorAll('#active tbody tr, #ended tbody tr').length") == 1000))
     if picture:
         size(tab, 1200, 800)
@@ -168,7 +171,7 @@ def main():
     if chromium is None:
         sys.exit("browser: Debian's package chromium isn't here")
     port, debugging = free_port(), free_port()
-    station = start(sys.executable, os.path.join(here, "fake_station.py"), control, "--transactions", "8", "--odd")
+    station = start(sys.executable, os.path.join(here, "fake_station.py"), control, "--transactions", "8", "--odd", "--parked", "2")
     start(web, "--control", control, "--listen", f"127.0.0.1:{port}")
     check("the console", wait_for(lambda: b"cfdp_up 1" in get(port, "/metrics")))
     promtool = shutil.which("promtool")

@@ -213,6 +213,28 @@ def layout():
         run = ctl("status", "--width", "200")
         want("files that are read", run.stdout == b"Reading\nsince                     file\n2025-11-27T12:00:00.250Z  /tmp/a\\x1b.bin\n"
              b"2025-11-27T12:00:00.250Z  b\\xff\n?                         ?\n\n", run.stdout)
+    parked = {"kind": "parked", "user": "ops\x1b", "lane": 3, "datagrams": 12, "transactions": 2, "octets": 17000,
+              "dropped": 0, "since": since}
+    with station(*said([parked, {"kind": "parked", "user": "o", "lane": 10, "dropped": 5}])):
+        run = ctl("status", "--width", "200")
+        want("lanes for which datagrams wait", run.stdout ==
+             b"Parked\nuser     lane  datagrams  transactions    octets  dropped  since\n"
+             b"ops\\x1b     3         12             2  16.6 KiB        0  2025-11-27T12:00:00.250Z\n"
+             b"o          10          -             -         -        5  -\n\n", run.stdout)
+    note = {"kind": "note", "remote": 7, "sending_lanes": 6, "receiving_lanes": 8}
+    for better, wanted in (([1, 2, 4, 8], b"; 1, 2, 4 or 8 would not."), ([1, 2], b"; 1 or 2 would not."),
+                           ([1], b"; 1 would not."), ([], b"."), ("\x1b", b"."), ([None], b"; ? would not.")):
+        with station(*said([{"kind": "log", "failing": True, "lost": 7}, {**note, "better": better}])):
+            run = ctl("status")
+            want(f"a note, {better}", run.stdout == b"The log can't be written; events lost: 7\nNote: 6 sending lanes don't "
+                 b"divide the 8 receiving lanes of entity 7, so files wait for each other" + wanted + b"\n\n", run.stdout)
+    with station("--parked", "2", "--note"):
+        run = ctl("status")
+        check("datagrams that wait, and notes", run, 0, b"lanes of entity 5, so files wait for each other; 1, 2, 4, 8 or 16 would not.\n\n")
+        want("datagrams that wait", run.stdout.count(b" 12             2  16.6 KiB        0  20") == 2, run.stdout)
+    with station():
+        run = ctl("status")
+        want("neither datagrams that wait nor notes", b"Parked" not in run.stdout and b"Note" not in run.stdout, run.stdout)
     with station("--reading", "/tmp/a.bin"):
         check("a file that is read", ctl("status"), 0, b"Z  /tmp/a.bin\n")
     with station(*said([{"kind": "log", "failing": True, "lost": 7}])):
@@ -245,6 +267,9 @@ def words_of_events():
           "queued": 3}, "ops 1.41 put: a to b, 9 B, for entity 7 in class 2, file 3 of the outbox"),
         ({**at, "kind": "unsent", "queued": 3, "user": "ops", "destination": 7, "file": "a", "why": "refused 9 X\x07"},
          "ops file 3 of the outbox is not sent: a, for entity 7: refused 9 X\\x07"),
+        ({**at, "kind": "unparked", "count": 12}, "parked datagrams dropped for want of room: 12"),
+        ({**at, "kind": "skipped", "user": "ops", "destination": 7, "count": 3, "next": 41},
+         "ops transaction numbers skipped toward entity 7: 3, the next one is 41"),
         ({**at, "kind": "hold", "id": 7}, "the link to entity 7 is held"),
         ({**at, "kind": "release", "id": 7}, "the link to entity 7 is released"),
         ({**at, "kind": "end"}, "the server ends"),

@@ -16,6 +16,8 @@ usage: tests/fake_station.py SOCKET [OPTION..]
   --unreadable NAME  the file that can't be read when its turn comes
   --ended-reads N    workers that stopped reading (0)
   --reading A,B      files that are being read for Puts (none)
+  --parked N         lanes for which datagrams wait; one more has dropped some (0)
+  --note             notes on the lanes of two remote entities
   --stop SECONDS     stops answering this long after the first send, and stays connected
   --say FILE         what a status says, and which events a follower receives: JSON with lists `status` and `events`
 """
@@ -205,6 +207,7 @@ class Station:
         for name in self.options.reading:
             yield {"kind": "reading", "file": name, "since": moment(self.begun)}
         yield from self.queued()
+        yield from self.parked()
         for number in (5, 7):
             held = self.held.get(number)
             yield {"kind": "remote", "id": number, "address": f"192.0.2.{number}:4556", "held": held is not None,
@@ -212,6 +215,17 @@ class Station:
                    "octets_out": 9, "failed_sends": 0}
         yield {"kind": "refusal", "number": 20, "name": "DecodeFault", "fault": 3, "count": 3, "last": moment(),
                "from": "192.0.2.1:4556", "octets": "24000a"}
+        if self.options.note:
+            yield {"kind": "note", "remote": 7, "sending_lanes": 6, "receiving_lanes": 8, "better": [1, 2, 4, 8]}
+            yield {"kind": "note", "remote": 5, "sending_lanes": 6, "receiving_lanes": 16, "better": [1, 2, 4, 8, 16]}
+
+    def parked(self):
+        for lane in range(self.options.parked):
+            yield {"kind": "parked", "user": self.options.users[0], "lane": lane, "datagrams": 12, "transactions": 2,
+                   "octets": 17000, "dropped": 0, "since": moment(self.begun)}
+        if self.options.parked:
+            yield {"kind": "parked", "user": self.options.users[0], "lane": self.options.parked, "datagrams": 0,
+                   "transactions": 0, "octets": 0, "dropped": 5}
 
     def lines(self, objects):
         return "".join(json.dumps(one, ensure_ascii=False) + "\n" for one in objects)
@@ -322,6 +336,8 @@ def main():
     parser.add_argument("--unreadable")
     parser.add_argument("--ended-reads", type=int, default=0)
     parser.add_argument("--reading", type=lambda text: text.split(","), default=[])
+    parser.add_argument("--parked", type=int, default=0)
+    parser.add_argument("--note", action="store_true")
     parser.add_argument("--stop", type=float)
     parser.add_argument("--say", type=lambda path: json.load(open(path)))
     options = parser.parse_args()

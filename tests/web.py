@@ -113,7 +113,9 @@ def routes(port):
     status, headers, body = ask(port, "/status.json")
     document = json.loads(body)
     check("/status.json: the lists", status == 200 and headers["content-type"] == "application/json"
-          and [len(document[name]) for name in ("entities", "logs", "users", "transactions", "remotes", "refusals", "outbox")] == [1, 1, 1, 4, 2, 1, 0])
+          and [len(document[name]) for name in ("entities", "logs", "users", "transactions", "remotes", "refusals", "outbox", "parked")] == [1, 1, 1, 4, 2, 1, 0, 3])
+    check("/status.json: a lane for which datagrams wait", document["parked"][0]["octets"] == 17000
+          and document["parked"][2] == {"kind": "parked", "user": "ops", "lane": 2, "datagrams": 0, "transactions": 0, "octets": 0, "dropped": 5})
     check("/status.json: names are text or hex", document["transactions"][0]["file_hex"].endswith("ff") is True
           and document["transactions"][0]["to"] == "b0.bin")
     status, headers, body = ask(port, "/metrics")
@@ -124,6 +126,11 @@ def routes(port):
               'cfdp_queue_bundles{user="ops"} 3\n', 'cfdp_refused_datagrams_total{reason="DecodeFault",fault="3"} 3\n',
               'cfdp_remote_held{remote="5"} 0\n', 'cfdp_transactions{state="active"} ',
               "# TYPE cfdp_ended_reads_total counter\ncfdp_ended_reads_total 2\n",
+              '# TYPE cfdp_parked_datagrams gauge\ncfdp_parked_datagrams{user="ops",lane="0"} 12\n',
+              'cfdp_parked_datagrams{user="ops",lane="2"} 0\n', 'cfdp_parked_transactions{user="ops",lane="1"} 2\n',
+              'cfdp_parked_octets{user="ops",lane="1"} 17000\n',
+              '# TYPE cfdp_parked_dropped_total counter\ncfdp_parked_dropped_total{user="ops",lane="0"} 0\n',
+              'cfdp_parked_dropped_total{user="ops",lane="2"} 5\n',
               "# TYPE cfdp_reading_files gauge\ncfdp_reading_files 3\n")))
     heads = re.findall(r"^# TYPE (\S+)", text, re.M)
     check("/metrics: each family once, with help", len(heads) == len(set(heads)) and all(f"# HELP {head} " in text for head in heads))
@@ -355,7 +362,7 @@ def main():
     check("no station: 503", ask(port, "/status.json")[0] == 503 and ask(port, "/healthz")[0] == 503)
     check("no station: /metrics says so", ask(port, "/metrics")[2].endswith(b"\ncfdp_up 0\n"))
     check("no station: the page", ask(port, "/")[0] == 200)
-    station = start_station("--transactions", "4", "--odd", "--ended-reads", "2", "--reading", "a,b,c")
+    station = start_station("--transactions", "4", "--odd", "--ended-reads", "2", "--reading", "a,b,c", "--parked", "2", "--note")
     check("the station comes", wait_for(lambda: ask(port, "/healthz")[0] == 200))
     routes(port)
     refusals(port)

@@ -115,6 +115,7 @@ fn put_at<
         desk,
         Urgency::Soon,
         sources,
+        None,
     )?;
     run_beside(rt, alloc, entity, socket, desk, way_in, putter)
 }

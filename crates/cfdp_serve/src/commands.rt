@@ -5,16 +5,19 @@ use crate::answers::{
 use crate::audience::Audience;
 use crate::places::Places;
 use crate::readiness::Readiness;
+use crate::skipping::Opened;
 use cfdp_types::{EntityId, Octets, PutFault, PutRequest, TxnKey};
 use entity_routing::Request;
 use entity_workers::Filestore;
 use lane_table::Done;
 use program_desk::{Desk, Said, Step, wall_moment};
+use program_lot::Lot;
 use program_numbers::HeldNumbers;
 use program_outbox::Outgoing;
 use program_seats::{Asker, Seats};
 use program_start::ProgramFault;
 use program_station::{Preparing, Station, flat};
+use program_status::LaneHint;
 use program_tallies::{RefusalKind, Tallies};
 use server_lines::{Command, PutCommand};
 use shared_entity::{Entity, EntityRefusal};
@@ -45,6 +48,12 @@ pub(crate) struct Server<'a, N: Names, R: Files + Copy, S: Drop> {
     pub(crate) tallies: &'a Tallies,
     pub(crate) outgoing: Outgoing,
     pub(crate) readiness: Readiness,
+    /// A transaction that was opened to use up its number, and isn't abandoned yet.
+    pub(crate) opened: Option<Opened>,
+    /// Where datagrams are parked, if any are.
+    pub(crate) lot: Option<&'a Lot>,
+    /// Where files wait for each other's lanes, by the configuration.
+    pub(crate) hints: Vec<LaneHint>,
     pub(crate) started: Moment,
 }
 
@@ -127,6 +136,14 @@ fn destination_of(request: &Request) -> Option<EntityId> {
     }
 }
 
+// The transaction that a request cancels or abandons.
+fn given_up_by(request: &Request) -> Option<TxnKey> {
+    match request {
+        Request::Cancel(key) | Request::Abandon(key) => Some(*key),
+        _ => None,
+    }
+}
+
 // The request for a Put.
 fn request_of(alloc: Global, put: &PutCommand, file: Octets) -> Result<Request, PutFault> {
     let request = PutRequest::new(
@@ -198,7 +215,7 @@ impl<
             Command::Status => self.answer_status(text),
             Command::Take(user) => self.audience.take(user, text),
             Command::Trace(key) => trace(self.rt, self.alloc, self.station.entity(), key, text),
-            Command::Ask(user, request) => done(self.ask(user, request, text)),
+            Command::Ask(user, request) => done(self.ask_for(user, request, text)),
             Command::Send(send) => self.queue(send, text),
             Command::Outbox => self.answer_outbox(text),
             Command::Drop(number) => self.withdraw(number, text),
@@ -258,8 +275,8 @@ impl<
         self.note_put(put, size, queued, asked)
     }
 
-    // Whether the file of numbers covers the next Put's number, where there is such a file.
-    fn covers(&mut self) -> bool {
+    /// Whether the file of numbers covers the next Put's number, where there is such a file.
+    pub(crate) fn covers(&mut self) -> bool {
         match &mut self.numbers {
             Some(numbers) => numbers.cover(self.rt).is_ok(),
             None => true,
@@ -279,11 +296,27 @@ impl<
                 if let Some(numbers) = &mut self.numbers {
                     numbers.note_put(key);
                 }
+                self.readiness.note(put.destination, key.seq);
                 self.audience.reports.put(put, size, queued, key);
                 Ok(PutEnd::Opened)
             }
             Asked::Refused(end) => Ok(end),
         }
+    }
+
+    // Asks the entity for something, in a user's name. Nothing stays parked of a transaction that is given up.
+    fn ask_for(
+        &mut self,
+        user: usize,
+        request: Request,
+        text: &mut String,
+    ) -> Result<Asked, AllocError> {
+        let given_up = given_up_by(&request);
+        let asked = self.ask(user, request, text);
+        if let Some(key) = given_up {
+            self.station.forget_parked(user, key);
+        }
+        asked
     }
 
     // Asks the entity for something, in a user's name.

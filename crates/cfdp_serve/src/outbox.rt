@@ -3,7 +3,6 @@ use crate::answers::push_no_memory;
 use crate::commands::{PutEnd, Server};
 use crate::places::Places;
 use cfdp_types::{EntityId, Octets};
-use entity_routing::Place;
 use entity_workers::Filestore;
 use program_desk::{moment, wall_moment};
 use program_outbox::{OutboxFault, OutboxFile, Outgoing};
@@ -11,7 +10,6 @@ use program_start::ProgramFault;
 use program_station::Preparing;
 use program_status::push_outbox;
 use server_lines::{PutCommand, SendCommand};
-use shared_entity::Entity;
 use shared_lanes::Names;
 use station_lines::Moment;
 use std::alloc::AllocError;
@@ -64,34 +62,33 @@ impl<
         text.push_str("refused NotQueued\n")
     }
 
-    /// Puts the file of the outbox that was read, or has that read whose turn it is, if one waits and a lane of its user is idle;
-    /// whether one was.
+    /// Puts the file of the outbox that was read, or has that read whose turn it is, if a lane of its user can take it, or else
+    /// uses up numbers that lag; whether it did any of these.
     pub(crate) fn start_queued(&mut self, now: u64) -> Result<bool, AllocError> {
+        if self.station.take_ended() {
+            self.outgoing.try_from(now);
+        }
         if self.outgoing.is_reading() {
             return self.put_read(now);
         }
-        if !self.outgoing.is_due(now) {
+        if !self.outgoing.is_due(now) || !self.abandon_opened() {
             return Ok(false);
         }
-        self.note_lanes();
-        let config = self.station.entity().config();
-        self.readiness.note_held(config, &self.tallies.links);
-        Ok(self.read_next(now))
+        self.look_at_lanes();
+        self.readiness
+            .note_files(&self.tallies.links, &self.outgoing);
+        Ok(self.read_next(now) || self.skip_some(now))
     }
 
-    // Notes which users have an idle lane.
-    fn note_lanes(&mut self) {
-        let (rt, entity) = (self.rt, self.station.entity());
-        for user in 0..entity.users() {
-            let is_idle = idle_lane(rt, entity, user, 0).is_some();
-            self.readiness.note_lane(user, is_idle);
-        }
+    /// Looks at all sending lanes.
+    pub(crate) fn look_at_lanes(&mut self) {
+        self.readiness.look(self.rt, self.station.entity());
     }
 
     // Has the file read whose turn it is; whether there is one.
     fn read_next(&mut self, now: u64) -> bool {
-        let (idle, held) = (self.readiness.idle(), self.readiness.held());
-        if !self.outgoing.begin_reading(now, idle, held) {
+        let (idle, stops) = (self.readiness.idle(), self.readiness.stops());
+        if !self.outgoing.begin_reading(now, idle, stops) {
             return false;
         }
         match path_of(&self.outgoing) {
@@ -141,7 +138,7 @@ impl<
             return Ok(PutEnd::Passing);
         }
         match file {
-            Ok(file) => self.put_somewhere(&mut put, &file, number, answer),
+            Ok(file) => self.put_in_lane(&mut put, file, number, answer),
             Err(ProgramFault::NoMemory) => Ok(PutEnd::Passing),
             Err(_) => {
                 answer.push_str("read fault\n")?;
@@ -150,33 +147,22 @@ impl<
         }
     }
 
-    // Puts a file into the first idle lane of its user that has a number left. Where none has, a busy lane may have one later.
-    fn put_somewhere(
+    // Puts a file into the lane of its user whose number goes to its entity next.
+    fn put_in_lane(
         &mut self,
         put: &mut PutCommand,
-        file: &Octets,
+        file: Octets,
         number: u64,
         answer: &mut String,
     ) -> Result<PutEnd, AllocError> {
-        let mut end = PutEnd::Passing;
-        let (rt, entity) = (self.rt, self.station.entity());
-        for _ in 0..entity.put_lanes() {
-            let (Some(lane), Ok(file)) = (idle_lane(rt, entity, put.user, put.lane), file.copy())
-            else {
-                break;
-            };
-            put.lane = lane;
-            answer.clear();
-            end = self.put_file(put, file, Some(number), answer)?;
-            if end != PutEnd::Exhausted {
-                break;
+        self.look_at_lanes();
+        match self.readiness.lane_for(put.user, put.destination) {
+            Some(lane) => {
+                put.lane = lane;
+                self.put_file(put, file, Some(number), answer)
             }
-            put.lane = lane.saturating_add(1);
+            None => Ok(PutEnd::Passing),
         }
-        if end == PutEnd::Exhausted && has_busy_lane(rt, entity, put.user) {
-            return Ok(PutEnd::Passing);
-        }
-        Ok(end)
     }
 
     /// Nothing leaves for a remote entity from now on.
@@ -208,40 +194,6 @@ impl<
             self.audience.reports.release(remote);
         }
         text.push_str("ok\n")
-    }
-}
-
-// The first idle lane of a user, from a lane on.
-fn idle_lane<N: Names, R: Wait + Copy>(
-    rt: &R,
-    entity: &Entity<N, R>,
-    user: usize,
-    first: usize,
-) -> Option<usize> {
-    for lane in first..entity.put_lanes() {
-        if is_idle(rt, entity, Place { user, lane }) {
-            return Some(lane);
-        }
-    }
-    None
-}
-
-// Whether a lane of a user runs a transaction.
-fn has_busy_lane<N: Names, R: Wait + Copy>(rt: &R, entity: &Entity<N, R>, user: usize) -> bool {
-    for lane in 0..entity.put_lanes() {
-        if !is_idle(rt, entity, Place { user, lane }) {
-            return true;
-        }
-    }
-    false
-}
-
-// Whether a lane has run no transaction, or none that is under way.
-fn is_idle<N: Names, R: Wait + Copy>(rt: &R, entity: &Entity<N, R>, place: Place) -> bool {
-    match entity.glance(rt, place) {
-        Ok(Some(glance)) => glance.has_ended,
-        Ok(None) => true,
-        Err(_) => false,
     }
 }
 

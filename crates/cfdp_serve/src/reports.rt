@@ -3,13 +3,14 @@ use cfdp_types::{EntityId, TxnKey};
 use entity_config::Config;
 use indications::Bundle;
 use program_desk::wall_moment;
+use program_lot::Lot;
 use program_outbox::Waiting;
 use program_seats::Asker;
 use program_status::{Events, LaneNotes};
 use program_tallies::Tallies;
 use program_words::SERVER_VERSION;
 use server_lines::PutCommand;
-use station_lines::{LogStatus, Moment, PutEvent, UnsentEvent};
+use station_lines::{LogStatus, Moment, PutEvent, SkippedEvent, UnsentEvent};
 use std::alloc::{AllocError, Global};
 use std::rt::Files;
 use std::sync::Wait;
@@ -34,6 +35,9 @@ pub(crate) struct Reports<'a, R: Files> {
     /// How many refusals there were at the last report, and how many workers read no more by then.
     refusals_seen: u64,
     ended_reads_seen: u64,
+    /// Where datagrams are parked, if any are, and how many were dropped there by the last report.
+    lot: Option<&'a Lot>,
+    unparked_seen: u64,
 }
 
 impl<'a, R: Wait + Clock + Files> Reports<'a, R> {
@@ -44,6 +48,7 @@ impl<'a, R: Wait + Clock + Files> Reports<'a, R> {
         config: &'a Config,
         tallies: &'a Tallies,
         events: Option<Events<'a, R>>,
+        lot: Option<&'a Lot>,
     ) -> Result<Reports<'a, R>, AllocError> {
         Ok(Reports {
             rt,
@@ -56,6 +61,8 @@ impl<'a, R: Wait + Clock + Files> Reports<'a, R> {
             refusals_due: 0,
             refusals_seen: 0,
             ended_reads_seen: 0,
+            lot,
+            unparked_seen: 0,
         })
     }
 
@@ -156,6 +163,21 @@ impl<'a, R: Wait + Clock + Files> Reports<'a, R> {
         }
     }
 
+    /// Reports that numbers of a user's lane were used up, since they lagged behind those used toward an entity; `next` is the
+    /// lane's next number.
+    pub(crate) fn skip(&mut self, user: usize, destination: EntityId, count: u64, next: u64) {
+        let at = self.now();
+        let skipped = SkippedEvent {
+            user: self.config.name_of(user).unwrap_or(""),
+            destination,
+            count,
+            next,
+        };
+        if let Some(events) = &mut self.events {
+            events.skip(at, &skipped);
+        }
+    }
+
     /// Reports that nothing leaves for a remote entity from a moment on.
     pub(crate) fn hold(&mut self, at: Moment, remote: EntityId) {
         if let Some(events) = &mut self.events {
@@ -197,7 +219,7 @@ impl<'a, R: Wait + Clock + Files> Reports<'a, R> {
         }
     }
 
-    /// Ends a turn: what was refused is reported once a second, and events leave.
+    /// Ends a turn: what was refused or had no room is reported once a second, and events leave.
     pub(crate) fn end_turn(&mut self, now: u64) {
         if now >= self.refusals_due {
             self.refusals_due = now.saturating_add(REFUSALS_MS);
@@ -208,8 +230,8 @@ impl<'a, R: Wait + Clock + Files> Reports<'a, R> {
         }
     }
 
-    // Reports what was refused since the last report, and that a worker reads no more. Where there is no memory for that, it is
-    // reported later.
+    // Reports what was refused since the last report, how many parked datagrams were dropped, and that a worker reads no more.
+    // Where there is no memory for that, it is reported later.
     fn refusals(&mut self) {
         let at = self.now();
         let Some(events) = &mut self.events else {
@@ -223,6 +245,14 @@ impl<'a, R: Wait + Clock + Files> Reports<'a, R> {
                 events.refuse(at, case);
             }
             self.refusals_seen = total;
+        }
+        let unparked = match self.lot {
+            Some(lot) => lot.dropped(self.rt),
+            None => 0,
+        };
+        if unparked != self.unparked_seen {
+            events.unpark(at, unparked.saturating_sub(self.unparked_seen));
+            self.unparked_seen = unparked;
         }
         let ended = self.tallies.totals().ended_reads;
         if ended != self.ended_reads_seen {

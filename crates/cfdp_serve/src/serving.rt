@@ -1,4 +1,5 @@
 //! How the server starts.
+use crate::lane_notes::{hints_of, push_hints};
 use crate::named::serve_named;
 use crate::threads::{Given, Sockets, Starting};
 use entity_config::Config;
@@ -39,7 +40,7 @@ pub fn serve<
     let alloc: Global = rt.alloc();
     let checks = asks_for_check(words);
     let ended = if checks {
-        check(&rt, alloc, words, writer)
+        check(&rt, alloc, words, writer, errors)
     } else {
         start(&rt, alloc, files, words, reader, writer)
     };
@@ -55,18 +56,22 @@ pub fn serve<
     }
 }
 
-// Reads the configuration alone.
-fn check<R: Files, W: Write + Drop>(
+// Reads the configuration alone. Where files wait for each other's lanes, `errors` says so.
+fn check<R: Files, W: Write + Drop, E: Write>(
     rt: &R,
     alloc: Global,
     words: &[String],
     writer: W,
+    errors: &mut E,
 ) -> Result<u8, ProgramFault> {
     let mut writer = writer;
     match check_words(alloc, words) {
         Ok(path) => {
-            let _config = load_config(rt, alloc, path)?;
+            let config = load_config(rt, alloc, path)?;
             print(&mut writer, "ok\n")?;
+            let mut notes = String::new(alloc);
+            push_hints(&mut notes, hints_of(alloc, &config, &[])?.as_slice())?;
+            tell_explanation(errors, notes.as_str());
             Ok(0)
         }
         Err(fault) => tell_about(&mut writer, fault),
@@ -131,12 +136,18 @@ fn push_complaint(alloc: Global, text: &mut String, line: &[String]) -> Result<(
     let before = text.len();
     push_server_complaint(alloc, text, line)?;
     if text.len() == before {
-        return writeln!(
-            text,
-            "--rate has a limit for an entity that is not in the configuration"
-        );
+        text.push_str(unknown_named(alloc, line))?;
+        text.push_str(" an entity that is not in the configuration\n")?;
     }
     Ok(())
+}
+
+// Which option of a server's line may name an entity that the configuration doesn't have.
+fn unknown_named(alloc: Global, line: &[String]) -> &'static str {
+    match server_words(alloc, line) {
+        Ok(words) if !words.lanes.is_empty() => "--rate or --lanes names",
+        _ => "--rate has a limit for",
+    }
 }
 
 // What a check speaks of.
@@ -192,7 +203,7 @@ fn start<
     match server_words(alloc, words) {
         Ok(words) => {
             let mut config = load_config(rt, alloc, words.config)?;
-            if !has_limited(&config, &words) {
+            if !has_named(&config, &words) {
                 return Err(ProgramFault::Usage);
             }
             let socket = open_socket(rt, words.bind)?;
@@ -217,8 +228,13 @@ fn start<
     }
 }
 
-// Whether the configuration has each remote entity that the words give a limit.
-fn has_limited(config: &Config, words: &ServerWords<'_>) -> bool {
+// Whether the configuration has each remote entity that the words give a limit, or lanes.
+fn has_named(config: &Config, words: &ServerWords<'_>) -> bool {
+    for peer in &words.lanes {
+        if config.remote_of(peer.remote).is_none() {
+            return false;
+        }
+    }
     for rate in &words.rates {
         if let Some(remote) = rate.remote
             && config.remote_of(remote).is_none()

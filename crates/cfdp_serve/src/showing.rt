@@ -45,6 +45,10 @@ impl<
             None => (0, 0),
         };
         let readings = self.desk.readings(self.rt, self.alloc)?;
+        let parked = match self.lot {
+            Some(lot) => lot.report(self.rt, self.alloc)?,
+            None => Vec::new(self.alloc),
+        };
         let shown = Shown {
             version: SERVER_VERSION,
             started: self.started,
@@ -53,6 +57,8 @@ impl<
             notes: &self.audience.reports.notes,
             outgoing: &self.outgoing,
             readings: readings.as_slice(),
+            parked: parked.as_slice(),
+            hints: self.hints.as_slice(),
             events: self.audience.reports.number(),
             log: self.audience.reports.log_status(),
             clients,

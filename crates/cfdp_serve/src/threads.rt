@@ -2,11 +2,13 @@
 use crate::audience::Audience;
 use crate::commands::Server;
 use crate::console::Console;
+use crate::lane_notes::hints_of;
 use crate::readiness::Readiness;
 use crate::reports::Reports;
 use crate::working::Serving;
 use entity_workers::Filestore;
 use program_desk::{Desk, Urgency, wall_moment};
+use program_lot::Lot;
 use program_numbers::HeldNumbers;
 use program_outbox::Outgoing;
 use program_seats::Seats;
@@ -17,6 +19,7 @@ use program_tallies::Tallies;
 use program_udp::PduSender;
 use program_words::ServerWords;
 use script_io::in_blocks;
+use entity_config::Config;
 use shared_entity::Entity;
 use shared_lanes::Names;
 use station_lines::Moment;
@@ -82,6 +85,7 @@ pub(crate) fn serve_over<
     } = *starting;
     let desk = Desk::new(alloc, STEPS, LINES)?;
     let tallies = Tallies::new(alloc, words.workers as usize, entity.config().remotes())?;
+    let lot = lot_of(alloc, entity.config(), words)?;
     let opened = Opened {
         rt,
         alloc,
@@ -90,12 +94,31 @@ pub(crate) fn serve_over<
         socket: sockets.datagrams,
         desk: &desk,
         tallies: &tallies,
+        lot: lot.as_ref(),
         words,
     };
     match sockets.control {
         None => serve_reader(&opened, ports, given),
         Some(control) => serve_clients::<N, R, F, W>(&opened, ports, given.numbers, control),
     }
+}
+
+// Where datagrams are parked that their lanes can't take yet, if they have any room.
+fn lot_of(
+    alloc: Global,
+    config: &Config,
+    words: &ServerWords<'_>,
+) -> Result<Option<Lot>, AllocError> {
+    if words.park == 0 {
+        return Ok(None);
+    }
+    let lot = Lot::new(alloc, config, words.park, takes_bundles(words))?;
+    Ok(Some(lot))
+}
+
+// Whether the server itself takes from its users' queues as bundles come.
+fn takes_bundles(words: &ServerWords<'_>) -> bool {
+    words.follow || words.control.is_some() || words.log.is_some()
 }
 
 // What is opened of a server before its threads start.
@@ -108,6 +131,7 @@ struct Opened<'x, N: Names, R: Copy, F> {
     socket: &'x UdpSocket,
     desk: &'x Desk,
     tallies: &'x Tallies,
+    lot: Option<&'x Lot>,
     words: &'x ServerWords<'x>,
 }
 
@@ -216,7 +240,7 @@ fn way_in_of<'x, N: Names, R: Wait + Clock + Copy, F>(
     opened: &Opened<'x, N, R, F>,
 ) -> Result<WayIn<'x, R>, ProgramFault> {
     let words = opened.words;
-    let others = if words.follow || words.control.is_some() || words.log.is_some() {
+    let others = if takes_bundles(words) {
         Urgency::Soon
     } else {
         Urgency::WithItsTimers
@@ -236,6 +260,7 @@ fn way_in_of<'x, N: Names, R: Wait + Clock + Copy, F>(
         opened.desk,
         others,
         sources,
+        opened.lot,
     )?;
     Ok(way_in)
 }
@@ -251,7 +276,8 @@ fn server_over<'x, N: Names, R: Wait + Clock + Files + AllocGlobal + Copy + Drop
     let (alloc, config) = (opened.alloc, opened.entity.config());
     let steps = Vec::with_capacity(alloc, opened.desk.step_room())?;
     let outgoing = Outgoing::new(alloc, config.users())?;
-    let readiness = Readiness::new(alloc, config)?;
+    let readiness = Readiness::new(alloc, config, words.lanes.as_slice())?;
+    let hints = hints_of(alloc, config, words.lanes.as_slice())?;
     let audience = audience_over(opened, ports, seats)?;
     match station_over(opened) {
         Ok(station) => Ok(Server {
@@ -267,6 +293,9 @@ fn server_over<'x, N: Names, R: Wait + Clock + Files + AllocGlobal + Copy + Drop
             tallies: opened.tallies,
             outgoing,
             readiness,
+            opened: None,
+            lot: opened.lot,
+            hints,
             started: Moment(wall_moment(opened.rt)),
         }),
         Err(fault) => Err(fault),
@@ -282,7 +311,7 @@ fn audience_over<'x, N: Names, R: Wait + Clock + Files + Copy, F>(
     let words = opened.words;
     let (rt, alloc, config) = (opened.rt, opened.alloc, opened.entity.config());
     let events = events_of::<R>(alloc, words, seats)?;
-    let reports = Reports::new(rt, alloc, config, opened.tallies, events)?;
+    let reports = Reports::new(rt, alloc, config, opened.tallies, events, opened.lot)?;
     let follows = words.follow && seats.is_none();
     Ok(Audience::new(rt, alloc, config, ports, follows, reports))
 }
@@ -305,6 +334,9 @@ fn station_over<'x, N: Names, R: Wait + Clock + Files + AllocGlobal + Copy + Dro
     let store = store_of(*rt, folder, words);
     let mut station = Station::new(rt, alloc, entity, sender, store, tallies, rest_of(words))?;
     set_links(rt, &mut station, words);
+    if let Some(lot) = opened.lot {
+        station.use_lot(lot);
+    }
     Ok(station)
 }
 

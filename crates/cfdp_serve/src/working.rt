@@ -82,6 +82,9 @@ fn work<
         }
         let now = moment(rt);
         let has_received = receive(rt, &mut server.audience, console, &mut text)?;
+        if has_received {
+            server.station.hear_of_room();
+        }
         let has_worked = server.turn(now)?;
         if !has_settled && !has_answered && !has_received && !has_worked {
             server.rest(now);

@@ -2,8 +2,8 @@
 use crate::columns::Column::{Left, Right};
 use crate::parts::Part;
 use crate::parts::Part::{
-    Age, Bar, Direction, End, Held, Name, Number, Octets, Percent, Rate, SomeNumber, SomeText,
-    Text, Words,
+    Age, Bar, Direction, End, Held, Name, Number, Octets, Percent, Rate, SomeNumber, SomeNumbers,
+    SomeText, Text, Words,
 };
 
 /// A column of a table: its head, and the parts of its cells.
@@ -67,7 +67,7 @@ pub(crate) struct Layout {
 }
 
 /// The tables, in the order in which they are shown.
-pub(crate) const LAYOUTS: [Layout; 7] = [
+pub(crate) const LAYOUTS: [Layout; 8] = [
     Layout {
         rows: Rows::Of("user"),
         title: "Users",
@@ -133,6 +133,20 @@ pub(crate) const LAYOUTS: [Layout; 7] = [
         columns: &[
             Left("since", &[Text("since", "?")]),
             Left("file", &[Name("file", "file_hex")]),
+        ],
+    },
+    Layout {
+        rows: Rows::Of("parked"),
+        title: "Parked",
+        shade: Shade::Plain,
+        columns: &[
+            Left("user", &[Text("user", "?")]),
+            Right("lane", &[Number("lane", "-")]),
+            Right("datagrams", &[Number("datagrams", "-")]),
+            Right("transactions", &[Number("transactions", "-")]),
+            Right("octets", &[Octets("octets", "-")]),
+            Right("dropped", &[Number("dropped", "-")]),
+            Left("since", &[Text("since", "-")]),
         ],
     },
     Layout {
@@ -216,4 +230,17 @@ pub(crate) const ENDED_READS: [Part; 2] = [
 pub(crate) const FAILING_LOG: [Part; 2] = [
     Words("The log can't be written; events lost: "),
     Number("lost", "?"),
+];
+
+/// The line of a note on a remote entity's lanes.
+pub(crate) const NOTE: [Part; 9] = [
+    Words("Note: "),
+    Number("sending_lanes", "?"),
+    Words(" sending lanes don't divide the "),
+    Number("receiving_lanes", "?"),
+    Words(" receiving lanes of entity "),
+    Number("remote", "?"),
+    Words(", so files wait for each other"),
+    SomeNumbers("; ", "better", " would not"),
+    Words("."),
 ];

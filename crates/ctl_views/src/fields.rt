@@ -29,6 +29,14 @@ pub(crate) fn number_in(value: &Value<'_>, name: &str) -> Option<u64> {
     value.get(name)?.as_u64()
 }
 
+/// The items of a member that is a list.
+pub(crate) fn items_in<'v, 'a>(value: &'v Value<'a>, name: &str) -> Option<&'v [Value<'a>]> {
+    match value.get(name) {
+        Some(Value::Array(items)) => Some(items.as_slice()),
+        _ => None,
+    }
+}
+
 /// Whether a member is present and true.
 pub(crate) fn is_set(value: &Value<'_>, name: &str) -> bool {
     match value.get(name) {

@@ -2,7 +2,7 @@
 use crate::amounts::{push_age, push_bar, push_octets, push_rate};
 use crate::conditions::condition_words;
 use crate::ends::push_end;
-use crate::fields::{is_set, moment_in, number_in, push_name, share_in, text_in};
+use crate::fields::{is_set, items_in, moment_in, number_in, push_name, share_in, text_in};
 use json::Value;
 use std::alloc::{AllocError, Global};
 
@@ -22,6 +22,8 @@ pub(crate) enum Part {
     Name(&'static str, &'static str),
     /// Words, a number, and words after it.
     SomeNumber(&'static str, &'static str, &'static str),
+    /// Words, the numbers of a list, of which one may be chosen, and words after them; left out as well if the list is empty.
+    SomeNumbers(&'static str, &'static str, &'static str),
     /// Words, a text, and words after it.
     SomeText(&'static str, &'static str, &'static str),
     /// Words and an amount of octets.
@@ -88,6 +90,9 @@ fn push_part(
         Part::SomeNumber(front, name, back) => {
             push_some_number(text, front, number_in(value, name), back)
         }
+        Part::SomeNumbers(front, name, back) => {
+            push_some_numbers(text, front, items_in(value, name), back)
+        }
         Part::SomeText(front, name, back) => push_some_text(
             text,
             front,
@@ -137,6 +142,44 @@ fn push_some_number(
     match number {
         Some(number) => write!(text, "{front}{number}{back}"),
         None => Ok(()),
+    }
+}
+
+fn push_some_numbers(
+    text: &mut String,
+    front: &'static str,
+    numbers: Option<&[Value<'_>]>,
+    back: &'static str,
+) -> Result<(), AllocError> {
+    match numbers {
+        Some(numbers) if !numbers.is_empty() => {
+            text.push_str(front)?;
+            push_choice(text, numbers)?;
+            text.push_str(back)
+        }
+        _ => Ok(()),
+    }
+}
+
+// Adds numbers, of which one may be chosen.
+fn push_choice(text: &mut String, numbers: &[Value<'_>]) -> Result<(), AllocError> {
+    let mut left_over = numbers.len();
+    for (place, number) in numbers.iter().enumerate() {
+        left_over = left_over.saturating_sub(1);
+        text.push_str(word_before(place, left_over))?;
+        push_number(text, number.as_u64(), "?")?;
+    }
+    Ok(())
+}
+
+// What stands before a choice.
+fn word_before(place: usize, left_over: usize) -> &'static str {
+    if place == 0 {
+        ""
+    } else if left_over == 0 {
+        " or "
+    } else {
+        ", "
     }
 }
 

@@ -1,5 +1,7 @@
 //! The lines of a status as rows of tables.
-use crate::columns::{Column, ENDED_READS, ENTITY, FAILING_LOG, LAYOUTS, Layout, Rows, Shade};
+use crate::columns::{
+    Column, ENDED_READS, ENTITY, FAILING_LOG, LAYOUTS, Layout, NOTE, Rows, Shade,
+};
 use crate::ends::end_tone;
 use crate::fields::{is_set, moment_in, number_in, text_in};
 use crate::page::Tone;
@@ -62,6 +64,7 @@ pub(crate) fn push_record(
     match text_in(value, "kind") {
         Some("entity") => push_entity(alloc, tables, value),
         Some("log") => push_log(alloc, tables, value),
+        Some("note") => push_head(alloc, tables, value, NOTE.as_slice()),
         Some("transaction") => push_transaction(alloc, tables, value, seen, next),
         Some(kind) => push_row(alloc, tables, Rows::Of(kind), value, NO_LOOK),
         None => Ok(()),

@@ -101,7 +101,7 @@ pub(crate) const INDICATIONS: [Said; 11] = [
 ];
 
 /// The entries for other events, by kind.
-pub(crate) const KINDS: [Said; 9] = [
+pub(crate) const KINDS: [Said; 11] = [
     Said {
         name: "start",
         tint: Always(Plain),
@@ -163,6 +163,25 @@ pub(crate) const KINDS: [Said; 9] = [
             Words("the link to entity "),
             Number("id", "?"),
             Words(" is released"),
+        ],
+    },
+    Said {
+        name: "unparked",
+        tint: Always(Bad),
+        parts: &[
+            Words("parked datagrams dropped for want of room: "),
+            Number("count", "?"),
+        ],
+    },
+    Said {
+        name: "skipped",
+        tint: Always(Plain),
+        parts: &[
+            Words("transaction numbers skipped toward entity "),
+            Number("destination", "?"),
+            Words(": "),
+            Number("count", "?"),
+            SomeNumber(", the next one is ", "next", ""),
         ],
     },
     Said {

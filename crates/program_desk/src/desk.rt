@@ -144,6 +144,7 @@ impl Desk {
         let was_full = trays.steps.len() >= self.step_room;
         mem::swap(&mut trays.steps, steps);
         trays.has_urgent_step = false;
+        trays.is_called = false;
         drop(trays);
         if was_full {
             self.room.notify_all();
@@ -196,6 +197,18 @@ impl Desk {
         let (mut trays, _) = self.came.wait_timeout(rt, trays, length);
         trays.rest = Rest::Awake;
         !trays.has_something()
+    }
+
+    /// Wakes the main thread, which looks for work.
+    pub fn wake<R: Wait>(&self, rt: &R) {
+        let mut trays = self.trays.lock(rt);
+        trays.is_called = true;
+        let wakes = trays.rest != Rest::Awake;
+        trays.rest = Rest::Awake;
+        drop(trays);
+        if wakes {
+            self.came.notify_one();
+        }
     }
 
     /// Closes the desk: no more work is wanted, and threads that wait for room go on.

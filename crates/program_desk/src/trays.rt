@@ -48,6 +48,8 @@ pub(crate) struct Trays {
     pub(crate) steps: Vec<Step>,
     /// Whether a step can't wait for a millisecond.
     pub(crate) has_urgent_step: bool,
+    /// Whether the main thread was called since it took steps.
+    pub(crate) is_called: bool,
     /// The files that are being read, and how many readings there were before.
     pub(crate) readings: Vec<Reading>,
     pub(crate) next_reading: u64,
@@ -67,6 +69,7 @@ impl Trays {
             lines_end: LinesEnd::Open,
             steps: Vec::with_capacity(alloc, steps)?,
             has_urgent_step: false,
+            is_called: false,
             readings: Vec::new(alloc),
             next_reading: 0,
             wanted: None,
@@ -84,6 +87,7 @@ impl Trays {
     /// Whether there is work for the main thread that can't wait for a millisecond.
     pub(crate) fn has_something_urgent(&self) -> bool {
         self.has_urgent_step
+            || self.is_called
             || !self.lines.is_empty()
             || self.lines_end != LinesEnd::Open
             || self.file.is_some()

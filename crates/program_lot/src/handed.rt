@@ -10,11 +10,11 @@ pub struct Handed {
     pub octets: Octets,
 }
 
-/// What a thread that parked a datagram has to do.
+/// What came of a datagram that was parked.
 #[derive(Clone, Copy, Debug, PartialEq, Eq)]
-pub enum Wake {
-    /// Nothing: the main thread looks at the lot anyway.
-    Nothing,
-    /// It wakes the main thread, which may sleep.
-    Main,
+pub struct ParkEnd {
+    /// Whether the thread wakes the main thread, which may sleep: nothing waited before.
+    pub wakes: bool,
+    /// How many datagrams were dropped for want of room or memory.
+    pub dropped: usize,
 }

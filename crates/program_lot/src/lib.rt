@@ -8,7 +8,7 @@ mod refusals;
 mod report;
 
 pub use address::{LotAddress, address_of};
-pub use handed::{Handed, Wake};
+pub use handed::{Handed, ParkEnd};
 pub use lot::Lot;
 pub use refusals::may_wait;
 pub use report::ParkedLane;

@@ -1,6 +1,6 @@
 //! The lot that threads share.
 use crate::address::LotAddress;
-use crate::handed::{Handed, Wake};
+use crate::handed::{Handed, ParkEnd};
 use crate::report::ParkedLane;
 use entity_config::Config;
 use entity_routing::{Place, lanes_of};
@@ -99,7 +99,8 @@ impl Lot {
         }
     }
 
-    /// Parks a datagram that came at `since`, in milliseconds since 1970; `now` is the moment by the runtime's clock.
+    /// Parks a datagram that came at `since`, in milliseconds since 1970; `now` is the moment by the runtime's clock. Where
+    /// there is no room or memory, it or others are dropped.
     pub fn park<R: Wait>(
         &self,
         rt: &R,
@@ -107,14 +108,17 @@ impl Lot {
         octets: &[u8],
         since: u64,
         now: u64,
-    ) -> Wake {
+    ) -> ParkEnd {
         let index = self.index_of(address.place);
         let mut lanes = self.lanes.lock(rt);
         let was_empty = !self.is_occupied();
-        park_in(&mut lanes, index, address.number, octets, since, now);
+        let dropped = park_in(&mut lanes, index, address.number, octets, since, now);
         self.note(&lanes);
         drop(lanes);
-        if was_empty { Wake::Main } else { Wake::Nothing }
+        ParkEnd {
+            wakes: was_empty,
+            dropped,
+        }
     }
 
     /// Takes a datagram to be handed in, of a lane whose turn it is at a moment; at 0 only of lanes that were heard of since
@@ -225,8 +229,15 @@ fn count_in(lanes: &Lanes, index: usize) -> usize {
     }
 }
 
-// Parks a datagram, and counts what is dropped for it.
-fn park_in(lanes: &mut Lanes, index: usize, number: u64, octets: &[u8], since: u64, now: u64) {
+// Parks a datagram; counts what is dropped for it, and answers how many that were.
+fn park_in(
+    lanes: &mut Lanes,
+    index: usize,
+    number: u64,
+    octets: &[u8],
+    since: u64,
+    now: u64,
+) -> usize {
     let before = count_in(lanes, index);
     let _has_memory = lanes.parking.park(index, number, since, octets);
     let after = count_in(lanes, index);
@@ -237,6 +248,7 @@ fn park_in(lanes: &mut Lanes, index: usize, number: u64, octets: &[u8], since: u
             turn.due = now.saturating_add(RETRY_MS);
         }
     }
+    dropped
 }
 
 // Whether something of a lane may be handed in.
@@ -285,12 +297,15 @@ fn lend_from(lanes: &mut Lanes, now: u64) -> Option<Handed> {
     None
 }
 
-// Settles a datagram that was handed in.
+// Settles a datagram that was handed in; counts those that came too late, since they are before it.
 fn settle_in(lanes: &mut Lanes, handed: &Handed, is_taken: bool, now: u64) {
+    let before = count_in(lanes, handed.index);
     lanes
         .parking
         .settle(handed.index, handed.number, handed.arrival, is_taken);
+    let gone = before.saturating_sub(count_in(lanes, handed.index));
     if let Some(turn) = lanes.turns.get_mut(handed.index) {
+        turn.dropped = turn.dropped.saturating_add(gone.saturating_sub(1) as u64);
         turn.due = if is_taken {
             0
         } else {

@@ -81,12 +81,17 @@ impl<'a> Arrivals<'a> {
 }
 
 impl<'a, 'b, R: Wait + Clock> Source<R, Result<Done, Refused>, Forwarder<'a, R>> for Arrivals<'b> {
-    /// Waits for a datagram that is taken and is a PDU. `None` once the desk is closed, which is checked after each
-    /// datagram, or once reading has failed `READ_FAILURES` times in a row. A worker that finds the desk closed wakes
-    /// the next one.
+    /// Takes a parked datagram that may be handed in, or else waits for a datagram that is taken and is a PDU; one that has
+    /// to wait behind parked ones is parked. `None` once the desk is closed, which is checked after each datagram, or once
+    /// reading has failed `READ_FAILURES` times in a row. A worker that finds the desk closed wakes the next one.
     fn next(&self, rt: &R, forwarder: &mut Forwarder<'a, R>) -> Option<Message> {
         let mut failures = 0u32;
         for _ in rt.forever() {
+            if !self.desk.is_closed()
+                && let Some(message) = forwarder.next_parked()
+            {
+                return Some(message);
+            }
             match self.socket.recv_from(forwarder.datagram.as_mut_slice()) {
                 Ok((count, from)) => {
                     failures = 0;
@@ -94,7 +99,9 @@ impl<'a, 'b, R: Wait + Clock> Source<R, Result<Done, Refused>, Forwarder<'a, R>>
                         break;
                     }
                     let is_known = forwarder.note_arrival(count, from);
-                    if let Some(message) = self.message(forwarder, count, is_known) {
+                    if let Some(message) = self.message(forwarder, count, is_known)
+                        && !forwarder.parks_behind(count)
+                    {
                         return Some(message);
                     }
                 }

@@ -1,13 +1,15 @@
 //! Handles a worker's answers.
 use crate::answers::flat;
 use crate::arrivals::Arrivals;
+use crate::parked::{Crowd, WorkersLot};
 use cfdp_types::EntityId;
 use entity_config::Config;
 use entity_routing::RouteRefusal;
-use entity_workers::{Carrier, WorkersFault, run_workers_from};
+use entity_workers::{Carrier, Message, WorkersFault, run_workers_from};
 use lane_table::{Done, Refused};
 use pdu_reading::DecodeFault;
 use program_desk::{Desk, Step, Urgency, moment, wall_moment};
+use program_lot::Lot;
 use program_tallies::{Ledger, RefusalKind, Tallies, Traffic};
 use program_udp::PduSender;
 use shared_entity::{Entity, EntityRefusal};
@@ -22,7 +24,8 @@ use txn_events::Refusal;
 // Room for the longest datagram, and one octet more.
 const DATAGRAM_OCTETS: usize = 65_536;
 
-/// Sends the PDUs of a worker's steps, and leaves the rest of each step at the desk.
+/// Sends the PDUs of a worker's steps, and leaves the rest of each step at the desk. A datagram that its lane can't take yet
+/// is parked, where there is a lot.
 #[derive(Drop)]
 pub struct Forwarder<'a, R> {
     rt: &'a R,
@@ -33,6 +36,8 @@ pub struct Forwarder<'a, R> {
     others: Urgency,
     pub(crate) traffic: &'a Traffic,
     ledger: &'a Ledger,
+    /// Where datagrams are parked, and the one that was taken from there to be handed in.
+    lot: WorkersLot<'a>,
     /// Memory for the datagram that the worker reads.
     pub(crate) datagram: Vec<u8>,
     /// The number of octets of the last datagram, and its source address.
@@ -68,9 +73,52 @@ impl<'a, R: Wait + Clock> Forwarder<'a, R> {
         }
     }
 
-    /// Counts a refusal of the datagram that was read.
+    /// Takes a parked datagram that may be handed in at once, if there is one.
+    pub(crate) fn next_parked(&mut self) -> Option<Message> {
+        self.lot.next_message(self.rt)
+    }
+
+    /// Parks the datagram that was read, from its first `count` octets, if others of its lane wait before it; answers whether
+    /// it did.
+    pub(crate) fn parks_behind(&mut self, count: usize) -> bool {
+        self.lot.is_occupied() && self.parks(count, Crowd::Wanted)
+    }
+
+    // Parks the datagram that was read. Where something was dropped for it, that counts as a refusal.
+    fn parks(&self, count: usize, crowd: Crowd) -> bool {
+        let octets = self.datagram.get(..count).unwrap_or(&[]);
+        let Some(end) = self.lot.park(self.rt, octets, crowd) else {
+            return false;
+        };
+        if end.dropped > 0 {
+            self.note_refusal(RefusalKind::Lane(Refusal::LaneBusy));
+        }
+        if end.wakes {
+            self.desk.wake(self.rt);
+        }
+        true
+    }
+
+    // Puts a datagram that was refused for now back, or parks it; answers whether it waits.
+    fn waits(&mut self, refusal: &EntityRefusal) -> bool {
+        if !self.lot.may_wait(refusal) {
+            return false;
+        }
+        if self.lot.put_back(self.rt) {
+            return true;
+        }
+        match self.last {
+            Some((count, _)) => self.parks(count, Crowd::Any),
+            None => false,
+        }
+    }
+
+    /// Counts a refusal of the datagram that was read, or of the parked one that was handed in.
     pub(crate) fn note_refusal(&self, kind: RefusalKind) {
         let at = wall_moment(self.rt);
+        if let Some(octets) = self.lot.handed_octets() {
+            return self.ledger.note(self.rt, kind, at, None, octets);
+        }
         match self.last {
             Some((octets, from)) => {
                 let shown = self.datagram.get(..octets).unwrap_or(&[]);
@@ -89,6 +137,7 @@ impl<'a, R: Wait + Clock> Carrier<Result<Done, Refused>> for Forwarder<'a, R> {
     {
         match flat(answer) {
             Ok(done) => {
+                self.lot.settle(self.rt);
                 self.sender.send_done(&done);
                 let is_awaited = done.deposit.is_some() || done.key.source == self.local;
                 let urgency = if is_awaited {
@@ -97,10 +146,15 @@ impl<'a, R: Wait + Clock> Carrier<Result<Done, Refused>> for Forwarder<'a, R> {
                     self.others
                 };
                 let step = Step::of(done, moment(self.rt));
+                self.lot.hear(self.rt, &step);
                 self.desk.leave_step(self.rt, step, urgency);
             }
             Err(refusal) => {
+                if self.waits(&refusal) {
+                    return;
+                }
                 self.note_refusal(RefusalKind::of(&refusal));
+                self.lot.settle(self.rt);
                 self.sender.send_echo(&refusal);
             }
         }
@@ -108,7 +162,8 @@ impl<'a, R: Wait + Clock> Carrier<Result<Done, Refused>> for Forwarder<'a, R> {
 }
 
 /// One forwarder for each worker that `tallies` counts. They wake the main thread at once for a deposit and for a step
-/// of one of the entity's sending transactions, and for other steps as soon as `others` says.
+/// of one of the entity's sending transactions, and for other steps as soon as `others` says. Datagrams are parked in the
+/// lot, where there is one.
 pub fn forwarders_of<'a, R>(
     rt: &'a R,
     alloc: Global,
@@ -117,6 +172,7 @@ pub fn forwarders_of<'a, R>(
     socket: &'a UdpSocket,
     desk: &'a Desk,
     others: Urgency,
+    lot: Option<&'a Lot>,
 ) -> Result<Vec<Forwarder<'a, R>>, AllocError> {
     let mut forwarders = Vec::with_capacity(alloc, tallies.workers.len())?;
     for traffic in &tallies.workers {
@@ -128,6 +184,7 @@ pub fn forwarders_of<'a, R>(
             others,
             traffic,
             ledger: &tallies.ledger,
+            lot: WorkersLot::new(alloc, config, lot),
             last: None,
             known: None,
             datagram: Vec::from_elem(alloc, 0u8, DATAGRAM_OCTETS)?,

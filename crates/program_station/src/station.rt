@@ -7,6 +7,7 @@ use entity_workers::Filestore;
 use lane_table::Done;
 use program_agenda::{Agenda, Fate, Pace, fate_of_pump, fate_of_retry};
 use program_desk::{Desk, Step, moment};
+use program_lot::Lot;
 use program_tallies::Tallies;
 use program_udp::{PduSender, reach_of};
 use shared_entity::{Entity, EntityRefusal};
@@ -58,6 +59,10 @@ pub struct Station<'a, N: Names, R: Copy, S: Drop> {
     pub(crate) stored: Option<StoredNote>,
     /// For how many milliseconds storing a file is retried.
     pub(crate) retry: u64,
+    pub(crate) tallies: &'a Tallies,
+    /// Where datagrams are parked, if any are.
+    pub(crate) lot: Option<&'a Lot>,
+    pub(crate) may_have_ended: bool,
 }
 
 impl<'a, N: Names, R: Wait + Copy + Clock, S: Filestore + Preparing + Drop> Station<'a, N, R, S> {
@@ -85,6 +90,9 @@ impl<'a, N: Names, R: Wait + Copy + Clock, S: Filestore + Preparing + Drop> Stat
             kept_deposit: None,
             stored: None,
             retry: 0,
+            tallies,
+            lot: None,
+            may_have_ended: false,
         })
     }
 
@@ -168,8 +176,9 @@ impl<'a, N: Names, R: Wait + Copy + Clock, S: Filestore + Preparing + Drop> Stat
     /// Sends the PDUs of a step that the main thread made, and notes the rest of the step.
     pub fn settle_own(&mut self, done: Done) {
         self.sender.send_done(&done);
-        let now = moment(self.rt);
-        self.settle(Step::of(done, now));
+        let step = Step::of(done, moment(self.rt));
+        self.hear(&step);
+        self.settle(step);
     }
 
     /// Sends the PDU with which a refusal answers, if there is one.
@@ -255,23 +264,25 @@ impl<'a, N: Names, R: Wait + Copy + Clock, S: Filestore + Preparing + Drop> Stat
                 break;
             }
             if let Some(step) = steps.pop() {
+                self.hear(&step);
                 self.settle(step);
             }
         }
         count > 0
     }
 
-    /// A turn: at most sixteen timers, sixteen PDUs of files in rotation, and one deposit. Answers whether it did any
-    /// work.
+    /// A turn: at most sixty-four parked datagrams, sixteen timers, sixteen PDUs of files in rotation, and one deposit.
+    /// Answers whether it did any work.
     pub fn turn(&mut self, now: u64) -> bool {
         if !self.is_settled() {
             return false;
         }
         let has_gone_on = self.go_on();
+        let has_handed = self.hand_in_some(now);
         let has_expired = self.expire_some(now);
         let has_pumped = self.pump_some(now);
         let has_stored = self.is_settled() && self.store_one(now);
-        has_gone_on || has_expired || has_pumped || has_stored
+        has_gone_on || has_handed || has_expired || has_pumped || has_stored
     }
 
     // Lets timers run again that rested for a link which is open again; answers whether there were any.
@@ -387,9 +398,13 @@ impl<'a, N: Names, R: Wait + Copy + Clock, S: Filestore + Preparing + Drop> Stat
         match flat(self.entity.pump(self.rt, &NoGate, key)) {
             Ok(done) => {
                 let octets = self.sender.send_done(&done) as u64;
-                self.reach = self.reach.max(reach_of(&done));
+                let reach = reach_of(&done);
+                self.reach = self.reach.max(reach);
                 if departure == Departure::Shared {
                     self.pace = self.pace.spend(octets, now);
+                }
+                if reach == 0 {
+                    self.may_have_ended = true;
                 }
                 self.settle(Step::of(done, now));
                 true
@@ -417,6 +432,7 @@ impl<'a, N: Names, R: Wait + Copy + Clock, S: Filestore + Preparing + Drop> Stat
             sending = sending.max(free.max(now.saturating_add(GATHERING_MS)));
         }
         let until = self.agenda.soonest_timer().min(sending);
+        let until = until.min(self.soonest_parked());
         if self.agenda.has_deposits() {
             until.min(soon)
         } else {

@@ -7,9 +7,10 @@ use indications::Bundle;
 use program_seats::{Asker, Seats};
 use program_tallies::RefusalCase;
 use station_lines::{
-    EventHead, IndicationEvent, LogStatus, Moment, PutEvent, UnsentEvent, push_end_event,
-    push_hold_event, push_indication_event, push_put_event, push_reads_ended_event,
-    push_refused_event, push_release_event, push_start_event, push_stored_event, push_unsent_event,
+    EventHead, IndicationEvent, LogStatus, Moment, PutEvent, SkippedEvent, UnsentEvent,
+    push_end_event, push_hold_event, push_indication_event, push_put_event, push_reads_ended_event,
+    push_refused_event, push_release_event, push_skipped_event, push_start_event,
+    push_stored_event, push_unparked_event, push_unsent_event,
 };
 use std::alloc::{AllocError, Global};
 use std::rt::Files;
@@ -223,6 +224,20 @@ impl<'a, R: Wait + Files> Events<'a, R> {
         self.add(line);
     }
 
+    /// Reports how many parked datagrams were dropped for want of room since the last such event.
+    pub fn unpark(&mut self, at: Moment, count: u64) {
+        let head = self.next_head(at);
+        let line = unparked_line(self.alloc, head, count);
+        self.add(line);
+    }
+
+    /// Reports that transaction numbers were used up without a file.
+    pub fn skip(&mut self, at: Moment, skipped: &SkippedEvent<'_>) {
+        let head = self.next_head(at);
+        let line = skipped_line(self.alloc, head, skipped);
+        self.add(line);
+    }
+
     /// Reports that a worker stopped reading.
     pub fn end_reads(&mut self, at: Moment) {
         let head = self.next_head(at);
@@ -303,6 +318,22 @@ fn refused_line(alloc: Global, head: EventHead, case: &RefusalCase) -> Result<St
     let shown = refused_case(case, &origin, case.unreported());
     let mut line = String::new(alloc);
     push_refused_event(alloc, &mut line, head, &shown)?;
+    Ok(line)
+}
+
+fn unparked_line(alloc: Global, head: EventHead, count: u64) -> Result<String, AllocError> {
+    let mut line = String::new(alloc);
+    push_unparked_event(alloc, &mut line, head, count)?;
+    Ok(line)
+}
+
+fn skipped_line(
+    alloc: Global,
+    head: EventHead,
+    skipped: &SkippedEvent<'_>,
+) -> Result<String, AllocError> {
+    let mut line = String::new(alloc);
+    push_skipped_event(alloc, &mut line, head, skipped)?;
     Ok(line)
 }
 

@@ -12,4 +12,4 @@ pub use event_log::{EventLog, PENDING_OCTETS};
 pub use events::Events;
 pub use kept::{KEPT_LINES, KEPT_OCTETS, Kept};
 pub use notes::{LaneNote, LaneNotes};
-pub use status::{Shown, push_outbox, push_status};
+pub use status::{LaneHint, Shown, push_outbox, push_status};

@@ -1,20 +1,21 @@
 //! The lines of a status.
 use crate::notes::LaneNotes;
 use crate::refused::{origin_of, refused_case};
-use cfdp_types::TxnKey;
 use cfdp_types::limits::{JOURNAL_ENTRIES, JOURNAL_ENTRIES_KEPT};
+use cfdp_types::{EntityId, TxnKey};
 use entity_config::Config;
 use entity_routing::Place;
 use lane_table::Glance;
 use program_desk::Reading;
+use program_lot::ParkedLane;
 use program_outbox::{Outgoing, Waiting};
 use program_tallies::Tallies;
 use shared_entity::{Entity, EntityRefusal};
 use shared_lanes::Names;
 use station_lines::{
-    Counters, EntityStatus, LogStatus, Moment, Notice, QueuedStatus, ReadingStatus, RemoteStatus,
-    TransactionStatus, UserStatus, push_entity, push_log, push_queued, push_reading, push_refusal,
-    push_remote, push_transaction, push_user,
+    Counters, EntityStatus, LogStatus, Moment, NoteStatus, Notice, ParkedStatus, QueuedStatus,
+    ReadingStatus, RemoteStatus, TransactionStatus, UserStatus, push_entity, push_log, push_note,
+    push_parked, push_queued, push_reading, push_refusal, push_remote, push_transaction, push_user,
 };
 use std::alloc::{AllocError, Global};
 use std::sync::Wait;
@@ -24,6 +25,18 @@ use user_queues::UserPort;
 const FEW_ROUNDS: u64 = 1_000;
 
 const WIDEST_ROUND: u64 = 512;
+
+/// A remote entity whose receiving lanes the sending lanes here don't divide, so files wait for each other.
+#[derive(Debug, Drop)]
+pub struct LaneHint {
+    pub remote: EntityId,
+    /// How many lanes send, of all users together.
+    pub sending: u64,
+    /// How many lanes the remote entity has for what this entity sends.
+    pub receiving: u64,
+    /// Numbers of sending lanes with which files wouldn't wait.
+    pub better: Vec<u64>,
+}
 
 /// What a status shows besides the entity.
 #[derive(Clone, Copy)]
@@ -37,6 +50,10 @@ pub struct Shown<'a> {
     pub outgoing: &'a Outgoing,
     /// The files that are being read.
     pub readings: &'a [Reading],
+    /// The lanes for which datagrams wait or were dropped.
+    pub parked: &'a [ParkedLane],
+    /// The remote entities whose lanes don't fit the lanes here.
+    pub hints: &'a [LaneHint],
     /// The number of the last event.
     pub events: u64,
     pub log: Option<LogStatus>,
@@ -47,8 +64,8 @@ pub struct Shown<'a> {
 }
 
 /// Adds a line for the entity, for the log, for each user, for each lane that has run a transaction, for each file of
-/// the outbox, for each file that is being read, for each remote entity, and for each kind of refusal. The lanes' locks
-/// are taken one at a time.
+/// the outbox, for each file that is being read, for each lane for which datagrams are parked, for each remote entity,
+/// for each kind of refusal, and for each note on lanes. The lanes' locks are taken one at a time.
 pub fn push_status<N: Names, R: Wait + Copy>(
     rt: &R,
     alloc: Global,
@@ -64,8 +81,10 @@ pub fn push_status<N: Names, R: Wait + Copy>(
     }
     push_outbox(alloc, text, entity.config(), shown.outgoing)?;
     push_readings(alloc, text, shown.readings)?;
+    push_parked_lanes(alloc, text, entity.config(), shown.parked)?;
     push_remotes(alloc, text, entity, shown.tallies)?;
-    push_refusals(rt, alloc, text, shown.tallies)
+    push_refusals(rt, alloc, text, shown.tallies)?;
+    push_notes(alloc, text, shown.hints)
 }
 
 fn push_head<N: Names, R: Copy>(
@@ -238,6 +257,27 @@ fn push_readings(alloc: Global, text: &mut String, readings: &[Reading]) -> Resu
     Ok(())
 }
 
+fn push_parked_lanes(
+    alloc: Global,
+    text: &mut String,
+    config: &Config,
+    parked: &[ParkedLane],
+) -> Result<(), AllocError> {
+    for lane in parked {
+        let status = ParkedStatus {
+            user: config.name_of(lane.place.user).unwrap_or(""),
+            lane: lane.place.lane,
+            datagrams: lane.datagrams,
+            transactions: lane.transactions,
+            octets: lane.octets,
+            dropped: lane.dropped,
+            since: lane.since.map(Moment),
+        };
+        push_parked(alloc, text, &status)?;
+    }
+    Ok(())
+}
+
 fn push_remotes<N: Names, R: Copy>(
     alloc: Global,
     text: &mut String,
@@ -275,6 +315,19 @@ fn push_refusals<R: Wait>(
         let origin = origin_of(alloc, case)?;
         let shown = refused_case(case, &origin, case.count);
         push_refusal(alloc, text, &shown, Moment(case.last))?;
+    }
+    Ok(())
+}
+
+fn push_notes(alloc: Global, text: &mut String, hints: &[LaneHint]) -> Result<(), AllocError> {
+    for hint in hints {
+        let note = NoteStatus {
+            remote: hint.remote,
+            sending_lanes: hint.sending,
+            receiving_lanes: hint.receiving,
+            better: hint.better.as_slice(),
+        };
+        push_note(alloc, text, &note)?;
     }
     Ok(())
 }

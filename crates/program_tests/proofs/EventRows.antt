@@ -13,7 +13,7 @@ use Rattle.cfdp_types.specs.declared.names.FileStatus.TheVariants.{Unreported}
 use Rattle.indications.specs.declared.indication.Indication.{Indication}
 use Rattle.indications.specs.declared.indication.Indication.TheVariants as told
 use Rattle.indications.specs.declared.indication.Phase.TheVariants.{Closing}
-use Rattle.station_lines.specs.EventLines.{end_line, hold_line, indication_line, put_line, reads_ended_line, refused_line, release_line, start_line, stored_line, unsent_line}
+use Rattle.station_lines.specs.EventLines.{end_line, hold_line, indication_line, put_line, reads_ended_line, refused_line, release_line, skipped_line, start_line, stored_line, unparked_line, unsent_line}
 use Rattle.station_lines.specs.Members.{text_member, flag_member, number_member, hex_member, octets_member, moment_member, object_member, hexes_member}
 use Rattle.station_lines.specs.Shared.{first_octets}
 use Rattle.station_lines.specs.declared.event.EventHead.{EventHead}
@@ -110,6 +110,24 @@ a_release : release_line (event 3) (record { 0 = 18446744073709551615 })
     ++ codes "\"id_text\":\"18446744073709551615\"}\n"
 unfolding digits padded_integral char_count encode_utf8 chars is_utf8 encode_with print_from escape_byte text_member flag_member number_member hex_member octets_member moment_member object_member hexes_member first_octets
 a_release = refl
+
+-- ---- lanes that wait
+
+dropped_datagrams : unparked_line (event 3) 12
+    ≡ codes "{\"at\":\"2026-11-26T12:00:00.000Z\",\"number\":3,\"kind\":\"unparked\",\"count\":12}\n"
+unfolding digits padded_integral char_count encode_utf8 chars is_utf8 encode_with print_from escape_byte text_member flag_member number_member hex_member octets_member moment_member object_member hexes_member first_octets
+dropped_datagrams = refl
+
+skipped_numbers : skipped_line (event 4) (record {
+  user = ref (codes "ops");
+  destination = record { 0 = 7 };
+  count = 3;
+  next = 9007199254740993;
+})
+    ≡ codes "{\"at\":\"2026-11-26T12:00:00.000Z\",\"number\":4,\"kind\":\"skipped\",\"user\":\"ops\",\"destination\":7,\"count\":3,"
+    ++ codes "\"next\":9007199254740993,\"next_text\":\"9007199254740993\"}\n"
+unfolding digits padded_integral char_count encode_utf8 chars is_utf8 encode_with print_from escape_byte text_member flag_member number_member hex_member octets_member moment_member object_member hexes_member first_octets
+skipped_numbers = refl
 
 -- ---- a refusal
 

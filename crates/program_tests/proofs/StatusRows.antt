@@ -13,13 +13,14 @@ use Rattle.indications.specs.declared.indication.Phase.TheVariants.{Storing}
 use Rattle.indications.specs.declared.side.Side.TheVariants.{Receiver}
 use Rattle.lane_table.specs.declared.glance.Glance.{Glance}
 use Rattle.lane_table.specs.declared.glance.GlancedFile.{GlancedFile}
-use Rattle.station_lines.specs.Members.{text_member, flag_member, number_member, hex_member, octets_member, moment_member, object_member, hexes_member}
+use Rattle.station_lines.specs.Members.{text_member, flag_member, number_member, hex_member, octets_member, moment_member, object_member, hexes_member, numbers_member}
 use Rattle.station_lines.specs.Shared.{first_octets}
-use Rattle.station_lines.specs.StatusLines.{entity_line, log_line, queued_line, reading_line, refusal_line, remote_line, transaction_line, user_line}
+use Rattle.station_lines.specs.StatusLines.{entity_line, log_line, note_line, parked_line, queued_line, reading_line, refusal_line, remote_line, transaction_line, user_line}
 use Rattle.station_lines.specs.declared.members.RefusedCase.{RefusedCase}
 use Rattle.station_lines.specs.declared.moment.Moment.{Moment}
 use Rattle.station_lines.specs.declared.status.Ending.TheVariants.{Finished, Abandoned}
 use Rattle.station_lines.specs.declared.status.Notice.TheVariants.{JournalFull, LastNumbers}
+use Rattle.station_lines.specs.declared.status.ParkedStatus.{ParkedStatus}
 use Rattle.station_lines.specs.declared.status.RemoteStatus.{RemoteStatus}
 use Rattle.station_lines.specs.declared.status.TransactionStatus.{TransactionStatus}
 
@@ -149,6 +150,31 @@ a_file_that_is_read : reading_line (record { file = ref (codes "c.bin"); since =
 unfolding digits padded_integral char_count encode_utf8 chars is_utf8 encode_with print_from escape_byte text_member flag_member number_member hex_member octets_member moment_member object_member hexes_member first_octets
 a_file_that_is_read = refl
 
+-- ---- lanes for which datagrams wait
+
+abbrev parked : ParkedStatus
+parked = record {
+  user = ref (codes "ops");
+  lane = 3;
+  datagrams = 12;
+  transactions = 2;
+  octets = 17000;
+  dropped = 0;
+  since = Some noon;
+}
+
+a_parked_lane : parked_line parked
+    ≡ codes "{\"kind\":\"parked\",\"user\":\"ops\",\"lane\":3,\"datagrams\":12,\"transactions\":2,\"octets\":17000,\"dropped\":0,"
+    ++ codes "\"since\":\"2026-11-26T12:00:00.000Z\"}\n"
+unfolding digits padded_integral char_count encode_utf8 chars is_utf8 encode_with print_from escape_byte text_member flag_member number_member hex_member octets_member moment_member object_member hexes_member first_octets
+a_parked_lane = refl
+
+-- nothing waits any more
+a_lane_that_dropped : parked_line (record parked { datagrams = 0; transactions = 0; octets = 0; dropped = 5; since = None })
+    ≡ codes "{\"kind\":\"parked\",\"user\":\"ops\",\"lane\":3,\"datagrams\":0,\"transactions\":0,\"octets\":0,\"dropped\":5}\n"
+unfolding digits padded_integral char_count encode_utf8 chars is_utf8 encode_with print_from escape_byte text_member flag_member number_member hex_member octets_member moment_member object_member hexes_member first_octets
+a_lane_that_dropped = refl
+
 -- ---- remote entities
 
 abbrev remote : RemoteStatus
@@ -201,3 +227,17 @@ a_refused_datagram : refusal_line (record {
     ++ codes "\"last\":\"2026-11-26T12:00:00.000Z\",\"from\":\"192.0.2.1:4556\",\"octets\":\"24000a\"}\n"
 unfolding digits padded_integral char_count encode_utf8 chars is_utf8 encode_with print_from escape_byte text_member flag_member number_member hex_member octets_member moment_member object_member hexes_member first_octets
 a_refused_datagram = refl
+
+-- ---- notes
+
+a_note : note_line (record { remote = record { 0 = 7 }; sending_lanes = 6; receiving_lanes = 8; better = ref (1 ∷ 2 ∷ 4 ∷ 8 ∷ []) })
+    ≡ codes "{\"kind\":\"note\",\"remote\":7,\"sending_lanes\":6,\"receiving_lanes\":8,\"better\":[1,2,4,8]}\n"
+unfolding digits padded_integral char_count encode_utf8 chars is_utf8 encode_with print_from escape_byte text_member flag_member number_member hex_member octets_member moment_member object_member hexes_member numbers_member first_octets
+a_note = refl
+
+-- a long number, and nothing better
+a_note_without_advice : note_line (record { remote = record { 0 = 18446744073709551615 }; sending_lanes = 6; receiving_lanes = 8; better = ref [] })
+    ≡ codes "{\"kind\":\"note\",\"remote\":18446744073709551615,\"remote_text\":\"18446744073709551615\","
+    ++ codes "\"sending_lanes\":6,\"receiving_lanes\":8,\"better\":[]}\n"
+unfolding digits padded_integral char_count encode_utf8 chars is_utf8 encode_with print_from escape_byte text_member flag_member number_member hex_member octets_member moment_member object_member hexes_member numbers_member first_octets
+a_note_without_advice = refl

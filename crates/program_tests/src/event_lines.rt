@@ -1,6 +1,7 @@
 use cfdp_types::EntityId;
 use station_lines::{
-    EventHead, Moment, push_hold_event, push_reads_ended_event, push_release_event,
+    EventHead, Moment, SkippedEvent, push_hold_event, push_reads_ended_event, push_release_event,
+    push_skipped_event, push_unparked_event,
 };
 use std::alloc::{AllocError, Global};
 use std::test::*;
@@ -10,10 +11,19 @@ const HEAD: EventHead = EventHead {
     number: 1,
 };
 
+const SKIPPED: SkippedEvent<'_> = SkippedEvent {
+    user: "ops",
+    destination: EntityId(7),
+    count: 3,
+    next: 41,
+};
+
 // Lines of events that no other test meets. What each is says its contract, and `proofs/` shows it.
 fn push_events(alloc: Global, text: &mut String) -> Result<(), AllocError> {
     push_hold_event(alloc, text, HEAD, EntityId(7))?;
     push_release_event(alloc, text, HEAD, EntityId(7))?;
+    push_unparked_event(alloc, text, HEAD, 3)?;
+    push_skipped_event(alloc, text, HEAD, &SKIPPED)?;
     push_reads_ended_event(alloc, text, HEAD)
 }
 

@@ -13,6 +13,7 @@ use Rattle.station_lines.specs.Shared.{key_members, finished_members, case_membe
 use Rattle.station_lines.specs.declared.event.EventHead.{EventHead}
 use Rattle.station_lines.specs.declared.event.IndicationEvent.{IndicationEvent}
 use Rattle.station_lines.specs.declared.event.PutEvent.{PutEvent}
+use Rattle.station_lines.specs.declared.event.SkippedEvent.{SkippedEvent}
 use Rattle.station_lines.specs.declared.event.UnsentEvent.{UnsentEvent}
 use Rattle.station_lines.specs.declared.members.RefusedCase.{RefusedCase}
 
@@ -131,6 +132,22 @@ hold_line head id = about_remote_line head (codes "hold") id
 -- the line of a hold's end
 abbrev pub release_line : EventHead → EntityId → List ℕ
 release_line head id = about_remote_line head (codes "release") id
+
+-- ---- lanes that wait
+
+-- the line of parked datagrams that were dropped
+abbrev pub unparked_line : EventHead → ℕ → List ℕ
+unparked_line head count = line_of (head_members head (codes "unparked") ++ number_member (codes "count") count)
+
+-- whose transaction numbers were skipped, how many, and which is the next one
+abbrev pub skipped_members : SkippedEvent → List Token
+skipped_members skipped =
+    text_member (codes "user") skipped.user.now ++ (number_member (codes "destination") skipped.destination.0
+    ++ (number_member (codes "count") skipped.count ++ number_member (codes "next") skipped.next))
+
+-- the line of transaction numbers that were skipped
+abbrev pub skipped_line : EventHead → SkippedEvent → List ℕ
+skipped_line head skipped = line_of (head_members head (codes "skipped") ++ skipped_members skipped)
 
 -- ---- events that have no further members
 

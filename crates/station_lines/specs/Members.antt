@@ -41,9 +41,17 @@ moment_member name moment = text_member name (moment_text moment)
 abbrev pub hex_strings : List (List ℕ) → List Token
 hex_strings values = map hex_string values
 
+-- numbers, each as a token
+abbrev pub number_tokens : List ℕ → List Token
+number_tokens values = map (λ value. number (decimal value)) values
+
 -- lists of octets in an array
 unfoldable pub hexes_member : List ℕ → List (List ℕ) → List Token
 hexes_member name values = key name ∷ begin_array ∷ (hex_strings values ++ end_array ∷ [])
+
+-- numbers in an array
+unfoldable pub numbers_member : List ℕ → List ℕ → List Token
+numbers_member name values = key name ∷ begin_array ∷ (number_tokens values ++ end_array ∷ [])
 
 -- an object with these members
 unfoldable pub object_member : List ℕ → List Token → List Token

@@ -7,7 +7,7 @@ use Rattle.lane_table.specs.declared.glance.Glance.{Glance}
 use Rattle.lane_table.specs.declared.glance.GlancedFile.{GlancedFile}
 use Rattle.answer_texts.specs.ToldTexts.{phase_name}
 use Rattle.json.specs.Token.{Token}
-use Rattle.station_lines.specs.Members.{text_member, flag_member, number_member, octets_member, moment_member, object_member, line_of}
+use Rattle.station_lines.specs.Members.{text_member, flag_member, number_member, octets_member, moment_member, numbers_member, object_member, line_of}
 use Rattle.station_lines.specs.Shared.{key_members, finished_members, case_members, datagram_members, class_number}
 use Rattle.station_lines.specs.declared.moment.Moment.{Moment}
 use Rattle.station_lines.specs.declared.members.RefusedCase.{RefusedCase}
@@ -18,6 +18,8 @@ use Rattle.station_lines.specs.declared.status.EntityStatus.{EntityStatus}
 use Rattle.station_lines.specs.declared.status.LogStatus.{LogStatus}
 use Rattle.station_lines.specs.declared.status.Notice.{Notice}
 use Rattle.station_lines.specs.declared.status.Notice.TheVariants.{JournalFull, LastNumbers}
+use Rattle.station_lines.specs.declared.status.NoteStatus.{NoteStatus}
+use Rattle.station_lines.specs.declared.status.ParkedStatus.{ParkedStatus}
 use Rattle.station_lines.specs.declared.status.QueuedStatus.{QueuedStatus}
 use Rattle.station_lines.specs.declared.status.ReadingStatus.{ReadingStatus}
 use Rattle.station_lines.specs.declared.status.RemoteStatus.{RemoteStatus}
@@ -183,6 +185,29 @@ reading_members r =
 abbrev pub reading_line : ReadingStatus → List ℕ
 reading_line r = line_of (reading_members r)
 
+-- ---- lanes for which datagrams wait
+
+-- which lane it is
+abbrev pub parked_head : ParkedStatus → List Token
+parked_head p =
+    text_member (codes "kind") (codes "parked") ++ (text_member (codes "user") p.user.now
+    ++ number_member (codes "lane") p.lane)
+
+-- how much waits for it, and how much was dropped
+abbrev pub parked_amounts : ParkedStatus → List Token
+parked_amounts p =
+    number_member (codes "datagrams") p.datagrams ++ (number_member (codes "transactions") p.transactions
+    ++ (number_member (codes "octets") p.octets ++ number_member (codes "dropped") p.dropped))
+
+-- since when the oldest waits, if one waits
+abbrev pub since_members : Option Moment → List Token
+since_members None = []
+since_members (Some since) = moment_member (codes "since") since
+
+-- the line of a lane for which datagrams wait or were dropped
+abbrev pub parked_line : ParkedStatus → List ℕ
+parked_line p = line_of (parked_head p ++ (parked_amounts p ++ since_members p.since))
+
 -- ---- remote entities and refusals
 
 -- the address of a remote entity, if it has one
@@ -218,3 +243,16 @@ abbrev pub refusal_line : RefusedCase → Moment → List ℕ
 refusal_line case last =
     line_of (text_member (codes "kind") (codes "refusal") ++ (case_members (codes "number") case
     ++ (moment_member (codes "last") last ++ datagram_members case.datagram)))
+
+-- ---- notes
+
+-- how many lanes send, how many receive, and which numbers of sending lanes would be better
+abbrev pub note_members : NoteStatus → List Token
+note_members n =
+    text_member (codes "kind") (codes "note") ++ (number_member (codes "remote") n.remote.0
+    ++ (number_member (codes "sending_lanes") n.sending_lanes
+    ++ (number_member (codes "receiving_lanes") n.receiving_lanes ++ numbers_member (codes "better") n.better.now)))
+
+-- the line of a note on a remote entity's lanes
+abbrev pub note_line : NoteStatus → List ℕ
+note_line n = line_of (note_members n)

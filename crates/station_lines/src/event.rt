@@ -53,3 +53,17 @@ pub struct UnsentEvent<'a> {
     /// Why it was given up.
     pub why: &'a str,
 }
+
+/// Transaction numbers that were used up without a file, since a user's numbers lagged behind those used toward a remote
+/// entity.
+#[derive(Clone, Copy, Debug)]
+pub struct SkippedEvent<'a> {
+    /// The user's name.
+    pub user: &'a str,
+    /// The remote entity.
+    pub destination: EntityId,
+    /// How many numbers they were.
+    pub count: u64,
+    /// The next number of their lane.
+    pub next: u64,
+}

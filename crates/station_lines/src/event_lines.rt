@@ -1,9 +1,9 @@
 //! The lines of events. Followers get each after the word `event` and a space, which these functions don't write.
 ghost use Rattle.std.specs.Prelude.{◌≡◌, ◌++◌, OnErr, OnOk, string_bytes};
 ghost use Rattle.std.specs.Option.{option_copied};
-ghost use Rattle.station_lines.specs.EventLines.{head_members, start_line, indication_line, said_members, metadata_members, put_line, put_head, put_file, queued_members, unsent_line, unsent_members, place_members, stored_line, stored_status, refused_line, hold_line, release_line, about_remote_line, reads_ended_line, end_line, plain_line};
+ghost use Rattle.station_lines.specs.EventLines.{head_members, start_line, indication_line, said_members, metadata_members, put_line, put_head, put_file, queued_members, unsent_line, unsent_members, place_members, stored_line, stored_status, refused_line, hold_line, release_line, about_remote_line, unparked_line, skipped_line, skipped_members, reads_ended_line, end_line, plain_line};
 
-use crate::event::{EventHead, IndicationEvent, PutEvent, UnsentEvent};
+use crate::event::{EventHead, IndicationEvent, PutEvent, SkippedEvent, UnsentEvent};
 use crate::line::Line;
 use crate::members::{
     RefusedCase, case_members, class_number, datagram_members, finished_members, key_members,
@@ -298,6 +298,48 @@ fn push_about_remote(
     head_members(&mut line, head, kind)?;
     line.number("id", id.0)?;
     line.end(text)
+}
+
+/// Adds the line of parked datagrams that were dropped for want of room since the last such line.
+pub fn push_unparked_event(
+    alloc: Global,
+    text: &mut String,
+    head: EventHead,
+    count: u64,
+) -> Result<(), AllocError>
+    ensures added { OnOk result (string_bytes text.new ≡ string_bytes text.old ++ unparked_line head count) }
+    ensures kept { OnErr result (string_bytes text.new ≡ string_bytes text.old) }
+{
+    let mut line = Line::begin(alloc)?;
+    head_members(&mut line, head, "unparked")?;
+    line.number("count", count)?;
+    line.end(text)
+}
+
+/// Adds the line of transaction numbers that were used up without a file.
+pub fn push_skipped_event(
+    alloc: Global,
+    text: &mut String,
+    head: EventHead,
+    skipped: &SkippedEvent<'_>,
+) -> Result<(), AllocError>
+    ensures added { OnOk result (string_bytes text.new ≡ string_bytes text.old ++ skipped_line head skipped.entry.now) }
+    ensures kept { OnErr result (string_bytes text.new ≡ string_bytes text.old) }
+{
+    let mut line = Line::begin(alloc)?;
+    head_members(&mut line, head, "skipped")?;
+    skipped_members(&mut line, skipped)?;
+    line.end(text)
+}
+
+// Whose numbers they were, how many, and which is the next one.
+fn skipped_members(line: &mut Line, skipped: &SkippedEvent<'_>) -> Result<(), AllocError>
+    ensures { OnOk result (line.new ≡ line.old ++ skipped_members skipped.entry.now) }
+{
+    line.text("user", skipped.user)?;
+    line.number("destination", skipped.destination.0)?;
+    line.number("count", skipped.count)?;
+    line.number("next", skipped.next)
 }
 
 /// Adds the line of a worker that stopped reading.

@@ -2,7 +2,7 @@
 ghost use Rattle.std.specs.Prelude.{◌≡◌, [], ◌∷◌, ◌++◌, IfOk, OnErr, OnOk, string_bytes, codes};
 ghost use Rattle.json.specs.Token.{begin_object, end_object, key};
 ghost use Rattle.json.specs.Print.{print};
-ghost use Rattle.station_lines.specs.Members.{text_member, flag_member, number_member, octets_member, hex_member, moment_member, hexes_member, hex_strings, hex_string};
+ghost use Rattle.station_lines.specs.Members.{text_member, flag_member, number_member, octets_member, hex_member, moment_member, hexes_member, hex_strings, hex_string, numbers_member, number_tokens};
 
 use crate::moment::Moment;
 use cfdp_types::Octets;
@@ -171,6 +171,17 @@ impl Line {
         self.writer.end_array()
     }
 
+    // An array of numbers.
+    #[tactic(auto, unfolding(crate::specs::Members::numbers_member))]
+    pub(crate) fn numbers(&mut self, name: &str, values: &[u64]) -> Result<(), AllocError>
+        ensures { OnOk result (self.new ≡ self.old ++ numbers_member name.now values.now) }
+    {
+        self.writer.key(name)?;
+        self.writer.begin_array()?;
+        self.number_tokens(values)?;
+        self.writer.end_array()
+    }
+
     pub(crate) fn begin_object(&mut self, name: &str) -> Result<(), AllocError>
         ensures { OnOk result (self.new ≡ self.old ++ (key name.now ∷ begin_object ∷ [])) }
     {
@@ -189,6 +200,15 @@ impl Line {
     {
         for octets in values {
             self.hex_string(octets.as_slice())?;
+        }
+        Ok(())
+    }
+
+    fn number_tokens(&mut self, values: &[u64]) -> Result<(), AllocError>
+        ensures { OnOk result (self.new ≡ self.old ++ number_tokens values.now) }
+    {
+        for value in values {
+            self.writer.u64(*value)?;
         }
         Ok(())
     }

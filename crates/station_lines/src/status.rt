@@ -142,6 +142,25 @@ pub struct ReadingStatus<'a> {
     pub since: Moment,
 }
 
+/// A lane for which datagrams wait, or were dropped.
+#[derive(Clone, Copy, Debug)]
+pub struct ParkedStatus<'a> {
+    /// The name of its user.
+    pub user: &'a str,
+    /// The number of the user's lane.
+    pub lane: usize,
+    /// How many datagrams wait.
+    pub datagrams: u64,
+    /// Of how many transactions they are.
+    pub transactions: u64,
+    /// How much of the room they take up.
+    pub octets: u64,
+    /// How many datagrams were dropped for want of room, since the server's start.
+    pub dropped: u64,
+    /// Since when the oldest waits, if one waits.
+    pub since: Option<Moment>,
+}
+
 /// A remote entity.
 #[derive(Clone, Copy, Debug)]
 pub struct RemoteStatus<'a> {
@@ -160,4 +179,16 @@ pub struct RemoteStatus<'a> {
     pub octets_out: u64,
     /// PDUs to it that weren't sent.
     pub failed_sends: u64,
+}
+
+/// A remote entity whose receiving lanes the sending lanes here don't divide, so files wait for each other.
+#[derive(Clone, Copy, Debug)]
+pub struct NoteStatus<'a> {
+    pub remote: EntityId,
+    /// How many lanes send, of all users together.
+    pub sending_lanes: u64,
+    /// How many lanes the remote entity has for what this entity sends.
+    pub receiving_lanes: u64,
+    /// Numbers of sending lanes with which files wouldn't wait.
+    pub better: &'a [u64],
 }

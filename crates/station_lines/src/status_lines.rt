@@ -2,7 +2,7 @@
 ghost use Rattle.std.specs.Prelude.{◌≡◌, ◌++◌, OnErr, OnOk, string_bytes, codes};
 ghost use Rattle.std.specs.Option.{option_copied};
 ghost use Rattle.station_lines.specs.Members.{object_member};
-ghost use Rattle.station_lines.specs.StatusLines.{entity_line, entity_head, entity_state, counter_members, traffic_members, trouble_members, outcome_members, log_line, user_line, transaction_line, transaction_head, transaction_part, transaction_file, transaction_end, file_members, last_members, ending_members, end_members, notice_members, notice_name, role_name, state_name, queued_line, queued_head, queued_file, reading_line, reading_members, remote_line, remote_head, held_members, crossing_members, address_members, refusal_line};
+ghost use Rattle.station_lines.specs.StatusLines.{entity_line, entity_head, entity_state, counter_members, traffic_members, trouble_members, outcome_members, log_line, user_line, transaction_line, transaction_head, transaction_part, transaction_file, transaction_end, file_members, last_members, ending_members, end_members, notice_members, notice_name, role_name, state_name, queued_line, queued_head, queued_file, reading_line, reading_members, parked_line, parked_head, parked_amounts, since_members, remote_line, remote_head, held_members, crossing_members, address_members, refusal_line, note_line, note_members};
 
 use crate::line::Line;
 use crate::members::{
@@ -10,8 +10,8 @@ use crate::members::{
 };
 use crate::moment::Moment;
 use crate::status::{
-    Counters, Ending, EntityStatus, LogStatus, Notice, QueuedStatus, ReadingStatus, RemoteStatus,
-    TransactionStatus, UserStatus,
+    Counters, Ending, EntityStatus, LogStatus, NoteStatus, Notice, ParkedStatus, QueuedStatus,
+    ReadingStatus, RemoteStatus, TransactionStatus, UserStatus,
 };
 use answer_texts::phase_name;
 use indications::Side;
@@ -323,6 +323,52 @@ fn reading_members(line: &mut Line, reading: &ReadingStatus<'_>) -> Result<(), A
     line.moment("since", reading.since)
 }
 
+/// Adds the line of a lane for which datagrams wait, or were dropped.
+pub fn push_parked(
+    alloc: Global,
+    text: &mut String,
+    parked: &ParkedStatus<'_>,
+) -> Result<(), AllocError>
+    ensures added { OnOk result (string_bytes text.new ≡ string_bytes text.old ++ parked_line parked.entry.now) }
+    ensures kept { OnErr result (string_bytes text.new ≡ string_bytes text.old) }
+{
+    let mut line = Line::begin(alloc)?;
+    parked_head(&mut line, parked)?;
+    parked_amounts(&mut line, parked)?;
+    since_members(&mut line, parked.since)?;
+    line.end(text)
+}
+
+// Which lane it is.
+fn parked_head(line: &mut Line, parked: &ParkedStatus<'_>) -> Result<(), AllocError>
+    ensures { OnOk result (line.new ≡ line.old ++ parked_head parked.entry.now) }
+{
+    line.text("kind", "parked")?;
+    line.text("user", parked.user)?;
+    line.number("lane", parked.lane as u64)
+}
+
+// How much waits for it, and how much was dropped.
+fn parked_amounts(line: &mut Line, parked: &ParkedStatus<'_>) -> Result<(), AllocError>
+    ensures { OnOk result (line.new ≡ line.old ++ parked_amounts parked.entry.now) }
+{
+    line.four_numbers(
+        ("datagrams", parked.datagrams),
+        ("transactions", parked.transactions),
+        ("octets", parked.octets),
+        ("dropped", parked.dropped),
+    )
+}
+
+fn since_members(line: &mut Line, since: Option<Moment>) -> Result<(), AllocError>
+    ensures { OnOk result (line.new ≡ line.old ++ since_members since) }
+{
+    match since {
+        None => Ok(()),
+        Some(since) => line.moment("since", since),
+    }
+}
+
 /// Adds the line of a remote entity.
 pub fn push_remote(
     alloc: Global,
@@ -397,4 +443,24 @@ pub fn push_refusal(
     line.moment("last", last)?;
     datagram_members(&mut line, case.datagram)?;
     line.end(text)
+}
+
+/// Adds the line of a note on a remote entity's lanes.
+pub fn push_note(alloc: Global, text: &mut String, note: &NoteStatus<'_>) -> Result<(), AllocError>
+    ensures added { OnOk result (string_bytes text.new ≡ string_bytes text.old ++ note_line note.entry.now) }
+    ensures kept { OnErr result (string_bytes text.new ≡ string_bytes text.old) }
+{
+    let mut line = Line::begin(alloc)?;
+    note_members(&mut line, note)?;
+    line.end(text)
+}
+
+fn note_members(line: &mut Line, note: &NoteStatus<'_>) -> Result<(), AllocError>
+    ensures { OnOk result (line.new ≡ line.old ++ note_members note.entry.now) }
+{
+    line.text("kind", "note")?;
+    line.number("remote", note.remote.0)?;
+    line.number("sending_lanes", note.sending_lanes)?;
+    line.number("receiving_lanes", note.receiving_lanes)?;
+    line.numbers("better", note.better)
 }

@@ -3,7 +3,7 @@ use Rattle.std.proofs.Common.{◌≡◌, ◌||◌, ℕ, Bool, true, false, List,
 use Rattle.std.specs.Fmt.{digits}
 use Rattle.json.specs.Json.{Json, boolean, member, no_members, number, object, string}
 use Rattle.std.specs.Str.{bytes_eq}
-use Rattle.web_lines.specs.declared.kind.Kind.TheVariants.{Entity, Log, Queued, Refusal, Remote, User}
+use Rattle.web_lines.specs.declared.kind.Kind.TheVariants.{Entity, Log, Parked, Queued, Refusal, Remote, User}
 use Rattle.web_lines.specs.declared.state.State.TheVariants.{Active, Ended}
 use Rattle.web_lines.specs.Document.{document_text, named}
 use Rattle.web_lines.specs.Families.{all_heads, counter, gauge, told_rows}
@@ -26,7 +26,7 @@ names_differ : has_twice (map (λ head. head.name) all_heads) ≡ false
 unfolding told_rows
 names_differ = refl
 
-how_many : length all_heads ≡ 33
+how_many : length all_heads ≡ 37
 unfolding told_rows
 how_many = refl
 
@@ -46,11 +46,12 @@ two_labels = refl
 labels_are_escaped : escaped (codes "a\\b\"c\nd") ≡ codes "a\\\\b\\\"c\\nd"
 labels_are_escaped = refl
 
-names_of_kinds : map named (codes "entity" ∷ codes "queued" ∷ codes "entities" ∷ []) ≡ Some Entity ∷ Some Queued ∷ None ∷ []
+names_of_kinds : map named (codes "entity" ∷ codes "queued" ∷ codes "parked" ∷ codes "entities" ∷ [])
+    ≡ Some Entity ∷ Some Queued ∷ Some Parked ∷ None ∷ []
 names_of_kinds = refl
 
 no_lines : document_text []
-    ≡ codes "{\"entities\":[],\"logs\":[],\"users\":[],\"transactions\":[],\"remotes\":[],\"refusals\":[],\"outbox\":[],\"reading\":[]}\n"
+    ≡ codes "{\"entities\":[],\"logs\":[],\"users\":[],\"transactions\":[],\"remotes\":[],\"refusals\":[],\"outbox\":[],\"reading\":[],\"parked\":[]}\n"
 unfolding document_text
 no_lines = refl
 
@@ -91,6 +92,16 @@ nameless_user = refl
 
 user_label : labels_at User (at_member (codes "waiting")) refusal ≡ Some ((codes "user", codes "NoRoute") ∷ [])
 user_label = refl
+
+-- the line of a lane for which datagrams wait
+abbrev waiting : Json
+waiting = object (member (codes "user") (string (codes "ops")) (member (codes "lane") (number (codes "3")) no_members))
+
+lane_label : labels_at Parked (at_member (codes "octets")) waiting ≡ Some ((codes "user", codes "ops") ∷ (codes "lane", codes "3") ∷ [])
+lane_label = refl
+
+no_lane : labels_at Parked (at_member (codes "octets")) refusal ≡ None
+no_lane = refl
 
 entity_label : labels_at Entity (at_known (codes "version"))
     (object (member (codes "id") (number (codes "2")) (member (codes "version") (string (codes "0.1")) no_members)))

@@ -4,7 +4,7 @@ use Rattle.web_lines.specs.declared.families.Family.{Family}
 use Rattle.web_lines.specs.declared.told.Told.{Told}
 use Rattle.web_lines.specs.declared.families.Family.TheVariants.{Counter, Gauge}
 use Rattle.web_lines.specs.declared.kind.Kind.{Kind}
-use Rattle.web_lines.specs.declared.kind.Kind.TheVariants.{Entity, Log, Refusal, Remote, User}
+use Rattle.web_lines.specs.declared.kind.Kind.TheVariants.{Entity, Log, Parked, Refusal, Remote, User}
 use Rattle.web_lines.specs.Numbers.{Spot, at_counter, at_known, at_member, at_truth, spot_of}
 
 -- what is said of a family above its numbers
@@ -91,6 +91,14 @@ told_rows =
     User (at_member (codes "waiting")) ∷
     told_row (gauge (codes "cfdp_queue_capacity_bundles") (codes "Bundles that a user's queue can hold."))
     User (at_member (codes "capacity")) ∷
+    told_row (gauge (codes "cfdp_parked_datagrams") (codes "Datagrams that wait until their lane can take them."))
+    Parked (at_member (codes "datagrams")) ∷
+    told_row (gauge (codes "cfdp_parked_transactions") (codes "Transactions of which datagrams wait for a lane."))
+    Parked (at_member (codes "transactions")) ∷
+    told_row (gauge (codes "cfdp_parked_octets") (codes "Room that the datagrams that wait for a lane take up."))
+    Parked (at_member (codes "octets")) ∷
+    told_row (counter (codes "cfdp_parked_dropped_total") (codes "Datagrams for a lane that were dropped for want of room."))
+    Parked (at_member (codes "dropped")) ∷
     told_row (gauge (codes "cfdp_remote_held") (codes "Whether sending to a remote entity is held."))
     Remote (at_truth (codes "held")) ∷
     told_row (counter (codes "cfdp_remote_datagrams_received_total") (codes "Datagrams from a remote entity."))

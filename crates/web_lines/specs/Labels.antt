@@ -4,7 +4,7 @@ use Rattle.std.specs.Option.{option_or}
 use Rattle.json.specs.Json.{Json}
 use Rattle.json.specs.Find.{get, as_number, as_str}
 use Rattle.web_lines.specs.declared.kind.Kind.{Kind}
-use Rattle.web_lines.specs.declared.kind.Kind.TheVariants.{Entity, Refusal, Remote, User}
+use Rattle.web_lines.specs.declared.kind.Kind.TheVariants.{Entity, Parked, Refusal, Remote, User}
 use Rattle.web_lines.specs.declared.labels.Label.{Label}
 use Rattle.web_lines.specs.declared.labels.Labels.{Labels}
 use Rattle.web_lines.specs.declared.labels.Labels.TheVariants.{Bare, One, Two}
@@ -50,10 +50,11 @@ entity_labels (at_known name) value = both_labels (label_at (codes "id") (codes 
 entity_labels spot value = Some []
 
 -- the labels of the number at a place of a line: a user's name, a remote entity's number, a refusal's reason with its fault of
--- decoding if it has one; a line that lacks what they say has no number
+-- decoding if it has one, a lane with its user; a line that lacks what they say has no number
 abbrev pub labels_at : Kind → Spot → Json → Option (List SaidLabel)
 labels_at User spot value = one_label (label_at (codes "user") (codes "name") value)
 labels_at Remote spot value = one_label (label_at (codes "remote") (codes "id") value)
 labels_at Refusal spot value = with_label (label_at (codes "reason") (codes "name") value) (label_at (codes "fault") (codes "fault") value)
+labels_at Parked spot value = both_labels (label_at (codes "user") (codes "user") value) (label_at (codes "lane") (codes "lane") value)
 labels_at Entity spot value = entity_labels spot value
 labels_at kind spot value = Some []

@@ -18,6 +18,8 @@ pub enum Kind {
     Queued,
     /// A file that is being read.
     Reading,
+    /// A lane for which datagrams wait, or were dropped.
+    Parked,
 }
 
 impl Kind {
@@ -34,6 +36,7 @@ impl Kind {
             "refusal" => Some(Kind::Refusal),
             "queued" => Some(Kind::Queued),
             "reading" => Some(Kind::Reading),
+            "parked" => Some(Kind::Parked),
             _ => None,
         }
     }
@@ -51,6 +54,7 @@ impl Kind {
             Kind::Refusal => 5,
             Kind::Queued => 6,
             Kind::Reading => 7,
+            Kind::Parked => 8,
         }
     }
 

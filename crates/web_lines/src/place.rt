@@ -2,7 +2,7 @@
 ghost use Rattle.std.specs.Prelude.{◌≡◌, None, codes, option_map, option_and_then};
 ghost use Rattle.json.specs.Find.{as_bool, get};
 ghost use Rattle.json.specs.Value.{value_view};
-ghost use Rattle.web_lines.specs.Labels.{entity_labels, label_at, labels_at, one_label, said_label, said_labels, with_label};
+ghost use Rattle.web_lines.specs.Labels.{both_labels, entity_labels, label_at, labels_at, one_label, said_label, said_labels, with_label};
 ghost use Rattle.web_lines.specs.Numbers.{IsNumberAt, IsWholeNumber, bit, spot_of};
 
 use crate::kind::Kind;
@@ -94,6 +94,7 @@ pub(crate) fn labels_in<'a>(value: &Value<'a>, kind: Kind, place: Place) -> Opti
         Kind::User => one_label(label_in(value, "user", "name")),
         Kind::Remote => one_label(label_in(value, "remote", "id")),
         Kind::Refusal => refusal_labels(value),
+        Kind::Parked => lane_labels(value),
         Kind::Entity => entity_labels(value, place),
         _ => Some(Labels::Bare),
     }
@@ -119,6 +120,16 @@ fn refusal_labels<'a>(value: &Value<'a>) -> Option<Labels<'a>>
         Some(fault) => Some(Labels::Two(reason, fault)),
         None => Some(Labels::One(reason)),
     }
+}
+
+// A lane and its user.
+fn lane_labels<'a>(value: &Value<'a>) -> Option<Labels<'a>>
+    ensures { option_map said_labels result
+        ≡ both_labels (label_at (codes "user") (codes "user") (value_view value.now)) (label_at (codes "lane") (codes "lane") (value_view value.now)) }
+{
+    let user = label_in(value, "user", "user")?;
+    let lane = label_in(value, "lane", "lane")?;
+    Some(Labels::Two(user, lane))
 }
 
 // The entity's number and its version, for the family that has its version.

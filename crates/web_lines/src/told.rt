@@ -2,7 +2,7 @@
 use crate::families::Family;
 use crate::families::Family::{Counter, Gauge};
 use crate::kind::Kind;
-use crate::kind::Kind::{Entity, Log, Refusal, Remote, User};
+use crate::kind::Kind::{Entity, Log, Parked, Refusal, Remote, User};
 use crate::place::Place;
 use crate::place::Place::{Counted, Known, Member, Truth};
 
@@ -11,7 +11,7 @@ use crate::place::Place::{Counted, Known, Member, Truth};
 pub(crate) struct Told(pub(crate) Family, pub(crate) Kind, pub(crate) Place);
 
 /// The families whose numbers stand in lines.
-pub(crate) const TOLD: [Told; 29] = [
+pub(crate) const TOLD: [Told; 33] = [
     Told(
         Gauge(
             "cfdp_entity_info",
@@ -157,6 +157,38 @@ pub(crate) const TOLD: [Told; 29] = [
         ),
         User,
         Member("capacity"),
+    ),
+    Told(
+        Gauge(
+            "cfdp_parked_datagrams",
+            "Datagrams that wait until their lane can take them.",
+        ),
+        Parked,
+        Member("datagrams"),
+    ),
+    Told(
+        Gauge(
+            "cfdp_parked_transactions",
+            "Transactions of which datagrams wait for a lane.",
+        ),
+        Parked,
+        Member("transactions"),
+    ),
+    Told(
+        Gauge(
+            "cfdp_parked_octets",
+            "Room that the datagrams that wait for a lane take up.",
+        ),
+        Parked,
+        Member("octets"),
+    ),
+    Told(
+        Counter(
+            "cfdp_parked_dropped_total",
+            "Datagrams for a lane that were dropped for want of room.",
+        ),
+        Parked,
+        Member("dropped"),
     ),
     Told(
         Gauge(

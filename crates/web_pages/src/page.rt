@@ -67,6 +67,8 @@ footer { max-width: 1600px; margin: 24px auto; padding: 0 16px; color: var(--dim
 <div class="scroll" tabindex="0" role="region" aria-labelledby="h-outbox"><table id="outbox"></table></div></section>
 <section aria-labelledby="h-reading"><h2 id="h-reading">Files being read</h2>
 <div class="scroll" tabindex="0" role="region" aria-labelledby="h-reading"><table id="reading"></table></div></section>
+<section id="s-parked" class="hidden" aria-labelledby="h-parked"><h2 id="h-parked">Parked</h2>
+<div class="scroll" tabindex="0" role="region" aria-labelledby="h-parked"><table id="parked"></table></div></section>
 <section aria-labelledby="h-refusals"><h2 id="h-refusals">Refusals</h2>
 <div class="scroll" tabindex="0" role="region" aria-labelledby="h-refusals"><table id="refusals"></table></div></section>
 </div>
@@ -240,6 +242,11 @@ const outbox = new Table("outbox", [
   ["", buttons(q => [["Drop", "drop " + number(q, "number"), "file " + number(q, "number") + " of the outbox"]])]
 ], "The outbox is empty.");
 const reading = new Table("reading", [["Since", plain(r => moment(r.since))], ["File", named(r => text(r, "file"))]], "No file is being read.");
+const parked = new Table("parked", [
+  ["User", plain(p => p.user)], ["Lane", plain(p => number(p, "lane"))], ["Datagrams", plain(p => number(p, "datagrams"))],
+  ["Transactions", plain(p => number(p, "transactions"))], ["Octets", plain(p => octets(p.octets))],
+  ["Dropped", tinted(p => [number(p, "dropped"), p.dropped > 0 ? "bad" : ""])], ["Since", plain(p => moment(p.since))]
+], "No datagram is parked.");
 const refusals = new Table("refusals", [
   ["Refusal", plain(r => r.number + " " + r.name + (r.fault === undefined ? "" : ", fault " + r.fault))], ["Count", plain(r => String(r.count))],
   ["Last", plain(r => moment(r.last))], ["From", plain(r => r.from || "")], ["Octets", named(r => r.octets || "")]
@@ -281,6 +288,8 @@ function show(all) {
   remotes.show(all.remotes, r => number(r, "id"));
   outbox.show(all.outbox, q => number(q, "number"));
   reading.show(all.reading, r => r.since + " " + text(r, "file"));
+  parked.show(all.parked, p => p.user + " " + number(p, "lane"));
+  at("s-parked").classList.toggle("hidden", all.parked.length === 0);
   refusals.show(all.refusals, r => r.number + "." + r.fault);
   const c = entity.counters || {}, log = all.logs[0];
   at("title").textContent = "CFDP entity " + number(entity, "id");

@@ -1,0 +1,118 @@
+//! Uses up numbers that lag behind those used toward an entity, so that files can go to it.
+use crate::commands::Server;
+use crate::places::Places;
+use crate::readiness::Skip;
+use cfdp_types::{Class, EntityId, PutFault, PutRequest, TxnKey};
+use entity_routing::Request;
+use entity_workers::Filestore;
+use program_station::{Preparing, flat};
+use shared_lanes::{Names, NoGate};
+use std::alloc::{AllocError, Global};
+use std::rt::Files;
+use std::sync::Wait;
+use std::time::Clock;
+
+// How many numbers are used up in a turn at most.
+const SKIPS: usize = 32;
+
+// The names of what is put and never sent.
+const NOTHING: &[u8] = b"nothing";
+
+/// A transaction that was opened to use up its number, and has to be abandoned.
+#[derive(Clone, Copy, Debug, PartialEq, Eq)]
+pub(crate) struct Opened {
+    user: usize,
+    key: TxnKey,
+}
+
+impl<
+    'a,
+    N: Names,
+    R: Wait + Clock + Files + AllocGlobal + Copy + Drop,
+    S: Filestore + Preparing + Places + Drop,
+> Server<'a, N, R, S> {
+    /// Uses up numbers of a lane, up to the next one that may go, where a file waits for nothing else; whether it used any.
+    pub(crate) fn skip_some(&mut self, now: u64) -> bool {
+        let Some(skip) = self.readiness.skip() else {
+            return false;
+        };
+        let mut count = 0u64;
+        for _ in 0..SKIPS {
+            if !self.readiness.is_lagging(skip) || !self.skip_one(skip) {
+                break;
+            }
+            count = count.saturating_add(1);
+            self.look_at_lanes();
+        }
+        if count == 0 {
+            return false;
+        }
+        let next = self.readiness.next_of(skip.user, skip.lane);
+        self.audience
+            .reports
+            .skip(skip.user, skip.destination, count, next);
+        self.outgoing.try_from(now);
+        true
+    }
+
+    // Opens a transaction in a lane and abandons it, before anything of it is sent; whether it did.
+    fn skip_one(&mut self, skip: Skip) -> bool {
+        if !self.covers() {
+            return false;
+        }
+        let Ok(nothing) = nothing_to(self.alloc, skip.destination) else {
+            return false;
+        };
+        let Some(key) = self.ask_quietly(skip.user, Request::Put(skip.lane, nothing)) else {
+            return false;
+        };
+        if let Some(numbers) = &mut self.numbers {
+            numbers.note_put(key);
+        }
+        self.opened = Some(Opened {
+            user: skip.user,
+            key,
+        });
+        self.abandon_opened()
+    }
+
+    /// Abandons the transaction that was opened to use up its number, if it wasn't abandoned yet; whether none is left.
+    pub(crate) fn abandon_opened(&mut self) -> bool {
+        if let Some(Opened { user, key }) = self.opened {
+            if self.ask_quietly(user, Request::Abandon(key)).is_none() {
+                return false;
+            }
+            self.opened = None;
+        }
+        true
+    }
+
+    // Asks the entity for something that no user asked for. None if it is refused.
+    fn ask_quietly(&mut self, user: usize, request: Request) -> Option<TxnKey> {
+        let entity = self.station.entity();
+        if !entity.may_request(user, &request) {
+            return None;
+        }
+        match flat(entity.request(self.rt, &NoGate, user, request)) {
+            Ok(done) => {
+                let key = done.key;
+                self.station.settle_own(done);
+                Some(key)
+            }
+            Err(_) => None,
+        }
+    }
+}
+
+// A Put of nothing.
+fn nothing_to(alloc: Global, destination: EntityId) -> Result<PutRequest, PutFault> {
+    PutRequest::new(
+        alloc,
+        destination,
+        Class::One,
+        NOTHING,
+        NOTHING,
+        &[],
+        &[],
+    )
+}

@@ -1,0 +1,133 @@
+//! What a worker does with parked datagrams.
+use entity_config::Config;
+use entity_routing::place_of_key;
+use entity_workers::{Message, message_of};
+use program_desk::{Step, moment, wall_moment};
+use program_lot::{Handed, Lot, ParkEnd, address_of, may_wait};
+use shared_entity::EntityRefusal;
+use std::alloc::Global;
+use std::sync::Wait;
+use std::time::Clock;
+
+/// Whether a datagram is parked only behind others of its lane, or in any case.
+#[derive(Clone, Copy, Debug, PartialEq, Eq)]
+pub(crate) enum Crowd {
+    Wanted,
+    Any,
+}
+
+/// The lot of a worker, where there is one, and the datagram that the worker took from it to be handed in.
+#[derive(Drop)]
+pub(crate) struct WorkersLot<'a> {
+    alloc: Global,
+    config: &'a Config,
+    lot: Option<&'a Lot>,
+    handed: Option<Handed>,
+}
+
+impl<'a> WorkersLot<'a> {
+    /// Without a datagram that is handed in.
+    pub(crate) fn new(alloc: Global, config: &'a Config, lot: Option<&'a Lot>) -> WorkersLot<'a> {
+        WorkersLot {
+            alloc,
+            config,
+            lot,
+            handed: None,
+        }
+    }
+
+    /// Whether anything waits. Takes no lock.
+    pub(crate) fn is_occupied(&self) -> bool {
+        match self.lot {
+            Some(lot) => lot.is_occupied(),
+            None => false,
+        }
+    }
+
+    /// Whether a datagram that is refused like this is kept.
+    pub(crate) fn may_wait(&self, refusal: &EntityRefusal) -> bool {
+        match self.lot {
+            Some(lot) => may_wait(lot.takes(), refusal),
+            None => false,
+        }
+    }
+
+    /// The octets of the datagram that is handed in, if there is one.
+    pub(crate) fn handed_octets(&self) -> Option<&[u8]> {
+        match &self.handed {
+            Some(handed) => Some(handed.octets.as_slice()),
+            None => None,
+        }
+    }
+
+    /// Takes a datagram to be handed in, of a lane that was heard of.
+    pub(crate) fn next_message<R: Wait + Clock>(&mut self, rt: &R) -> Option<Message> {
+        let lot = self.lot?;
+        if !lot.is_ready() {
+            return None;
+        }
+        let handed = lot.lend(rt, 0)?;
+        match message_of(self.alloc, handed.octets.as_slice()) {
+            Ok(message) => {
+                self.handed = Some(handed);
+                Some(message)
+            }
+            Err(_) => {
+                lot.settle(rt, handed, false, moment(rt));
+                None
+            }
+        }
+    }
+
+    /// Parks a datagram. None where it isn't parked: it goes to no lane, or nothing waits before it and that is wanted.
+    pub(crate) fn park<R: Wait + Clock>(
+        &self,
+        rt: &R,
+        octets: &[u8],
+        crowd: Crowd,
+    ) -> Option<ParkEnd> {
+        let lot = self.lot?;
+        let address = address_of(self.alloc, self.config, octets)?;
+        if crowd == Crowd::Wanted && !lot.is_crowded(rt, address) {
+            return None;
+        }
+        Some(lot.park(rt, address, octets, wall_moment(rt), moment(rt)))
+    }
+
+    /// The datagram that was handed in, if there is one, stays where it was; answers whether there was one.
+    pub(crate) fn put_back<R: Wait + Clock>(&mut self, rt: &R) -> bool {
+        self.end(rt, false)
+    }
+
+    /// The datagram that was handed in, if there is one, was taken or refused for good.
+    pub(crate) fn settle<R: Wait + Clock>(&mut self, rt: &R) {
+        let _was_parked = self.end(rt, true);
+    }
+
+    fn end<R: Wait + Clock>(&mut self, rt: &R, is_taken: bool) -> bool {
+        match (self.lot, self.handed.take()) {
+            (Some(lot), Some(handed)) => {
+                lot.settle(rt, handed, is_taken, moment(rt));
+                true
+            }
+            _ => false,
+        }
+    }
+
+    /// Hears of a step. One that arms no timer may have ended its transaction, so what waits for its lane may be handed in.
+    pub(crate) fn hear<R: Wait>(&self, rt: &R, step: &Step) {
+        if let Some(lot) = self.lot {
+            hear_step(rt, lot, self.config, step);
+        }
+    }
+}
+
+/// Has what waits for a step's lane handed in, if the step may have ended its transaction.
+pub(crate) fn hear_step<R: Wait>(rt: &R, lot: &Lot, config: &Config, step: &Step) {
+    if lot.is_occupied()
+        && step.soonest() == u64::MAX
+        && let Ok(place) = place_of_key(config, step.key)
+    {
+        lot.poke(rt, place);
+    }
+}
