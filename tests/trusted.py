@@ -133,8 +133,8 @@ what a line of a server's commands asks for, and what of it is left at the desk:
 options and words of the programs; numbers on a command line: program_words/Lines Numbers
 turns of files, timers and deposits; what becomes of a refusal: program_agenda/Turns Fates program_station/Obstacles
 the pace of what leaves, and its law: program_agenda/Paces PaceLaws
-datagrams that wait for their lane, their room, and the laws of both: program_parking/Lanes Parkings ParkingLaws program_lot/Waits
-which number begins next toward an entity, and its law: program_lineup/Lineups LineupLaws
+datagrams that wait for their lane, their room, and the laws of both: program_parking/Lanes Parkings parking_laws/ParkingLaws program_lot/Waits
+which number begins next toward an entity, and its law; with how many lanes files don't wait: program_lineup/Lineups Counts lineup_laws/LineupLaws
 where a PDU goes, how far its data reaches; when a step's timers expire: program_udp/Peers Reaches program_desk/Steps
 what a program prints for a fault: program_start/Faults
 what the server prints of an answer; exit status and progress of a put: cfdp_serve/Answers cfdp_send/Ended Progress

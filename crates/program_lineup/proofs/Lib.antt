@@ -1,2 +1,1 @@
-pub mod OrderFacts
 pub mod LineupRows

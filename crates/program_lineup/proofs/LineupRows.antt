@@ -4,8 +4,8 @@ use Rattle.program_lineup.specs.declared.choice.Choice.TheVariants.{Goes, Skips,
 use Rattle.program_lineup.specs.declared.choice.Standing.TheVariants.{Free, Awaits, Lags}
 use Rattle.program_lineup.specs.declared.sending_lane.Running.{Running}
 use Rattle.program_lineup.specs.declared.sending_lane.SendingLane.{SendingLane}
+use Rattle.program_lineup.specs.Counts.{better_counts, is_shared}
 use Rattle.program_lineup.specs.Lineups.{Numbers, choice, standing, unused, used}
-use Rattle.program_lineup.specs.LineupLaws.{AreMoves, begins, ends, run_of}
 
 -- an entity with four receiving lanes, toward which 5 and 6 were used; and one that takes any numbers
 abbrev pub four : Numbers
@@ -66,6 +66,30 @@ all_lag = refl
 none_idle : choice 0 four (runs 0 12 9 8 ∷ idle 1 9 ∷ []) ≡ Waits
 none_idle = refl
 
--- a run whose second transaction begins behind the end of the first
-two_in_turn : AreMoves four (begins (idle 0 13 ∷ []) 13 ∷ ends 9 ∷ begins (idle 0 9 ∷ []) 9 ∷ [])
-two_in_turn = ((refl, tt), (tt, ((refl, tt), tt)))
+-- with eight receiving lanes the numbers of sending lanes that share none
+of_eight : better_counts 8 ≡ 1 ∷ 2 ∷ 4 ∷ 8 ∷ []
+of_eight = refl
+
+of_six : better_counts 6 ≡ 1 ∷ 2 ∷ 3 ∷ 6 ∷ []
+of_six = refl
+
+of_none : better_counts 0 ≡ []
+of_none = refl
+
+up_to_64 : better_counts 96 ≡ 1 ∷ 2 ∷ 3 ∷ 4 ∷ 6 ∷ 8 ∷ 12 ∷ 16 ∷ 24 ∷ 32 ∷ 48 ∷ []
+up_to_64 = refl
+
+six_share : is_shared 6 8 ≡ true
+six_share = refl
+
+twice_shares : is_shared 16 8 ≡ true
+twice_shares = refl
+
+four_are_apart : is_shared 4 8 ≡ false
+four_are_apart = refl
+
+any_number : is_shared 6 0 ≡ false
+any_number = refl
+
+no_sender : is_shared 0 8 ≡ false
+no_sender = refl

@@ -1,2 +1,2 @@
 pub mod Lineups
-pub mod LineupLaws
+pub mod Counts

@@ -2,10 +2,11 @@
 #![tactic(auto)]
 
 mod choice;
-pub mod laws;
+mod counts;
 mod lineup;
 mod sending_lane;
 
 pub use choice::{Choice, Standing};
+pub use counts::{MOST_COUNT, better_counts, is_shared};
 pub use lineup::Lineup;
 pub use sending_lane::{Running, SendingLane};

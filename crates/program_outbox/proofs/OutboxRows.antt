@@ -1,8 +1,8 @@
 -- Whose turn it is, computed.
 use Rattle.std.proofs.Common.{◌≡◌, ℕ, Bool, true, false, List, [], ◌∷◌, Some, None, refl}
-use Rattle.cfdp_types.specs.declared.key.EntityId.{EntityId}
 use Rattle.cfdp_types.specs.declared.names.Class.TheVariants.{Two}
 use Rattle.program_outbox.specs.declared.outbox.OutboxFile.{OutboxFile}
+use Rattle.program_outbox.specs.declared.outbox.Stop.{Stop}
 use Rattle.program_outbox.specs.declared.outbox.Waiting.{Waiting}
 use Rattle.program_outbox.specs.Outboxes.{OutboxValue, first_turns, going, after_going, withdrawn, queued, number_place}
 
@@ -20,9 +20,12 @@ two_users = record { waiting = waiting 1 0 7 ∷ waiting 2 0 8 ∷ waiting 3 1 7
 abbrev pub both : List Bool
 both = true ∷ true ∷ []
 
--- an entity that is held
-abbrev pub held : ℕ → List EntityId
-held entity = record { 0 = entity } ∷ []
+-- nothing of a user goes to an entity; nothing of both users does
+abbrev pub stop : ℕ → ℕ → Stop
+stop user entity = record { user = user; destination = record { 0 = entity } }
+
+abbrev pub held : ℕ → List Stop
+held entity = stop 0 entity ∷ stop 1 entity ∷ []
 
 -- the first user's first file goes, and then it is the second user's turn
 first_goes : going both [] two_users ≡ Some (waiting 1 0 7)
@@ -50,6 +53,19 @@ held_then = refl
 
 held_turns : (after_going both (held 7) two_users).turns ≡ 1 ∷ 0 ∷ []
 held_turns = refl
+
+-- where one user's files to the entity wait, those of the other go there
+stopped_waits : going both (stop 0 7 ∷ []) two_users ≡ Some (waiting 2 0 8)
+stopped_waits = refl
+
+other_user_goes : going both (stop 0 7 ∷ stop 0 8 ∷ []) two_users ≡ Some (waiting 3 1 7)
+other_user_goes = refl
+
+not_its_stop : going both (stop 1 7 ∷ []) two_users ≡ Some (waiting 1 0 7)
+not_its_stop = refl
+
+no_turn_lost : (after_going both (stop 0 7 ∷ stop 0 8 ∷ []) two_users).turns ≡ 0 ∷ 1 ∷ []
+no_turn_lost = refl
 
 -- what is withdrawn is gone, and its user's next file goes
 withdrawn_is_gone : going both [] (withdrawn 1 two_users) ≡ Some (waiting 2 0 8)

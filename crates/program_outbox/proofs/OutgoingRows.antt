@@ -2,7 +2,7 @@
 use Rattle.std.proofs.Common.{◌≡◌, true, false, [], ◌∷◌, Some, None, refl}
 use Rattle.program_outbox.specs.declared.outbox.OutboxFile.{OutboxFile}
 use Rattle.program_outbox.specs.Outgoings.{OutgoingValue, begun, file_count, given_back, is_due, later, moment_until, named, next_file, queued_at, without_named}
-use Rattle.program_outbox.proofs.OutboxRows.{both, held, two_users, waiting}
+use Rattle.program_outbox.proofs.OutboxRows.{both, held, stop, two_users, waiting}
 
 -- the files of two users wait, and one file of the second user came back, to be tried again from moment 50 on
 abbrev one_back : OutgoingValue
@@ -59,6 +59,12 @@ the_free_one = refl
 
 not_the_held_one : next_file 50 both (held 8) two_back ≡ Some (waiting 6 0 7)
 not_the_held_one = refl
+
+not_the_stopped_one : next_file 50 both (stop 1 8 ∷ stop 1 7 ∷ []) two_back ≡ Some (waiting 6 0 7)
+not_the_stopped_one = refl
+
+of_the_other_user : next_file 50 both (stop 0 8 ∷ []) two_back ≡ Some (waiting 9 1 8)
+of_the_other_user = refl
 
 the_other_is_left : (begun 50 both (held 8) two_back).returned ≡ waiting 9 1 8 ∷ []
 the_other_is_left = refl

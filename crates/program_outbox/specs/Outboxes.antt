@@ -3,6 +3,7 @@ use Rattle.std.specs.Prelude.{ℕ, ◌+◌, ◌==◌, ◌&&◌, Bool, false, not
 use Rattle.std.specs.List.{remove, list_any, range_with_len}
 use Rattle.cfdp_types.specs.declared.key.EntityId.{EntityId}
 use Rattle.program_outbox.specs.declared.outbox.OutboxFile.{OutboxFile}
+use Rattle.program_outbox.specs.declared.outbox.Stop.{Stop}
 use Rattle.program_outbox.specs.declared.outbox.Waiting.{Waiting}
 
 -- files in the order in which they came; users in the order of their turns; the number that the next file gets
@@ -22,13 +23,13 @@ abbrev pub without_place : {A : Type 0} → Option ℕ → List A → List A
 without_place None items = items
 without_place (Some place) items = remove items place
 
--- the link to an entity is held
-abbrev pub is_held : List EntityId → EntityId → Bool
-is_held held destination = list_any (λ id. id.0 == destination.0) held
+-- nothing of a user goes to an entity
+abbrev pub is_stopped : List Stop → ℕ → EntityId → Bool
+is_stopped stops user destination = list_any (λ stop. (stop.user == user) && (stop.destination.0 == destination.0)) stops
 
--- a file is this user's, and the link to its entity isn't held
-abbrev pub is_free : List EntityId → ℕ → Waiting → Bool
-is_free held user file = (file.user == user) && not (is_held held file.file.destination)
+-- a file is this user's, and the user's files to its entity may go
+abbrev pub is_free : List Stop → ℕ → Waiting → Bool
+is_free stops user file = (file.user == user) && not (is_stopped stops user file.file.destination)
 
 -- a file has a number
 abbrev pub has_number : ℕ → Waiting → Bool
@@ -43,12 +44,12 @@ is_idle idle user = said (slice_get idle user)
     said (Some word) = word
 
 -- a user has an idle lane and a file that can be sent
-abbrev pub can_go : List Bool → List EntityId → List Waiting → ℕ → Bool
-can_go idle held waiting user = is_idle idle user && list_any (is_free held user) waiting
+abbrev pub can_go : List Bool → List Stop → List Waiting → ℕ → Bool
+can_go idle stops waiting user = is_idle idle user && list_any (is_free stops user) waiting
 
 -- whose turn it is: the place of the first user who has a file that can be sent
-abbrev pub turn_place : List Bool → List EntityId → OutboxValue → Option ℕ
-turn_place idle held outbox = position (can_go idle held outbox.waiting) outbox.turns
+abbrev pub turn_place : List Bool → List Stop → OutboxValue → Option ℕ
+turn_place idle stops outbox = position (can_go idle stops outbox.waiting) outbox.turns
 
 -- ---- the effect of each call
 
@@ -63,24 +64,24 @@ queued user file outbox = record outbox {
   next = outbox.next + 1;
 }
 
--- the place of a user's first file to an entity whose link isn't held
-abbrev pub place_of_user : List EntityId → Option ℕ → List Waiting → Option ℕ
-place_of_user held None waiting = None
-place_of_user held (Some user) waiting = position (is_free held user) waiting
+-- the place of a user's first file that may go
+abbrev pub place_of_user : List Stop → Option ℕ → List Waiting → Option ℕ
+place_of_user stops None waiting = None
+place_of_user stops (Some user) waiting = position (is_free stops user) waiting
 
 -- the place of the file to be sent: such a file of the user whose turn it is
-abbrev pub going_place : List Bool → List EntityId → OutboxValue → Option ℕ
-going_place idle held outbox =
-    place_of_user held (at_place (turn_place idle held outbox) outbox.turns) outbox.waiting
+abbrev pub going_place : List Bool → List Stop → OutboxValue → Option ℕ
+going_place idle stops outbox =
+    place_of_user stops (at_place (turn_place idle stops outbox) outbox.turns) outbox.waiting
 
 -- the file to be sent, and the outbox without it; that user's next turn is after all others
-abbrev pub going : List Bool → List EntityId → OutboxValue → Option Waiting
-going idle held outbox = at_place (going_place idle held outbox) outbox.waiting
+abbrev pub going : List Bool → List Stop → OutboxValue → Option Waiting
+going idle stops outbox = at_place (going_place idle stops outbox) outbox.waiting
 
-abbrev pub after_going : List Bool → List EntityId → OutboxValue → OutboxValue
-after_going idle held outbox = record outbox {
-  waiting = without_place (going_place idle held outbox) outbox.waiting;
-  turns = without_place (turn_place idle held outbox) outbox.turns ++ option_to_list (at_place (turn_place idle held outbox) outbox.turns);
+abbrev pub after_going : List Bool → List Stop → OutboxValue → OutboxValue
+after_going idle stops outbox = record outbox {
+  waiting = without_place (going_place idle stops outbox) outbox.waiting;
+  turns = without_place (turn_place idle stops outbox) outbox.turns ++ option_to_list (at_place (turn_place idle stops outbox) outbox.turns);
 }
 
 -- the place of the file with this number, and the outbox without it

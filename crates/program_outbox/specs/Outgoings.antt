@@ -1,10 +1,10 @@
 -- Meaning. The outbox with its files on their way: the one that is being read, and those that couldn't be put yet.
 use Rattle.std.specs.Prelude.{ℕ, ◌+◌, ◌==◌, ◌&&◌, ◌||◌, Bool, true, false, not, if◌then◌else◌, nat_le, is_some, min, length, List, ◌++◌, Option, Some, None, position, option_to_list}
 use Rattle.std.specs.Option.{option_or}
-use Rattle.cfdp_types.specs.declared.key.EntityId.{EntityId}
 use Rattle.program_outbox.specs.declared.outbox.OutboxFile.{OutboxFile}
+use Rattle.program_outbox.specs.declared.outbox.Stop.{Stop}
 use Rattle.program_outbox.specs.declared.outbox.Waiting.{Waiting}
-use Rattle.program_outbox.specs.Outboxes.{OutboxValue, after_going, at_place, going, has_number, is_held, is_idle, number_place, queued, withdrawn, without_place}
+use Rattle.program_outbox.specs.Outboxes.{OutboxValue, after_going, at_place, going, has_number, is_idle, is_stopped, number_place, queued, withdrawn, without_place}
 
 -- files whose turn has not come; the file that is being read, unless it was withdrawn meanwhile; whether one is being read;
 -- files that came back, in the order in which they did; the moments before which none is tried, and none that came back
@@ -67,24 +67,24 @@ is_due now o = nat_le o.outbox_due now && has_waiting o
 abbrev pub moment_until : ℕ → OutgoingValue → ℕ
 moment_until until o = if has_waiting o then min until o.outbox_due else until
 
--- a file's user has an idle lane, and the link to its entity isn't held
-abbrev pub can_leave : List Bool → List EntityId → Waiting → Bool
-can_leave idle held file = is_idle idle file.user && not (is_held held file.file.destination)
+-- a file's user has an idle lane, and its files to the entity may go
+abbrev pub can_leave : List Bool → List Stop → Waiting → Bool
+can_leave idle stops file = is_idle idle file.user && not (is_stopped stops file.user file.file.destination)
 
 -- the place of the first file that came back and can leave, if these are tried
-abbrev pub returned_place : Bool → List Bool → List EntityId → List Waiting → Option ℕ
-returned_place false idle held returned = None
-returned_place true idle held returned = position (can_leave idle held) returned
+abbrev pub returned_place : Bool → List Bool → List Stop → List Waiting → Option ℕ
+returned_place false idle stops returned = None
+returned_place true idle stops returned = position (can_leave idle stops) returned
 
 -- the file whose turn it is: one that waits, or else one that came back
-abbrev pub turn_of : Bool → List Bool → List EntityId → OutboxValue → List Waiting → Option Waiting
-turn_of tried idle held outbox returned =
-    option_or (going idle held outbox) (at_place (returned_place tried idle held returned) returned)
+abbrev pub turn_of : Bool → List Bool → List Stop → OutboxValue → List Waiting → Option Waiting
+turn_of tried idle stops outbox returned =
+    option_or (going idle stops outbox) (at_place (returned_place tried idle stops returned) returned)
 
 -- those that came back, without it
-abbrev pub left_of : Bool → List Bool → List EntityId → OutboxValue → List Waiting → List Waiting
-left_of tried idle held outbox returned =
-    if is_some (going idle held outbox) then returned else without_place (returned_place tried idle held returned) returned
+abbrev pub left_of : Bool → List Bool → List Stop → OutboxValue → List Waiting → List Waiting
+left_of tried idle stops outbox returned =
+    if is_some (going idle stops outbox) then returned else without_place (returned_place tried idle stops returned) returned
 
 -- those that came back are tried at this moment
 abbrev pub are_tried : ℕ → OutgoingValue → Bool
@@ -95,17 +95,17 @@ abbrev pub later : ℕ → ℕ → ℕ
 later now ms = min (now + ms) 18446744073709551615
 
 -- the file that is read next, unless one is being read
-abbrev pub next_file : ℕ → List Bool → List EntityId → OutgoingValue → Option Waiting
-next_file now idle held o = if o.is_reading then None else turn_of (are_tried now o) idle held o.outbox o.returned
+abbrev pub next_file : ℕ → List Bool → List Stop → OutgoingValue → Option Waiting
+next_file now idle stops o = if o.is_reading then None else turn_of (are_tried now o) idle stops o.outbox o.returned
 
 -- it is being read from then on; where there is none, files are tried again ten milliseconds later
-abbrev pub begun : ℕ → List Bool → List EntityId → OutgoingValue → OutgoingValue
-begun now idle held o = if o.is_reading then o else record o {
-  outbox = after_going idle held o.outbox;
-  returned = left_of (are_tried now o) idle held o.outbox o.returned;
-  reading = next_file now idle held o;
-  is_reading = is_some (next_file now idle held o);
-  outbox_due = if is_some (next_file now idle held o) then o.outbox_due else later now 10;
+abbrev pub begun : ℕ → List Bool → List Stop → OutgoingValue → OutgoingValue
+begun now idle stops o = if o.is_reading then o else record o {
+  outbox = after_going idle stops o.outbox;
+  returned = left_of (are_tried now o) idle stops o.outbox o.returned;
+  reading = next_file now idle stops o;
+  is_reading = is_some (next_file now idle stops o);
+  outbox_due = if is_some (next_file now idle stops o) then o.outbox_due else later now 10;
 }
 
 -- the file that was read comes back, after all others that did, and none of them is tried for a second

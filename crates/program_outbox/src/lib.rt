@@ -4,5 +4,5 @@
 mod outbox;
 mod outgoing;
 
-pub use outbox::{MOST_FILES, Outbox, OutboxFault, OutboxFile, Waiting};
+pub use outbox::{MOST_FILES, Outbox, OutboxFault, OutboxFile, Stop, Waiting};
 pub use outgoing::Outgoing;

@@ -1,6 +1,6 @@
 ghost use Rattle.std.specs.Prelude.{◌≡◌, ◌≤◌, ◌<◌, ◌↔◌, ◌⊎◌, [], IfOk, IfSome, OnErr, Err, ◌+◌, length, option_to_list, position, true};
 ghost use Rattle.std.specs.List.{list_any};
-ghost use Rattle.program_outbox.specs.Outboxes.{after_going, at_place, can_go, first_turns, going, has_number, is_free, is_held, is_idle, number_place, queued, withdrawn};
+ghost use Rattle.program_outbox.specs.Outboxes.{after_going, at_place, can_go, first_turns, going, has_number, is_free, is_idle, is_stopped, number_place, queued, withdrawn};
 
 use cfdp_types::{Class, EntityId, Octets};
 use std::alloc::{AllocError, Global};
@@ -31,6 +31,14 @@ pub struct Waiting {
     /// Its user's number in the configuration.
     pub user: usize,
     pub file: OutboxFile,
+}
+
+/// Nothing of this user goes to this entity now: its link is stops, or no idle sending lane has a number that may go there.
+#[derive(Clone, Copy, Debug, PartialEq, Eq)]
+pub struct Stop {
+    /// The user's number in the configuration.
+    pub user: usize,
+    pub destination: EntityId,
 }
 
 /// Why a file isn't taken into the outbox.
@@ -96,18 +104,18 @@ impl Outbox {
         }
     }
 
-    /// Takes out the next file to be sent. `idle` says for each user whether a lane is idle; nothing goes to the
-    /// entities in `held`. It is the first file to another entity of the user whose turn it is; that user's next turn
-    /// is after all others.
-    pub fn take(&mut self, idle: &[bool], held: &[EntityId]) -> Option<Waiting>
-        ensures file { result ≡ going idle.now held.now self.old }
-        ensures rest { self.new ≡ after_going idle.now held.now self.old }
+    /// Takes out the next file to be sent. `idle` says for each user whether a lane is idle, and `stops` which user's files
+    /// don't go to which entity. It is the first file that may go of the user whose turn it is; that user's next turn is after
+    /// all others.
+    pub fn take(&mut self, idle: &[bool], stops: &[Stop]) -> Option<Waiting>
+        ensures file { result ≡ going idle.now stops.now self.old }
+        ensures rest { self.new ≡ after_going idle.now stops.now self.old }
         ensures count { length self.new.waiting + length (option_to_list result) ≡ length self.old.waiting }
     {
-        let turn = turn_place(&self.turns, &self.waiting, idle, held)?;
+        let turn = turn_place(&self.turns, &self.waiting, idle, stops)?;
         let user = self.turns.remove(turn);
         self.turns.push_reserved(user);
-        let place = place_of(&self.waiting, held, user)?;
+        let place = place_of(&self.waiting, stops, user)?;
         Some(self.waiting.remove(place))
     }
 
@@ -138,55 +146,50 @@ pub(crate) fn is_idle(idle: &[bool], user: usize) -> bool
     }
 }
 
-/// Whether the link to an entity is held.
-pub(crate) fn is_held(held: &[EntityId], destination: EntityId) -> bool
-    ensures { result ≡ is_held held.now destination }
+/// Whether nothing of a user goes to an entity.
+pub(crate) fn is_stopped(stops: &[Stop], user: usize, destination: EntityId) -> bool
+    ensures { result ≡ is_stopped stops.now user destination }
 {
-    held.iter().any(|id| id.0 == destination.0)
+    stops.iter().any(|stop| stop.user == user && stop.destination.0 == destination.0)
 }
 
-// Whether a file is this user's, and the link to its entity isn't held.
-fn is_free(held: &[EntityId], user: usize, one: &Waiting) -> bool
-    ensures { result ≡ is_free held.now user one.now }
+// Whether a file is this user's, and the user's files to its entity may go.
+fn is_free(stops: &[Stop], user: usize, one: &Waiting) -> bool
+    ensures { result ≡ is_free stops.now user one.now }
 {
-    one.user == user && !is_held(held, one.file.destination)
+    one.user == user && !is_stopped(stops, user, one.file.destination)
 }
 
 // Whether a user has an idle lane and a file that can be sent.
-fn can_go(idle: &[bool], held: &[EntityId], waiting: &[Waiting], user: usize) -> bool
-    ensures { result ≡ can_go idle.now held.now waiting.now user }
+fn can_go(idle: &[bool], stops: &[Stop], waiting: &[Waiting], user: usize) -> bool
+    ensures { result ≡ can_go idle.now stops.now waiting.now user }
 {
-    is_idle(idle, user) && has_file(waiting, held, user)
+    is_idle(idle, user) && has_file(waiting, stops, user)
 }
 
-// Whether a user has a file to an entity whose link isn't held.
-fn has_file(waiting: &[Waiting], held: &[EntityId], user: usize) -> bool
-    ensures { result ≡ list_any (is_free held.now user) waiting.now }
+// Whether a user has a file that may go.
+fn has_file(waiting: &[Waiting], stops: &[Stop], user: usize) -> bool
+    ensures { result ≡ list_any (is_free stops.now user) waiting.now }
 {
-    waiting.iter().any(|one| is_free(held, user, one))
+    waiting.iter().any(|one| is_free(stops, user, one))
 }
 
 // The place of the first user who has a file that can be sent.
-fn turn_place(
-    turns: &[usize],
-    waiting: &[Waiting],
-    idle: &[bool],
-    held: &[EntityId],
-) -> Option<usize>
-    ensures place { result ≡ position (can_go idle.now held.now waiting.now) turns.now }
+fn turn_place(turns: &[usize], waiting: &[Waiting], idle: &[bool], stops: &[Stop]) -> Option<usize>
+    ensures place { result ≡ position (can_go idle.now stops.now waiting.now) turns.now }
     ensures range { IfSome result (λ place. place < length turns.now) }
 {
     turns
         .iter()
-        .position(|user| can_go(idle, held, waiting, *user))
+        .position(|user| can_go(idle, stops, waiting, *user))
 }
 
-// The place of a user's first file to an entity whose link isn't held.
-fn place_of(waiting: &[Waiting], held: &[EntityId], user: usize) -> Option<usize>
-    ensures place { result ≡ position (is_free held.now user) waiting.now }
+// The place of a user's first file that may go.
+fn place_of(waiting: &[Waiting], stops: &[Stop], user: usize) -> Option<usize>
+    ensures place { result ≡ position (is_free stops.now user) waiting.now }
     ensures range { IfSome result (λ place. place < length waiting.now) }
 {
-    waiting.iter().position(|one| is_free(held, user, one))
+    waiting.iter().position(|one| is_free(stops, user, one))
 }
 
 /// The place of the file with this number.

@@ -4,9 +4,8 @@ ghost use Rattle.program_outbox.specs.Outboxes.{after_going, first_turns, has_nu
 ghost use Rattle.program_outbox.specs.Outgoings.{begun, can_leave, file_count, given_back, has_waiting, is_due, is_named, moment_until, named, next_file, queued_at, left_of, turn_of, without_named};
 
 use crate::outbox::{
-    MOST_FILES, Outbox, OutboxFault, OutboxFile, Waiting, is_held, is_idle, number_place,
+    MOST_FILES, Outbox, OutboxFault, OutboxFile, Stop, Waiting, is_idle, is_stopped, number_place,
 };
-use cfdp_types::EntityId;
 use std::alloc::{AllocError, Global};
 use std::marker::Model;
 
@@ -175,11 +174,11 @@ impl Outgoing {
     }
 
     /// Has the file read whose turn it is, unless one is being read: one that waits, or else the first one that came back, from
-    /// the moment on at which those are tried; each for a user with an idle lane and an entity that isn't held. Answers whether
-    /// there is one. Where there is none, files are tried again ten milliseconds later.
-    pub fn begin_reading(&mut self, now: u64, idle: &[bool], held: &[EntityId]) -> bool
-        ensures began { result ≡ is_some (next_file now idle.now held.now self.old) }
-        ensures after { self.new ≡ begun now idle.now held.now self.old }
+    /// the moment on at which those are tried; each of a user with an idle lane whose files to its entity aren't stopped. Answers
+    /// whether there is one. Where there is none, files are tried again ten milliseconds later.
+    pub fn begin_reading(&mut self, now: u64, idle: &[bool], stops: &[Stop]) -> bool
+        ensures began { result ≡ is_some (next_file now idle.now stops.now self.old) }
+        ensures after { self.new ≡ begun now idle.now stops.now self.old }
         ensures kept { file_count self.new ≡ file_count self.old }
     {
         if self.is_reading {
@@ -191,7 +190,7 @@ impl Outgoing {
             &mut self.returned,
             tries_returned,
             idle,
-            held,
+            stops,
         );
         self.is_reading = self.reading.is_some();
         if !self.is_reading {
@@ -229,27 +228,28 @@ fn take_turn(
     returned: &mut Vec<Waiting>,
     tries_returned: bool,
     idle: &[bool],
-    held: &[EntityId],
+    stops: &[Stop],
 ) -> Option<Waiting>
-    ensures file { result ≡ turn_of tries_returned idle.now held.now outbox.old returned.old.items }
-    ensures waiting { outbox.new ≡ after_going idle.now held.now outbox.old }
-    ensures returned { returned.new.items ≡ left_of tries_returned idle.now held.now outbox.old returned.old.items }
+    ensures file { result ≡ turn_of tries_returned idle.now stops.now outbox.old returned.old.items }
+    ensures waiting { outbox.new ≡ after_going idle.now stops.now outbox.old }
+    ensures returned { returned.new.items ≡ left_of tries_returned idle.now stops.now outbox.old returned.old.items }
     ensures room { vec_capacity returned.new ≡ vec_capacity returned.old }
     ensures count { length outbox.new.waiting + length returned.new.items + length (option_to_list result)
         ≡ length outbox.old.waiting + length returned.old.items }
 {
-    let waiting = outbox.take(idle, held);
+    let waiting = outbox.take(idle, stops);
     if waiting.is_some() || !tries_returned {
         return waiting;
     }
-    let place = returned_place(returned, idle, held)?;
+    let place = returned_place(returned, idle, stops)?;
     Some(returned.remove(place))
 }
 
 // Where the first file stands, of those that came back, that can leave.
-fn returned_place(returned: &[Waiting], idle: &[bool], held: &[EntityId]) -> Option<usize>
-    ensures place { result ≡ position (can_leave idle.now held.now) returned.now }
+fn returned_place(returned: &[Waiting], idle: &[bool], stops: &[Stop]) -> Option<usize>
+    ensures place { result ≡ position (can_leave idle.now stops.now) returned.now }
     ensures range { IfSome result (λ place. place < length returned.now) }
 {
-    returned.iter().position(|one| is_idle(idle, one.user) && !is_held(held, one.file.destination))
+    returned.iter().position(|one| is_idle(idle, one.user)
+        && !is_stopped(stops, one.user, one.file.destination))
 }

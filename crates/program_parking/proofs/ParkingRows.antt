@@ -3,7 +3,6 @@ use Rattle.std.proofs.Common.{◌≡◌, ℕ, ◌-◌, true, false, List, [], �
 use Rattle.program_parking.specs.declared.parked.Parked.{Parked}
 use Rattle.program_parking.specs.Lanes.{LaneValue, behind, cost, costs, fitting, inserted, is_crowded, lendable, oldest, parked_in, settled, transactions, within, without_number}
 use Rattle.program_parking.specs.Parkings.{ParkingValue, limit, parked, used}
-use Rattle.program_parking.specs.ParkingLaws.{AreMoves, Key, forgets, key_of, lends, line_of, parks, run_of, settles}
 
 -- a datagram of two octets, of a transaction, that came so late
 abbrev pub datagram : ℕ → ℕ → Parked
@@ -79,8 +78,3 @@ one_more = refl
 
 too_late : parked 0 7 60 (1 ∷ []) both ≡ both
 too_late = refl
-
--- a run whose later datagram has the lower number, and comes out first
-lower_first : line_of (run_of (settles true ∷ lends ∷ parks 1000 (datagram 8 1) ∷ parks 1000 (datagram 16 0) ∷ []))
-    ≡ record { number = 8; arrival = 1 } ∷ record { number = 16; arrival = 0 } ∷ []
-lower_first = refl

@@ -4,7 +4,6 @@
 
 mod counted;
 mod lane;
-pub mod laws;
 mod parked;
 mod parking;
 

@@ -6,8 +6,8 @@ use Rattle.std.specs.List.{filter, position_or_len}
 use Rattle.program_parking.specs.declared.parked.Parked.{Parked}
 use Rattle.program_parking.specs.declared.parked.Lent.{Lent}
 use Rattle.program_parking.specs.Lanes.{LaneValue, behind, inserted, is_behind, is_of_other, lendable, within}
-use Rattle.program_parking.specs.ParkingLaws.{AreMoves, IsAmong, IsRising, Key, MayMove, Move, Run, forgets, key_of, key_of_lent, keys_from, lends, line_of, of_number, parks, run_of, run_settled, settles, step, up_to}
-use Rattle.program_parking.proofs.LineFacts.{AreBefore, AreEarly, AreLow, among_filters, among_inserted, among_left, among_right, among_take_drop, apart_drop, apart_filter, apart_inserted, apart_take, are_before_append, behind_before, early_drop, early_filter, early_inserted, early_take, keys, low_append, low_more, rising_append, rising_drop, rising_filter, rising_inserted, rising_take, within_is}
+use Rattle.parking_laws.specs.ParkingLaws.{AreMoves, IsAmong, IsRising, Key, MayMove, Move, Run, forgets, key_of, key_of_lent, keys_from, lends, line_of, of_number, parks, run_of, run_settled, settles, step, up_to}
+use Rattle.parking_laws.proofs.LineFacts.{AreBefore, AreEarly, AreLow, among_filters, among_inserted, among_left, among_right, among_take_drop, apart_drop, apart_filter, apart_inserted, apart_take, are_before_append, behind_before, early_drop, early_filter, early_inserted, early_take, keys, low_append, low_more, rising_append, rising_drop, rising_filter, rising_inserted, rising_take, within_is}
 
 -- of the datagram that is lent: it comes after all that were handed in for good
 abbrev pub IsNext : Option Lent → List Key → ℕ → Type 0

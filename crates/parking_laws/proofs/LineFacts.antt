@@ -6,7 +6,7 @@ use Rattle.std.proofs.lemmas.Bool.Decides.{nat_tests}
 use Rattle.std.specs.List.{filter}
 use Rattle.program_parking.specs.declared.parked.Parked.{Parked}
 use Rattle.program_parking.specs.Lanes.{behind, inserted, is_above, is_behind, within}
-use Rattle.program_parking.specs.ParkingLaws.{ComesBefore, IsAmong, IsBefore, IsRising, Key, key_of}
+use Rattle.parking_laws.specs.ParkingLaws.{ComesBefore, IsAmong, IsBefore, IsRising, Key, key_of}
 use Rattle.program_parking.proofs.PlaceFacts.{fitting_is_front}
 
 abbrev pub keys : List Parked → List Key

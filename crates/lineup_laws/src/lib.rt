@@ -1,5 +1,7 @@
 //! Laws of the order of numbers, about the definitions alone.
-ghost use Rattle.program_lineup.specs.LineupLaws.{RisesAlone};
+#![tactic(auto)]
+
+ghost use Rattle.lineup_laws.specs.LineupLaws.{RisesAlone};
 
 /// Of two transactions toward one entity whose numbers have the same remainder, the later one has the greater number, and began
 /// when the earlier one had ended.

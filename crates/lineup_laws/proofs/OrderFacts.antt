@@ -10,7 +10,7 @@ use Rattle.program_lineup.specs.declared.choice.Standing.TheVariants.{Free, Awai
 use Rattle.program_lineup.specs.declared.sending_lane.Running.{Running}
 use Rattle.program_lineup.specs.declared.sending_lane.SendingLane.{SendingLane}
 use Rattle.program_lineup.specs.Lineups.{Numbers, has_remainder, is_above, is_above_used, is_open, is_open_with, most, rises, standing, used, used_at}
-use Rattle.program_lineup.specs.LineupLaws.{AllInOrder, AreMoves, AreSeen, BeginsInOrder, IsAboveAll, IsAlone, MayMove, Move, Run, begins, ends, run_of, step}
+use Rattle.lineup_laws.specs.LineupLaws.{AllInOrder, AreMoves, AreSeen, BeginsInOrder, IsAboveAll, IsAlone, MayMove, Move, Run, begins, ends, run_of, step}
 
 -- ---- a free number
 

@@ -1,5 +1,7 @@
 //! Laws of what is parked, about the definitions alone.
-ghost use Rattle.program_parking.specs.ParkingLaws.{ComesOutInOrder, AccountsForEach};
+#![tactic(auto)]
+
+ghost use Rattle.parking_laws.specs.ParkingLaws.{ComesOutInOrder, AccountsForEach};
 
 /// Whatever is parked, handed in, dropped and forgotten: what was handed in for good, followed by what waits, is in the order of
 /// the numbers and, within a number, in the order in which it came.

@@ -1,0 +1,3 @@
+pub mod LineFacts
+pub mod RunFacts
+pub mod RunRows

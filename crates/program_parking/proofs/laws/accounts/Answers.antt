@@ -1,5 +1,0 @@
-use Rattle.program_parking.proofs.RunFacts.{accounted}
-use Rattle.program_parking.proofs.laws.accounts.Goals as goal
-
-pub returns : goal.returns
-returns c = accounted
