@@ -23,7 +23,8 @@ RATE = ("--rate", "3000000")
 
 
 def named(count):
-    return tuple(f"user{number}" for number in range(count))
+    """The names of users; the first one receives."""
+    return ("alice", *(f"user{number}" for number in range(1, count)))
 
 
 def example(name):
@@ -308,12 +309,12 @@ def numbers_that_are_used_up():
             want(client.ask("send user6 1 2 a b"), ["queued 1"])
             want(number_after(peer), 14)
             until(lambda: is_over(client.status()), "the first end")
-            want(client.ask("send user0 1 2 a b"), ["queued 2"])
+            want(client.ask("send alice 1 2 a b"), ["queued 2"])
             want(number_after(peer), number)
             until(lambda: is_over(client.status()), "the second end")
             told = [(event["user"], event["destination"], event["count"], event["next"])
                     for event in client.events if event["kind"] == "skipped"]
-            want(told, [("user0", 2, 1, 16)] if number == 16 else [])
+            want(told, [("alice", 2, 1, 16)] if number == 16 else [])
 
 
 @case
