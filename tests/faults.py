@@ -53,6 +53,9 @@ def shown(words):
 
 
 GOOD = (EXAMPLES / "ground.toml").read_text(encoding="ascii").replace("@PEER@", "4557")
+# With three sending lanes toward two receiving ones files wait for each other.
+THREE = GOOD.replace("put_lanes = 2\n", "put_lanes = 3\n")
+NOTES = "note: 3 sending lanes don't divide the 2 receiving lanes of entity 1, so files wait for each other; better: 1 2\n"
 # Eight more remote entities whose files are alice's.
 EIGHT_MORE = "".join(GOOD[GOOD.index("[[remote]]"):].replace("id = 1\n", f"id = {number}\n") for number in range(3, 11))
 # A change in a configuration, the fault that it causes, and what a check prints for the file.
@@ -98,6 +101,8 @@ def checks(program):
         lines = errors.splitlines()
         want(f"{name} --check {config}", (told, lines[0], len(lines), status), ("", f"{name}: {fault}", 2, 1))
         want(f"{name} --check {config}, the second line", lines[1] if why else lines[1].split(": ")[0], why or config)
+    notes = NOTES if program == SERVER else ""
+    want(f"{name} --check three", run([program, "--check", "--config", "three"]), ("ok\n", notes, 0))
     want(f"{name} --check --version", run([program, "--check", "--version"]), run([program, "--version"]))
     read, write = os.pipe()
     os.write(write, pathlib.Path("lanes").read_bytes())
@@ -120,6 +125,7 @@ def start_rows(taken):
     yield [*server, "127.0.0.1:0", "--unknown"], "usage", "unexpected argument '--unknown'"
     yield [*server, "localhost:1"], "usage", "--bind takes A.B.C.D:PORT"
     yield [*server, "127.0.0.1:0", "--rate", "99=5"], "usage", "--rate has a limit for an entity"
+    yield [*server, "127.0.0.1:0", "--lanes", "99=5"], "usage", "--rate or --lanes names an entity"
     yield [*server, taken], "bind fault", f"{taken}: "
     yield [*server, "127.0.0.1:0", "--control", "missing/control"], "bind fault", "missing/control: another server answers there, the path is"
     yield [SERVER, "--config", "lanes", "--folder", ".", "--bind", "127.0.0.1:0"], "config fault 4", "lanes: the value of `put_lanes`"
@@ -145,6 +151,7 @@ def starts():
 with tempfile.TemporaryDirectory() as home:
     os.chdir(home)
     pathlib.Path("good").write_text(GOOD, encoding="ascii")
+    pathlib.Path("three").write_text(THREE, encoding="ascii")
     pathlib.Path("lanes").write_text(GOOD.replace("put_lanes = 2", "put_lanes = 99"), encoding="ascii")
     pathlib.Path("folder").mkdir()
     checks(SERVER)

@@ -131,7 +131,14 @@ impl Readiness {
             Some(glance) => (Some(glance.key.seq), running_of(&glance)),
         };
         match self.next_number(user, lane, last) {
-            Some(next) => (SendingLane { user, next, running }, false),
+            Some(next) => (
+                SendingLane {
+                    user,
+                    next,
+                    running,
+                },
+                false,
+            ),
             None if running.is_none() => (self.busy(user), true),
             None => (
                 SendingLane {

@@ -106,13 +106,5 @@ impl<
 
 // A Put of nothing.
 fn nothing_to(alloc: Global, destination: EntityId) -> Result<PutRequest, PutFault> {
-    PutRequest::new(
-        alloc,
-        destination,
-        Class::One,
-        NOTHING,
-        NOTHING,
-        &[],
-        &[],
-    )
+    PutRequest::new(alloc, destination, Class::One, NOTHING, NOTHING, &[], &[])
 }

@@ -1,5 +1,5 @@
 use cfdp_types::{Class, EntityId};
-use program_words::{PutWords, Rate, ServerWords, put_words, server_words};
+use program_words::{PeerLanes, PutWords, Rate, ServerWords, put_words, server_words};
 use std::alloc::{AllocError, Global};
 use std::test::*;
 
@@ -48,7 +48,7 @@ fn lines_of_puts(rt: HostRuntime) -> Result<(), Fail> {
 const SERVER: &str = "s --config c --bind 1.2.3.4:5 --folder f";
 
 // Options of the server, and whether they are taken.
-const SERVERS: [(&str, bool); 10] = [
+const SERVERS: [(&str, bool); 22] = [
     ("--workers 1 --rate 1000000000 --follow", true),
     ("--control=", false),
     ("--log=", false),
@@ -59,6 +59,18 @@ const SERVERS: [(&str, bool); 10] = [
     ("--rate 7=0", false),
     ("--retry 0", false),
     ("--workers 17", false),
+    ("--park 0 --lanes 7=8 --lanes 8=none", true),
+    ("--park=1000000000000 --lanes=7=1", true),
+    ("--park 1000000000001", false),
+    ("--park -1", false),
+    ("--park=", false),
+    ("--lanes 7=0", false),
+    ("--lanes 7=9", false),
+    ("--lanes 7=", false),
+    ("--lanes 7=None", false),
+    ("--lanes =4", false),
+    ("--lanes 4", false),
+    ("--lanes 7=2 --lanes 7=none", false),
 ];
 
 fn is_server_taken(alloc: Global, options: &str) -> Result<bool, AllocError> {
@@ -88,7 +100,7 @@ fn is_put(words: &PutWords<'_>) -> bool {
 
 fn has_options(words: &ServerWords<'_>) -> bool {
     (words.config, words.bind, words.folder) == ("c", "1.2.3.4:5", "f")
-        && (words.workers, words.retry) == (16, Some(60))
+        && (words.workers, words.retry, words.park) == (16, Some(60), 9)
         && (words.control, words.log, words.numbers) == (Some("/run/c"), Some("l"), None)
         && words.known_sources
         && words.hold
@@ -113,6 +125,18 @@ const RATES: [Rate; 3] = [
     },
 ];
 
+// Receiving lanes of remote entities.
+const LANES: [PeerLanes; 2] = [
+    PeerLanes {
+        remote: EntityId(7),
+        lanes: Some(4),
+    },
+    PeerLanes {
+        remote: EntityId(8),
+        lanes: None,
+    },
+];
+
 fn puts_as_told(alloc: Global) -> Result<bool, AllocError> {
     let rest = "--first 9 --rate 1 s --class 2 --remote 7 --numbers n --closure t";
     let words = words_of(alloc, PUT, rest)?;
@@ -124,10 +148,14 @@ fn puts_as_told(alloc: Global) -> Result<bool, AllocError> {
 
 fn serves_as_told(alloc: Global) -> Result<bool, AllocError> {
     let options =
-        "--rate 7=5 --rate 9 --rate=8=6 --hold --tree --keep --retry 60 --workers=16 --control=/run/c --log l --known-sources";
+        "--rate 7=5 --rate 9 --rate=8=6 --hold --tree --keep --retry 60 --workers=16 --control=/run/c --log l --known-sources --park 9 --lanes 7=4 --lanes=8=none";
     let words = words_of(alloc, SERVER, options)?;
     Ok(match server_words(alloc, words.as_slice()) {
-        Ok(words) => has_options(&words) && words.rates.as_slice() == RATES.as_slice(),
+        Ok(words) => {
+            has_options(&words)
+                && words.rates.as_slice() == RATES.as_slice()
+                && words.lanes.as_slice() == LANES.as_slice()
+        }
         Err(_) => false,
     })
 }
@@ -135,5 +163,20 @@ fn serves_as_told(alloc: Global) -> Result<bool, AllocError> {
 #[test]
 fn values(rt: HostRuntime) -> Result<(), Fail> {
     assert!(rt; puts_as_told(rt.alloc())? && serves_as_told(rt.alloc())?);
+    Ok(())
+}
+
+// Without these options 64,000,000 octets are kept, and no entity's lanes are named.
+fn keeps_by_default(alloc: Global) -> Result<bool, AllocError> {
+    let words = words_of(alloc, SERVER, "--hold")?;
+    Ok(match server_words(alloc, words.as_slice()) {
+        Ok(words) => words.park == 64_000_000 && words.lanes.is_empty(),
+        Err(_) => false,
+    })
+}
+
+#[test]
+fn default_values(rt: HostRuntime) -> Result<(), Fail> {
+    assert!(rt; keeps_by_default(rt.alloc())?);
     Ok(())
 }

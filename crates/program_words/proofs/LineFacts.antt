@@ -8,7 +8,7 @@ use Rattle.clap.specs.Words.{App, HasMatchesOf, Row, Text, all_of, first_of, fou
 use Rattle.clap.proofs.OnLiterals.{clap_on_literals}
 use Rattle.clap.proofs.WalkLemmas.{first_value-rows, one_text-rows, raw_values-rows}
 use Rattle.program_words.specs.Lines.{Givings, IsFlag, PutSays, ServerSays, found_in, check_program, given_by, put_program, server_program}
-use Rattle.program_words.specs.Numbers.{class_of, first_number, limit_of, number_within, rates_of, seconds_of, workers_of}
+use Rattle.program_words.specs.Numbers.{all_lanes_of, class_of, first_number, limit_of, number_within, park_of, rates_of, seconds_of, workers_of}
 use Rattle.program_words.specs.declared.putting.PutWords.{PutWords}
 use Rattle.program_words.specs.declared.serving.ServerWords.{ServerWords}
 
@@ -47,6 +47,8 @@ server_in_rows found words said = record {
   tree = flag_by found (codes "tree") words.tree said.tree;
   keep = flag_by found (codes "keep") words.keep said.keep;
   retry = ap seconds_of (sym (first_value-rows found (codes "retry"))) ∙ said.retry;
+  park = ap park_of (sym (first_value-rows found (codes "park"))) ∙ said.park;
+  lanes = ap all_lanes_of (sym (raw_values-rows found (codes "lanes"))) ∙ said.lanes;
 }
 
 put_in_rows : (found : Found) (words : PutWords) → PutSays (found_in found) words → PutSays (in_rows (rows_of found)) words

@@ -4,7 +4,7 @@ use Rattle.std.specs.Option.{option_map}
 use Rattle.clap.specs.Words.{App, Rule, Text, all_of, first_of, first_value, matched_of, matches_of, new_rule, one_of, one_text, raw_values}
 use Rattle.clap.specs.declared.parser.matches.Found.{Found}
 use Rattle.clap.specs.Simple.{new_shape}
-use Rattle.program_words.specs.Numbers.{class_of, first_number, limit_of, number_within, rates_of, seconds_of, workers_of}
+use Rattle.program_words.specs.Numbers.{all_lanes_of, class_of, first_number, limit_of, number_within, park_of, rates_of, seconds_of, workers_of}
 use Rattle.program_words.specs.declared.putting.PutWords.{PutWords}
 use Rattle.program_words.specs.declared.serving.ServerWords.{ServerWords}
 use Rattle.clap.specs.declared.builder.action.ArgAction.TheVariants.{Append, Set, SetTrue}
@@ -44,7 +44,7 @@ server_program = program_of (codes "cfdp_server")
     ∷ valued (codes "workers") false ∷ repeated (codes "rate") ∷ flag (codes "follow")
     ∷ valued (codes "control") false ∷ valued (codes "log") false ∷ valued (codes "numbers") false
     ∷ flag (codes "known-sources") ∷ flag (codes "hold") ∷ flag (codes "tree") ∷ flag (codes "keep")
-    ∷ valued (codes "retry") false ∷ [])
+    ∷ valued (codes "retry") false ∷ valued (codes "park") false ∷ repeated (codes "lanes") ∷ [])
 
 -- the options of a check of the configuration
 abbrev pub check_program : App
@@ -94,6 +94,8 @@ pub record ServerSays (given : Givings) (words : ServerWords) : Type 0 where
   pub tree : IsFlag (given.one (codes "tree")) words.tree
   pub keep : IsFlag (given.one (codes "keep")) words.keep
   pub retry : seconds_of (given.first (codes "retry")) ≡ Some words.retry
+  pub park : park_of (given.first (codes "park")) ≡ Some words.park
+  pub lanes : all_lanes_of (given.all (codes "lanes")) ≡ map Some words.lanes.items
 
 -- the put's words, as its command line gives them
 pub record PutSays (given : Givings) (words : PutWords) : Type 0 where

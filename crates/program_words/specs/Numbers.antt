@@ -1,11 +1,13 @@
 -- Meaning. Numbers on a command line.
-use Rattle.std.specs.Prelude.{ℕ, ◌+◌, ◌==◌, nat_lt, if◌then◌else◌, List, [], map, Option, Some, None, position, take, drop}
+use Rattle.std.specs.Prelude.{ℕ, ◌+◌, ◌==◌, nat_lt, codes, if◌then◌else◌, List, [], map, Option, Some, None, position, take, drop}
 use Rattle.std.specs.Option.{option_map}
-use Rattle.cfdp_types.specs.declared.limits.TheConstants.{CONFIGURED_NUMBER}
+use Rattle.std.specs.Str.{bytes_eq}
+use Rattle.cfdp_types.specs.declared.limits.TheConstants.{CONFIGURED_NUMBER, RECEIVING_LANES}
 use Rattle.cfdp_types.specs.declared.names.Class.{Class}
 use Rattle.cfdp_types.specs.declared.names.Class.TheVariants as class
 use Rattle.line_words.specs.Words.{decimal_of}
 use Rattle.line_words.specs.Operands.{◌>>=◌}
+use Rattle.program_words.specs.declared.lanes.PeerLanes.{PeerLanes}
 use Rattle.program_words.specs.declared.rates.Rate.{Rate}
 
 -- the number that a word writes in decimal digits, if it is within a range
@@ -23,6 +25,11 @@ perhaps read (Some word) = option_map Some (read word)
 abbrev pub workers_of : Option (List ℕ) → Option ℕ
 workers_of None = Some 4
 workers_of (Some word) = number_within 1 16 word
+
+-- how many octets of datagrams are kept at most; 64,000,000 without a word
+abbrev pub park_of : Option (List ℕ) → Option ℕ
+park_of None = Some 64000000
+park_of (Some word) = number_within 0 1000000000000 word
 
 -- a number of seconds, a day at most
 abbrev pub seconds_of : Option (List ℕ) → Option (Option ℕ)
@@ -63,3 +70,23 @@ rate_of word = rate_by (equals_place word) word
 abbrev pub rates_of : Option (List (List ℕ)) → List (Option Rate)
 rates_of None = []
 rates_of (Some words) = map rate_of words
+
+-- a number of receiving lanes; `Some None` for the word `none`
+abbrev pub lanes_of : List ℕ → Option (Option ℕ)
+lanes_of word = if bytes_eq word (codes "none") then Some None else option_map Some (number_within 1 RECEIVING_LANES word)
+
+-- how many receiving lanes a remote entity has: REMOTE=N, or REMOTE=none if it takes any numbers
+abbrev pub peer_lanes_by : Option ℕ → List ℕ → Option PeerLanes
+peer_lanes_by None word = None
+peer_lanes_by (Some place) word = do
+  remote ← decimal_of 18446744073709551615 (take place word)
+  lanes ← lanes_of (drop (place + 1) word)
+  Some (record { remote = record { 0 = remote }; lanes = lanes })
+
+abbrev pub peer_lanes_of : List ℕ → Option PeerLanes
+peer_lanes_of word = peer_lanes_by (equals_place word) word
+
+-- the lanes of all words that are given
+abbrev pub all_lanes_of : Option (List (List ℕ)) → List (Option PeerLanes)
+all_lanes_of None = []
+all_lanes_of (Some words) = map peer_lanes_of words

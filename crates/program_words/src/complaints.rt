@@ -1,6 +1,7 @@
 //! Explains to a person what is wrong with a command line.
+use crate::lanes::all_lanes_of;
 use crate::options::{
-    first_number, is_address, is_name, limit_of, number_within, seconds_of, workers_of,
+    first_number, is_address, is_name, limit_of, number_within, park_of, seconds_of, workers_of,
 };
 use crate::rates::rates_of;
 use crate::{checking, putting, serving};
@@ -88,6 +89,14 @@ fn wrong_for_server(alloc: Global, matches: &ArgMatches<'_>) -> Option<&'static 
     }
     if seconds_of(matches.get_str("retry")).is_none() {
         return Some("--retry takes a number of seconds from 1 to 86400");
+    }
+    if park_of(matches.get_str("park")).is_none() {
+        return Some("--park takes a number of octets up to 1000000000000");
+    }
+    if all_lanes_of(alloc, matches.get_strs("lanes")).is_err() {
+        return Some(
+            "--lanes takes ID=NUMBER, with a number from 1 to 8, or ID=none, one for each entity",
+        );
     }
     if matches.get_str("control") == Some("") || matches.get_str("log") == Some("") {
         return Some("--control and --log take a path");

@@ -4,6 +4,7 @@
 mod checking;
 mod complaints;
 mod fault;
+mod lanes;
 mod line;
 mod options;
 mod putting;
@@ -13,6 +14,7 @@ mod serving;
 pub use checking::{asks_for_check, check_words};
 pub use complaints::{push_check_complaint, push_put_complaint, push_server_complaint};
 pub use fault::WordsFault;
+pub use lanes::PeerLanes;
 pub use line::line_of;
 pub use putting::{PutWords, put_help, put_version, put_words};
 pub use rates::Rate;

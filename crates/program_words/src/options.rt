@@ -3,7 +3,7 @@ ghost use Rattle.std.specs.Prelude.{◌≡◌, false, true};
 ghost use Rattle.std.specs.Option.{option_map};
 ghost use Rattle.clap.specs.Words.{rule_of};
 ghost use Rattle.program_words.specs.Lines.{flag, repeated, valued};
-ghost use Rattle.program_words.specs.Numbers.{first_number, limit_of, number_within, seconds_of, workers_of};
+ghost use Rattle.program_words.specs.Numbers.{first_number, limit_of, number_within, park_of, seconds_of, workers_of};
 
 use crate::fault::WordsFault;
 use cfdp_types::limits::{CONFIGURED_NUMBER, NAME_OCTETS};
@@ -15,6 +15,12 @@ use std::net::SocketAddrV4;
 
 // The seconds of a day.
 const A_DAY: u64 = 86_400;
+
+// The octets of datagrams that are kept where nothing is asked for.
+const PARK_OCTETS: u64 = 64_000_000;
+
+// The most that can be asked for.
+const MOST_PARK_OCTETS: u64 = 1_000_000_000_000;
 
 // The greatest limit that can be asked for.
 pub(crate) const MOST_OCTETS_A_SECOND: u64 = 1_000_000_000;
@@ -119,6 +125,16 @@ pub(crate) fn first_number(word: Option<&str>) -> Option<Option<u64>>
     match word {
         None => Some(None),
         Some(word) => Some(Some(number_within(word, 0, CONFIGURED_NUMBER)?)),
+    }
+}
+
+/// How many octets of datagrams are kept that a busy lane can't take yet; 64,000,000 without a word.
+pub(crate) fn park_of(word: Option<&str>) -> Option<u64>
+    ensures { result ≡ park_of (option_map (λ word. word.now) word.entry) }
+{
+    match word {
+        None => Some(PARK_OCTETS),
+        Some(word) => number_within(word, 0, MOST_PARK_OCTETS),
     }
 }
 

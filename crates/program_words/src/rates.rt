@@ -28,8 +28,8 @@ fn rate_of(word: &str) -> Option<Rate>
     }
 }
 
-// The place of the first `=`.
-fn equals_place(word: &[u8]) -> Option<usize>
+/// The place of the first `=`.
+pub(crate) fn equals_place(word: &[u8]) -> Option<usize>
     ensures place { result ≡ equals_place word.now }
     ensures range { IfSome result (λ place. place < length word.now) }
 {

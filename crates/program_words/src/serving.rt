@@ -1,11 +1,12 @@
 ghost use Rattle.std.specs.Prelude.{◌≡◌, IfOk, IfSome, Some, codes, map, string_bytes};
 ghost use Rattle.clap.specs.Words.{app_of, found_of};
 ghost use Rattle.program_words.specs.Lines.{ServerSays, found_in, given_by, server_program};
-ghost use Rattle.program_words.specs.Numbers.{rates_of};
+ghost use Rattle.program_words.specs.Numbers.{all_lanes_of, rates_of};
 
 use crate::fault::WordsFault;
+use crate::lanes::{PeerLanes, all_lanes_of};
 use crate::options::{
-    fault_of, flag, is_address, optional, repeated, required, seconds_of, workers_of,
+    fault_of, flag, is_address, optional, park_of, repeated, required, seconds_of, workers_of,
 };
 use crate::rates::{Rate, rates_of};
 use clap::{ArgMatches, Command};
@@ -43,13 +44,18 @@ pub struct ServerWords<'a> {
     pub keep: bool,
     /// For how many seconds storing a received file is retried: 1 to 86,400.
     pub retry: Option<u64>,
+    /// How many octets of datagrams that a busy lane can't take yet are kept at most: 0 to 1,000,000,000,000.
+    pub park: u64,
+    /// How many receiving lanes remote entities have for this one, where it isn't as many as this one has for each of
+    /// them; at most one number for each.
+    pub lanes: Vec<PeerLanes>,
 }
 
 const HELP: &str = "Receives and sends files by CFDP over UDP, as one entity.
 
 Usage: cfdp_server --config FILE --bind ADDR --folder DIR [--workers N] [--rate [ID=]N]..
        [--follow] [--control PATH] [--log FILE] [--numbers FILE] [--known-sources] [--hold]
-       [--tree] [--keep] [--retry N]
+       [--tree] [--keep] [--retry N] [--park OCTETS] [--lanes ID=N]..
 
   --config FILE   the configuration of the entity, in TOML
   --bind ADDR     where it listens: A.B.C.D:PORT, all in decimal
@@ -66,6 +72,10 @@ Usage: cfdp_server --config FILE --bind ADDR --folder DIR [--workers N] [--rate 
   --tree          slashes in a received file's name lead into folders
   --keep          keeps an existing file; the new one gets `.1`, `.2` .. appended to its name
   --retry N       retries for N seconds, 1 to 86400, to store a received file (default: one attempt)
+  --park OCTETS   keeps datagrams that a busy lane can't take yet, this many octets at most
+                  (default: 64000000; 0: none)
+  --lanes ID=N    how many receiving lanes that entity has for this one, 1 to 8, or `none` if it takes any numbers
+                  (default: as many as here)
   --check         with --config alone: reads FILE, prints `ok` or what is wrong with it, and ends
   --help          prints this, and ends
   --version       prints the version, and ends
@@ -117,7 +127,9 @@ pub(crate) fn command<'a>(alloc: Global) -> Result<Command<'a>, AllocError>
         .arg(flag(alloc, "hold"))?
         .arg(flag(alloc, "tree"))?
         .arg(flag(alloc, "keep"))?
-        .arg(optional(alloc, "retry"))?;
+        .arg(optional(alloc, "retry"))?
+        .arg(optional(alloc, "park"))?
+        .arg(repeated(alloc, "lanes"))?;
     Ok(command)
 }
 
@@ -126,12 +138,18 @@ fn words_in<'a>(alloc: Global, matches: &ArgMatches<'a>) -> Result<ServerWords<'
     ensures { IfOk result (λ words. ServerSays (found_in (found_of matches.now)) words) }
 {
     let rates = rates_of(alloc, matches.get_strs("rate"))?;
-    words_with(matches, rates).ok_or(WordsFault::Usage)
+    let lanes = all_lanes_of(alloc, matches.get_strs("lanes"))?;
+    words_with(matches, rates, lanes).ok_or(WordsFault::Usage)
 }
 
-// The same, with the limits that were read from the matches.
-fn words_with<'a>(matches: &ArgMatches<'a>, rates: Vec<Rate>) -> Option<ServerWords<'a>>
-    requires { rates_of ((found_in (found_of matches.now)).all (codes "rate")) ≡ map Some rates.items }
+// The same, with the limits and the lanes that were read from the matches.
+fn words_with<'a>(
+    matches: &ArgMatches<'a>,
+    rates: Vec<Rate>,
+    lanes: Vec<PeerLanes>,
+) -> Option<ServerWords<'a>>
+    requires rates { rates_of ((found_in (found_of matches.now)).all (codes "rate")) ≡ map Some rates.items }
+    requires lanes { all_lanes_of ((found_in (found_of matches.now)).all (codes "lanes")) ≡ map Some lanes.items }
     ensures { IfSome result (λ words. ServerSays (found_in (found_of matches.now)) words) }
 {
     let config = matches.get_str("config")?;
@@ -147,6 +165,7 @@ fn words_with<'a>(matches: &ArgMatches<'a>, rates: Vec<Rate>) -> Option<ServerWo
     let tree = matches.get_flag("tree");
     let keep = matches.get_flag("keep");
     let retry = seconds_of(matches.get_str("retry"))?;
+    let park = park_of(matches.get_str("park"))?;
     let is_named = control != Some("") && log != Some("") && numbers != Some("");
     if !is_address(bind) || folder.is_empty() || !is_named {
         return None;
@@ -166,6 +185,8 @@ fn words_with<'a>(matches: &ArgMatches<'a>, rates: Vec<Rate>) -> Option<ServerWo
         tree,
         keep,
         retry,
+        park,
+        lanes,
     })
 }
 

@@ -35,4 +35,8 @@ returns c =
     let keep_is : rule_of c.flag-5.result ≡ flag (codes "keep") = search rules in
     let with_keep = c.in_ok-arg-13.ensures.shape c.flag-5.ensures.local ∙ ap₂ with_rule with_tree keep_is in
     let retry_is : rule_of c.optional-5.result ≡ valued (codes "retry") false = search rules in
-    c.in_ok-command.ensures.shape c.optional-5.ensures.local ∙ ap₂ with_rule with_keep retry_is
+    let with_retry = c.in_ok-arg-14.ensures.shape c.optional-5.ensures.local ∙ ap₂ with_rule with_keep retry_is in
+    let park_is : rule_of c.optional-6.result ≡ valued (codes "park") false = search rules in
+    let with_park = c.in_ok-arg-15.ensures.shape c.optional-6.ensures.local ∙ ap₂ with_rule with_retry park_is in
+    let lanes_is : rule_of c.repeated-2.result ≡ repeated (codes "lanes") = search rules in
+    c.in_ok-command.ensures.shape c.repeated-2.ensures.local ∙ ap₂ with_rule with_park lanes_is
