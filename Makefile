@@ -101,6 +101,7 @@ test:
 	@tests/server.py $(server)
 	@tests/control.py $(server)
 	@tests/station.py $(server) $(ctl)
+	@tests/many.py $(server) $(ctl)
 	@tests/stores.py $(server)
 	@tests/numbers.py $(server) $(put)
 	@tests/faults.py $(server) $(put)
@@ -124,6 +125,12 @@ bench: build programs
 	python3 bench/programs.py $(server) $(put) crates/benches/out/benches
 	python3 bench/datagrams.py $(server) $(put)
 	python3 bench/control.py $(server)
+
+# many files at once between stations, by their lanes and users, and the same over links that lose datagrams: some minutes
+.PHONY: bench-many
+bench-many: programs
+	python3 bench/many.py $(server)
+	python3 bench/many.py $(server) --loss 5
 
 # ten minutes of files over a bad link, with an eye on memory; no part of the gate
 soak: programs

@@ -11,53 +11,13 @@ import json
 import os
 import pathlib
 import random
-import select
-import socket
 import subprocess
 import sys
-import threading
 import time
 
-from support import Station, Wrong, free_port, library, run_cases, station, until, want
+from support import Relay, Station, Wrong, free_port, library, run_cases, station, until, want
 
 SERVER, CTL = (os.path.abspath(path) for path in sys.argv[1:3])
-
-
-class Relay:
-    """A link between two stations that loses datagrams at random, and counts them."""
-
-    def __init__(self, loss=0.0, seed=1):
-        self.sockets = [socket.socket(socket.AF_INET, socket.SOCK_DGRAM) for _ in range(2)]
-        for one in self.sockets:
-            one.bind(("127.0.0.1", 0))
-        self.ports = [one.getsockname()[1] for one in self.sockets]
-        self.targets = [None, None]
-        self.passed = [[], []]
-        self.loss = loss
-        self.chance = random.Random(seed)
-        self.is_over = False
-        self.thread = threading.Thread(target=self.work, daemon=True)
-
-    def join(self, first, second):
-        """Forwards datagrams from the first port to the second station, and the reverse."""
-        self.targets = [("127.0.0.1", second), ("127.0.0.1", first)]
-        self.thread.start()
-
-    def work(self):
-        while not self.is_over:
-            for one in select.select(self.sockets, [], [], 0.1)[0]:
-                way = self.sockets.index(one)
-                octets = one.recv(65_536)
-                self.passed[way].append(time.monotonic())
-                if self.chance.random() >= self.loss:
-                    self.sockets[1 - way].sendto(octets, self.targets[way])
-
-    def close(self):
-        self.is_over = True
-        if self.thread.is_alive():
-            self.thread.join()
-        for one in self.sockets:
-            one.close()
 
 
 @contextlib.contextmanager

@@ -3,11 +3,14 @@ import contextlib
 import json
 import os
 import pathlib
+import random
+import select
 import shutil
 import socket
 import subprocess
 import sys
 import tempfile
+import threading
 import time
 
 
@@ -164,10 +167,10 @@ def configuration(address, users=("alice",), timer=200, limit=2, lanes=2, **valu
 class Running:
     """A running server with a control socket."""
 
-    def __init__(self, words, path, **around):
+    def __init__(self, words, path, workers=2, **around):
         self.path = path
         self.run = subprocess.Popen(
-            [*words, "--workers", "2", "--control", path],
+            [*words, "--workers", str(workers), "--control", path],
             stdin=subprocess.DEVNULL, stdout=subprocess.PIPE, stderr=subprocess.PIPE, **around)
 
     def client(self, timeout=60):
@@ -192,22 +195,79 @@ class Station(Running):
     """A server with a control socket in its own folder, and one remote entity."""
 
     def __init__(self, server, number, port, remote, peer, options=(), lanes=4, timer=300, limit=10,
-                 users=("alice", "bob"), first=1, around=None):
+                 users=("alice", "bob"), first=1, recv_lanes=8, text=None, workers=2, around=None):
         self.home = f"station{number}"
         self.port = port
         os.makedirs(f"{self.home}/received", exist_ok=True)
         config = f"{self.home}/config"
-        pathlib.Path(config).write_text(
-            configuration(f"127.0.0.1:{peer}", users, timer, limit, id=number, remote=remote, octets=4, first=first,
-                          put_lanes=lanes, recv_lanes=8, capacity=1_024, segment=512, inactivity=3_000))
+        pathlib.Path(config).write_text(text or configuration(
+            f"127.0.0.1:{peer}", users, timer, limit, id=number, remote=remote, octets=4, first=first, put_lanes=lanes,
+            recv_lanes=recv_lanes, capacity=1_024, segment=512, inactivity=3_000))
         words = [server, "--config", config, "--bind", f"127.0.0.1:{port}", "--folder", f"{self.home}/received", *options]
-        super().__init__(words, f"{self.home}/control", env=around)
+        super().__init__(words, f"{self.home}/control", workers, env=around)
 
     def received(self):
         return pathlib.Path(self.home, "received")
 
     def ctl(self, program, *words, **named):
         return subprocess.run([program, "--control", self.path, *words], capture_output=True, text=True, timeout=110, **named)
+
+
+def part_of(octets):
+    """Which part of which file a datagram has: source, number and offset; None if it is no File Data PDU."""
+    if not octets or not octets[0] & 0x10:
+        return None
+    ids, numbers = (octets[3] >> 4 & 7) + 1, (octets[3] & 7) + 1
+    head = 4 + 2 * ids + numbers
+    return octets[4 : 4 + ids + numbers], octets[head : head + (8 if octets[0] & 1 else 4)]
+
+
+class Relay:
+    """A link between two stations that loses datagrams at random, and counts them."""
+
+    def __init__(self, loss=0.0, seed=1):
+        self.sockets = [socket.socket(socket.AF_INET, socket.SOCK_DGRAM) for _ in range(2)]
+        for one in self.sockets:
+            one.setsockopt(socket.SOL_SOCKET, socket.SO_RCVBUF, 4_000_000)
+            one.bind(("127.0.0.1", 0))
+        self.ports = [one.getsockname()[1] for one in self.sockets]
+        self.targets = [None, None]
+        self.passed = [[], []]
+        self.parts = set()
+        self.twice = 0
+        self.loss = loss
+        self.chance = random.Random(seed)
+        self.is_over = False
+        self.thread = threading.Thread(target=self.work, daemon=True)
+
+    def join(self, first, second):
+        """Forwards datagrams from the first port to the second station, and the reverse."""
+        self.targets = [("127.0.0.1", second), ("127.0.0.1", first)]
+        self.thread.start()
+
+    def work(self):
+        while not self.is_over:
+            for one in select.select(self.sockets, [], [], 0.1)[0]:
+                way = self.sockets.index(one)
+                octets = one.recv(65_536)
+                self.passed[way].append(time.monotonic())
+                self.count(octets)
+                if self.chance.random() >= self.loss:
+                    self.sockets[1 - way].sendto(octets, self.targets[way])
+
+    def count(self, octets):
+        """Counts a part of a file that left already before."""
+        part = part_of(octets)
+        if part is not None:
+            self.twice += part in self.parts
+            self.parts.add(part)
+
+    def close(self):
+        self.is_over = True
+        if self.thread.is_alive():
+            self.thread.join()
+        for one in self.sockets:
+            one.close()
 
 
 @contextlib.contextmanager

@@ -23,7 +23,7 @@ for unit in "$top"/examples/*.service; do
     [ -x "$folder/usr/bin/$(basename "$unit" .service)" ] || continue
     sed 's|/usr/local/bin/|/usr/bin/|' "$unit" > "$folder/lib/systemd/system/$(basename "$unit")"
 done
-install -m 644 "$top"/examples/entity.toml "$folder"/usr/share/doc/binesunset/examples
+install -m 644 "$top"/examples/station.toml "$top"/examples/entity.toml "$folder"/usr/share/doc/binesunset/examples
 install -m 644 "$top"/README.md "$top"/docs/*.md "$folder"/usr/share/doc/binesunset
 if [ -f "$top/LICENSE" ]; then install -m 644 "$top/LICENSE" "$folder/usr/share/doc/binesunset/copyright"; fi
 cat > "$folder/DEBIAN/control" << CONTROL

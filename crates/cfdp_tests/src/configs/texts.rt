@@ -2,7 +2,7 @@
 
 // The text of examples/entity.toml.
 pub const EXAMPLE: &str =
-    r#"# A configuration: one entity, its users, and the remote entities that it knows.
+    r#"# The reference of a configuration, which the tests read: each key with its range. A station begins with station.toml.
 
 [entity]
 # The ID of this entity: 0 to 9223372036854775807, in no more octets than the next key says.
