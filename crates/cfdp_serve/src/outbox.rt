@@ -74,15 +74,17 @@ impl<
         if !self.outgoing.is_due(now) || !self.abandon_opened() {
             return Ok(false);
         }
-        self.look_at_lanes();
+        self.look_at_lanes(now);
         self.readiness
             .note_files(&self.tallies.links, &self.outgoing);
-        Ok(self.read_next(now) || self.skip_some(now))
+        let has_begun = self.read_next(now) || self.skip_some(now);
+        self.outgoing.try_from(self.readiness.end_of_rest(now));
+        Ok(has_begun)
     }
 
     /// Looks at all sending lanes.
-    pub(crate) fn look_at_lanes(&mut self) {
-        self.readiness.look(self.rt, self.station.entity());
+    pub(crate) fn look_at_lanes(&mut self, now: u64) {
+        self.readiness.look(self.rt, self.station.entity(), now);
     }
 
     // Has the file read whose turn it is; whether there is one.
@@ -109,7 +111,7 @@ impl<
             return Ok(false);
         };
         let mut answer = String::new(self.alloc);
-        match self.put_queued(file, &mut answer)? {
+        match self.put_queued(file, now, &mut answer)? {
             PutEnd::Passing => self.outgoing.give_back(now),
             PutEnd::Opened => drop(self.outgoing.finish()),
             PutEnd::Exhausted | PutEnd::Refused => self.fail_read(answer.as_str()),
@@ -129,6 +131,7 @@ impl<
     fn put_queued(
         &mut self,
         file: Result<Octets, ProgramFault>,
+        now: u64,
         answer: &mut String,
     ) -> Result<PutEnd, AllocError> {
         let Some((mut put, number)) = put_of(&self.outgoing) else {
@@ -138,7 +141,10 @@ impl<
             return Ok(PutEnd::Passing);
         }
         match file {
-            Ok(file) => self.put_in_lane(&mut put, file, number, answer),
+            Ok(file) => {
+                self.look_at_lanes(now);
+                self.put_in_lane(&mut put, file, number, answer)
+            }
             Err(ProgramFault::NoMemory) => Ok(PutEnd::Passing),
             Err(_) => {
                 answer.push_str("read fault\n")?;
@@ -147,7 +153,7 @@ impl<
         }
     }
 
-    // Puts a file into the lane of its user whose number goes to its entity next.
+    // Puts a file into the lane of its user whose number goes to its entity next, by the lanes as they were looked at last.
     fn put_in_lane(
         &mut self,
         put: &mut PutCommand,
@@ -155,7 +161,6 @@ impl<
         number: u64,
         answer: &mut String,
     ) -> Result<PutEnd, AllocError> {
-        self.look_at_lanes();
         match self.readiness.lane_for(put.user, put.destination) {
             Some(lane) => {
                 put.lane = lane;

@@ -1,5 +1,5 @@
 //! Which files of the outbox can leave, and in which lanes.
-use cfdp_types::EntityId;
+use cfdp_types::{Class, EntityId};
 use entity_config::Config;
 use entity_routing::Place;
 use lane_table::{Glance, Numbers};
@@ -11,6 +11,10 @@ use shared_entity::Entity;
 use shared_lanes::Names;
 use std::alloc::{AllocError, Global};
 use std::sync::Wait;
+
+// How many milliseconds after a file of class 1 left the next one with its remainder may leave. A receiver with several workers
+// could let a few PDUs of the first one be overtaken otherwise.
+const REST_MS: u64 = 5;
 
 /// A lane whose next number can't go to an entity any more: it is used up.
 #[derive(Clone, Copy, Debug, PartialEq, Eq)]
@@ -27,6 +31,13 @@ struct Pair {
     place: usize,
 }
 
+// The last end that was seen of a lane's transactions, by its number, and until when the lane rests therefore.
+#[derive(Clone, Copy, Debug, PartialEq, Eq)]
+struct Ended {
+    number: Option<u64>,
+    until: u64,
+}
+
 /// The sending lanes and the remote entities, as they were looked at last.
 #[derive(Drop)]
 pub(crate) struct Readiness {
@@ -37,8 +48,9 @@ pub(crate) struct Readiness {
     put_lanes: usize,
     /// Each user's sending lanes, in order. One without a number left counts as running.
     lanes: Vec<SendingLane>,
-    /// For each of them whether it has no number left, and runs nothing.
+    /// For each of them whether it has no number left, and runs nothing; and its last end.
     spent: Vec<bool>,
+    ended: Vec<Ended>,
     /// For each remote entity the numbers that were used toward it.
     lineups: Vec<Lineup>,
     idle: Vec<bool>,
@@ -70,6 +82,14 @@ impl Readiness {
             put_lanes: entity.put_lanes,
             lanes: Vec::with_capacity(alloc, all)?,
             spent: Vec::with_capacity(alloc, all)?,
+            ended: Vec::from_elem(
+                alloc,
+                Ended {
+                    number: None,
+                    until: 0,
+                },
+                all,
+            )?,
             lineups: lineups_of(alloc, config, peers)?,
             idle: Vec::from_elem(alloc, false, users)?,
             stops: Vec::with_capacity(alloc, pairs)?,
@@ -102,14 +122,41 @@ impl Readiness {
         }
     }
 
-    /// Looks at all sending lanes.
-    pub(crate) fn look<N: Names, R: Wait + Copy>(&mut self, rt: &R, entity: &Entity<N, R>) {
+    /// Notes that a lane used up a number, so that it doesn't rest behind it.
+    pub(crate) fn note_skipped(&mut self, user: usize, lane: usize, number: u64) {
+        let index = self.index_of(user, lane);
+        if let Some(ended) = self.ended.get_mut(index) {
+            *ended = Ended {
+                number: Some(number),
+                until: 0,
+            };
+        }
+    }
+
+    /// The first moment behind `now` at which a lane rests no more, or the greatest of 64 bits.
+    pub(crate) fn end_of_rest(&self, now: u64) -> u64 {
+        self.ended.iter().fold(u64::MAX, |soonest, ended| {
+            if ended.until > now {
+                soonest.min(ended.until)
+            } else {
+                soonest
+            }
+        })
+    }
+
+    /// Looks at all sending lanes, at a moment of the runtime's clock.
+    pub(crate) fn look<N: Names, R: Wait + Copy>(
+        &mut self,
+        rt: &R,
+        entity: &Entity<N, R>,
+        now: u64,
+    ) {
         self.lanes.clear();
         self.spent.clear();
         for user in 0..self.idle.len() {
             for lane in 0..self.put_lanes {
                 let (seen, is_spent) = match entity.glance(rt, Place { user, lane }) {
-                    Ok(glance) => self.lane_of(user, lane, glance),
+                    Ok(glance) => self.lane_of(user, lane, glance, now),
                     Err(_) => (self.busy(user), false),
                 };
                 let _there_is_room = self.lanes.push(seen);
@@ -125,10 +172,19 @@ impl Readiness {
     }
 
     // A lane by a glance at its transaction, and whether it has no number left and runs nothing.
-    fn lane_of(&self, user: usize, lane: usize, glance: Option<Glance>) -> (SendingLane, bool) {
+    fn lane_of(
+        &mut self,
+        user: usize,
+        lane: usize,
+        glance: Option<Glance>,
+        now: u64,
+    ) -> (SendingLane, bool) {
         let (last, running) = match glance {
             None => (None, None),
-            Some(glance) => (Some(glance.key.seq), running_of(&glance)),
+            Some(glance) => {
+                let rests = self.rests(self.index_of(user, lane), &glance, now);
+                (Some(glance.key.seq), running_of(&glance, rests))
+            }
         };
         match self.next_number(user, lane, last) {
             Some(next) => (
@@ -149,6 +205,25 @@ impl Readiness {
                 false,
             ),
         }
+    }
+
+    // Whether a lane rests behind its last transaction, whose end is noted.
+    fn rests(&mut self, index: usize, glance: &Glance, now: u64) -> bool {
+        let Some(ended) = self.ended.get_mut(index) else {
+            return false;
+        };
+        if glance.has_ended && ended.number != Some(glance.key.seq) {
+            let is_first_class = glance.class == Class::One;
+            *ended = Ended {
+                number: Some(glance.key.seq),
+                until: if is_first_class {
+                    now.saturating_add(REST_MS)
+                } else {
+                    0
+                },
+            };
+        }
+        now < ended.until
     }
 
     // A lane that no file can have.
@@ -305,9 +380,9 @@ impl Readiness {
     }
 }
 
-// The transaction that a lane runs, by a glance at its last one.
-fn running_of(glance: &Glance) -> Option<Running> {
-    if glance.has_ended {
+// The transaction that a lane runs, by a glance at its last one. One behind which the lane rests counts.
+fn running_of(glance: &Glance, rests: bool) -> Option<Running> {
+    if glance.has_ended && !rests {
         return None;
     }
     Some(Running {

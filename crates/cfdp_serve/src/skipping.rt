@@ -42,7 +42,7 @@ impl<
                 break;
             }
             count = count.saturating_add(1);
-            self.look_at_lanes();
+            self.look_at_lanes(now);
         }
         if count == 0 {
             return false;
@@ -69,6 +69,7 @@ impl<
         if let Some(numbers) = &mut self.numbers {
             numbers.note_put(key);
         }
+        self.readiness.note_skipped(skip.user, skip.lane, key.seq);
         self.opened = Some(Opened {
             user: skip.user,
             key,
