@@ -1,8 +1,9 @@
 //! The part of a file: a new file beside it, which is written before it gets the file's name.
-ghost use Rattle.std.specs.Prelude.{◌≡◌, [], OnOk, IfOk, OnErr, string_bytes};
+ghost use Rattle.std.specs.Prelude.{◌≡◌, ◌⊎◌, [], OnOk, IfOk, OnErr, string_bytes};
 ghost use Rattle.disk.specs.Crash.Content.{written, flushed};
 ghost use Rattle.disk.specs.Promise.{Changes, Is, NothingNew};
 ghost use Rattle.disk.specs.Parts.{IsOpen, OneChanged};
+ghost use Rattle.whole_files.specs.PartSteps.{Began, GivenUp, MadeNew, MadeNone, TakesAway};
 ghost use Rattle.whole_files.specs.Wholes.{IsPartFor};
 
 use crate::paths::folder_of;
@@ -21,7 +22,9 @@ pub fn new_part<D: Disk>(
     first: u64,
 ) -> Result<String, Fault>
     ensures ok { IfOk result (λ part. IsPartFor path.now (string_bytes part) (written []) (D.done disk.old) (D.done disk.new)) }
+    ensures made { IfOk result (λ part. MadeNew (string_bytes part) (D.done disk.old) (D.done disk.new)) }
     ensures err { OnErr result (OneChanged (D.done disk.old) (D.done disk.new)) }
+    ensures none { OnErr result (MadeNone (D.done disk.old) (D.done disk.new)) }
 {
     for more in 0..PART_NAMES {
         let part = part_path(alloc, folder_of(path), first.wrapping_add(more))?;
@@ -52,6 +55,7 @@ pub fn fill_part<D: Disk>(disk: &mut D, part: &str, octets: &[u8]) -> Result<(),
     requires { IsOpen part.now (written []) (D.done disk.old) }
     ensures changes { Changes (Is part.now) NothingNew (D.done disk.old) (D.done disk.new) }
     ensures ok { OnOk result (IsOpen part.now (flushed octets.now) (D.done disk.new)) }
+    ensures away { OnErr result (TakesAway part.now (D.done disk.new)) }
 {
     let filled = fill(disk, part, octets);
     if filled.is_err() {
@@ -80,7 +84,9 @@ pub fn write_part<D: Disk>(
     octets: &[u8],
 ) -> Result<String, Fault>
     ensures ok { IfOk result (λ part. IsPartFor path.now (string_bytes part) (flushed octets.now) (D.done disk.old) (D.done disk.new)) }
+    ensures made { IfOk result (λ part. Began (string_bytes part) (D.done disk.old) (D.done disk.new)) }
     ensures err { OnErr result (OneChanged (D.done disk.old) (D.done disk.new)) }
+    ensures none { OnErr result (MadeNone (D.done disk.old) (D.done disk.new) ⊎ GivenUp (D.done disk.old) (D.done disk.new)) }
 {
     let part = new_part(disk, alloc, path, first)?;
     fill_part(disk, part.as_str(), octets)?;

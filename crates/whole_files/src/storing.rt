@@ -1,8 +1,9 @@
 //! A file is stored over a part: it is found as a whole, or what was there before.
-ghost use Rattle.std.specs.Prelude.{◌≡◌, ◌≢◌, [], OnOk};
+ghost use Rattle.std.specs.Prelude.{◌≡◌, ◌≢◌, ◌⊎◌, [], OnOk};
 ghost use Rattle.disk.specs.Crash.Content.{written, flushed};
 ghost use Rattle.disk.specs.Promise.{Changes, HoldsAfterCut, Is, IsReached, NothingNew, Whole};
 ghost use Rattle.disk.specs.Parts.{IsOpen, Stores};
+ghost use Rattle.whole_files.specs.PartSteps.{MadeNone, NoneLeft, OverNew};
 
 use crate::parts::{fill_part, write_part};
 use crate::paths::folder_of;
@@ -20,6 +21,7 @@ pub fn replace_file<D: Disk>(
 ) -> Result<(), Fault>
     requires { IsReached (D.done disk.old) path.now }
     ensures stores { Stores (Whole path.now octets.now) (D.done disk.old) (D.done disk.new) }
+    ensures part { MadeNone (D.done disk.old) (D.done disk.new) ⊎ OverNew path.now (D.done disk.old) (D.done disk.new) }
     ensures ok { OnOk result (HoldsAfterCut (D.done disk.new) path.now octets.now) }
 {
     let part = write_part(disk, alloc, path, first, octets)?;
@@ -66,6 +68,7 @@ pub fn put_part<D: Disk>(disk: &mut D, part: &str, path: &str, _octets: &[u8]) -
     requires reached { IsReached (D.done disk.old) path.now }
     requires filled { IsOpen part.now (flushed _octets.now) (D.done disk.old) }
     ensures changes { Changes (Is part.now) (Whole path.now _octets.now) (D.done disk.old) (D.done disk.new) }
+    ensures none_left { NoneLeft part.now path.now (D.done disk.new) }
     ensures ok { OnOk result (HoldsAfterCut (D.done disk.new) path.now _octets.now) }
 {
     let named = disk.rename(part, path);

@@ -1,5 +1,5 @@
-use Rattle.disk.specs.Promise.{Unchanged}
+use Rattle.whole_files.proofs.PartFacts.{IsTrying}
 use Rattle.whole_files.proofs.parts.new_part.Given as goal
 
 abbrev pub invariant-loop-more : goal.invariant-loop-more
-invariant-loop-more g l = Unchanged (g.D.Disk.done l.fn.disk) (g.D.Disk.done l.disk)
+invariant-loop-more g l = IsTrying (g.D.Disk.done l.fn.disk) (g.D.Disk.done l.disk)

@@ -1,6 +1,8 @@
+use Rattle.std.proofs.Common.{inr}
 use Rattle.disk.proofs.Moments.{then}
 use Rattle.disk.proofs.Reach.{reached_later}
 use Rattle.whole_files.proofs.Chains.{to_any}
+use Rattle.whole_files.proofs.PartFacts.{began_then, given_up_too}
 use Rattle.whole_files.proofs.storing.replace_file.Goals as goal
 
 pub returns-in_err-part-clause-stores : goal.returns-in_err-part-clause-stores
@@ -12,3 +14,14 @@ put_part-requires-clause-reached g c = reached_later _ _ _ _ c.in_ok-part.ensure
 pub returns-clause-stores : goal.returns-clause-stores
 returns-clause-stores g c =
     record { part = _; changes = then _ _ _ _ _ (to_any _ _ _ _ c.in_ok-part.ensures.ok.changes) (rw c.as_str.ensures.value at c.put_part.ensures.changes) }
+
+pub returns-in_err-part-clause-part : goal.returns-in_err-part-clause-part
+returns-in_err-part-clause-part g c = given_up_too _ _ _ c.in_err-part.ensures.none
+
+pub returns-clause-part : goal.returns-clause-part
+returns-clause-part g c =
+    inr (record {
+      part = _;
+      began = began_then _ _ _ _ _ _ c.in_ok-part.ensures.made c.put_part.ensures.changes;
+      none_left = rw c.as_str.ensures.value at c.put_part.ensures.none_left;
+    })
