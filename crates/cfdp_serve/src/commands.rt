@@ -17,7 +17,6 @@ use program_outbox::Outgoing;
 use program_seats::{Asker, Seats};
 use program_start::ProgramFault;
 use program_station::{Preparing, Station, flat};
-use program_status::LaneHint;
 use program_tallies::{RefusalKind, Tallies};
 use server_lines::{Command, PutCommand};
 use shared_entity::{Entity, EntityRefusal};
@@ -50,10 +49,8 @@ pub(crate) struct Server<'a, N: Names, R: Files + Copy, S: Drop> {
     pub(crate) readiness: Readiness,
     /// A transaction that was opened to use up its number, and isn't abandoned yet.
     pub(crate) opened: Option<Opened>,
-    /// Where datagrams are parked, if any are.
-    pub(crate) lot: Option<&'a Lot>,
-    /// Where files wait for each other's lanes, by the configuration.
-    pub(crate) hints: Vec<LaneHint>,
+    /// Where datagrams are parked.
+    pub(crate) lot: &'a Lot,
     pub(crate) started: Moment,
 }
 

@@ -42,6 +42,8 @@ struct Ended {
 #[derive(Drop)]
 pub(crate) struct Readiness {
     local: EntityId,
+    /// How many receiving lanes remote entities have; others have as many as this one.
+    peers: Vec<PeerLanes>,
     numbers: Numbers,
     /// The greatest number that the sequence numbers' octets hold.
     greatest: u64,
@@ -73,6 +75,7 @@ impl Readiness {
         let all = users.saturating_mul(entity.put_lanes);
         Ok(Readiness {
             local: entity.local,
+            peers: copied(alloc, peers)?,
             numbers: Numbers {
                 first: entity.first,
                 lanes: entity.put_lanes as u64,
@@ -96,6 +99,11 @@ impl Readiness {
             pairs: Vec::with_capacity(alloc, pairs)?,
             skip: None,
         })
+    }
+
+    /// How many receiving lanes remote entities have; others have as many as this one.
+    pub(crate) fn peers(&self) -> &[PeerLanes] {
+        self.peers.as_slice()
     }
 
     /// For each user whether it has an idle lane.
@@ -397,6 +405,15 @@ fn greatest_of(octets: u8) -> u64 {
         Some(numbers) => numbers.saturating_sub(1),
         None => u64::MAX,
     }
+}
+
+// A copy of the lanes of remote entities.
+fn copied(alloc: Global, peers: &[PeerLanes]) -> Result<Vec<PeerLanes>, AllocError> {
+    let mut all = Vec::with_capacity(alloc, peers.len())?;
+    for peer in peers {
+        all.push(*peer)?;
+    }
+    Ok(all)
 }
 
 // No number was used toward any remote entity.

@@ -35,8 +35,8 @@ pub(crate) struct Reports<'a, R: Files> {
     /// How many refusals there were at the last report, and how many workers read no more by then.
     refusals_seen: u64,
     ended_reads_seen: u64,
-    /// Where datagrams are parked, if any are, and how many were dropped there by the last report.
-    lot: Option<&'a Lot>,
+    /// Where datagrams are parked, and how many were dropped there by the last report.
+    lot: &'a Lot,
     unparked_seen: u64,
 }
 
@@ -48,7 +48,7 @@ impl<'a, R: Wait + Clock + Files> Reports<'a, R> {
         config: &'a Config,
         tallies: &'a Tallies,
         events: Option<Events<'a, R>>,
-        lot: Option<&'a Lot>,
+        lot: &'a Lot,
     ) -> Result<Reports<'a, R>, AllocError> {
         Ok(Reports {
             rt,
@@ -234,6 +234,7 @@ impl<'a, R: Wait + Clock + Files> Reports<'a, R> {
     // Where there is no memory for that, it is reported later.
     fn refusals(&mut self) {
         let at = self.now();
+        let unparked = self.lot.dropped(self.rt);
         let Some(events) = &mut self.events else {
             return;
         };
@@ -246,10 +247,6 @@ impl<'a, R: Wait + Clock + Files> Reports<'a, R> {
             }
             self.refusals_seen = total;
         }
-        let unparked = match self.lot {
-            Some(lot) => lot.dropped(self.rt),
-            None => 0,
-        };
         if unparked != self.unparked_seen {
             events.unpark(at, unparked.saturating_sub(self.unparked_seen));
             self.unparked_seen = unparked;

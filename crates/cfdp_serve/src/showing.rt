@@ -1,6 +1,7 @@
 //! What a server shows of itself.
 use crate::answers::push_no_memory;
 use crate::commands::Server;
+use crate::lane_notes::hints_of;
 use crate::places::Places;
 use entity_workers::Filestore;
 use program_desk::wall_moment;
@@ -45,10 +46,9 @@ impl<
             None => (0, 0),
         };
         let readings = self.desk.readings(self.rt, self.alloc)?;
-        let parked = match self.lot {
-            Some(lot) => lot.report(self.rt, self.alloc)?,
-            None => Vec::new(self.alloc),
-        };
+        let parked = self.lot.report(self.rt, self.alloc)?;
+        let config = self.station.entity().config();
+        let hints = hints_of(self.alloc, config, self.readiness.peers())?;
         let shown = Shown {
             version: SERVER_VERSION,
             started: self.started,
@@ -58,7 +58,7 @@ impl<
             outgoing: &self.outgoing,
             readings: readings.as_slice(),
             parked: parked.as_slice(),
-            hints: self.hints.as_slice(),
+            hints: hints.as_slice(),
             events: self.audience.reports.number(),
             log: self.audience.reports.log_status(),
             clients,

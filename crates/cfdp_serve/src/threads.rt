@@ -2,7 +2,6 @@
 use crate::audience::Audience;
 use crate::commands::Server;
 use crate::console::Console;
-use crate::lane_notes::hints_of;
 use crate::readiness::Readiness;
 use crate::reports::Reports;
 use crate::working::Serving;
@@ -85,7 +84,7 @@ pub(crate) fn serve_over<
     } = *starting;
     let desk = Desk::new(alloc, STEPS, LINES)?;
     let tallies = Tallies::new(alloc, words.workers as usize, entity.config().remotes())?;
-    let lot = lot_of(alloc, entity.config(), words)?;
+    let lot = Lot::new(alloc, entity.config(), words.park, takes_bundles(words))?;
     let opened = Opened {
         rt,
         alloc,
@@ -94,26 +93,13 @@ pub(crate) fn serve_over<
         socket: sockets.datagrams,
         desk: &desk,
         tallies: &tallies,
-        lot: lot.as_ref(),
+        lot: &lot,
         words,
     };
     match sockets.control {
         None => serve_reader(&opened, ports, given),
         Some(control) => serve_clients::<N, R, F, W>(&opened, ports, given.numbers, control),
     }
-}
-
-// Where datagrams are parked that their lanes can't take yet, if they have any room.
-fn lot_of(
-    alloc: Global,
-    config: &Config,
-    words: &ServerWords<'_>,
-) -> Result<Option<Lot>, AllocError> {
-    if words.park == 0 {
-        return Ok(None);
-    }
-    let lot = Lot::new(alloc, config, words.park, takes_bundles(words))?;
-    Ok(Some(lot))
 }
 
 // Whether the server itself takes from its users' queues as bundles come.
@@ -131,7 +117,7 @@ struct Opened<'x, N: Names, R: Copy, F> {
     socket: &'x UdpSocket,
     desk: &'x Desk,
     tallies: &'x Tallies,
-    lot: Option<&'x Lot>,
+    lot: &'x Lot,
     words: &'x ServerWords<'x>,
 }
 
@@ -260,9 +246,18 @@ fn way_in_of<'x, N: Names, R: Wait + Clock + Copy, F>(
         opened.desk,
         others,
         sources,
-        opened.lot,
+        parking_of(opened),
     )?;
     Ok(way_in)
+}
+
+// Where datagrams are parked, if they have any room.
+fn parking_of<'x, N: Names, R: Copy, F>(opened: &Opened<'x, N, R, F>) -> Option<&'x Lot> {
+    if opened.words.park == 0 {
+        None
+    } else {
+        Some(opened.lot)
+    }
 }
 
 // What the main thread of a server has.
@@ -277,7 +272,6 @@ fn server_over<'x, N: Names, R: Wait + Clock + Files + AllocGlobal + Copy + Drop
     let steps = Vec::with_capacity(alloc, opened.desk.step_room())?;
     let outgoing = Outgoing::new(alloc, config.users())?;
     let readiness = Readiness::new(alloc, config, words.lanes.as_slice())?;
-    let hints = hints_of(alloc, config, words.lanes.as_slice())?;
     let audience = audience_over(opened, ports, seats)?;
     match station_over(opened) {
         Ok(station) => Ok(Server {
@@ -295,7 +289,6 @@ fn server_over<'x, N: Names, R: Wait + Clock + Files + AllocGlobal + Copy + Drop
             readiness,
             opened: None,
             lot: opened.lot,
-            hints,
             started: Moment(wall_moment(opened.rt)),
         }),
         Err(fault) => Err(fault),
@@ -334,7 +327,7 @@ fn station_over<'x, N: Names, R: Wait + Clock + Files + AllocGlobal + Copy + Dro
     let store = store_of(*rt, folder, words);
     let mut station = Station::new(rt, alloc, entity, sender, store, tallies, rest_of(words))?;
     set_links(rt, &mut station, words);
-    if let Some(lot) = opened.lot {
+    if let Some(lot) = parking_of(opened) {
         station.use_lot(lot);
     }
     Ok(station)
