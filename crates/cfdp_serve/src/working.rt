@@ -36,8 +36,10 @@ impl<
     /// Works in turns until `quit` or the end of the commands. A turn handles at most one command, one timer that has expired,
     /// a few PDUs of files under way and one deposit.
     fn work(self) -> Result<u8, ProgramFault> {
-        let mut serving = self;
-        status_of(work_through(&mut serving))
+        let Serving { server, console } = self;
+        let mut server = server;
+        let mut console = console;
+        status_of(work(&mut server, &mut console))
     }
 }
 
@@ -47,16 +49,6 @@ fn status_of(ended: Result<(), ProgramFault>) -> Result<u8, ProgramFault> {
         Ok(()) => Ok(0),
         Err(fault) => Err(fault),
     }
-}
-
-// Works with both parts of what serves.
-fn work_through<
-    N: Names,
-    R: Wait + Clock + Files + AllocGlobal + Copy + Drop,
-    S: Filestore + Preparing + Places + Drop,
-    W: Write + Drop,
->(serving: &mut Serving<'_, N, R, S, W>) -> Result<(), ProgramFault> {
-    work(&mut serving.server, &mut serving.console)
 }
 
 fn work<
