@@ -219,7 +219,7 @@ def layout():
         run = ctl("status", "--width", "200")
         want("lanes for which datagrams wait", run.stdout ==
              b"Parked\nuser     lane  datagrams  transactions    octets  dropped  since\n"
-             b"ops\\x1b     3         12             2  16.6 KiB        0  2025-11-27T12:00:00.250Z\n"
+             b"ops\\x1b     3         12             2  16.5 KiB        0  2025-11-27T12:00:00.250Z\n"
              b"o          10          -             -         -        5  -\n\n", run.stdout)
     note = {"kind": "note", "remote": 7, "sending_lanes": 6, "receiving_lanes": 8}
     for better, wanted in (([1, 2, 4, 8], b"; 1, 2, 4 or 8 would not."), ([1, 2], b"; 1 or 2 would not."),
@@ -231,7 +231,7 @@ def layout():
     with station("--parked", "2", "--note"):
         run = ctl("status")
         check("datagrams that wait, and notes", run, 0, b"lanes of entity 5, so files wait for each other; 1, 2, 4, 8 or 16 would not.\n\n")
-        want("datagrams that wait", run.stdout.count(b" 12             2  16.6 KiB        0  20") == 2, run.stdout)
+        want("datagrams that wait", run.stdout.count(b" 12             2  16.5 KiB        0  20") == 2, run.stdout)
     with station():
         run = ctl("status")
         want("neither datagrams that wait nor notes", b"Parked" not in run.stdout and b"Note" not in run.stdout, run.stdout)
