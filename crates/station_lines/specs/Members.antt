@@ -41,9 +41,13 @@ moment_member name moment = text_member name (moment_text moment)
 abbrev pub hex_strings : List (List ℕ) → List Token
 hex_strings values = map hex_string values
 
--- numbers, each as a token
+-- a number
+abbrev pub number_token : ℕ → Token
+number_token value = number (decimal value)
+
+-- numbers
 abbrev pub number_tokens : List ℕ → List Token
-number_tokens values = map (λ value. number (decimal value)) values
+number_tokens values = map number_token values
 
 -- lists of octets in an array
 unfoldable pub hexes_member : List ℕ → List (List ℕ) → List Token

@@ -2,7 +2,7 @@
 ghost use Rattle.std.specs.Prelude.{◌≡◌, [], ◌∷◌, ◌++◌, IfOk, OnErr, OnOk, string_bytes, codes};
 ghost use Rattle.json.specs.Token.{begin_object, end_object, key};
 ghost use Rattle.json.specs.Print.{print};
-ghost use Rattle.station_lines.specs.Members.{text_member, flag_member, number_member, octets_member, hex_member, moment_member, hexes_member, hex_strings, hex_string, numbers_member, number_tokens};
+ghost use Rattle.station_lines.specs.Members.{text_member, flag_member, number_member, octets_member, hex_member, moment_member, hexes_member, hex_strings, hex_string, numbers_member, number_token, number_tokens};
 
 use crate::moment::Moment;
 use cfdp_types::Octets;
@@ -208,9 +208,15 @@ impl Line {
         ensures { OnOk result (self.new ≡ self.old ++ number_tokens values.now) }
     {
         for value in values {
-            self.writer.u64(*value)?;
+            self.number_token(*value)?;
         }
         Ok(())
+    }
+
+    fn number_token(&mut self, value: u64) -> Result<(), AllocError>
+        ensures { OnOk result (self.new ≡ self.old ++ number_token value ∷ []) }
+    {
+        self.writer.u64(value)
     }
 
     fn hex_string(&mut self, octets: &[u8]) -> Result<(), AllocError>
