@@ -432,7 +432,7 @@ def a_status_of_standard_input():
     lines = run.stdout.decode().splitlines()
     want((run.returncode, lines[-1]), (0, "bad command"))
     status = [json.loads(line) for line in lines[:-1]]
-    want([line["kind"] for line in status], ["entity", "user", "user", "remote"])
+    want([line["kind"] for line in status], ["entity", "user", "user", "remote", "note"])
     want([(line["name"], line["waiting"], line["capacity"]) for line in status if line["kind"] == "user"],
          [("alice", 0, 64), ("bob", 0, 64)])
 

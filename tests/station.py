@@ -197,9 +197,10 @@ def files_that_take_long():
         until(lambda: readings(other) == ["first.slow", "second.slow"], "the reading of the second")
         want([json.loads(line)["number"] for line in other.ask("outbox")], [1, 2, 3])
         want((other.ask("drop 1"), other.ask("drop 1")), (["ok"], ["refused NotQueued"]))
-        for name in ("first.slow.go", "second.slow.go", "third.slow.go"):
-            write(name, b"")
+        write("first.slow.go", b"")
         want(patient.answer()[0], "ok")
+        for name in ("second.slow.go", "third.slow.go"):
+            write(name, b"")
         until(lambda: other.ask("outbox") == [], "the end of the outbox")
         until(lambda: other.status() and kinds_put(other) == [(2, "third.slow"), (3, "quick")], "both Puts")
         want(readings(other), [])
