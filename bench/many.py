@@ -368,7 +368,8 @@ def row(case, one, link, flush):
 def measure(server, case, loss, workers):
     """Runs a case; prints its row, and gives whether all is well."""
     link = case.link_seconds()
-    flush = flush_seconds(case.sizes * case.peers)
+    # all stations store on one disk
+    flush = flush_seconds(case.sizes * case.peers * (2 if case.both else 1))
     one = run(server, case, 0.0, workers)
     print(row(case, one, link, flush), flush=True)
     is_well = one.whole == one.files and one.dropped == 0 and (case.service == 1 or one.twice == 0 or workers > 1)
