@@ -49,11 +49,11 @@ install-web: web
 	install -m 755 $(web) $(DESTDIR)$(PREFIX)/bin
 	install -m 644 docs/man/cfdp_web.1 $(DESTDIR)$(PREFIX)/share/man/man1
 
-# the library for C and Python, proved and built on all processors, in build/: the first time this proves the entity of one
-# thread and all below it; behind the gate it checks one crate
+# the library for C and Python, proved and built, in build/: the first time this proves the entity of one thread and all
+# below it
 archive := crates/cfdp_c/out/libcfdp_c.a
 lib:
-	@tools/build.py cfdp_c
+	@log=$$(mktemp); (cd crates/cfdp_c && rt lib) > $$log 2>&1 || { tail -n 40 $$log; rm -f $$log; exit 1; }; rm -f $$log
 	@tools/lib.sh $(archive) $(PREFIX)
 
 # the library, in place, with its header and what pkg-config reads

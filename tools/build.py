@@ -1,12 +1,11 @@
 #!/usr/bin/env python3
-"""Proves crates and all that they depend on, and builds those that are programs or static libraries, on all processors.
+"""Proves crates and all that they depend on, and builds those that are programs, on all processors.
 
 usage: tools/build.py [--edits] CRATE..
 
 The crates are copied into a folder of their own ($BINESUNSET_BUILD, or ~/.cache/binesunset), and `rt ci` proves and builds them
-there, with their tests. --edits tries their must-fail edits too. A static library is then built there by `rt lib`, which
-checks that crate once more and no other. Programs and libraries go into their crates' folders out/. If nothing has changed since
-the last build, its result is used again.
+there, with their tests. --edits tries their must-fail edits too. Programs go into their crates' folders out/. If nothing has
+changed since the last build, its result is used again.
 """
 import hashlib
 import os
@@ -87,14 +86,6 @@ def prove(room, names):
         sys.exit("".join(printed[-200:]) + "tools/build.py: not everything is proved")
 
 
-def build_library(folder):
-    """Builds a static library over what was proved below it."""
-    run = subprocess.run(["rt", "lib"], cwd=folder, stdin=subprocess.DEVNULL, stdout=subprocess.PIPE, stderr=subprocess.STDOUT,
-                         text=True, errors="replace", check=False)
-    if run.returncode:
-        sys.exit(run.stdout[-20_000:] + "tools/build.py: the library is not built")
-
-
 def main():
     has_edits = "--edits" in sys.argv[1:]
     named = [word for word in sys.argv[1:] if word != "--edits"]
@@ -108,18 +99,14 @@ def main():
         print(f"Proving {len(names)} crates on all processors.", flush=True)
         copy(room, names, lines, left_out)
         prove(room, names)
-        for name in named:
-            if "staticlib" in lines[name].partition(":")[0].split():
-                build_library(room / "crates" / name)
         built.write_text(made_of)
     for name in named:
-        for kind, file in (("program", name), ("library", f"lib{name}.a")):
-            made = room / "crates" / name / "out" / file
-            if made.exists():
-                out = TOP / "crates" / name / "out"
-                out.mkdir(exist_ok=True)
-                shutil.copy2(made, out / file)
-                print(f"The {kind}: {(out / file).relative_to(TOP)}", flush=True)
+        made = room / "crates" / name / "out" / name
+        if made.exists():
+            out = TOP / "crates" / name / "out"
+            out.mkdir(exist_ok=True)
+            shutil.copy2(made, out / name)
+            print(f"The program: {(out / name).relative_to(TOP)}", flush=True)
 
 
 main()
