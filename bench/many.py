@@ -1,12 +1,13 @@
 #!/usr/bin/env python3
 """Measures how many files at once cross loopback between stations, by their lanes and users, and prints a table in Markdown.
 
-usage: many.py SERVER [--loss PERCENT] [--workers N] [--only FIRST:LAST]
+usage: many.py SERVER [--loss PERCENT] [--workers N] [--rate MB] [--only FIRST:LAST]
 
 Each case has its own stations and a relay on each link, which counts parts of files that leave twice. Its time is compared with the
 larger of two: the octets at the link's rate, and writing and flushing the same files one after the other. With --loss the cases of
-class 2 run twice, the second time with a relay that loses so many datagrams of a hundred. Each case ends by itself: after four
-minutes what hasn't arrived counts as missing.
+class 2 run twice, the second time with a relay that loses so many datagrams of a hundred. --rate limits all links to so many
+megabytes a second, for a server that takes less than the cases send. Each case ends by itself: after four minutes what hasn't
+arrived counts as missing.
 """
 import argparse
 import contextlib
@@ -367,7 +368,8 @@ def row(case, one, link, flush):
 def measure(server, case, loss, workers):
     """Runs a case; prints its row, and gives whether all is well."""
     link = case.link_seconds()
-    flush = flush_seconds(case.sizes * case.peers)
+    # all stations store on one disk
+    flush = flush_seconds(case.sizes * case.peers * (2 if case.both else 1))
     one = run(server, case, 0.0, workers)
     print(row(case, one, link, flush), flush=True)
     is_well = one.whole == one.files and one.dropped == 0 and (case.service == 1 or one.twice == 0 or workers > 1)
@@ -386,6 +388,7 @@ def main():
     words.add_argument("server")
     words.add_argument("--loss", type=float, default=0.0)
     words.add_argument("--workers", type=int, default=1)
+    words.add_argument("--rate", type=float, default=1_000.0)
     words.add_argument("--only", default="1:")
     given = words.parse_args()
     server = os.path.abspath(given.server)
@@ -396,6 +399,7 @@ def main():
     for case in chosen:
         if given.loss and case.service == 1:
             continue
+        case.rate = min(case.rate, round(given.rate * MB))
         bad += not measure(server, case, given.loss, given.workers)
     print(f"\n{len(chosen)} cases, {bad} of them not as they should be")
     sys.exit(1 if bad else 0)

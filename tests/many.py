@@ -318,6 +318,16 @@ def numbers_that_are_used_up():
 
 
 @case
+def lanes_that_do_not_fit():
+    """A status notes where files wait for each other, and which numbers of sending lanes are better."""
+    note = {"kind": "note", "remote": 2, "sending_lanes": 6, "receiving_lanes": 8, "better": [1, 2, 4, 8]}
+    for options, notes in (((), [note]), (("--lanes", "2=3"), [{**note, "receiving_lanes": 3, "better": [1, 3]}]),
+                           (("--lanes", "2=6"), []), (("--lanes", "2=none"), [])):
+        with station(SERVER, options=options, lanes=3, users=named(2)) as (one, _):
+            want(of_kind(one.client(), "note"), notes)
+
+
+@case
 def lanes_of_nobody():
     """Receiving lanes can be told for known entities only, and once for each."""
     for options in (("--lanes", "3=2"), ("--lanes", "2=0"), ("--lanes", "2=9"), ("--lanes", "2=all"), ("--lanes", "2=2", "--lanes", "2=3")):
