@@ -71,7 +71,7 @@ impl<
         if self.outgoing.is_reading() {
             return self.put_read(now);
         }
-        if !self.outgoing.is_due(now) || !self.abandon_opened() {
+        if !self.abandon_opened() || !self.outgoing.is_due(now) {
             return Ok(false);
         }
         self.look_at_lanes(now);
