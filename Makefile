@@ -1,6 +1,6 @@
 SHELL := /bin/bash
 .SHELLFLAGS := -o pipefail -c
-.PHONY: demo try build programs web lib transfer install install-web install-lib browser memory test test-lib bench soak
+.PHONY: demo try build programs web lib transfer install install-web install-lib browser memory test bench soak
 
 program := crates/cfdp_replay/out/cfdp_replay
 server := crates/cfdp_server/out/cfdp_server
@@ -53,7 +53,8 @@ install-web: web
 # below it
 archive := crates/cfdp_c/out/libcfdp_c.a
 lib:
-	@log=$$(mktemp); (cd crates/cfdp_c && rt lib) > $$log 2>&1 || { tail -n 40 $$log; rm -f $$log; exit 1; }; rm -f $$log
+	@tools/build.py cfdp_c
+	@tools/archive.py "$${BINESUNSET_BUILD:-$$HOME/.cache/binesunset}/cfdp_c"
 	@tools/lib.sh $(archive) $(PREFIX)
 
 # the library, in place, with its header and what pkg-config reads
@@ -108,9 +109,8 @@ test:
 	@tests/ctl.py $(ctl)
 	@tests/web.py $(web)
 	@tests/manual.sh $(server) $(put) $(ctl) $(web)
-
-# the library for C and Python: its header, its examples, all scripts through it, and a million calls; no part of the gate yet
-test-lib: programs build lib
+	@tools/archive.py
+	@tools/lib.sh $(archive) $(PREFIX)
 	@tests/library.sh $(server)
 	@tests/library.py $(program)
 
