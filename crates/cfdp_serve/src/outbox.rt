@@ -71,13 +71,15 @@ impl<
         if self.outgoing.is_reading() {
             return self.put_read(now);
         }
-        if !self.abandon_opened() || !self.outgoing.is_due(now) {
+        self.abandon_opened();
+        if !self.outgoing.is_due(now) {
             return Ok(false);
         }
         self.look_at_lanes(now);
         self.readiness
             .note_files(&self.tallies.links, &self.outgoing);
-        let has_begun = self.read_next(now) || self.skip_some(now);
+        let has_skipped = self.skip_some(now);
+        let has_begun = self.read_next(now) || has_skipped;
         self.outgoing.try_from(self.readiness.end_of_rest(now));
         Ok(has_begun)
     }

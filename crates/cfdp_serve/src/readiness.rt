@@ -55,6 +55,8 @@ pub(crate) struct Readiness {
     ended: Vec<Ended>,
     /// For each remote entity the numbers that were used toward it.
     lineups: Vec<Lineup>,
+    /// Whether the last look saw all lanes.
+    has_seen_all: bool,
     idle: Vec<bool>,
     stops: Vec<Stop>,
     pairs: Vec<Pair>,
@@ -94,6 +96,7 @@ impl Readiness {
                 all,
             )?,
             lineups: lineups_of(alloc, config, peers)?,
+            has_seen_all: false,
             idle: Vec::from_elem(alloc, false, users)?,
             stops: Vec::with_capacity(alloc, pairs)?,
             pairs: Vec::with_capacity(alloc, pairs)?,
@@ -152,7 +155,7 @@ impl Readiness {
         })
     }
 
-    /// Looks at all sending lanes, at a moment of the runtime's clock.
+    /// Looks at all sending lanes, at a moment of the runtime's clock. Where memory for that runs out, no lane counts as idle.
     pub(crate) fn look<N: Names, R: Wait + Copy>(
         &mut self,
         rt: &R,
@@ -161,18 +164,22 @@ impl Readiness {
     ) {
         self.lanes.clear();
         self.spent.clear();
+        self.has_seen_all = true;
         for user in 0..self.idle.len() {
             for lane in 0..self.put_lanes {
                 let (seen, is_spent) = match entity.glance(rt, Place { user, lane }) {
                     Ok(glance) => self.lane_of(user, lane, glance, now),
-                    Err(_) => (self.busy(user), false),
+                    Err(_) => {
+                        self.has_seen_all = false;
+                        (self.busy(user), false)
+                    }
                 };
                 let _there_is_room = self.lanes.push(seen);
                 let _there_is_room = self.spent.push(is_spent);
             }
         }
         for user in 0..self.idle.len() {
-            let is_idle = self.has_idle(user) || self.is_spent(user);
+            let is_idle = self.has_seen_all && (self.has_idle(user) || self.is_spent(user));
             if let Some(word) = self.idle.get_mut(user) {
                 *word = is_idle;
             }
@@ -356,6 +363,9 @@ impl Readiness {
     /// The lane of a user that takes a file to an entity, by the lanes as they were looked at last. A file that no lane can
     /// ever take goes to the first one, which refuses it.
     pub(crate) fn lane_for(&self, user: usize, destination: EntityId) -> Option<usize> {
+        if !self.has_seen_all {
+            return None;
+        }
         match self.choice(user, destination) {
             _ if self.is_spent(user) => Some(0),
             Some(Choice::Goes(number)) => self.lane_with(user, number),
@@ -367,7 +377,8 @@ impl Readiness {
     /// Whether the next number of the lane of a skip is to be used up, by the lanes as they were looked at last.
     pub(crate) fn is_lagging(&self, skip: Skip) -> bool {
         match self.choice(skip.user, skip.destination) {
-            Some(Choice::Skips(number)) => self.lane_with(skip.user, number) == Some(skip.lane),
+            Some(Choice::Skips(number)) if self.has_seen_all => self.lane_with(skip.user, number)
+                == Some(skip.lane),
             _ => false,
         }
     }

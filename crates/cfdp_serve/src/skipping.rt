@@ -25,6 +25,14 @@ pub(crate) struct Opened {
     key: TxnKey,
 }
 
+// How what nobody asked for is refused.
+#[derive(Clone, Copy, Debug, PartialEq, Eq)]
+enum Refused {
+    /// Memory, or room in the user's queue, ran out.
+    ForNow,
+    ForGood,
+}
+
 impl<
     'a,
     N: Names,
@@ -36,9 +44,12 @@ impl<
         let Some(skip) = self.readiness.skip() else {
             return false;
         };
+        if self.opened.is_some() {
+            return false;
+        }
         let mut count = 0u64;
         for _ in 0..SKIPS {
-            if !self.readiness.is_lagging(skip) || !self.skip_one(skip) {
+            if self.opened.is_some() || !self.readiness.is_lagging(skip) || !self.skip_one(skip) {
                 break;
             }
             count = count.saturating_add(1);
@@ -55,7 +66,8 @@ impl<
         true
     }
 
-    // Opens a transaction in a lane and abandons it, before anything of it is sent; whether it did.
+    // Opens a transaction in a lane and abandons it, before anything of it is sent; whether it opened one. Where it can't be
+    // abandoned yet, that is tried again.
     fn skip_one(&mut self, skip: Skip) -> bool {
         if !self.covers() {
             return false;
@@ -63,7 +75,7 @@ impl<
         let Ok(nothing) = nothing_to(self.alloc, skip.destination) else {
             return false;
         };
-        let Some(key) = self.ask_quietly(skip.user, Request::Put(skip.lane, nothing)) else {
+        let Ok(key) = self.ask_quietly(skip.user, Request::Put(skip.lane, nothing)) else {
             return false;
         };
         if let Some(numbers) = &mut self.numbers {
@@ -74,33 +86,34 @@ impl<
             user: skip.user,
             key,
         });
-        self.abandon_opened()
-    }
-
-    /// Abandons the transaction that was opened to use up its number, if it wasn't abandoned yet; whether none is left.
-    pub(crate) fn abandon_opened(&mut self) -> bool {
-        if let Some(Opened { user, key }) = self.opened {
-            if self.ask_quietly(user, Request::Abandon(key)).is_none() {
-                return false;
-            }
-            self.opened = None;
-        }
+        self.abandon_opened();
         true
     }
 
-    // Asks the entity for something that no user asked for. None if it is refused.
-    fn ask_quietly(&mut self, user: usize, request: Request) -> Option<TxnKey> {
+    /// Abandons the transaction that was opened to use up its number, if it wasn't abandoned yet. It stays where memory or room
+    /// in its user's queue ran out.
+    pub(crate) fn abandon_opened(&mut self) {
+        if let Some(Opened { user, key }) = self.opened
+            && self.ask_quietly(user, Request::Abandon(key)) != Err(Refused::ForNow)
+        {
+            self.opened = None;
+        }
+    }
+
+    // Asks the entity for something that no user asked for.
+    fn ask_quietly(&mut self, user: usize, request: Request) -> Result<TxnKey, Refused> {
         let entity = self.station.entity();
         if !entity.may_request(user, &request) {
-            return None;
+            return Err(Refused::ForGood);
         }
         match flat(entity.request(self.rt, &NoGate, user, request)) {
             Ok(done) => {
                 let key = done.key;
                 self.station.settle_own(done);
-                Some(key)
+                Ok(key)
             }
-            Err(_) => None,
+            Err(refusal) if refusal.is_passing() => Err(Refused::ForNow),
+            Err(_) => Err(Refused::ForGood),
         }
     }
 }

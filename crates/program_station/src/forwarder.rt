@@ -99,12 +99,22 @@ impl<'a, R: Wait + Clock> Forwarder<'a, R> {
         true
     }
 
+    // Settles the parked datagram that was handed in, if there is one; answers whether there was one. The main thread may have
+    // looked while it was out, so it looks again if anything waits.
+    fn settle_handed(&mut self, is_taken: bool) -> bool {
+        let was_handed = self.lot.settle(self.rt, is_taken);
+        if was_handed && self.lot.is_occupied() {
+            self.desk.wake(self.rt);
+        }
+        was_handed
+    }
+
     // Puts a datagram that was refused for now back, or parks it; answers whether it waits.
     fn waits(&mut self, refusal: &EntityRefusal) -> bool {
         if !self.lot.may_wait(refusal) {
             return false;
         }
-        if self.lot.put_back(self.rt) {
+        if self.settle_handed(false) {
             return true;
         }
         match self.last {
@@ -137,7 +147,7 @@ impl<'a, R: Wait + Clock> Carrier<Result<Done, Refused>> for Forwarder<'a, R> {
     {
         match flat(answer) {
             Ok(done) => {
-                self.lot.settle(self.rt);
+                self.settle_handed(true);
                 self.sender.send_done(&done);
                 let is_awaited = done.deposit.is_some() || done.key.source == self.local;
                 let urgency = if is_awaited {
@@ -154,7 +164,7 @@ impl<'a, R: Wait + Clock> Carrier<Result<Done, Refused>> for Forwarder<'a, R> {
                     return;
                 }
                 self.note_refusal(RefusalKind::of(&refusal));
-                self.lot.settle(self.rt);
+                self.settle_handed(true);
                 self.sender.send_echo(&refusal);
             }
         }

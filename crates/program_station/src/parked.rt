@@ -94,17 +94,9 @@ impl<'a> WorkersLot<'a> {
         Some(lot.park(rt, address, octets, wall_moment(rt), moment(rt)))
     }
 
-    /// The datagram that was handed in, if there is one, stays where it was; answers whether there was one.
-    pub(crate) fn put_back<R: Wait + Clock>(&mut self, rt: &R) -> bool {
-        self.end(rt, false)
-    }
-
-    /// The datagram that was handed in, if there is one, was taken or refused for good.
-    pub(crate) fn settle<R: Wait + Clock>(&mut self, rt: &R) {
-        let _was_parked = self.end(rt, true);
-    }
-
-    fn end<R: Wait + Clock>(&mut self, rt: &R, is_taken: bool) -> bool {
+    /// The datagram that was handed in, if there is one, was taken or refused for good, or else stays where it was; answers
+    /// whether there was one.
+    pub(crate) fn settle<R: Wait + Clock>(&mut self, rt: &R, is_taken: bool) -> bool {
         match (self.lot, self.handed.take()) {
             (Some(lot), Some(handed)) => {
                 lot.settle(rt, handed, is_taken, moment(rt));
