@@ -1,5 +1,5 @@
 -- Worked runs toward one entity.
-use Rattle.std.proofs.Common.{◌≡◌, ℕ, true, false, List, [], ◌∷◌, None, refl}
+use Rattle.std.proofs.Common.{◌≡◌, ℕ, ◌+◌, true, false, List, [], ◌∷◌, None, Some, refl}
 use Rattle.program_lineup.specs.declared.choice.Standing.TheVariants.{Free, Lags}
 use Rattle.program_lineup.specs.declared.sending_lane.SendingLane.{SendingLane}
 use Rattle.program_lineup.specs.Lineups.{Numbers, standing, unused, used}
@@ -15,6 +15,13 @@ idle user next = record { user = user; next = next; running = None }
 -- a run whose second transaction begins behind the end of the first
 two_in_turn : AreMoves four (begins (idle 0 13 ∷ []) 13 ∷ ends 9 ∷ begins (idle 0 9 ∷ []) 9 ∷ [])
 two_in_turn = ((refl, tt), (tt, ((refl, tt), tt)))
+
+-- a transaction with another remainder begins while one is open, which the look shows
+abbrev pub runs : ℕ → ℕ → SendingLane
+runs user number = record { user = user; next = number + 8; running = Some (record { peer = record { 0 = 9 }; number = number }) }
+
+beside_an_open_one : AreMoves four (begins (runs 0 9 ∷ idle 1 12 ∷ []) 12 ∷ begins (idle 0 9 ∷ []) 9 ∷ [])
+beside_an_open_one = ((refl, (refl, tt)), ((refl, tt), tt))
 
 -- a number that a person puts is used, also where it is below others, and its transaction is open
 abbrev pub behind_a_put : List Move

@@ -16,9 +16,16 @@ lower_first = refl
 with_gaps : AreMoves (parks 1000 (datagram 8 7) ∷ parks 1000 (datagram 8 2) ∷ [])
 with_gaps = ((omega arith, omega arith), ((omega arith, omega arith), tt))
 
+-- the next datagram of a transaction comes after one of it was taken
+goes_on : AreMoves (parks 1000 (datagram 8 1) ∷ settles true ∷ lends ∷ parks 1000 (datagram 8 0) ∷ [])
+goes_on = ((omega arith, omega arith), (tt, (tt, ((omega arith, omega arith), tt))))
+
 -- a datagram that is lent and taken while a lower one comes: that one is gone, and this one isn't
 abbrev pub lower_comes : List Move
 lower_comes = settles true ∷ parks 1000 (datagram 4 1) ∷ lends ∷ parks 1000 (datagram 8 0) ∷ []
+
+lower_may_come : AreMoves lower_comes
+lower_may_come = (tt, ((omega arith, omega arith), (tt, ((omega arith, omega arith), tt))))
 
 taken_is_out : (run_of lower_comes).out ≡ record { number = 8; arrival = 0 } ∷ []
 taken_is_out = refl
