@@ -93,6 +93,7 @@ test:
 	@tests/endings.sh $(program)
 	@tests/examples.sh $(program)
 	@tests/scripts.py $(program)
+	@tests/explained.sh $(program)
 	@tests/memory.py $(hostile) $(program)
 	@tests/terminal.py $(program)
 	@examples/transfer.sh $(server) $(put) 2 4194304 7 11

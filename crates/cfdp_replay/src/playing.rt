@@ -1,0 +1,125 @@
+//! Does what the command line asks for.
+use crate::words::{ReplayWords, replay_help, replay_version, replay_words};
+use program_start::{ProgramFault, load_config, print, tell_fault};
+use program_words::{WordsFault, line_of};
+use script_replay::{AnswerPace, play_to_end, play_with};
+use std::alloc::Global;
+use std::env::Env;
+use std::fs::File;
+use std::io;
+use std::io::{ErrorKind, Read, Write};
+use std::rt::Files;
+
+// The name that the program's faults begin with.
+const NAME: &str = "cfdp_replay";
+
+/// Does what the command line asks for, with these standard streams. Answers the exit status.
+pub(crate) fn run<R, I, W, E>(
+    rt: &R,
+    input: &mut I,
+    output: &mut W,
+    errors: &mut E,
+    pace: AnswerPace,
+) -> u8
+where
+    R: Env + Files + AllocGlobal,
+    I: Read,
+    W: Write,
+    E: Write,
+{
+    let alloc = rt.alloc();
+    let ended = match line_of(rt) {
+        Ok(line) => match replay_words(alloc, line.as_slice()) {
+            Ok(words) => play(rt, alloc, &words, input, output, errors, pace),
+            Err(fault) => answer(output, fault),
+        },
+        Err(fault) => Err(fault_of(fault)),
+    };
+    match ended {
+        Ok(status) => status,
+        Err(fault) => {
+            tell_fault(alloc, errors, NAME, &fault);
+            1
+        }
+    }
+}
+
+// Prints the help or the version if the words ask for it.
+fn answer<W: Write>(output: &mut W, fault: WordsFault) -> Result<u8, ProgramFault> {
+    match fault {
+        WordsFault::Help => print(output, replay_help())?,
+        WordsFault::Version => print(output, replay_version())?,
+        _ => return Err(fault_of(fault)),
+    }
+    Ok(0)
+}
+
+// The fault of a program whose words have one.
+fn fault_of(fault: WordsFault) -> ProgramFault {
+    match fault {
+        WordsFault::NoMemory => ProgramFault::NoMemory,
+        _ => ProgramFault::Usage,
+    }
+}
+
+// Plays the script that the words name, or else the standard input.
+fn play<R, I, W, E>(
+    rt: &R,
+    alloc: Global,
+    words: &ReplayWords<'_>,
+    input: &mut I,
+    output: &mut W,
+    errors: &mut E,
+    pace: AnswerPace,
+) -> Result<u8, ProgramFault>
+where
+    R: Files,
+    I: Read,
+    W: Write,
+    E: Write,
+{
+    match words.script {
+        None => play_from(rt, alloc, words.config, input, output, errors, pace),
+        Some(path) => match File::open(rt, path) {
+            Ok(file) => {
+                let mut file = file;
+                play_from(rt, alloc, words.config, &mut file, output, errors, pace)
+            }
+            Err(error) => Err(unopened(&error)),
+        },
+    }
+}
+
+// The fault of a script that can't be opened.
+fn unopened(error: &io::Error) -> ProgramFault {
+    if error.kind() == ErrorKind::OutOfMemory {
+        ProgramFault::NoMemory
+    } else {
+        ProgramFault::Read
+    }
+}
+
+// Plays a script that begins with the configuration in a file, or with the reference configuration.
+fn play_from<R, S, W, E>(
+    rt: &R,
+    alloc: Global,
+    config: Option<&str>,
+    script: &mut S,
+    output: &mut W,
+    errors: &mut E,
+    pace: AnswerPace,
+) -> Result<u8, ProgramFault>
+where
+    R: Files,
+    S: Read,
+    W: Write,
+    E: Write,
+{
+    match config {
+        None => Ok(play_to_end(alloc, script, output, errors, pace)),
+        Some(path) => {
+            let config = load_config(rt, alloc, path)?;
+            Ok(play_with(alloc, config, script, output, errors, pace))
+        }
+    }
+}

@@ -1,0 +1,88 @@
+//! The command line of the program.
+use clap::error::ErrorKind;
+use clap::{Arg, ArgAction, ArgMatches, Command, Error};
+use program_words::WordsFault;
+use std::alloc::{AllocError, Global};
+use std::env::{Env, FillError};
+
+/// What a command line asks for.
+#[derive(Clone, Copy)]
+pub(crate) struct ReplayWords<'a> {
+    /// The path of the configuration's file; without it the script begins with the reference configuration.
+    pub config: Option<&'a str>,
+    /// The path of the script; without it the standard input is played.
+    pub script: Option<&'a str>,
+}
+
+const HELP: &str = "Plays a script of events through one CFDP entity, and prints its answers.
+
+Usage: cfdp_replay [--config FILE] [SCRIPT]
+
+  --config FILE  the configuration that the script begins with, in TOML (default: the reference
+                 configuration, entity 2 with the users alice and bob)
+  SCRIPT         the script's file (default: the standard input)
+  --help         prints this, and ends
+  --version      prints the version, and ends
+
+Status 0: the whole script was played. 1: a line is bad, or a fault of the program.
+";
+
+/// What `--help` prints.
+pub(crate) fn replay_help() -> &'static str {
+    HELP
+}
+
+/// What `--version` prints.
+pub(crate) fn replay_version() -> &'static str {
+    "cfdp_replay 0.1\n"
+}
+
+/// Whether the command line has words behind the program's own name. It allocates nothing.
+pub(crate) fn has_words<R: Env>(rt: &R) -> bool {
+    let mut room = [0; 1];
+    !matches!(rt.arg(1, &mut room), Err(FillError::NotPresent))
+}
+
+// The options and words of the program.
+fn command<'a>(alloc: Global) -> Result<Command<'a>, AllocError> {
+    Command::new(alloc, "cfdp_replay")
+        .version("0.1")
+        .arg(
+            Arg::new(alloc, "config")
+                .long("config")
+                .action(ArgAction::Set),
+        )?
+        .arg(Arg::new(alloc, "script").action(ArgAction::Set))
+}
+
+// The fault for an error of the parser.
+fn fault_of(error: &Error) -> WordsFault {
+    match error.kind() {
+        ErrorKind::OutOfMemory => WordsFault::NoMemory,
+        ErrorKind::DisplayHelp => WordsFault::Help,
+        ErrorKind::DisplayVersion => WordsFault::Version,
+        _ => WordsFault::Usage,
+    }
+}
+
+// The words that the matches of a command line give.
+fn words_in<'a>(matches: &ArgMatches<'a>) -> ReplayWords<'a> {
+    ReplayWords {
+        config: matches.get_str("config"),
+        script: matches.get_str("script"),
+    }
+}
+
+/// Parses a command line of the program; its first word is the program's own name.
+pub(crate) fn replay_words<'a>(
+    alloc: Global,
+    line: &'a [String],
+) -> Result<ReplayWords<'a>, WordsFault> {
+    match command(alloc) {
+        Ok(command) => match command.try_get_matches_from(line) {
+            Ok(matches) => Ok(words_in(&matches)),
+            Err(error) => Err(fault_of(&error)),
+        },
+        Err(AllocError) => Err(WordsFault::NoMemory),
+    }
+}
