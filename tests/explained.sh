@@ -1,5 +1,6 @@
 #!/usr/bin/env bash
-# The script program with words on its command line: a configuration, a script's file, help and version, and the faults.
+# The script program with words on its command line: a configuration, a script's file, a datagram
+# that is explained, help and version, and the faults.
 # usage: tests/explained.sh PROGRAM
 set -euo pipefail
 program=$(realpath "$1")
@@ -51,6 +52,29 @@ printf 'take carol\nno line\n' > wrong.script
 run --config carol.toml -- wrong.script < /dev/null
 ends 'a bad line of a script in a file' 1 $'none\nline 2: bad line' ''
 
+# A datagram of each kind in words, its header first.
+explained() {
+    run --explain-pdu "$1" < /dev/null
+    ends "the datagram $1" 0 "$2"$'\n'"$3" ''
+}
+to_receiver='transaction 5 of entity 1 to entity 2, class 1, toward the receiver'
+explained 24000a0001050207000000000301610162 "$to_receiver" 'Metadata: 3 octets, a to b, modular checksum'
+explained 3400070001050200000000616263 "$to_receiver" 'File Data: 3 octets at 0'
+explained 24000a0001050204006162630000000003 "$to_receiver" 'EOF: no error, 3 octets, checksum 61626300'
+to_receiver='transaction 5 of entity 1 to entity 2, class 2, toward the receiver'
+explained 200002000105020900 "$to_receiver" 'Prompt for a NAK'
+explained 200002000105020980 "$to_receiver" 'Prompt for a Keep Alive'
+explained 20000300010502065102 "$to_receiver" 'ACK of the Finished: no error, transaction terminated'
+to_sender='transaction 4 of entity 2 to entity 1, class 2, toward the sender'
+explained 280011000204010800000000000000030000000100000002 "$to_sender" 'NAK, asks for octets 1 to 1'
+explained 28000300020401064001 "$to_sender" 'ACK of the EOF: no error, transaction active'
+explained 280002000204010502 "$to_sender" 'Finished: no error, the file is complete, retained'
+explained 280005000204010c00000003 "$to_sender" 'Keep Alive: 3 octets so far'
+run --explain-pdu 24 < /dev/null
+ends 'a datagram that is cut' 1 'decode fault 1, the datagram is too short for a header' ''
+run --explain-pdu 04000a0001050207000000000301610162 < /dev/null
+ends 'a datagram of another version' 1 'decode fault 2, the version is not 001' ''
+
 run --help < /dev/null
 if [ "$status" != 0 ] || ! grep -q '^  --config FILE' printed || [ -s told ]; then
     echo "$program --help: status $status, printed: $(cat printed), on standard error: $(cat told)"
@@ -70,6 +94,10 @@ run --config a --config b < /dev/null
 fault 'an option that is given twice' usage
 run a b < /dev/null
 fault 'two scripts' usage
+run --explain-pdu xy < /dev/null
+fault 'a datagram that is not hex' usage
+run --explain-pdu 24 a < /dev/null
+fault 'a datagram and a script' usage
 run none.script < /dev/null
 fault 'no such script' 'read fault'
 run --config none.toml < /dev/null

@@ -2,6 +2,7 @@
 //! answers.
 #![tactic(auto)]
 
+mod explaining;
 mod playing;
 mod words;
 

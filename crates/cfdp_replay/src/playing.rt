@@ -1,4 +1,5 @@
 //! Does what the command line asks for.
+use crate::explaining::explain;
 use crate::words::{ReplayWords, replay_help, replay_version, replay_words};
 use program_start::{ProgramFault, load_config, print, tell_fault};
 use program_words::{WordsFault, line_of};
@@ -30,7 +31,10 @@ where
     let alloc = rt.alloc();
     let ended = match line_of(rt) {
         Ok(line) => match replay_words(alloc, line.as_slice()) {
-            Ok(words) => play(rt, alloc, &words, input, output, errors, pace),
+            Ok(words) => match words.datagram {
+                Some(datagram) => explain(alloc, output, datagram),
+                None => play(rt, alloc, &words, input, output, errors, pace),
+            },
             Err(fault) => answer(output, fault),
         },
         Err(fault) => Err(fault_of(fault)),

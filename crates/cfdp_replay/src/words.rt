@@ -12,19 +12,24 @@ pub(crate) struct ReplayWords<'a> {
     pub config: Option<&'a str>,
     /// The path of the script; without it the standard input is played.
     pub script: Option<&'a str>,
+    /// The datagram in hex that is to be explained; then nothing is played.
+    pub datagram: Option<&'a str>,
 }
 
 const HELP: &str = "Plays a script of events through one CFDP entity, and prints its answers.
 
 Usage: cfdp_replay [--config FILE] [SCRIPT]
+       cfdp_replay --explain-pdu HEX
 
-  --config FILE  the configuration that the script begins with, in TOML (default: the reference
-                 configuration, entity 2 with the users alice and bob)
-  SCRIPT         the script's file (default: the standard input)
-  --help         prints this, and ends
-  --version      prints the version, and ends
+  --config FILE      the configuration that the script begins with, in TOML (default: the
+                     reference configuration, entity 2 with the users alice and bob)
+  SCRIPT             the script's file (default: the standard input)
+  --explain-pdu HEX  plays nothing: prints in words what one datagram says
+  --help             prints this, and ends
+  --version          prints the version, and ends
 
-Status 0: the whole script was played. 1: a line is bad, or a fault of the program.
+Status 0: the whole script was played, or the datagram is a PDU. 1: a line is bad, the datagram is
+no PDU, or a fault of the program.
 ";
 
 /// What `--help` prints.
@@ -43,15 +48,17 @@ pub(crate) fn has_words<R: Env>(rt: &R) -> bool {
     !matches!(rt.arg(1, &mut room), Err(FillError::NotPresent))
 }
 
+// An option with a value.
+fn valued<'a>(alloc: Global, name: &'static str) -> Arg<'a> {
+    Arg::new(alloc, name).long(name).action(ArgAction::Set)
+}
+
 // The options and words of the program.
 fn command<'a>(alloc: Global) -> Result<Command<'a>, AllocError> {
     Command::new(alloc, "cfdp_replay")
         .version("0.1")
-        .arg(
-            Arg::new(alloc, "config")
-                .long("config")
-                .action(ArgAction::Set),
-        )?
+        .arg(valued(alloc, "config"))?
+        .arg(valued(alloc, "explain-pdu"))?
         .arg(Arg::new(alloc, "script").action(ArgAction::Set))
 }
 
@@ -65,12 +72,17 @@ fn fault_of(error: &Error) -> WordsFault {
     }
 }
 
-// The words that the matches of a command line give.
-fn words_in<'a>(matches: &ArgMatches<'a>) -> ReplayWords<'a> {
-    ReplayWords {
+// The words that the matches of a command line give. A datagram stands alone.
+fn words_in<'a>(matches: &ArgMatches<'a>) -> Option<ReplayWords<'a>> {
+    let words = ReplayWords {
         config: matches.get_str("config"),
         script: matches.get_str("script"),
+        datagram: matches.get_str("explain-pdu"),
+    };
+    if words.datagram.is_some() && (words.config.is_some() || words.script.is_some()) {
+        return None;
     }
+    Some(words)
 }
 
 /// Parses a command line of the program; its first word is the program's own name.
@@ -80,7 +92,7 @@ pub(crate) fn replay_words<'a>(
 ) -> Result<ReplayWords<'a>, WordsFault> {
     match command(alloc) {
         Ok(command) => match command.try_get_matches_from(line) {
-            Ok(matches) => Ok(words_in(&matches)),
+            Ok(matches) => words_in(&matches).ok_or(WordsFault::Usage),
             Err(error) => Err(fault_of(&error)),
         },
         Err(AllocError) => Err(WordsFault::NoMemory),
