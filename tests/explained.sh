@@ -1,6 +1,6 @@
 #!/usr/bin/env bash
-# The script program with words on its command line: a configuration, a script's file, a datagram
-# that is explained, help and version, and the faults.
+# The script program with words on its command line: a configuration, a script's file, comments,
+# a datagram that is explained, help and version, and the faults.
 # usage: tests/explained.sh PROGRAM
 set -euo pipefail
 program=$(realpath "$1")
@@ -52,6 +52,54 @@ printf 'take carol\nno line\n' > wrong.script
 run --config carol.toml -- wrong.script < /dev/null
 ends 'a bad line of a script in a file' 1 $'none\nline 2: bad line' ''
 
+# Comments stand below the answers, and nothing else changes.
+for script in "$examples"/*.script; do
+    run --explain "$script" < /dev/null
+    grep -v '^# ' printed > plain
+    if [ "$status" != 0 ] || [ -s told ] || ! grep -q '^# ' printed || ! cmp -s plain "${script%.script}.printed"; then
+        echo "$program --explain $script: status $status, printed: $(cat printed), on standard error: $(cat told)"
+        exit 1
+    fi
+done
+run --explain --config carol.toml <<'SCRIPT'
+# a remark
+take carol
+put carol 0 2 1 a b 68656c6c6f2c20776f726c64
+pump 2 4
+pump 2 4
+pump 2 4
+pdu 280011000204010800000000000000080000000400000008
+pdu 24
+take carol
+no line
+SCRIPT
+ends 'a script with comments' 1 'none
+# no bundle waits
+ok
+txn 2 4
+# transaction 4 of entity 2 begins
+ok
+pdu 20000a0002040107000000000c01610162
+# Metadata: 12 octets, a to b, modular checksum
+ok
+pdu 300010000204010000000068656c6c6f2c20776f726c64
+# File Data: 12 octets at 0
+ok
+pdu 20000a0002040104004703f9470000000c
+# EOF: no error, 12 octets, checksum 4703f947
+ok
+# NAK, asks for octets 4 to 7
+refused 20 DecodeFault 1
+# no PDU: the datagram is too short for a header
+carol 2 4 Transaction
+line 10: bad line' ''
+run --explain <<< $'pdu 24000a0001050207000000000301610162\npdu 24000a0001050204f061626300000000030601\ntake alice\ntake alice'
+plain=$(grep -v '^# ' printed)
+run <<< $'pdu 24000a0001050207000000000301610162\npdu 24000a0001050204f061626300000000030601\ntake alice\ntake alice'
+ends 'a script without its comments' 0 "$plain" ''
+run --explain < .
+ends 'a folder in place of a script, explained' 1 '' 'read fault'
+
 # A datagram of each kind in words, its header first.
 explained() {
     run --explain-pdu "$1" < /dev/null
@@ -98,6 +146,8 @@ run --explain-pdu xy < /dev/null
 fault 'a datagram that is not hex' usage
 run --explain-pdu 24 a < /dev/null
 fault 'a datagram and a script' usage
+run --explain --explain-pdu 24 < /dev/null
+fault 'a datagram and a script that is explained' usage
 run none.script < /dev/null
 fault 'no such script' 'read fault'
 run --config none.toml < /dev/null

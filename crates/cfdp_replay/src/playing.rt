@@ -3,7 +3,8 @@ use crate::explaining::explain;
 use crate::words::{ReplayWords, replay_help, replay_version, replay_words};
 use program_start::{ProgramFault, load_config, print, tell_fault};
 use program_words::{WordsFault, line_of};
-use script_replay::{AnswerPace, play_to_end, play_with};
+use script_explained::explain_to_end;
+use script_replay::{AnswerPace, Session, play_to_end, play_with};
 use std::alloc::Global;
 use std::env::Env;
 use std::fs::File;
@@ -83,11 +84,11 @@ where
     E: Write,
 {
     match words.script {
-        None => play_from(rt, alloc, words.config, input, output, errors, pace),
+        None => play_from(rt, alloc, words, input, output, errors, pace),
         Some(path) => match File::open(rt, path) {
             Ok(file) => {
                 let mut file = file;
-                play_from(rt, alloc, words.config, &mut file, output, errors, pace)
+                play_from(rt, alloc, words, &mut file, output, errors, pace)
             }
             Err(error) => Err(unopened(&error)),
         },
@@ -107,7 +108,7 @@ fn unopened(error: &io::Error) -> ProgramFault {
 fn play_from<R, S, W, E>(
     rt: &R,
     alloc: Global,
-    config: Option<&str>,
+    words: &ReplayWords<'_>,
     script: &mut S,
     output: &mut W,
     errors: &mut E,
@@ -119,11 +120,19 @@ where
     W: Write,
     E: Write,
 {
+    let config = match words.config {
+        None => None,
+        Some(path) => Some(load_config(rt, alloc, path)?),
+    };
+    if words.explains {
+        let session = match config {
+            None => Session::reference(alloc)?,
+            Some(config) => Session::configured(alloc, config),
+        };
+        return Ok(explain_to_end(alloc, session, script, output, errors, pace));
+    }
     match config {
         None => Ok(play_to_end(alloc, script, output, errors, pace)),
-        Some(path) => {
-            let config = load_config(rt, alloc, path)?;
-            Ok(play_with(alloc, config, script, output, errors, pace))
-        }
+        Some(config) => Ok(play_with(alloc, config, script, output, errors, pace)),
     }
 }

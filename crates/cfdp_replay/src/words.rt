@@ -12,18 +12,21 @@ pub(crate) struct ReplayWords<'a> {
     pub config: Option<&'a str>,
     /// The path of the script; without it the standard input is played.
     pub script: Option<&'a str>,
+    /// Whether comments say in words what lines and answers say.
+    pub explains: bool,
     /// The datagram in hex that is to be explained; then nothing is played.
     pub datagram: Option<&'a str>,
 }
 
 const HELP: &str = "Plays a script of events through one CFDP entity, and prints its answers.
 
-Usage: cfdp_replay [--config FILE] [SCRIPT]
+Usage: cfdp_replay [--config FILE] [--explain] [SCRIPT]
        cfdp_replay --explain-pdu HEX
 
   --config FILE      the configuration that the script begins with, in TOML (default: the
                      reference configuration, entity 2 with the users alice and bob)
   SCRIPT             the script's file (default: the standard input)
+  --explain          prints below each answer what it says in words, in lines that begin with `# `
   --explain-pdu HEX  plays nothing: prints in words what one datagram says
   --help             prints this, and ends
   --version          prints the version, and ends
@@ -58,6 +61,11 @@ fn command<'a>(alloc: Global) -> Result<Command<'a>, AllocError> {
     Command::new(alloc, "cfdp_replay")
         .version("0.1")
         .arg(valued(alloc, "config"))?
+        .arg(
+            Arg::new(alloc, "explain")
+                .long("explain")
+                .action(ArgAction::SetTrue),
+        )?
         .arg(valued(alloc, "explain-pdu"))?
         .arg(Arg::new(alloc, "script").action(ArgAction::Set))
 }
@@ -77,9 +85,11 @@ fn words_in<'a>(matches: &ArgMatches<'a>) -> Option<ReplayWords<'a>> {
     let words = ReplayWords {
         config: matches.get_str("config"),
         script: matches.get_str("script"),
+        explains: matches.get_flag("explain"),
         datagram: matches.get_str("explain-pdu"),
     };
-    if words.datagram.is_some() && (words.config.is_some() || words.script.is_some()) {
+    let plays = words.config.is_some() || words.script.is_some() || words.explains;
+    if words.datagram.is_some() && plays {
         return None;
     }
     Some(words)

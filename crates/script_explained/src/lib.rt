@@ -1,0 +1,10 @@
+//! Plays a script, and says in words what its lines and their answers say.
+#![tactic(auto)]
+
+mod comments;
+mod datagrams;
+mod run;
+
+pub use comments::push_comments;
+pub use datagrams::push_datagram;
+pub use run::explain_to_end;
