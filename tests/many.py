@@ -253,7 +253,9 @@ def busy(client):
 
 def a_second_file(one, peer, client):
     """Two files for one lane, the second one before the first has ended. Their ends come later."""
-    for octets in (metadata(8, 3, b"first"), metadata(16, 3, b"second"), file_data(16, 0, b"def"), end_of_file(16, b"def")):
+    peer.sendto(metadata(8, 3, b"first"), ("127.0.0.1", one.port))
+    until(lambda: [line["seq"] for line in of_kind(client, "transaction")] == [8], "the first file's beginning")
+    for octets in (metadata(16, 3, b"second"), file_data(16, 0, b"def"), end_of_file(16, b"def")):
         peer.sendto(octets, ("127.0.0.1", one.port))
     until(lambda: client.status()[0]["counters"]["datagrams_in"] == 4, "four datagrams")
 
