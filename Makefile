@@ -38,7 +38,7 @@ transfer: programs
 	@examples/transfer.sh $(server) $(put) 2 4194304 7 11
 
 # the programs, in place, with a page of the manual for each
-install: programs
+install: programs install-lib
 	install -d $(DESTDIR)$(PREFIX)/bin $(DESTDIR)$(PREFIX)/share/man/man1
 	install -m 755 $(server) $(put) $(ctl) $(DESTDIR)$(PREFIX)/bin
 	install -m 644 docs/man/cfdp_server.1 docs/man/cfdp_put.1 docs/man/cfdp_ctl.1 $(DESTDIR)$(PREFIX)/share/man/man1
