@@ -70,6 +70,7 @@ pump 2 4
 pump 2 4
 pdu 280011000204010800000000000000080000000400000008
 pdu 24
+resume carol 2 4
 take carol
 no line
 SCRIPT
@@ -91,8 +92,10 @@ ok
 # NAK, asks for octets 4 to 7
 refused 20 DecodeFault 1
 # no PDU: the datagram is too short for a header
+refused 8 WrongState
+# refused: the transaction'\''s state does not allow this
 carol 2 4 Transaction
-line 10: bad line' ''
+line 11: bad line' ''
 run --explain <<< $'pdu 24000a0001050207000000000301610162\npdu 24000a0001050204f061626300000000030601\ntake alice\ntake alice'
 plain=$(grep -v '^# ' printed)
 run <<< $'pdu 24000a0001050207000000000301610162\npdu 24000a0001050204f061626300000000030601\ntake alice\ntake alice'

@@ -5,11 +5,15 @@
 #[cfg(test)]
 mod configs;
 #[cfg(test)]
+mod disk_numbers;
+#[cfg(test)]
 mod gaps;
 #[cfg(test)]
 mod lines;
 #[cfg(test)]
 mod outputs;
+#[cfg(test)]
+mod stations;
 #[cfg(test)]
 mod stores;
 #[cfg(test)]

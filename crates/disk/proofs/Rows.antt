@@ -7,7 +7,7 @@ use Rattle.disk.specs.Steps.Call.{create, append, flush}
 use Rattle.disk.specs.Steps.Step.{did, tried, refused, saw_folder, cut}
 use Rattle.disk.specs.Crash.{state}
 use Rattle.disk.specs.Crash.Content.{written, flushed, unknown}
-use Rattle.disk.specs.Faults.{fault_of}
+use Rattle.disk.specs.Faults.{fault_of, words_of}
 
 folders : map folder_of (codes "a/b/c" ∷ codes "a" ∷ codes "" ∷ []) ≡ codes "a/b" ∷ [] ∷ [] ∷ []
 folders = refl
@@ -46,3 +46,11 @@ contents : map (λ steps. (state steps).file)
     ∷ [])
     ≡ written (1 ∷ []) ∷ flushed (1 ∷ []) ∷ written (1 ∷ 2 ∷ []) ∷ unknown ∷ unknown ∷ []
 contents = refl
+
+said : map (λ kind. words_of kind (Some (pos 28))) (StorageFull ∷ NotFound ∷ PermissionDenied ∷ [])
+    ≡ codes "no space is left" ∷ codes "the folder isn't there" ∷ codes "the system refuses it" ∷ []
+said = refl
+
+numbers_said : map (λ code. words_of Uncategorized code) (Some (pos 5) ∷ Some (pos 24) ∷ None ∷ [])
+    ≡ codes "an input or output error" ∷ codes "too many files are open" ∷ codes "the system refuses it" ∷ []
+numbers_said = refl

@@ -55,6 +55,9 @@ pub trait Disk {
     fn read(&mut self, path: &str) -> Result<Option<Vec<u8>>, Fault>
         ensures { done self.new ≡ read_by result path.now (done self.old) };
 
+    /// What the last call met that failed, in words for people; empty if none failed.
+    fn hindrance(&self) -> &'static str;
+
     /// Whether there is a folder at a path, and no link to one.
     fn is_folder(&mut self, path: &str) -> Result<bool, Fault>
         ensures { done self.new ≡ looked_by result path.now (done self.old) };

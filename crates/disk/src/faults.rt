@@ -1,7 +1,7 @@
 //! Which failures of the system may pass.
 ghost use Rattle.std.specs.Prelude.{◌≡◌};
 ghost use Rattle.std.specs.IoError.{error_kind, raw_os_error};
-ghost use Rattle.disk.specs.Faults.{fault_of, passes};
+ghost use Rattle.disk.specs.Faults.{fault_of, numbered_words, passes, words_of};
 
 use crate::device::Fault;
 use std::io;
@@ -21,6 +21,7 @@ pub(crate) fn fault_of(error: &io::Error) -> Fault
     match error.kind() {
         ErrorKind::AlreadyExists => Fault::Exists,
         ErrorKind::NotFound => Fault::MayPass,
+        ErrorKind::OutOfMemory => Fault::MayPass,
         ErrorKind::QuotaExceeded => Fault::MayPass,
         ErrorKind::ReadOnlyFilesystem => Fault::MayPass,
         ErrorKind::StorageFull => Fault::MayPass,
@@ -37,6 +38,38 @@ fn passes(code: Option<i32>) -> bool
         None => false,
         Some(code) => {
             code == INPUT_OUTPUT_ERROR || code == TOO_MANY_FILES_IN_SYSTEM || code == TOO_MANY_FILES
+        }
+    }
+}
+
+/// What an error of the system says, in words.
+pub(crate) fn words_of(error: &io::Error) -> &'static str
+    ensures { result.now ≡ words_of (error_kind error.now) (raw_os_error error.now) }
+{
+    match error.kind() {
+        ErrorKind::NotFound => "the folder isn't there",
+        ErrorKind::StorageFull => "no space is left",
+        ErrorKind::QuotaExceeded => "the quota is used up",
+        ErrorKind::ReadOnlyFilesystem => "the file system is read-only",
+        ErrorKind::OutOfMemory => "no memory is left",
+        _ => numbered_words(error.raw_os_error()),
+    }
+}
+
+// What an error with this number says.
+fn numbered_words(code: Option<i32>) -> &'static str
+    ensures { result.now ≡ numbered_words code }
+{
+    match code {
+        None => "the system refuses it",
+        Some(code) => {
+            if code == INPUT_OUTPUT_ERROR {
+                "an input or output error"
+            } else if code == TOO_MANY_FILES_IN_SYSTEM || code == TOO_MANY_FILES {
+                "too many files are open"
+            } else {
+                "the system refuses it"
+            }
         }
     }
 }

@@ -4,7 +4,7 @@ ghost use Rattle.disk.specs.Asked.{noted};
 ghost use Rattle.disk.specs.declared.log.Note.TheVariants.{Called, Saw, SawFolder};
 
 use crate::device::{Disk, Fault};
-use crate::faults::fault_of;
+use crate::faults::{fault_of, words_of};
 use crate::log::{Asked, Log, Note};
 use std::fs::{File, OpenFile};
 use std::io::{ErrorKind, Read, Write};
@@ -17,6 +17,7 @@ pub struct SystemDisk<R: Files + AllocGlobal + Drop> {
     rt: R,
     folder: String,
     open: Option<R::File>,
+    hindrance: &'static str,
     pub(crate) log: Log,
 }
 
@@ -27,6 +28,7 @@ impl<R: Files + AllocGlobal + Drop> SystemDisk<R> {
             rt,
             folder,
             open: None,
+            hindrance: "",
             log: Log::new(),
         }
     }
@@ -37,7 +39,10 @@ impl<R: Files + AllocGlobal + Drop> SystemDisk<R> {
     {
         let answer = match self.perform(asked) {
             Ok(()) => Ok(()),
-            Err(error) => Err(fault_of(&error)),
+            Err(error) => {
+                self.hindrance = words_of(&error);
+                Err(fault_of(&error))
+            }
         };
         self.log = self.log.and(&Note::Called(asked, answer));
         answer
@@ -197,13 +202,20 @@ impl<R: Files + AllocGlobal + Drop> Disk for SystemDisk<R> {
         self.ask(Asked::FlushFolder(path))
     }
 
+    fn hindrance(&self) -> &'static str {
+        self.hindrance
+    }
+
     fn read(&mut self, path: &str) -> Result<Option<Vec<u8>>, Fault> {
         match self.octets_of(path) {
             Ok(found) => {
                 self.note_read(path, found.as_ref().map(|octets| octets.as_slice()));
                 Ok(found)
             }
-            Err(error) => Err(fault_of(&error)),
+            Err(error) => {
+                self.hindrance = words_of(&error);
+                Err(fault_of(&error))
+            }
         }
     }
 
@@ -214,7 +226,10 @@ impl<R: Files + AllocGlobal + Drop> Disk for SystemDisk<R> {
                 Ok(true)
             }
             Ok(false) => Ok(false),
-            Err(error) => Err(fault_of(&error)),
+            Err(error) => {
+                self.hindrance = words_of(&error);
+                Err(fault_of(&error))
+            }
         }
     }
 }

@@ -1,6 +1,7 @@
 -- Meaning. What a PDU says, in words for a person.
 use Rattle.std.specs.Prelude.{ℕ, ◌-◌, ◌==◌, ◌&&◌, nat_lt, Bool, true, false, if◌then◌else◌, List, [], ◌∷◌, ◌++◌, length, Option, Some, None, codes, decimal}
 use Rattle.std.specs.List.{flat_map, list_all}
+use Rattle.std.specs.Int.{to_be_bytes, w32}
 use Rattle.hex.specs.Hex.{encode_lower}
 use Rattle.cfdp_types.specs.declared.key.EntityId.{EntityId}
 use Rattle.cfdp_types.specs.declared.names.Class.{Class}
@@ -12,6 +13,7 @@ use Rattle.cfdp_types.specs.declared.names.FileStatus.TheVariants.{Discarded, Re
 use Rattle.pdu_values.specs.declared.bodies.Ack.{Ack}
 use Rattle.pdu_values.specs.declared.bodies.Acknowledged.{Acknowledged}
 use Rattle.pdu_values.specs.declared.bodies.Acknowledged.TheVariants as acknowledged
+use Rattle.pdu_values.specs.declared.bodies.Eof.{Eof}
 use Rattle.pdu_values.specs.declared.bodies.FileData.{FileData}
 use Rattle.pdu_values.specs.declared.bodies.Finished.{Finished}
 use Rattle.pdu_values.specs.declared.bodies.KeepAlive.{KeepAlive}
@@ -19,6 +21,9 @@ use Rattle.pdu_values.specs.declared.bodies.Metadata.{Metadata}
 use Rattle.pdu_values.specs.declared.bodies.Nak.{Nak}
 use Rattle.pdu_values.specs.declared.bodies.TransactionStatus.{TransactionStatus}
 use Rattle.pdu_values.specs.declared.bodies.TransactionStatus.TheVariants.{Undefined, Active, Terminated, Unrecognized}
+use Rattle.pdu_values.specs.declared.bodies.Prompt.TheVariants as prompt
+use Rattle.pdu_values.specs.declared.pdu.Body.{Body}
+use Rattle.pdu_values.specs.declared.pdu.Body.TheVariants as body
 use Rattle.pdu_values.specs.declared.pdu.Direction.{Direction}
 use Rattle.pdu_values.specs.declared.pdu.Direction.TheVariants.{TowardReceiver, TowardSender}
 use Rattle.pdu_values.specs.declared.pdu.Header.{Header}
@@ -91,6 +96,15 @@ abbrev pub location_text : Option EntityId → List ℕ
 location_text None = []
 location_text (Some id) = codes ", by entity " ++ decimal id.0
 
+-- a checksum in eight hex digits
+abbrev pub checksum_text : ℕ → List ℕ
+checksum_text checksum = encode_lower (to_be_bytes w32 checksum)
+
+abbrev pub eof_text : Eof → List ℕ
+eof_text eof =
+    codes "EOF: " ++ (condition_text eof.condition ++ (codes ", " ++ (decimal eof.size ++ (codes " octets, checksum "
+    ++ (checksum_text eof.checksum ++ location_text eof.location)))))
+
 abbrev pub finished_text : Finished → List ℕ
 finished_text finished =
     codes "Finished: " ++ (condition_text finished.condition ++ (codes ", " ++ (delivery_words finished.delivery
@@ -135,6 +149,18 @@ keep_alive_text keep_alive = codes "Keep Alive: " ++ (decimal keep_alive.progres
 abbrev pub segment_text : FileData → List ℕ
 segment_text segment = codes "File Data: " ++ (decimal (length segment.octets) ++ (codes " octets at " ++ decimal segment.offset))
 
+-- what a PDU says, by its kind
+abbrev pub body_text : Body → List ℕ
+body_text (body.Eof eof) = eof_text eof
+body_text (body.Finished finished) = finished_text finished
+body_text (body.Ack ack) = ack_text ack
+body_text (body.Metadata metadata) = metadata_text metadata
+body_text (body.Nak nak) = nak_text nak
+body_text (body.Prompt prompt.Nak) = codes "Prompt for a NAK"
+body_text (body.Prompt prompt.KeepAlive) = codes "Prompt for a Keep Alive"
+body_text (body.KeepAlive keep_alive) = keep_alive_text keep_alive
+body_text (body.FileData segment) = segment_text segment
+
 -- ---- headers
 
 abbrev pub class_words : Class → List ℕ
@@ -144,6 +170,10 @@ class_words Two = codes "class 2"
 abbrev pub direction_words : Direction → List ℕ
 direction_words TowardReceiver = codes "receiver"
 direction_words TowardSender = codes "sender"
+
+-- the class, and the end that the PDU goes to
+abbrev pub way_text : Header → List ℕ
+way_text header = class_words header.class ++ (codes ", toward the " ++ direction_words header.direction)
 
 abbrev pub transaction_text : Header → List ℕ
 transaction_text header =

@@ -1,6 +1,6 @@
 //! PDUs in words. Each function appends to `text`; after an `Err` the text is not to be used.
-ghost use Rattle.std.specs.Prelude.{◌≡◌, ◌++◌, OnOk, string_bytes};
-ghost use Rattle.pdu_words.specs.Words.{ack_text, acknowledged_words, checksum_words, class_words, closure_words, direction_words, finished_text, keep_alive_text, location_text, metadata_text, nak_text, request_text, segment_text, transaction_text};
+ghost use Rattle.std.specs.Prelude.{◌≡◌, ◌++◌, IfOk, OnOk, string_bytes};
+ghost use Rattle.pdu_words.specs.Words.{ack_text, acknowledged_words, body_text, checksum_text, checksum_words, class_words, closure_words, direction_words, eof_text, finished_text, keep_alive_text, location_text, metadata_text, nak_text, request_text, segment_text, transaction_text, way_text};
 
 use crate::names::{delivery_words, file_words, push_condition, push_name, status_words};
 use cfdp_types::{ChecksumType, Class, EntityId};
@@ -11,9 +11,11 @@ use pdu_values::{
 use std::alloc::{AllocError, Global};
 
 /// Adds what a PDU says, without a line feed.
-pub fn push_pdu_words(alloc: Global, text: &mut String, pdu: &Pdu) -> Result<(), AllocError> {
+pub fn push_pdu_words(alloc: Global, text: &mut String, pdu: &Pdu) -> Result<(), AllocError>
+    ensures { OnOk result (string_bytes text.new ≡ string_bytes text.old ++ body_text pdu.now.body) }
+{
     match pdu.body() {
-        Body::Eof(eof) => push_eof(text, eof),
+        Body::Eof(eof) => push_eof(alloc, text, eof),
         Body::Finished(finished) => push_finished(text, finished),
         Body::Ack(ack) => push_ack(text, ack),
         Body::Metadata(metadata) => push_metadata(alloc, text, metadata),
@@ -39,10 +41,12 @@ pub fn push_transaction_words(text: &mut String, header: &Header) -> Result<(), 
 }
 
 /// Adds the class that the header of a PDU names, and the end that it goes to.
-pub fn push_way_words(text: &mut String, header: &Header) -> Result<(), AllocError> {
-    text.push_str(class_words(header.class))?;
-    text.push_str(", toward the ")?;
-    text.push_str(direction_words(header.direction))
+pub fn push_way_words(text: &mut String, header: &Header) -> Result<(), AllocError>
+    ensures { OnOk result (string_bytes text.new ≡ string_bytes text.old ++ way_text header.now) }
+{
+    let class = class_words(header.class);
+    let direction = direction_words(header.direction);
+    write!(text, "{class}, toward the {direction}")
 }
 
 fn class_words(class: Class) -> &'static str
@@ -63,13 +67,23 @@ fn direction_words(direction: Direction) -> &'static str
     }
 }
 
-fn push_eof(text: &mut String, eof: &Eof) -> Result<(), AllocError> {
+fn push_eof(alloc: Global, text: &mut String, eof: &Eof) -> Result<(), AllocError>
+    ensures { OnOk result (string_bytes text.new ≡ string_bytes text.old ++ eof_text eof.now) }
+{
     let size = eof.size;
-    let checksum = eof.checksum;
+    let checksum = checksum_text(alloc, eof.checksum)?;
     text.push_str("EOF: ")?;
     push_condition(text, eof.condition)?;
-    write!(text, ", {size} octets, checksum {checksum:08x}")?;
+    write!(text, ", {size} octets, checksum ")?;
+    text.push_str(checksum.as_str())?;
     push_location(text, eof.location)
+}
+
+// A checksum in eight hex digits.
+fn checksum_text(alloc: Global, checksum: u32) -> Result<String, AllocError>
+    ensures { IfOk result (λ text. string_bytes text ≡ checksum_text checksum) }
+{
+    hex::encode(alloc, checksum.to_be_bytes())
 }
 
 fn push_location(text: &mut String, location: Option<EntityId>) -> Result<(), AllocError>

@@ -13,6 +13,8 @@ mod events;
 #[cfg(test)]
 mod numbers;
 #[cfg(test)]
+mod recorder;
+#[cfg(test)]
 mod seats;
 #[cfg(test)]
 mod tallies;

@@ -1,12 +1,13 @@
 //! A script's lines and their answers in words. Each function appends to `text`; after an `Err` the text is not to be
 //! used.
 use crate::datagrams::push_pdu_comment;
+use crate::refusals::refusal_words;
 use hex::FromHexError;
 use pdu_words::condition_words;
 use std::alloc::{AllocError, Global};
 
 /// Adds a line of comment for each thing that a line of a script and its answer say: the PDU that came, and those that
-/// go out; a new transaction, a file to be stored, the condition of an indication.
+/// go out; a new transaction, a file to be stored, the condition of an indication, why something was refused.
 pub fn push_comments(
     alloc: Global,
     text: &mut String,
@@ -36,6 +37,9 @@ fn push_answer_comment(alloc: Global, text: &mut String, said: &str) -> Result<(
     if let Some(key) = said.strip_prefix("txn ") {
         return push_key_comment(text, key);
     }
+    if let Some(refusal) = said.strip_prefix("refused ") {
+        return push_refusal_comment(text, refusal);
+    }
     if said == "none" {
         return text.push_str("# no bundle waits\n");
     }
@@ -62,6 +66,16 @@ fn push_digits_comment(alloc: Global, text: &mut String, digits: &str) -> Result
 fn push_key_comment(text: &mut String, key: &str) -> Result<(), AllocError> {
     match key.split_once(' ') {
         Some((source, seq)) => writeln!(text, "# transaction {seq} of entity {source} begins"),
+        None => Ok(()),
+    }
+}
+
+// Adds what a refusal means, by its number and its name.
+fn push_refusal_comment(text: &mut String, refusal: &str) -> Result<(), AllocError> {
+    let mut words = refusal.split(' ');
+    let _number = words.next();
+    match words.next().and_then(refusal_words) {
+        Some(meaning) => writeln!(text, "# refused: {meaning}"),
         None => Ok(()),
     }
 }

@@ -3,6 +3,7 @@
 
 mod comments;
 mod datagrams;
+mod refusals;
 mod run;
 
 pub use comments::push_comments;

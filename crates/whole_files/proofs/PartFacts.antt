@@ -1,15 +1,15 @@
 -- How a part is made, and what becomes of it, call by call.
-use Rattle.std.proofs.Common.{◌≡◌, inl, inr, ◌⊎◌, ℕ, false, List, [], ◌∷◌, ◌++◌, Option, Result, Ok, Err, OnErr, is_err, map, refl, sym, ap, ◌∙◌, subst, append_assoc}
+use Rattle.std.proofs.Common.{◌≡◌, inl, inr, ◌⊎◌, ℕ, false, List, [], ◌∷◌, ◌++◌, Option, Result, Ok, Err, OnErr, is_err, refl, sym, ap, ◌∙◌, subst, append_assoc}
 use Rattle.std.proofs.lemmas.Bool.{false≢true}
 use Rattle.disk.specs.declared.device.Fault.{Fault}
 use Rattle.disk.specs.declared.device.Fault.TheVariants.{Exists, MayPass, Failed}
 use Rattle.disk.specs.Steps.{Call, Step, step_of}
 use Rattle.disk.specs.Steps.Call.{create, remove, rename}
-use Rattle.disk.specs.Steps.Step.{did, tried, refused}
+use Rattle.disk.specs.Steps.Step.{refused}
 use Rattle.disk.specs.Promise.{Changes, Unchanged}
 use Rattle.disk.proofs.Moments.{nothing_yet}
 use Rattle.disk.proofs.Answered as answered
-use Rattle.whole_files.specs.PartSteps.{Began, GivenUp, IsAnswered, MadeNew, MadeNone, Named, NoneLeft, OnlyRefused, OverNew, TakesAway}
+use Rattle.whole_files.specs.PartSteps.{Began, GivenUp, IsAnswered, MadeNew, MadeNone, Named, OnlyRefused, OverNew, TakesAway}
 use Rattle.whole_files.proofs.Chains.{refused_too}
 
 -- ---- a part is made

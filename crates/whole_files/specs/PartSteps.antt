@@ -60,3 +60,22 @@ pub record OverNew (path : List ℕ) (before now : List Step) : Type 0 where
   pub part : List ℕ
   pub began : Began part before now
   pub none_left : NoneLeft part path now
+
+-- some steps are earlier ones and more
+pub record IsLater (before now : List Step) : Type 0 where
+  pub more : List Step
+  pub steps : now ≡ more ++ before
+
+-- some time between, a step took a path away, or tried to
+pub record WentAway (path : List ℕ) (before now : List Step) : Type 0 where
+  pub gone : List Step
+  pub since : IsLater before gone
+  pub away : TakesAway path gone
+  pub later : IsLater gone now
+
+-- a part was made as a new file, and a later step takes it away, or tried to
+pub record GaveUp (before now : List Step) : Type 0 where
+  pub part : List ℕ
+  pub made : List Step
+  pub is_new : MadeNew part before made
+  pub went : WentAway part made now

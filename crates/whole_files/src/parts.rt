@@ -11,23 +11,25 @@ use disk::{Disk, Fault};
 use std::alloc::Global;
 
 // How many names are tried for a part.
-const PART_NAMES: u64 = 100_000;
+const PART_NAMES: u64 = 1_000_000;
 
 /// Creates a part beside a path, under the first of its names that is free, and returns its path. Names are numbered
-/// from `first` on.
+/// from `next` on, and `next` is the number behind the last that was tried. Where a million of them are taken, a later
+/// call goes on from there.
 pub fn new_part<D: Disk>(
     disk: &mut D,
     alloc: Global,
     path: &str,
-    first: u64,
+    next: &mut u64,
 ) -> Result<String, Fault>
     ensures ok { IfOk result (λ part. IsPartFor path.now (string_bytes part) (written []) (D.done disk.old) (D.done disk.new)) }
     ensures made { IfOk result (λ part. MadeNew (string_bytes part) (D.done disk.old) (D.done disk.new)) }
     ensures err { OnErr result (OneChanged (D.done disk.old) (D.done disk.new)) }
     ensures none { OnErr result (MadeNone (D.done disk.old) (D.done disk.new)) }
 {
-    for more in 0..PART_NAMES {
-        let part = part_path(alloc, folder_of(path), first.wrapping_add(more))?;
+    for _ in 0..PART_NAMES {
+        let part = part_path(alloc, folder_of(path), *next)?;
+        *next = next.wrapping_add(1);
         if part.as_str() == path {
             continue;
         }
@@ -37,7 +39,7 @@ pub fn new_part<D: Disk>(
             Err(fault) => return Err(fault),
         }
     }
-    Err(Fault::Exists)
+    Err(Fault::MayPass)
 }
 
 // The path of a part in a folder.
@@ -47,7 +49,7 @@ fn part_path(alloc: Global, folder: &str, number: u64) -> Result<String, Fault> 
     } else {
         format!(in alloc; "{folder}/.part-{number}")
     };
-    made.map_err(|_| Fault::Failed)
+    made.map_err(|_| Fault::MayPass)
 }
 
 /// Writes octets to the open file and flushes it. Where that fails, the part is removed.
@@ -80,7 +82,7 @@ pub fn write_part<D: Disk>(
     disk: &mut D,
     alloc: Global,
     path: &str,
-    first: u64,
+    next: &mut u64,
     octets: &[u8],
 ) -> Result<String, Fault>
     ensures ok { IfOk result (λ part. IsPartFor path.now (string_bytes part) (flushed octets.now) (D.done disk.old) (D.done disk.new)) }
@@ -88,7 +90,7 @@ pub fn write_part<D: Disk>(
     ensures err { OnErr result (OneChanged (D.done disk.old) (D.done disk.new)) }
     ensures none { OnErr result (MadeNone (D.done disk.old) (D.done disk.new) ⊎ GivenUp (D.done disk.old) (D.done disk.new)) }
 {
-    let part = new_part(disk, alloc, path, first)?;
+    let part = new_part(disk, alloc, path, next)?;
     fill_part(disk, part.as_str(), octets)?;
     Ok(part)
 }

@@ -1,8 +1,10 @@
-//! The folders of a path.
-ghost use Rattle.std.specs.Prelude.{◌≡◌, ◌<◌, true, length, slice_index};
+//! The folders of a path, and the paths of copies.
+ghost use Rattle.std.specs.Prelude.{◌≡◌, ◌<◌, true, length, slice_index, IfOk, string_bytes};
 ghost use Rattle.std.specs.Option.{option_copied};
 ghost use Rattle.disk.specs.Steps.{folder_of, is_slash};
-ghost use Rattle.whole_files.specs.Wholes.{folder_at};
+ghost use Rattle.whole_files.specs.Wholes.{folder_at, numbered};
+
+use std::alloc::{AllocError, Global};
 
 /// The part of a path before its last slash: the folder that it is in, and the empty path for the disk's own.
 pub fn folder_of(path: &str) -> &str
@@ -31,4 +33,15 @@ fn is_slash_at(octets: &[u8], at: usize) -> bool
     ensures inside { result ≡ true → at < length octets.now }
 {
     at < octets.len() && octets[at] == b'/'
+}
+
+/// The path of a copy: for copy 0 the path itself, otherwise the path with a dot and the number appended.
+pub(crate) fn numbered(alloc: Global, path: &str, copy: u64) -> Result<String, AllocError>
+    ensures { IfOk result (λ place. string_bytes place ≡ numbered path.now copy) }
+{
+    if copy == 0 {
+        Ok(String::from_str(alloc, path)?)
+    } else {
+        Ok(format!(in alloc; "{path}.{copy}")?)
+    }
 }

@@ -10,13 +10,13 @@ use crate::paths::folder_of;
 use disk::{Disk, Fault};
 use std::alloc::Global;
 
-/// Stores octets under a path, over a new part beside it, in place of the file there. Parts are numbered from `first`
-/// on.
+/// Stores octets under a path, over a new part beside it, in place of the file there. Parts are numbered from `next`
+/// on, and `next` is the number behind the last that was tried.
 pub fn replace_file<D: Disk>(
     disk: &mut D,
     alloc: Global,
     path: &str,
-    first: u64,
+    next: &mut u64,
     octets: &[u8],
 ) -> Result<(), Fault>
     requires { IsReached (D.done disk.old) path.now }
@@ -24,7 +24,7 @@ pub fn replace_file<D: Disk>(
     ensures part { MadeNone (D.done disk.old) (D.done disk.new) ⊎ OverNew path.now (D.done disk.old) (D.done disk.new) }
     ensures ok { OnOk result (HoldsAfterCut (D.done disk.new) path.now octets.now) }
 {
-    let part = write_part(disk, alloc, path, first, octets)?;
+    let part = write_part(disk, alloc, path, next, octets)?;
     put_part(disk, part.as_str(), path, octets)
 }
 

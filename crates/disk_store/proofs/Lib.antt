@@ -1,0 +1,4 @@
+pub mod Rows
+pub mod Reaching
+pub mod Storing
+pub mod Deposits

@@ -1,0 +1,11 @@
+use Rattle.std.proofs.Common.{rules, tests}
+use Rattle.std.proofs.lemmas.Iterator.Search.{all_from_yields_List}
+use Rattle.std.proofs.lemmas.Iterator.Splits.{YieldsList-from_slice_split}
+use Rattle.file_stores.specs.Names.{is_plain_name}
+use Rattle.disk.specs.Steps.{is_slash}
+use Rattle.disk_store.proofs.names.has_plain_parts.Goals as goal
+
+pub returns : goal.returns
+returns c = all_from_yields_List is_plain_name _ _ _ c.all.ensures.ran
+    (YieldsList-from_slice_split _ is_slash c.args.path.now c.split.ensures.rest c.split.ensures.done c.split.ensures.closure (λ x r q k. search (rules, tests)))
+    (λ x b q k. search (rules, tests))

@@ -1,0 +1,74 @@
+//! Keeping a file: its folders are made, and it is stored as a whole.
+ghost use Rattle.std.specs.Prelude.{◌≡◌, IfOk, OnOk, string_bytes};
+ghost use Rattle.disk.specs.Promise.{HoldsAfterCut, IsReached, Whole};
+ghost use Rattle.disk.specs.Parts.{Stores};
+ghost use Rattle.disk_store.specs.Paths.{IsPlaceFor, IsNewAt};
+
+use crate::folders::{reach, refuse_folder};
+use crate::settings::Clash;
+use disk::{Disk, Fault};
+use std::alloc::Global;
+use whole_files::{keep_file, replace_file};
+
+/// Keeps a file under a path, or as a numbered copy there, and returns its path. The folders on the path `known` are
+/// known to stay. Parts are numbered from `next` on, and `next` is the number behind the last that was tried.
+pub fn keep_at<D: Disk>(
+    disk: &mut D,
+    alloc: Global,
+    clash: Clash,
+    known: &str,
+    path: &str,
+    next: &mut u64,
+    octets: &[u8],
+) -> Result<String, Fault>
+    requires { IsReached (D.done disk.old) known.now }
+    ensures stores { Stores (IsNewAt clash path.now octets.now) (D.done disk.old) (D.done disk.new) }
+    ensures place { IfOk result (λ place. IsPlaceFor clash path.now (string_bytes place)) }
+    ensures holds { IfOk result (λ place. HoldsAfterCut (D.done disk.new) (string_bytes place) octets.now) }
+    ensures reached { IfOk result (λ place. IsReached (D.done disk.new) (string_bytes place)) }
+{
+    reach(disk, known, path)?;
+    refuse_folder(disk, path)?;
+    match clash {
+        Clash::Replace => replace(disk, alloc, path, next, octets),
+        Clash::Keep => keep(disk, alloc, path, next, octets),
+    }
+}
+
+// Keeps a file in place of the one that is there, and returns its path.
+fn replace<D: Disk>(
+    disk: &mut D,
+    alloc: Global,
+    path: &str,
+    next: &mut u64,
+    octets: &[u8],
+) -> Result<String, Fault>
+    requires { IsReached (D.done disk.old) path.now }
+    ensures stores { Stores (IsNewAt Clash.Replace path.now octets.now) (D.done disk.old) (D.done disk.new) }
+    ensures place { IfOk result (λ place. IsPlaceFor Clash.Replace path.now (string_bytes place)) }
+    ensures holds { IfOk result (λ place. HoldsAfterCut (D.done disk.new) (string_bytes place) octets.now) }
+    ensures reached { IfOk result (λ place. IsReached (D.done disk.new) (string_bytes place)) }
+{
+    let Ok(place) = String::from_str(alloc, path) else {
+        return Err(Fault::MayPass);
+    };
+    replace_file(disk, alloc, path, next, octets)?;
+    Ok(place)
+}
+
+// Keeps a file under the first of its names that is free, and returns its path.
+fn keep<D: Disk>(
+    disk: &mut D,
+    alloc: Global,
+    path: &str,
+    next: &mut u64,
+    octets: &[u8],
+) -> Result<String, Fault>
+    requires { IsReached (D.done disk.old) path.now }
+    ensures stores { Stores (IsNewAt Clash.Keep path.now octets.now) (D.done disk.old) (D.done disk.new) }
+    ensures place { IfOk result (λ place. IsPlaceFor Clash.Keep path.now (string_bytes place)) }
+    ensures holds { IfOk result (λ place. HoldsAfterCut (D.done disk.new) (string_bytes place) octets.now) }
+    ensures reached { IfOk result (λ place. IsReached (D.done disk.new) (string_bytes place)) }
+{
+    keep_file(disk, alloc, path, next, octets)
+}

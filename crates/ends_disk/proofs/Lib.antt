@@ -1,0 +1,2 @@
+pub mod HistoryFacts
+pub mod Rows

@@ -1,0 +1,5 @@
+pub mod Headings
+pub mod Names
+pub mod Pieces
+pub mod Recordings
+pub mod Sights

@@ -1,0 +1,101 @@
+//! A file is kept beside those that are there, under the first of its names that is free.
+ghost use Rattle.std.specs.Prelude.{◌≡◌, ◌≢◌, ◌⊎◌, IfOk, OnOk, string_bytes};
+ghost use Rattle.disk.specs.Crash.Content.{flushed};
+ghost use Rattle.disk.specs.Promise.{Changes, HoldsAfterCut, Is, IsReached, NoPath, WholeOrGone};
+ghost use Rattle.disk.specs.Parts.{IsNamed, IsOpen, Stores};
+ghost use Rattle.whole_files.specs.PartSteps.{GaveUp, MadeNone, WentAway};
+ghost use Rattle.whole_files.specs.Wholes.{IsCopyOf};
+
+use crate::parts::write_part;
+use crate::paths::{folder_of, numbered};
+use disk::{Disk, Fault};
+use std::alloc::Global;
+
+// The greatest number that is appended to a path.
+const MOST_COPIES: u64 = 9_999;
+
+/// Keeps octets over a new part, under a path or, where there is a file, under the first numbered copy of it that is
+/// free, and returns where. Parts are numbered from `next` on, and `next` is the number behind the last that was tried.
+pub fn keep_file<D: Disk>(
+    disk: &mut D,
+    alloc: Global,
+    path: &str,
+    next: &mut u64,
+    octets: &[u8],
+) -> Result<String, Fault>
+    requires { IsReached (D.done disk.old) path.now }
+    ensures stores { Stores (WholeOrGone (IsCopyOf path.now) octets.now) (D.done disk.old) (D.done disk.new) }
+    ensures part { MadeNone (D.done disk.old) (D.done disk.new) ⊎ GaveUp (D.done disk.old) (D.done disk.new) }
+    ensures copy { IfOk result (λ place. IsCopyOf path.now (string_bytes place)) }
+    ensures ok { IfOk result (λ place. HoldsAfterCut (D.done disk.new) (string_bytes place) octets.now) }
+{
+    let part = write_part(disk, alloc, path, next, octets)?;
+    link_part(disk, alloc, part.as_str(), path, octets)
+}
+
+// Gives a part that has these octets, flushed, a free name, removes the part, and flushes the folder.
+fn link_part<D: Disk>(
+    disk: &mut D,
+    alloc: Global,
+    part: &str,
+    path: &str,
+    _octets: &[u8],
+) -> Result<String, Fault>
+    requires reached { IsReached (D.done disk.old) path.now }
+    requires filled { IsOpen part.now (flushed _octets.now) (D.done disk.old) }
+    ensures changes { Changes (Is part.now) (WholeOrGone (IsCopyOf path.now) _octets.now) (D.done disk.old) (D.done disk.new) }
+    ensures away { WentAway part.now (D.done disk.old) (D.done disk.new) }
+    ensures copy { IfOk result (λ place. IsCopyOf path.now (string_bytes place)) }
+    ensures ok { IfOk result (λ place. HoldsAfterCut (D.done disk.new) (string_bytes place) _octets.now) }
+{
+    let linked = link_first(disk, alloc, part, path, _octets);
+    let _ = disk.remove(part);
+    let place = linked?;
+    settle(disk, place.as_str(), path, _octets)?;
+    Ok(place)
+}
+
+// Links a part to the first copy that is free.
+fn link_first<D: Disk>(
+    disk: &mut D,
+    alloc: Global,
+    part: &str,
+    path: &str,
+    _octets: &[u8],
+) -> Result<String, Fault>
+    requires { IsOpen part.now (flushed _octets.now) (D.done disk.old) }
+    ensures changes { Changes (Is part.now) (WholeOrGone (IsCopyOf path.now) _octets.now) (D.done disk.old) (D.done disk.new) }
+    ensures copy { IfOk result (λ place. IsCopyOf path.now (string_bytes place)) }
+    ensures apart { IfOk result (λ place. string_bytes place ≢ part.now) }
+    ensures named { IfOk result (λ place. IsNamed (string_bytes place) _octets.now (D.done disk.new)) }
+{
+    for copy in 0..=MOST_COPIES {
+        let Ok(place) = numbered(alloc, path, copy) else {
+            return Err(Fault::MayPass);
+        };
+        if place.as_str() == part {
+            continue;
+        }
+        match disk.link(part, place.as_str()) {
+            Ok(()) => return Ok(place),
+            Err(Fault::Exists) => {}
+            Err(fault) => return Err(fault),
+        }
+    }
+    Err(Fault::Exists)
+}
+
+// Flushes the folder of a copy. Where that fails, the copy is taken back.
+fn settle<D: Disk>(disk: &mut D, place: &str, _path: &str, _octets: &[u8]) -> Result<(), Fault>
+    requires copy { IsCopyOf _path.now place.now }
+    requires reached { IsReached (D.done disk.old) place.now }
+    requires named { IsNamed place.now _octets.now (D.done disk.old) }
+    ensures changes { Changes NoPath (WholeOrGone (IsCopyOf _path.now) _octets.now) (D.done disk.old) (D.done disk.new) }
+    ensures ok { OnOk result (HoldsAfterCut (D.done disk.new) place.now _octets.now) }
+{
+    let flushed = disk.flush_folder(folder_of(place));
+    if flushed.is_err() {
+        let _ = disk.remove(place);
+    }
+    flushed
+}
