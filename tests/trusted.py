@@ -100,6 +100,7 @@ how the code of an end keeps its state, and what a plan is: receiver_parts recei
 when a PDU agrees with a Put; the laws of each end by itself: ends_laws/Agreement SenderLaws ReceiverLaws
 two ends: moves, what was sent, schedules; the laws: ends_schedules/Schedules ScheduleLaws
 lanes and entities as the ends of a schedule: ends_lanes/LaneMoves EntityMoves
+two ends beside the disk of the receiver's file store, and the law of the file that was put: ends_disk/Histories
 lanes: state, numbers; a transaction at either end with its log: lane_table/Lane Logs
 lanes: refusals and what follows; which bundles fit; the laws: lane_table/Steps Keeping LaneLaws
 the file that a lane hands out; a look at a lane's transaction: lane_table/Images Glances
@@ -117,6 +118,9 @@ the list of timers that run: timer_list/Timers
 what a disk was asked; what a power cut may leave of it; which faults may pass: disk/Steps Crash Faults
 what is promised of a file on a disk; how long it stays; why each flush is needed: disk/Promise Staying Needed
 what is known of a disk while a file is stored: disk/Parts
+files that are stored over a part: whole_files/Wholes PartSteps
+where a store over a disk puts a file, what it has ready, and the effect of a deposit: disk_store/Paths Stations
+a file of numbers over a disk: what it covers, its text, what it has after a power cut, its law: disk_numbers/Rounds Texts Files RoundLaws
 file names that a folder store takes; a store in memory; faults of a store: file_stores/Names MemoryStore Faults
 what lies behind a lane's lock, and a step of it: shared_lanes/Held
 what `Entity` may answer; what it is opened with: shared_entity/Answering Opening
@@ -127,6 +131,7 @@ printed lines: indications; answers and refusals: answer_texts/ToldTexts AnswerT
 what a line of a script says: script_lines/Commands
 the lines of a journal's events, how they are read back, and the script of a whole journal: journal_scripts/Rows Laws journal_recording/Recording
 what a PDU says in words: pdu_words/Words
+the first lines of a recording, its text, its pieces and the names of files; when a transaction began: program_recorder/Headings Recordings Pieces Names Sights
 a reader's lines, what a writer gains, how the end of a run is reported: script_io/Lines Output Ending
 what a line does to a script's session, what it prints, and a whole script: script_replay/Sessions Texts Run
 what a line of a server's commands asks for, and what of it is left at the desk: server_lines/Commands program_desk/Says

@@ -5,13 +5,13 @@
 #[cfg(test)]
 mod configs;
 #[cfg(test)]
-mod disk_numbers;
-#[cfg(test)]
 mod gaps;
 #[cfg(test)]
 mod lines;
 #[cfg(test)]
 mod outputs;
+#[cfg(test)]
+mod runs_of_numbers;
 #[cfg(test)]
 mod stations;
 #[cfg(test)]
