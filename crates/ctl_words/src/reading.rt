@@ -2,6 +2,7 @@
 ghost use Rattle.std.specs.Prelude.{IfOk, IfSome};
 ghost use Rattle.ctl_words.specs.Commands.{IsWithin};
 
+use crate::choosing::{act_asked, history_task};
 use crate::command::command;
 use crate::fault::WordsFault;
 use crate::text::command_text;
@@ -16,7 +17,7 @@ use std::alloc::{AllocError, Global};
 const MOST_PATIENCE: u64 = 86_400;
 
 // The options of `status`, `follow`, `outbox` and `send`, and those of all commands.
-const STATUS_OPTIONS: [&str; 2] = ["json", "watch"];
+const STATUS_OPTIONS: [&str; 4] = ["json", "watch", "failed", "remote"];
 
 const FOLLOW_OPTIONS: [&str; 3] = ["json", "user", "transaction"];
 
@@ -24,7 +25,7 @@ const OUTBOX_OPTIONS: [&str; 1] = ["json"];
 
 const SEND_OPTIONS: [&str; 6] = ["user", "to", "class", "closure", "into", "wait"];
 
-const TASK_OPTIONS: [&str; 9] = [
+const TASK_OPTIONS: [&str; 15] = [
     "json",
     "watch",
     "user",
@@ -34,6 +35,12 @@ const TASK_OPTIONS: [&str; 9] = [
     "closure",
     "into",
     "wait",
+    "log",
+    "since",
+    "remote",
+    "failed",
+    "all",
+    "yes",
 ];
 
 /// Parses a command line of the program; its first word is the program's own name.
@@ -59,7 +66,7 @@ fn fault_of(alloc: Global, error: &Error) -> WordsFault {
 }
 
 // A usage fault with a text, unless memory for the text ran out.
-fn usage(text: Result<String, AllocError>) -> WordsFault {
+pub(crate) fn usage(text: Result<String, AllocError>) -> WordsFault {
     match text {
         Ok(text) => WordsFault::Usage(text),
         Err(_) => WordsFault::NoMemory,
@@ -122,7 +129,11 @@ fn task_by<'a>(
         ["follow", others @ ..] => follow_task(alloc, matches, others),
         ["outbox", others @ ..] => outbox_task(alloc, matches, others),
         ["send", files @ ..] => send_task(alloc, matches, files),
-        [name, ..] => command_task(alloc, matches, name, words),
+        ["history", logs @ ..] => history_task(alloc, matches, logs),
+        [name, ..] => match act_asked(alloc, matches, words)? {
+            Some(act) => Ok(Task::Act(act)),
+            None => command_task(alloc, matches, name, words),
+        },
     }
 }
 
@@ -158,6 +169,8 @@ fn status_task<'a>(
     Ok(Task::Status(StatusWords {
         json: matches.get_flag("json"),
         watch: matches.get_flag("watch"),
+        failed: matches.get_flag("failed"),
+        remote: number_of(alloc, matches, "remote", 0, u64::MAX)?,
     }))
 }
 
@@ -229,7 +242,7 @@ fn transaction_asked(
 }
 
 // The transaction that a word names.
-fn transaction_of(word: &str) -> Option<TransactionWord> {
+pub(crate) fn transaction_of(word: &str) -> Option<TransactionWord> {
     let (source, seq) = word.split_once('.')?;
     let source = decimal(source)?;
     let seq = decimal(seq)?;
@@ -245,7 +258,7 @@ fn decimal(word: &str) -> Option<u64> {
 }
 
 // The number of an option, if it is given.
-fn number_of(
+pub(crate) fn number_of(
     alloc: Global,
     matches: &ArgMatches<'_>,
     name: &str,
@@ -266,7 +279,7 @@ fn number_of(
 }
 
 // Refuses the options that a command doesn't have.
-fn only_options(
+pub(crate) fn only_options(
     alloc: Global,
     matches: &ArgMatches<'_>,
     name: &str,
@@ -282,7 +295,10 @@ fn only_options(
 
 // Whether an option is given.
 fn is_given(matches: &ArgMatches<'_>, option: &str) -> bool {
-    if matches!(option, "json" | "watch" | "closure" | "wait") {
+    if matches!(
+        option,
+        "json" | "watch" | "closure" | "wait" | "failed" | "all" | "yes"
+    ) {
         matches.get_flag(option)
     } else {
         matches.contains_id(option)
