@@ -107,6 +107,7 @@ test:
 	@tests/station.py $(server) $(ctl)
 	@tests/many.py $(server) $(ctl)
 	@tests/stores.py $(server)
+	@tests/cuts.py $(server)
 	@tests/numbers.py $(server) $(put)
 	@tests/faults.py $(server) $(put)
 	@tests/ctl.py $(ctl) $(server)
