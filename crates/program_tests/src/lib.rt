@@ -13,8 +13,6 @@ mod events;
 #[cfg(test)]
 mod numbers;
 #[cfg(test)]
-mod recorder;
-#[cfg(test)]
 mod seats;
 #[cfg(test)]
 mod tallies;
