@@ -130,5 +130,5 @@ untrue : AnswersTruly is_same (at_ends kept_move ∷ given) → ⊥
 untrue truly =
     let done = truly.0 in
     let none : steps_of (done.during ++ done.given) ≡ [] = none_behind (steps_of done.later) (steps_of (done.during ++ done.given))
-        (sym (ap steps_of done.earlier_is ∙ steps_append done.later (done.during ++ done.given)) ∙ no_steps (after deposited)) in
+    (sym (ap steps_of done.earlier_is ∙ steps_append done.later (done.during ++ done.given)) ∙ no_steps (after deposited)) in
     nothing_holds done.path done.image.octets (subst (λ (l : List Step). HoldsAfterCut l done.path done.image.octets) none done.holds)
