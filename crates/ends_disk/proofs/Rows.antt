@@ -1,11 +1,10 @@
 -- The worked run of two ends, with the store of its file: the premises of the law are met.
 use Rattle.std.proofs.Common.{◌≡◌, inl, inr, ⊎_elim, ℕ, zero, suc, ◌<◌, ◌==◌, Bool, true, List, [], ◌∷◌, ◌++◌, map, length, get_or, Option, Some, None, Ok, codes, refl, sym, ◌∙◌, ap, subst, arith}
-use Rattle.std.specs.List.{pointwise}
+use Rattle.std.specs.Cmp.Lexicographic.{pointwise}
 use Rattle.cfdp_types.specs.declared.names.FileStatus.TheVariants.{Retained}
 use Rattle.disk.specs.Steps.{Step, is_slash}
 use Rattle.disk.specs.Steps.Call.{create, append, flush, rename, flush_folder}
 use Rattle.disk.specs.Steps.Step.{did, cut}
-use Rattle.disk.specs.Crash.{MayFind}
 use Rattle.disk.specs.Crash.Content.{written, flushed}
 use Rattle.disk.specs.Crash.Entry.{nothing}
 use Rattle.disk.specs.Parts.{IsOpen}
@@ -112,10 +111,6 @@ schedule = subst (λ (m : List Move). IsSchedule sending reception (sends finish
 -- so the file stands where its sender was told
 told : Stands is_same sending.request history
 told = stands_when_told is_same sending reception history finished_entry 0 Retained schedule answers tells_complete
-
--- and after a power cut nothing else may be found
-found : (one : Option (List ℕ)) → MayFind (steps_of (at_disk cut ∷ history)) name one → one ≡ Some abc
-found one may = (stands is_same sending.request history (at_ends kept_move ∷ []) made kept_image name refl refl refl held).stays (at_disk cut ∷ []) (tt, tt) one may
 
 -- ---- an answer without a deposit is not true
 
