@@ -42,8 +42,6 @@ install: programs install-lib
 	install -d $(DESTDIR)$(PREFIX)/bin $(DESTDIR)$(PREFIX)/share/man/man1
 	install -m 755 $(server) $(put) $(ctl) $(DESTDIR)$(PREFIX)/bin
 	install -m 644 docs/man/cfdp_server.1 docs/man/cfdp_put.1 docs/man/cfdp_ctl.1 $(DESTDIR)$(PREFIX)/share/man/man1
-	install -d $(DESTDIR)$(PREFIX)/share/bash-completion/completions
-	install -m 644 docs/completion/cfdp_ctl $(DESTDIR)$(PREFIX)/share/bash-completion/completions
 
 # the console, in place, with its page of the manual
 install-web: web
@@ -110,7 +108,7 @@ test:
 	@tests/cuts.py $(server)
 	@tests/numbers.py $(server) $(put)
 	@tests/faults.py $(server) $(put)
-	@tests/ctl.py $(ctl) $(server)
+	@tests/ctl.py $(ctl)
 	@tests/web.py $(web)
 	@tests/manual.sh $(server) $(put) $(ctl) $(web)
 	@tools/archive.py

@@ -1,9 +1,7 @@
 #!/usr/bin/env python3
 """cfdp_ctl with a fake station: its exit statuses, its output, and what it does when the station goes away.
 
-usage: tests/ctl.py PROGRAM [SERVER]
-
-With a server, two of them exchange files as well, under the program's commands.
+usage: tests/ctl.py PROGRAM
 """
 import contextlib
 import json
@@ -17,7 +15,7 @@ import sys
 import tempfile
 import time
 
-from support import Station, fill_backlog, free_port
+from support import fill_backlog
 
 PROGRAM = os.path.abspath(sys.argv[1])
 STATION = os.path.join(os.path.dirname(os.path.abspath(__file__)), "fake_station.py")
@@ -90,10 +88,6 @@ def words_of_the_line():
             ("a remote that is no number", ["send", "--to", "x", FILE], b"'x'"),
             ("an option of send", ["status", "--wait"], b"--wait doesn't go with status"),
             ("an option of send, for the outbox", ["outbox", "--into", "x"], b"--into doesn't go with outbox"),
-            ("a history without a log", ["history"], b"--log FILE"),
-            ("an option of history", ["follow", "--since", "2026"], b"--since doesn't go with follow"),
-            ("all, and not all", ["cancel", "--all", "--remote", "7"], b"--all doesn't go with"),
-            ("a moment that is none", ["history", "--log", FILE, "--since", "26-11-2026"], b"'26-11-2026' is not a moment"),
             ("a word that a terminal would obey", ["status", "\x1b[2J"], b"'\\x1b[2J'"),
     ]:
         check(title, ctl(*line), 2, b"", errors)
@@ -132,13 +126,7 @@ def answers():
 def no_answers():
     run = ctl("status")
     check("no server", run, 1, b"", b"no server")
-    want("no server, its path", run.stderr == f"cfdp_ctl: {SOCKET}: no server answers at the control socket\n".encode(), run.stderr)
     want("no server, how long it took", run.took < 5, run.took)
-    if os.getuid() != 0:
-        with station():
-            os.chmod(SOCKET, 0)
-            check("a socket of somebody else", ctl("status"), 1, b"",
-                  f"cfdp_ctl: {SOCKET}: permission denied; its owner or group may open it\n".encode())
     with station("--half"):
         run = ctl("status")
         check("half an answer", run, 1, b"")
@@ -371,13 +359,7 @@ def sends():
         want("a hundred files, their ends", run.stdout.count(b"complete, retained\n") == 100, run.stdout)
     with station("--users", "ops,sim\x1b"):
         check("two users", ctl("send", "--to", "5", FILE), 2, b"", b"--user is missing, and the server's users are: ops sim\\x1b\n")
-        check("one of two users", ctl("send", "--to", "5", "--user", "ops", FILE), 0)
-        run = ctl("send", "--to", "5", "--user", "sim", FILE)
-        check("a user that isn't there", run, 2, b"", b"--user sim: the server has no such user; its users are: ops sim\\x1b\n")
-        want("a user that isn't there, before anything is sent", run.stdout == b"", run.stdout)
-        run = ctl("send", "--to", "6", "--user", "ops", FILE)
-        check("an entity that isn't there", run, 2, b"", b"--to 6: the server has no such entity; its entities are: 5 7\n")
-        want("an entity that isn't there, before anything is sent", run.stdout == b"", run.stdout)
+        check("one of two users", ctl("send", "--to", "5", "--user", "sim", FILE), 0)
 
 
 def bad_ends():
@@ -428,186 +410,6 @@ def outbox():
              and b"a.bin: finished: complete, retained\n" in out, (waiting.returncode, out))
 
 
-def lines_of(*events):
-    """A log with these events."""
-    return b"".join(json.dumps(event).encode() + b"\n" for event in events)
-
-
-def histories():
-    """The transactions of logs of both ends, as lines and as JSON."""
-    def at(second, **members):
-        return {"at": f"2026-11-26T12:00:{second:06.3f}Z", "number": 1, **members}
-
-    def told(second, seq, name, **members):
-        return at(second, kind="indication", user="ops", source=1, seq=seq, name=name, **members)
-
-    kept = {"condition": 0, "delivery": "complete", "status": "retained"}
-    lost = {"condition": 8, "delivery": "incomplete", "status": "discarded"}
-    put = {"kind": "put", "user": "ops", "source": 1, "peer": 7, "class": 2}
-    near, older, far = (os.path.join(FOLDER, name) for name in ("near", "near.1", "far"))
-    with open(older, "wb") as file:
-        file.write(lines_of(at(0, kind="start", id=1, version="0.1"), at(1, **put, seq=4, file="gone", to="gone", size=1),
-                            at(2, kind="start", id=1, version="0.1"),
-                            at(3, **put, seq=5, file="a.bin", to="b.bin", size=4096)))
-    with open(near, "wb") as file:
-        file.write(lines_of(told(5, 5, "Transaction-Finished", **kept)) + b"no JSON\n[1]\n" + b"x" * 3_000_000 + b"\n"
-                   + lines_of(told(6, 5, "Abandoned", condition=8, progress=1),
-                              at(10.25, **put, seq=6, file="c\n.bin", to_hex="ff", size=100),
-                              told(59.5, 6, "Transaction-Finished", **lost)))
-    with open(far, "wb") as file:
-        file.write(lines_of(at(0, kind="start", id=7, version="0.1"),
-                            told(3.5, 5, "Metadata-Recv", origin=1, size=4096, file="a.bin", to="b.bin", messages=[]),
-                            told(4.5, 5, "Transaction-Finished", **kept), told(5, 9, "Abandoned", condition=8, progress=0)))
-    first = b"2026-11-26 12:00:05.000Z  to 7        ops 1.5              4.0 KiB     2.000 s   2.0 KiB/s  " \
-            b"complete, retained      a.bin to b.bin\n"
-    second = b"2026-11-26 12:00:59.500Z  to 7        ops 1.6                100 B    49.250 s           -  " \
-             b"inactivity detected, incomplete, discarded  c\\x0a.bin to \\xff\n"
-    third = b"2026-11-26 12:00:04.500Z  from 1      ops 1.5              4.0 KiB     1.000 s   4.0 KiB/s  " \
-            b"complete, retained      a.bin to b.bin\n"
-    fourth = b"2026-11-26 12:00:05.000Z  from 1      ops 1.9                    -           -           -  " \
-             b"abandoned, inactivity detected  ? to ?\n"
-    sums = b"sent: 2, failed: 1, octets of the others: 4.0 KiB\nreceived: 2, failed: 1, octets of the others: 4.0 KiB\n" \
-           b"without an end: 1\nlines that are no JSON object, skipped: 3\n"
-    run = ctl("history", "--log", older, near, far, control=False)
-    check("a history", run, 0)
-    want("a history, its lines", run.stdout == first + second + third + fourth + sums, run.stdout.decode())
-    for words, lines in ((["--failed"], second + fourth), (["--remote", "7"], first + second), (["--remote", "1"], third + fourth),
-                         (["--since", "2026-11-26T12:00:05Z"], first + second + fourth), (["--since", "2026-11-27"], b""),
-                         (["--since", "2026-11-26T12:00:59.500Z"], second), (["--since", "2026-11-26T12:00:59.501Z"], b"")):
-        run = ctl("history", *words, "--log", older, near, far)
-        check(f"a history {words}", run, 0)
-        want(f"a history {words}, its lines", run.stdout.startswith(lines + b"sent: "), run.stdout.decode())
-    run = ctl("history", "--log", older, near, far, "--json")
-    objects = [json.loads(line) for line in run.stdout.splitlines()]
-    want("a history as JSON", objects[0] == {
-        "at": "2026-11-26T12:00:05.000Z", "way": "sent", "peer": 7, "user": "ops", "source": 1, "seq": 5, "file": "a.bin",
-        "to": "b.bin", "size": 4096, "milliseconds": 2000, "rate": 2048, "end": "kept", "how": "complete, retained"}, objects)
-    want("a history as JSON, without what isn't known", objects[3] == {
-        "at": "2026-11-26T12:00:05.000Z", "way": "received", "peer": 1, "user": "ops", "source": 1, "seq": 9, "file": "?", "to": "?",
-        "end": "failed", "how": "abandoned, inactivity detected"}, objects)
-    want("a history as JSON, its sums", objects[4] == {
-        "sent": {"ended": 2, "failed": 1, "octets": 4096}, "received": {"ended": 2, "failed": 1, "octets": 4096},
-        "unknown": {"ended": 0, "failed": 0, "octets": 0}, "open": 1, "skipped": 3}, objects)
-    run = ctl("history", "--log", near)
-    check("a history without its beginning", run, 0, b"12:00:05.000Z  with ?      ops 1.5 ")
-    check("a log that isn't there", ctl("history", "--log", "missing", near), 3, b"sent: ", b"cfdp_ctl: missing: no such file\n")
-
-
-def acts():
-    """Commands for one transaction, and for several."""
-    with station("--transactions", "200", "--users", "ops,sim", "--pace", "1"):
-        check("cancel", ctl("cancel", "7.150"), 0, b"cancel 7.150: ok\n")
-        check("cancel, of nothing", ctl("cancel", "7.900"), 3, b"", b"cfdp_ctl: no such transaction is under way\n")
-        check("cancel, as the server reads it", ctl("cancel", "ops", "7", "150"), 0, b"ok\n")
-        check("a word that is no transaction", ctl("resume", "150"), 3, b"refused 1 NoTransaction\n")
-        run = ctl("abandon", "--user", "sim", "--yes")
-        check("abandon, of a user", run, 0, b"abandon 7.151: ok\n")
-        want("abandon, of a user, and of no other", b"7.150" not in run.stdout and run.stdout.count(b": ok\n") == 100, run.stdout)
-        check("of another entity", ctl("resume", "--remote", "5", "--yes"), 0, b"", b"no such transaction")
-        check("all", ctl("resume", "--all", "--yes"), 0, b"".join(b"resume 7.%d: ok\n" % number for number in range(200)))
-        run = ctl("cancel", "--remote", "7", given=b"yes\n")
-        check("nobody can be asked", run, 2, b"", b"transactions: without a terminal give --yes\n")
-        want("nobody can be asked, and nothing is done", run.stdout == b"", run.stdout)
-        for typed, status in ((b"yes\n", 0), (b"no\n", 2), (b"\n", 2)):
-            person, program = pty.openpty()
-            run = subprocess.Popen([PROGRAM, "--control", SOCKET, "suspend", "--user", "ops"], stdin=program,
-                                   stdout=subprocess.PIPE, stderr=program, env=PLAIN)
-            os.close(program)
-            asked = b""
-            while b"Type yes to go on:" not in asked:
-                asked += os.read(person, 65_536)
-            os.write(person, typed)
-            out, _ = run.communicate(timeout=PATIENCE)
-            os.close(person)
-            want(f"who types {typed}", (run.returncode, b": ok\n" in out) == (status, status == 0), (run.returncode, out))
-
-
-def choices():
-    """Parts of a status."""
-    sender = {"kind": "transaction", "user": "ops", "lane": 0, "role": "sender", "class": 2, "file": "a", "to": "b", "size": 9,
-              "octets": 9, "events": 3, "last": "2026-11-26T12:00:00.000Z", "source": 1}
-    kept = {"state": "ended", "condition": 0, "delivery": "complete", "status": "retained"}
-    lost = {"state": "ended", "condition": 8, "delivery": "incomplete", "status": "discarded"}
-    status = [{"kind": "entity", "id": 1}, {"kind": "user", "name": "ops", "waiting": 0, "capacity": 9},
-              {**sender, "seq": 1, "peer": 5, **kept}, {**sender, "seq": 2, "peer": 5, **lost},
-              {**sender, "seq": 3, "peer": 7, **lost}, {**sender, "seq": 4, "peer": 7, "state": "active"},
-              {"kind": "queued", "number": 1, "destination": 5}, {"kind": "remote", "id": 5}, {"kind": "remote", "id": 7}]
-    with station(*said(status)):
-        for words, places in ((["--failed"], [0, 3, 4]), (["--remote", "7"], [0, 1, 4, 5, 8]), (["--remote", "5"], [0, 1, 2, 3, 6, 7]),
-                              (["--failed", "--remote", "7"], [0, 4])):
-            run = ctl("status", "--json", *words)
-            check(f"status {words}", run, 0)
-            want(f"status {words}, its lines", [json.loads(line) for line in run.stdout.splitlines()]
-                 == [status[place] for place in places], run.stdout)
-        run = ctl("status", "--failed")
-        want("the tables of what failed", b"Ended\n" in run.stdout and b"1.2 " in run.stdout and b"1.1 " not in run.stdout
-             and b"Users" not in run.stdout, run.stdout)
-
-
-def with_servers(server):
-    """Two servers and their logs: what was sent is what their histories tell."""
-    ports = [free_port(), free_port()]
-    before = os.getcwd()
-    os.chdir(FOLDER)
-    both = []
-    try:
-        logs = [os.path.join(FOLDER, f"log{number}") for number in (1, 2)]
-        both += [Station(server, 1, ports[0], 2, ports[1], ("--log", logs[0]), users=("alice",)),
-                 Station(server, 2, ports[1], 1, ports[0], ("--log", logs[1]), users=("alice",))]
-        for one in both:
-            one.client().close()
-        sender = both[0]
-        run = sender.ctl(PROGRAM, "send", "--to", "2", "--wait", FILE, LOST)
-        want("files between servers", (run.returncode, run.stderr) == (0, ""), run)
-        run = sender.ctl(PROGRAM, "send", "--to", "3", FILE)
-        want("an entity that a server doesn't have", run.returncode == 2 and "its entities are: 2\n" in run.stderr, run)
-        run = sender.ctl(PROGRAM, "send", "--to", "2", "--user", "bob", FILE)
-        want("a user that a server doesn't have", run.returncode == 2 and "its users are: alice\n" in run.stderr, run)
-        both[1].close()
-        run = sender.ctl(PROGRAM, "send", "--to", "2", FILE)
-        want("a file for nobody", run.returncode == 0, run)
-        time.sleep(0.5)
-        going = [json.loads(line) for line in sender.ctl(PROGRAM, "status", "--json", "--remote", "2").stdout.splitlines()]
-        going = [one for one in going if one["kind"] == "transaction" and one["state"] != "ended"]
-        want("a transaction that goes on", len(going) == 1, going)
-        name = f"{going[0]['source']}.{going[0]['seq']}"
-        for verb in ("suspend", "resume"):
-            run = sender.ctl(PROGRAM, verb, name)
-            want(f"{verb} of a server", (run.returncode, run.stdout) == (0, f"{verb} {name}: ok\n"), run)
-        run = sender.ctl(PROGRAM, "abandon", "--remote", "2", "--yes")
-        want("abandon of a server", (run.returncode, run.stdout) == (0, f"abandon {name}: ok\n"), run)
-        time.sleep(0.5)
-        run = sender.ctl(PROGRAM, "history", "--log", *logs, "--json")
-        ended = [json.loads(line) for line in run.stdout.splitlines()]
-        seen = sorted((one["way"], one["peer"], os.path.basename(one["file"]), one["size"], one["end"]) for one in ended[:-1])
-        wanted = sorted([("sent", 2, "a.bin", 5000, "kept"), ("sent", 2, "lost.bin", 5000, "kept"),
-                         ("sent", 2, "a.bin", 5000, "failed"), ("received", 1, "a.bin", 5000, "kept"),
-                         ("received", 1, "lost.bin", 5000, "kept")])
-        want("the history of two servers", seen == wanted, run.stdout)
-        want("the sums of two servers", [ended[-1][key] for key in ("sent", "received", "open", "skipped")] == [
-            {"ended": 3, "failed": 1, "octets": 10_000}, {"ended": 2, "failed": 0, "octets": 10_000}, 0, 0], ended[-1])
-    finally:
-        for one in both:
-            one.close()
-        os.chdir(before)
-
-
-def completions():
-    """The words that bash offers."""
-    script = os.path.join(os.path.dirname(os.path.abspath(__file__)), "..", "docs", "completion", "cfdp_ctl")
-    for line, offered in (
-            ([""], {"--colour", "--control", "abandon", "cancel", "drop", "follow", "history", "hold", "outbox", "release",
-                    "resume", "send", "status", "suspend", "--help", "--version", "--wait-for-server", "--width"}),
-            (["--c"], {"--colour", "--control"}), (["re"], {"release", "resume"}), (["--control", "x", "sta"], {"status"}),
-            (["status", "--"], {"--json", "--watch", "--failed", "--remote"}), (["outbox", "-"], {"--json"}),
-            (["abandon", "--y"], {"--yes"}), (["send", "--to", "5", "--c"], {"--class", "--closure"}), (["send", "a"], set()),
-            (["history", "--l"], {"--log"}), (["hold", "--"], set()), (["any"], set())):
-        words = [PROGRAM, *line]
-        run = subprocess.run(["bash", "-c", 'source "$1"; shift; COMP_WORDS=("$@"); COMP_CWORD=$(($# - 1)); _cfdp_ctl; '
-                              'printf "%s\\n" "${COMPREPLY[@]}"', "bash", script, *words], capture_output=True, timeout=PATIENCE)
-        want(f"what is offered for {line}", (set(run.stdout.decode().split()), run.stderr) == (offered, b""), run)
-
-
 def progress():
     """On a terminal, a line for each file, which replaces the one before; elsewhere no progress."""
     with station("--step", "3"):
@@ -654,13 +456,7 @@ events()
 sends()
 bad_ends()
 outbox()
-histories()
-acts()
-choices()
-completions()
 progress()
 pipes()
-if len(sys.argv) > 2:
-    with_servers(os.path.abspath(sys.argv[2]))
 shutil.rmtree(FOLDER, ignore_errors=True)
-print("cfdp_ctl: words, answers, tables, events, files, histories, and stations that go away")
+print("cfdp_ctl: words, answers, tables, events, files, and stations that go away")

@@ -5,7 +5,6 @@ usage: tests/fake_station.py SOCKET [OPTION..]
 
   --transactions N   transactions that are under way (3)
   --users A,B        users (ops)
-  --pace OCTETS      how many octets a second such a transaction receives (20000)
   --step SECONDS     how long a file takes from its start to its end (0.3)
   --odd              names with quotes, control characters and octets that are no text
   --vanish SECONDS   ends without a word, this long after the first send
@@ -170,7 +169,7 @@ class Station:
         age = time.time() - self.begun
         for n in range(self.options.transactions):
             size = 100_000 * (n + 1)
-            octets = min(size, int(age * self.options.pace))
+            octets = min(size, int(age * 20_000))
             name = b'a "b"\x1b[31m\n\xff' if self.options.odd and n % 2 == 0 else \
                 b"<img src=x onerror=alert(1)></script>" if self.options.odd else b"file %d.bin" % n
             end = {"condition": 0, "delivery": "complete", "status": "retained"} if octets == size else {}
@@ -184,10 +183,6 @@ class Station:
                        "lane": 100 + sent["queued"], "role": "sender", "peer": sent["peer"], "class": sent["class"],
                        "state": sent["state"], **named("file", sent["file"]), **named("to", sent["to"]),
                        "size": sent["size"], "octets": sent["octets"], "events": 3, "last": moment(), **sent.get("end", {})}
-
-    def is_going(self, words):
-        return any([word.decode("latin-1") for word in words] == [one["user"], str(one["source"]), str(one["seq"])]
-                   for one in self.transactions() if one["state"] != "ended")
 
     def queued(self):
         for sent in list(self.sent):
@@ -273,8 +268,8 @@ class Station:
             return "refused NotQueued\n"
         if name == "take":
             return "refused TakenByEvents\n"
-        if name in ("cancel", "resume", "abandon"):
-            return "ok\n" if self.is_going(words[1:]) else "refused 1 NoTransaction\n"
+        if name == "cancel":
+            return "refused 1 NoTransaction\n"
         if name == "put":
             return self.put_file(words)
         if name in ("suspend", "quit"):
@@ -341,7 +336,6 @@ def main():
     parser.add_argument("--unreadable")
     parser.add_argument("--ended-reads", type=int, default=0)
     parser.add_argument("--reading", type=lambda text: text.split(","), default=[])
-    parser.add_argument("--pace", type=int, default=20_000)
     parser.add_argument("--parked", type=int, default=0)
     parser.add_argument("--note", action="store_true")
     parser.add_argument("--stop", type=float)

@@ -17,8 +17,6 @@ for program in "$@"; do
     name=$(basename "$program")
     install -m 755 "$program" "$folder/usr/bin/$name"
     gzip -9 -n -c "$top/docs/man/$name.1" > "$folder/usr/share/man/man1/$name.1.gz"
-    [ ! -f "$top/docs/completion/$name" ] ||
-        install -D -m 644 "$top/docs/completion/$name" "$folder/usr/share/bash-completion/completions/$name"
 done
 for unit in "$top"/examples/*.service; do
     # a unit comes along with its program
@@ -50,8 +48,6 @@ for program in "$@"; do
     name=$(basename "$program")
     "$room/there/usr/bin/$name" --version | grep -q "^$name $version\$"
     gzip -d -c "$room/there/usr/share/man/man1/$name.1.gz" | cmp - "$top/docs/man/$name.1"
-    [ ! -f "$top/docs/completion/$name" ] ||
-        cmp "$top/docs/completion/$name" "$room/there/usr/share/bash-completion/completions/$name"
 done
 for unit in "$room"/there/lib/systemd/system/*.service; do
     for named in $(grep -o '/usr/bin/cfdp_[a-z]*' "$unit" | sort -u); do

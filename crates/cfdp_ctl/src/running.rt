@@ -1,9 +1,7 @@
 //! Does what the command line asks for.
-use crate::acting::act;
 use crate::asking::Line;
 use crate::fault::CtlFault;
 use crate::following::follow;
-use crate::history::print_history;
 use crate::looking::{look, look_at_outbox};
 use crate::screen::Screen;
 use crate::sending::{are_files, send};
@@ -140,14 +138,11 @@ where
     if let Some(columns) = width_given(rt, words.width) {
         screen.width = columns;
     }
-    if let Task::History(task) = &words.task {
-        return print_history(rt, alloc, screen, task);
-    }
     if let Some(path) = words.control {
-        return run_told(rt, alloc, screen, words, path);
+        return run_at(rt, alloc, screen, words, path);
     }
     match variable(rt, "CFDP_CONTROL") {
-        Some(path) => run_told(rt, alloc, screen, words, path.as_str()),
+        Some(path) => run_at(rt, alloc, screen, words, path.as_str()),
         None => Err(CtlFault::NoPath),
     }
 }
@@ -165,31 +160,6 @@ fn width_given<R: Env + AllocGlobal>(rt: &R, width: Option<u64>) -> Option<usize
     match width {
         Some(columns) => usize::try_from(columns).ok(),
         None => columns_given(rt),
-    }
-}
-
-// Does it at a control socket; a fault there is reported with the path.
-fn run_told<R, W, E>(
-    rt: &R,
-    alloc: Global,
-    screen: &mut Screen<W, E>,
-    words: &CtlWords<'_>,
-    path: &str,
-) -> Result<u8, CtlFault>
-where
-    R: Net + Clock + Wait + Env + Files + Input + AllocGlobal,
-    W: Write + Drop,
-    E: Write + Drop,
-{
-    match run_at(rt, alloc, screen, words, path) {
-        Err(CtlFault::Station(fault)) => {
-            let text = fault.text();
-            let line = format!(in alloc; "cfdp_ctl: {path}: {text}")?;
-            screen.clear_progress();
-            screen.complain_line(alloc, line.as_str());
-            Ok(CtlFault::Station(fault).status())
-        }
-        done => done,
     }
 }
 
@@ -216,8 +186,6 @@ where
         Task::Follow(task) => follow(rt, alloc, screen, &mut line, *task),
         Task::Outbox(task) => look_at_outbox(rt, alloc, screen, &mut line, *task),
         Task::Send(task) => send(rt, alloc, screen, &mut line, task),
-        Task::Act(task) => act(rt, alloc, screen, &mut line, *task),
-        Task::History(task) => print_history(rt, alloc, screen, task),
         Task::Command(text) => run_command(rt, alloc, screen, &mut line, text.as_bytes()),
         Task::Input => run_input(rt, alloc, screen, &mut line),
     }

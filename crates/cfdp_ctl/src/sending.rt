@@ -2,12 +2,11 @@
 use crate::asking::{Line, first_line};
 use crate::fault::CtlFault;
 use crate::following::ask_for_events;
-use crate::known::{ask_for_known, user_for};
 use crate::paths::{Folder, target_name, whole_path};
 use crate::screen::Screen;
 use crate::sent::{SentFiles, have_arrived, send_status};
 use crate::waiting::wait_for_ends;
-use ctl_views::{Page, Tone};
+use ctl_views::{Page, StatusLine, Tone, read_status_line};
 use ctl_words::{SendCommand, SendWords, send_command};
 use std::alloc::{AllocError, Global};
 use std::env::Env;
@@ -67,8 +66,7 @@ where
     W: Write + Drop,
     E: Write + Drop,
 {
-    let known = ask_for_known(rt, alloc, line)?;
-    let Some(user) = user_for(alloc, screen, words, known)? else {
+    let Some(user) = user_of(rt, alloc, screen, line, words)? else {
         return Ok(2);
     };
     let folder = Folder::of(rt, alloc, words.files.as_slice())?;
@@ -87,6 +85,54 @@ where
     }
     let all_arrived = have_arrived(is_reported, files.files.as_slice());
     Ok(send_status(all_taken, words.wait, all_arrived))
+}
+
+// The user whose files are sent: the one that the command line names, or the server's only one. If it has several,
+// prints their names and answers `None`.
+fn user_of<R, W, E>(
+    rt: &R,
+    alloc: Global,
+    screen: &mut Screen<W, E>,
+    line: &mut Line,
+    words: &SendWords<'_>,
+) -> Result<Option<String>, CtlFault>
+where
+    R: Clock + Wait,
+    W: Write + Drop,
+    E: Write + Drop,
+{
+    if let Some(name) = words.user {
+        return Ok(Some(String::from_str(alloc, name)?));
+    }
+    let answer = line.ask(rt, b"status")?;
+    let mut names = users_in(alloc, answer.as_slice())?;
+    if names.len() == 1 {
+        return Ok(names.pop());
+    }
+    let mut text = String::from_str(
+        alloc,
+        "cfdp_ctl: --user is missing, and the server's users are:",
+    )?;
+    for name in names.as_slice() {
+        text.push(' ')?;
+        text.push_str(name.as_str())?;
+    }
+    screen.complain_line(alloc, text.as_str());
+    Ok(None)
+}
+
+// The users' names in a status.
+fn users_in(alloc: Global, answer: &[u8]) -> Result<Vec<String>, AllocError> {
+    let lines = String::from_utf8_lossy(alloc, answer)?;
+    let mut names = Vec::new(alloc);
+    for line in lines.as_str().split('\n') {
+        if let StatusLine::User(name) = read_status_line(alloc, line)?
+            && names.push(name).is_err()
+        {
+            return Err(AllocError);
+        }
+    }
+    Ok(names)
 }
 
 // Puts each file in the outbox; answers whether the server took all of them.

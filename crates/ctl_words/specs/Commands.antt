@@ -2,8 +2,6 @@
 use Rattle.std.specs.Prelude.{◌≤◌, ◌==◌, ◌||◌, ◌&&◌, ◌/◌, ◌%◌, ◌+◌, ◌++◌, ◌∷◌, [], ℕ, Bool, false, not, List, if◌then◌else◌, nat_lt, length, codes, decimal, flat_map}
 use Rattle.std.specs.Char.{is_ascii_graphic}
 use Rattle.std.specs.List.{list_all}
-use Rattle.ctl_words.specs.declared.words.Verb.{Verb}
-use Rattle.ctl_words.specs.declared.words.Verb.TheVariants as verbs
 
 -- an octet that ends neither a word nor a line: no space and no line feed
 abbrev pub is_inner : ℕ → Bool
@@ -67,15 +65,3 @@ names_octets source target = word_octets source ++ (codes " " ++ word_octets tar
 abbrev pub send_octets : List ℕ → ℕ → ℕ → List ℕ → List ℕ → Bool → List ℕ
 send_octets user class remote source target is_closed =
     head_octets user class remote ++ (names_octets source target ++ closure_octets is_closed)
-
--- the first word of a command for a transaction, with the space after it
-abbrev pub verb_octets : Verb → List ℕ
-verb_octets verbs.Cancel = codes "cancel "
-verb_octets verbs.Suspend = codes "suspend "
-verb_octets verbs.Resume = codes "resume "
-verb_octets verbs.Abandon = codes "abandon "
-
--- the command for a user's transaction, by its source and its number
-abbrev pub act_octets : Verb → List ℕ → ℕ → ℕ → List ℕ
-act_octets verb user source seq =
-    verb_octets verb ++ (word_octets user ++ (codes " " ++ (decimal source ++ (codes " " ++ decimal seq))))

@@ -15,8 +15,7 @@ fn flag<'a>(alloc: Global, name: &'static str) -> Arg<'a> {
 /// The options and words of the program.
 pub(crate) fn command<'a>(alloc: Global) -> Result<Command<'a>, AllocError> {
     let command = with_options(alloc, Command::new(alloc, "cfdp_ctl").version("0.1"))?;
-    let command = with_send(alloc, command)?;
-    with_choice(alloc, command)?.arg(
+    with_send(alloc, command)?.arg(
         Arg::new(alloc, "words")
             .action(ArgAction::Append)
             .num_args(0..),
@@ -45,15 +44,4 @@ fn with_send<'a>(alloc: Global, command: Command<'a>) -> Result<Command<'a>, All
         .arg(flag(alloc, "closure"))?
         .arg(valued(alloc, "into"))?
         .arg(flag(alloc, "wait"))
-}
-
-// The options that choose transactions, of `status`, `history` and of commands for transactions.
-fn with_choice<'a>(alloc: Global, command: Command<'a>) -> Result<Command<'a>, AllocError> {
-    command
-        .arg(valued(alloc, "log"))?
-        .arg(valued(alloc, "since"))?
-        .arg(valued(alloc, "remote"))?
-        .arg(flag(alloc, "failed"))?
-        .arg(flag(alloc, "all"))?
-        .arg(flag(alloc, "yes"))
 }

@@ -12,12 +12,9 @@ Without a command it reads commands from standard input, one a line, and prints 
   --version                  prints the version, and ends
 
 Commands:
-  status [--json] [--watch] [--failed] [--remote R]
-                             prints users, transactions, the outbox, remotes and refusals as tables
+  status [--json] [--watch]  prints users, transactions, the outbox, remotes and refusals as tables
       --json                 prints the JSON lines as received
       --watch                refreshes each second
-      --failed               of all tables only transactions that failed
-      --remote R             without transactions, files and links of other entities
   follow [--json] [--user U] [--transaction SOURCE.SEQ]
                              prints a line for each event as it happens
       --json                 prints the JSON events as received
@@ -36,21 +33,6 @@ Commands:
   drop NUMBER                takes a file out of the outbox
   hold REMOTE                holds the link to an entity: nothing is sent there
   release REMOTE             opens the link to an entity again
-  cancel, suspend, resume, abandon SOURCE.SEQ
-                             does this to a transaction that is under way
-  cancel, suspend, resume, abandon [--all] [--remote R] [--user U] [--yes]
-                             does this to each transaction that is under way; on a terminal it asks first
-      --all                  all of them
-      --remote R             those with this entity at the other end
-      --user U               those of this user
-      --yes                  doesn't ask
-  history --log FILE.. [--since T] [--remote R] [--failed] [--json]
-                             prints a line for each transaction that ended, from files that the server
-                             wrote by --log, and their sums; it needs no server
-      --since T              those that ended since a moment in UTC: 2026-11-26, or 2026-11-26T12:00:00Z
-      --remote R             those with this entity at the other end
-      --failed               those that failed
-      --json                 prints JSON, an object for each
   any other                  is sent to the server as it is. Put -- before words that begin with a
                              hyphen.
 

@@ -1,8 +1,6 @@
 //! The command line of the program that commands a server.
 #![tactic(auto)]
 
-mod acting;
-mod choosing;
 mod command;
 mod fault;
 mod help;
@@ -11,13 +9,11 @@ mod sending;
 mod text;
 mod words;
 
-pub use acting::act_command;
 pub use fault::WordsFault;
 pub use help::{ctl_help, ctl_version};
 pub use reading::ctl_words;
 pub use sending::{SendCommand, send_command};
 pub use text::command_text;
 pub use words::{
-    ActWords, Choice, Colour, CtlWords, FollowWords, HistoryWords, OutboxWords, SendWords,
-    StatusWords, Task, TransactionWord, Verb,
+    Colour, CtlWords, FollowWords, OutboxWords, SendWords, StatusWords, Task, TransactionWord,
 };

@@ -2,7 +2,6 @@
 ghost use Rattle.std.specs.Prelude.{IfOk, IfSome};
 ghost use Rattle.ctl_words.specs.Commands.{IsWithin};
 
-use crate::choosing::{act_asked, history_task};
 use crate::command::command;
 use crate::fault::WordsFault;
 use crate::text::command_text;
@@ -17,7 +16,7 @@ use std::alloc::{AllocError, Global};
 const MOST_PATIENCE: u64 = 86_400;
 
 // The options of `status`, `follow`, `outbox` and `send`, and those of all commands.
-const STATUS_OPTIONS: [&str; 4] = ["json", "watch", "failed", "remote"];
+const STATUS_OPTIONS: [&str; 2] = ["json", "watch"];
 
 const FOLLOW_OPTIONS: [&str; 3] = ["json", "user", "transaction"];
 
@@ -25,7 +24,7 @@ const OUTBOX_OPTIONS: [&str; 1] = ["json"];
 
 const SEND_OPTIONS: [&str; 6] = ["user", "to", "class", "closure", "into", "wait"];
 
-const TASK_OPTIONS: [&str; 15] = [
+const TASK_OPTIONS: [&str; 9] = [
     "json",
     "watch",
     "user",
@@ -35,12 +34,6 @@ const TASK_OPTIONS: [&str; 15] = [
     "closure",
     "into",
     "wait",
-    "log",
-    "since",
-    "remote",
-    "failed",
-    "all",
-    "yes",
 ];
 
 /// Parses a command line of the program; its first word is the program's own name.
@@ -66,7 +59,7 @@ fn fault_of(alloc: Global, error: &Error) -> WordsFault {
 }
 
 // A usage fault with a text, unless memory for the text ran out.
-pub(crate) fn usage(text: Result<String, AllocError>) -> WordsFault {
+fn usage(text: Result<String, AllocError>) -> WordsFault {
     match text {
         Ok(text) => WordsFault::Usage(text),
         Err(_) => WordsFault::NoMemory,
@@ -129,11 +122,7 @@ fn task_by<'a>(
         ["follow", others @ ..] => follow_task(alloc, matches, others),
         ["outbox", others @ ..] => outbox_task(alloc, matches, others),
         ["send", files @ ..] => send_task(alloc, matches, files),
-        ["history", logs @ ..] => history_task(alloc, matches, logs),
-        [name, ..] => match act_asked(alloc, matches, words)? {
-            Some(act) => Ok(Task::Act(act)),
-            None => command_task(alloc, matches, name, words),
-        },
+        [name, ..] => command_task(alloc, matches, name, words),
     }
 }
 
@@ -169,8 +158,6 @@ fn status_task<'a>(
     Ok(Task::Status(StatusWords {
         json: matches.get_flag("json"),
         watch: matches.get_flag("watch"),
-        failed: matches.get_flag("failed"),
-        remote: number_of(alloc, matches, "remote", 0, u64::MAX)?,
     }))
 }
 
@@ -242,7 +229,7 @@ fn transaction_asked(
 }
 
 // The transaction that a word names.
-pub(crate) fn transaction_of(word: &str) -> Option<TransactionWord> {
+fn transaction_of(word: &str) -> Option<TransactionWord> {
     let (source, seq) = word.split_once('.')?;
     let source = decimal(source)?;
     let seq = decimal(seq)?;
@@ -258,7 +245,7 @@ fn decimal(word: &str) -> Option<u64> {
 }
 
 // The number of an option, if it is given.
-pub(crate) fn number_of(
+fn number_of(
     alloc: Global,
     matches: &ArgMatches<'_>,
     name: &str,
@@ -279,7 +266,7 @@ pub(crate) fn number_of(
 }
 
 // Refuses the options that a command doesn't have.
-pub(crate) fn only_options(
+fn only_options(
     alloc: Global,
     matches: &ArgMatches<'_>,
     name: &str,
@@ -295,10 +282,7 @@ pub(crate) fn only_options(
 
 // Whether an option is given.
 fn is_given(matches: &ArgMatches<'_>, option: &str) -> bool {
-    if matches!(
-        option,
-        "json" | "watch" | "closure" | "wait" | "failed" | "all" | "yes"
-    ) {
+    if matches!(option, "json" | "watch" | "closure" | "wait") {
         matches.get_flag(option)
     } else {
         matches.contains_id(option)

@@ -78,7 +78,7 @@ fn closure_word(is_closed: bool) -> &'static [u8]
 }
 
 // Adds a word, in quotes if it needs them.
-pub(crate) fn push_word(command: &mut Vec<u8>, word: &[u8]) -> Result<(), AllocError>
+fn push_word(command: &mut Vec<u8>, word: &[u8]) -> Result<(), AllocError>
     ensures { OnOk result (command.new.items ≡ command.old.items ++ word_octets word.now) }
 {
     if is_plain(word) {

@@ -32,10 +32,6 @@ pub enum Task<'a> {
     /// Show the files that wait in the outbox.
     Outbox(OutboxWords),
     Send(SendWords<'a>),
-    /// Print the transactions of logs that ended.
-    History(HistoryWords<'a>),
-    /// Give a command for one transaction or for several.
-    Act(ActWords<'a>),
 }
 
 /// How the status is shown.
@@ -45,10 +41,6 @@ pub struct StatusWords {
     pub json: bool,
     /// Whether it is shown again each second.
     pub watch: bool,
-    /// Whether only transactions that failed are shown.
-    pub failed: bool,
-    /// The entity at the other end, if only what goes there or comes from there is shown.
-    pub remote: Option<u64>,
 }
 
 /// Which events are followed, and how they are printed.
@@ -91,46 +83,4 @@ pub struct SendWords<'a> {
     pub wait: bool,
     /// The paths of the files: one or more.
     pub files: Vec<&'a str>,
-}
-
-/// Which transactions of logs are printed, and how.
-#[derive(Drop)]
-pub struct HistoryWords<'a> {
-    /// Whether they are printed as JSON.
-    pub json: bool,
-    /// A moment or its beginning, if only those that ended since then are printed.
-    pub since: Option<&'a str>,
-    /// The entity at the other end, if only those with this one are printed.
-    pub remote: Option<u64>,
-    /// Whether only those that failed are printed.
-    pub failed: bool,
-    /// The paths of the logs: one or more.
-    pub logs: Vec<&'a str>,
-}
-
-/// A command for one transaction, or for several.
-#[derive(Clone, Copy)]
-pub struct ActWords<'a> {
-    pub verb: Verb,
-    pub choice: Choice<'a>,
-    /// Whether nobody is asked first.
-    pub yes: bool,
-}
-
-/// What is done to a transaction.
-#[derive(Clone, Copy)]
-pub enum Verb {
-    Cancel,
-    Suspend,
-    Resume,
-    Abandon,
-}
-
-/// The transactions that a command is for.
-#[derive(Clone, Copy)]
-pub enum Choice<'a> {
-    /// This one.
-    One(TransactionWord),
-    /// Those that go on with this entity at the other end, and of this user, as far as these are given.
-    Many(Option<u64>, Option<&'a str>),
 }
