@@ -8,6 +8,7 @@ put := crates/cfdp_put/out/cfdp_put
 ctl := crates/cfdp_ctl/out/cfdp_ctl
 hostile := crates/hostile_runs/out/hostile_runs
 web := crates/cfdp_web/out/cfdp_web
+benches := crates/benches/out/benches
 PREFIX ?= /usr/local
 
 # a first look: a file is received whose segments were lost and asked for again, and a file crosses loopback between both
@@ -42,6 +43,8 @@ install: programs install-lib
 	install -d $(DESTDIR)$(PREFIX)/bin $(DESTDIR)$(PREFIX)/share/man/man1
 	install -m 755 $(server) $(put) $(ctl) $(DESTDIR)$(PREFIX)/bin
 	install -m 644 docs/man/cfdp_server.1 docs/man/cfdp_put.1 docs/man/cfdp_ctl.1 $(DESTDIR)$(PREFIX)/share/man/man1
+	install -d $(DESTDIR)$(PREFIX)/share/bash-completion/completions
+	install -m 644 docs/completion/cfdp_ctl $(DESTDIR)$(PREFIX)/share/bash-completion/completions
 
 # the console, in place, with its page of the manual
 install-web: web
@@ -86,9 +89,13 @@ memory:
 
 # the gate: every proof from nothing, the must-fail edits, the tests and the programs, and how runs of the programs end
 test:
+	@tests/preflight.sh
 	@tests/layers.sh
+	@tests/locks.py
 	@tests/same.sh
 	@tests/trusted.py --check
+	@tests/crates.py --check
+	@tests/callers.py
 	rt ci
 	@tests/endings.sh $(program)
 	@tests/examples.sh $(program)
@@ -103,13 +110,22 @@ test:
 	@tests/server.py $(server)
 	@tests/control.py $(server)
 	@tests/station.py $(server) $(ctl)
+	@tests/tuning.py $(server)
 	@tests/many.py $(server) $(ctl)
+	@tests/recorder.py $(server) $(program) $(ctl)
 	@tests/stores.py $(server)
+	@tests/hostile.py $(server) $(put)
 	@tests/cuts.py $(server)
+	@tests/soak.py $(server) 60
 	@tests/numbers.py $(server) $(put)
+	@tests/restarts.py $(server)
+	@tests/large.py $(server) $(ctl) $(put)
+	@tests/units.py $(server) $(ctl)
 	@tests/faults.py $(server) $(put)
-	@tests/ctl.py $(ctl)
+	@tests/likeness.py $(server)
+	@tests/ctl.py $(ctl) $(server)
 	@tests/web.py $(web)
+	@tests/console.py $(web) $(server)
 	@tests/manual.sh $(server) $(put) $(ctl) $(web)
 	@tools/archive.py
 	@tools/lib.sh $(archive) $(PREFIX)
@@ -119,14 +135,16 @@ test:
 # how fast and how large a run is; no part of the gate
 bench: build programs
 	@tools/build.py benches
-	python3 bench/bench.py $(program)
-	python3 bench/instructions.py $(program) crates/benches/out/benches
-	python3 bench/cores.py crates/benches/out/benches
-	python3 bench/queues.py crates/benches/out/benches
-	python3 bench/entity.py crates/benches/out/benches
-	python3 bench/programs.py $(server) $(put) crates/benches/out/benches
-	python3 bench/datagrams.py $(server) $(put)
-	python3 bench/control.py $(server)
+	@status=0; \
+	python3 bench/bench.py $(program) || status=1; \
+	python3 bench/instructions.py $(program) $(benches) || status=1; \
+	python3 bench/cores.py $(benches) || status=1; \
+	python3 bench/queues.py $(benches) || status=1; \
+	python3 bench/entity.py $(benches) || status=1; \
+	python3 bench/programs.py $(server) $(put) $(benches) || status=1; \
+	python3 bench/datagrams.py $(server) $(put) || status=1; \
+	python3 bench/control.py $(server) || status=1; \
+	exit $$status
 
 # many files at once between stations, by their lanes and users, and the same over links that lose datagrams: some minutes
 .PHONY: bench-many
@@ -134,6 +152,6 @@ bench-many: programs
 	python3 bench/many.py $(server)
 	python3 bench/many.py $(server) --loss 5
 
-# ten minutes of files over a bad link, with an eye on memory; no part of the gate
+# ten minutes of files over a bad link, with an eye on memory; the gate has a minute of it
 soak: programs
 	@tests/soak.py $(server)

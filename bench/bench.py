@@ -19,6 +19,8 @@ import tempfile
 import termios
 import time
 
+from bars import end, show_bar
+
 # The smaller sizes: octets of a file, receptions, files that are put, segments, datagrams.
 LARGE = 512 * 1024
 SMALL = 12_500
@@ -279,11 +281,6 @@ def stolen():
         return 0.0
 
 
-def show_bar(what, met):
-    """Prints a bar."""
-    print(f"  {'met' if met else 'MISSED'}: {what}", flush=True)
-
-
 def compare(program, kind):
     """Measures one size and eight times that size, prints the bars, and answers the seconds of the larger."""
     size, unit, octets, speed = MEASURED[kind]
@@ -317,6 +314,7 @@ def main():
     seconds = {kind: compare(program, kind) for kind in KINDS}
     ratio = seconds["falling"] / seconds["rising"]
     show_bar(f"falling parts take {ratio:.1f} times as long as rising ones, at most {FALLING}", ratio <= FALLING)
+    end()
 
 
 if __name__ == "__main__":

@@ -15,7 +15,7 @@ import tempfile
 import threading
 import time
 
-import bench
+import bars
 import programs
 
 USERS, PUT_LANES, REMOTES, RECEIVE_LANES = 16, 32, 64, 8
@@ -175,13 +175,14 @@ def main():
         os.chdir(folder)
         best, middle = status(server)
         print(f"a status of {LANES:,} lanes: {best * 1000:.1f} ms at best, {middle * 1000:.1f} in the middle", flush=True)
-        bench.show_bar(f"{best * 1000:.1f} ms, at most {STATUS_BAR * 1000:.0f}", best <= STATUS_BAR)
+        bars.show_bar(f"{best * 1000:.1f} ms, at most {STATUS_BAR * 1000:.0f}", best <= STATUS_BAR)
         without = max(load(server, False) for _ in range(LOADS))
         following = max(load(server, True) for _ in range(LOADS))
         slower = 1 - following / without
         print(f"a server under load: {without:,.0f} datagrams a second, {following:,.0f} with a follower of all events", flush=True)
-        bench.show_bar(f"{slower * 100:.0f} % slower, at most {FOLLOWER_BAR * 100:.0f}", slower <= FOLLOWER_BAR)
+        bars.show_bar(f"{slower * 100:.0f} % slower, at most {FOLLOWER_BAR * 100:.0f}", slower <= FOLLOWER_BAR)
         os.chdir("/")
+    bars.end()
 
 
 if __name__ == "__main__":

@@ -9,6 +9,8 @@ import subprocess
 import sys
 import time
 
+from bars import end, show_bar
+
 # How often a scenario runs at least, and for how many seconds in all: a short one, whose time varies more, runs more
 # often.
 RUNS = 5
@@ -44,11 +46,6 @@ def best(program, scenario, size):
     return min(seconds)
 
 
-def show_bar(what, met):
-    """Prints a bar."""
-    print(f"  {'met' if met else 'MISSED'}: {what}")
-
-
 def main():
     program = sys.argv[1]
     print(f"machine: {platform.machine()}, {os.cpu_count()} processors, {platform.system()}")
@@ -62,6 +59,7 @@ def main():
             show_bar(f"{seconds[scenario]:.3f} s, at most {most}", seconds[scenario] <= most)
     slower = seconds["eof-first-rising"] / seconds["eof-last"]
     show_bar(f"the EOF first takes {slower:.1f} times as long as the EOF last, at most 2", slower <= 2)
+    end()
 
 
 if __name__ == "__main__":

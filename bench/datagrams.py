@@ -16,7 +16,7 @@ import sys
 import tempfile
 import time
 
-import bench
+import bars
 import programs
 
 # The PDUs of the two sizes, the octets of file in each, and the seconds between two datagrams.
@@ -28,8 +28,8 @@ PAUSE = 0.0003
 RATE = 1_000_000
 
 # The bars, in instructions a PDU.
-SERVER_BAR = 9_000
-PUT_BAR = 4_000
+SERVER_BAR = 7_000
+PUT_BAR = 5_000
 
 
 def counting(out):
@@ -96,16 +96,19 @@ def put_cost(server, put, parts):
 def tell(name, few, many, bar):
     each = (many - few) / (MANY - FEW)
     print(f"{name}: {FEW:,} PDUs {few:,} instructions, {MANY:,} {many:,}: {each:,.0f} a PDU", flush=True)
-    bench.show_bar(f"{each:,.0f} a PDU, at most {bar:,}", each <= bar)
+    bars.show_bar(f"{each:,.0f} a PDU, at most {bar:,}", each <= bar)
 
 
 def main():
+    if not bars.has_tool("valgrind", "what a PDU costs is not counted"):
+        return
     server, put = map(os.path.realpath, sys.argv[1:3])
     with tempfile.TemporaryDirectory() as folder:
         os.chdir(folder)
         tell("a server that receives, with one worker", *[server_cost(server, parts) for parts in (FEW, MANY)], SERVER_BAR)
         tell("a put", *[put_cost(server, put, parts) for parts in (FEW, MANY)], PUT_BAR)
         os.chdir("/")
+    bars.end()
 
 
 if __name__ == "__main__":

@@ -14,13 +14,14 @@ import os
 import pathlib
 import platform
 import random
-import shutil
 import socket
 import subprocess
 import sys
 import tempfile
 import threading
 import time
+
+import bars
 
 RUNS = 5
 
@@ -265,10 +266,6 @@ def idle(program):
         return server.spent() - before
 
 
-def tell_bar(text, is_met):
-    print(f"    {text}: {'met' if is_met else 'missed'}", flush=True)
-
-
 def compare_transfer(server, put, benches):
     datagrams = -(-FILE_OCTETS // PART)
     pathlib.Path("image").write_bytes(random.Random(7).randbytes(FILE_OCTETS))
@@ -284,20 +281,19 @@ def compare_transfer(server, put, benches):
         f" the slowest run {max(blasts)[0]:.3f} s; processor time {plain[1]:.2f} s"
     )
     times = best[0] / plain[0]
-    tell_bar(f"the file takes {times:.1f} times as long as the blast, at most {TRANSFER}", times <= TRANSFER)
+    bars.show_bar(f"the file takes {times:.1f} times as long as the blast, at most {TRANSFER}", times <= TRANSFER)
 
 
 def count_calls(server, put):
     """The system calls of a server by its workers, where `strace` is there."""
-    if shutil.which("strace") is None:
-        print("no strace here: system calls are not counted")
+    if not bars.has_tool("strace", "system calls are not counted"):
         return
-    for workers, bars in CALLS.items():
+    for workers, most in CALLS.items():
         each = calls(server, put, workers)
-        told = ", ".join(f"{name} {each.get(name, 0):.3f}" for name in ("recvfrom", "sendto", *bars))
+        told = ", ".join(f"{name} {each.get(name, 0):.3f}" for name in ("recvfrom", "sendto", *most))
         print(f"{workers} workers, calls by datagram at {COUNTED_RATE:,} octets a second: {told}")
-        for name, bar in bars.items():
-            tell_bar(f"{name} {each.get(name, 0):.3f}, at most {bar}", each.get(name, 0) <= bar)
+        for name, bar in most.items():
+            bars.show_bar(f"{name} {each.get(name, 0):.3f}, at most {bar}", each.get(name, 0) <= bar)
 
 
 def compare_processor_time(server, put):
@@ -309,7 +305,7 @@ def compare_processor_time(server, put):
         each[workers] = min(spent for _, _, spent in runs) / datagrams * 1e6
         of_put = min(spent for _, spent, _ in runs) / datagrams * 1e6
         print(f"{workers} workers: {each[workers]:.1f} microseconds of processor time a datagram; the put {of_put:.1f}")
-    tell_bar(f"four workers take {each[4] / each[1]:.2f} times what one takes, at most {FOUR_WORKERS}", each[4] <= FOUR_WORKERS * each[1])
+    bars.show_bar(f"four workers take {each[4] / each[1]:.2f} times what one takes, at most {FOUR_WORKERS}", each[4] <= FOUR_WORKERS * each[1])
 
 
 def compare_workers(server):
@@ -325,7 +321,7 @@ def compare_workers(server):
         )
     one = max(runs[WORKERS[0]])[0]
     least = min(max(taken)[0] for taken in runs.values()) / one
-    tell_bar(f"several take {least:.2f} of what one does at least, no less than {SLOWER}", least >= SLOWER)
+    bars.show_bar(f"several take {least:.2f} of what one does at least, no less than {SLOWER}", least >= SLOWER)
 
 
 def main():
@@ -340,8 +336,9 @@ def main():
         compare_workers(server)
         spent = idle(server)
         print(f"a server that has nothing to do: {spent:.2f} s of processor time in {IDLE_SECONDS:.0f} seconds")
-        tell_bar(f"at most {IDLE} s", spent <= IDLE)
+        bars.show_bar(f"at most {IDLE} s", spent <= IDLE)
         os.chdir("/")
+    bars.end()
 
 
 if __name__ == "__main__":

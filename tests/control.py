@@ -9,6 +9,7 @@ import contextlib
 import json
 import os
 import pathlib
+import select
 import socket
 import stat
 import subprocess
@@ -16,7 +17,7 @@ import sys
 import threading
 import time
 
-from support import Client, Running, Wrong, configuration, free_port, run_cases, until, want
+from support import Client, Running, Wrong, configuration, free_port, in_own_mounts, mounted, run_cases, unmount, until, want
 
 SERVER = os.path.abspath(sys.argv[1])
 METADATA = bytes.fromhex("24000a0001050207000000000301610162")
@@ -161,8 +162,65 @@ def a_put():
 
 
 @case
+def paths_that_are_no_files():
+    """A pipe that nobody writes to, a folder, a device without an end and a socket are a `read fault` at once, for a put and in the outbox;
+    what comes after them is sent."""
+    os.mkfifo("pipe")
+    os.mkdir("folder")
+    pathlib.Path("a").write_bytes(b"abc")
+    with server() as one:
+        client = one.client()
+        want(client.ask("follow"), ["ok"])
+        odd = ("pipe", "folder", "/dev/zero", "control", "gone")
+        for path in odd:
+            want((path, client.ask(f"put alice 0 1 1 {path} b")), (path, ["read fault"]))
+        for number, path in enumerate((*odd, "a"), 1):
+            want(client.ask(f"send alice 1 1 {path} b"), [f"queued {number}"])
+        put = client.wait_event(lambda event: event["kind"] == "put", "the file after them")
+        want((put["file"], put["queued"]), ("a", len(odd) + 1))
+        want([(event["file"], event["why"]) for event in client.events if event["kind"] == "unsent"], [(path, "read fault") for path in odd])
+        one.quits()
+
+
+class Spare(Client):
+    """A client that comes while all seats are taken."""
+
+    def __init__(self, one):
+        super().__init__()
+
+    def ask(self, command):
+        """The answer to its command, and the line `busy` where there is none."""
+        try:
+            self.stream.sendall(command.encode() + b"\n")
+            lines = []
+            while True:
+                line = self.line()
+                if line in (None, b"busy"):
+                    return None, line
+                if line == b".":
+                    want(self.line(), None)
+                    return lines, None
+                lines.append(line.decode())
+        except OSError:
+            return None, None
+        finally:
+            self.close()
+
+
+def silent_client():
+    """A client that has the spare seat and says nothing, and the moment before it came. The last one may still be leaving it."""
+    for _ in range(20):
+        begun = time.monotonic()
+        client = Client()
+        if not select.select([client.stream], [], [], 0.5)[0]:
+            return client, begun
+        client.close()
+    raise Wrong("the spare seat was never free")
+
+
+@case
 def many_clients():
-    """Sixteen clients ask at once, and each gets its own answers in order; one more is answered `busy`."""
+    """Sixteen clients ask at once, and each gets its own answers in order. One more has the spare seat for one command."""
     with server() as one:
         one.client().close()
         clients = []
@@ -176,8 +234,15 @@ def many_clients():
             want(answer, ["refused 1 NoTransaction"])
             clients.append(client)
         want(len(clients), SEATS)
+        for command, answer in (("trace 1 1", None), ("put alice 0 1 1 a b", None), ("abandon alice 1 1", ["refused 1 NoTransaction"]),
+                                ("hold 1", ["ok"]), ("release 1", ["ok"]), ("hold all", ["ok"]), ("release 1 5", ["ok"]),
+                                ("release all", ["ok"])):
+            until(lambda: Spare(one).ask(command) == (answer, b"busy" if answer is None else None), f"{command} at the spare seat")
+        until(lambda: len(Spare(one).ask("status")[0] or []) > 2, "a status at the spare seat")
+        silent, begun = silent_client()
         late = Client()
         want((late.line(), late.line()), (b"busy", None))
+        want((silent.line(), silent.line(), 4.5 < time.monotonic() - begun < 30), (b"busy", None, True))
         wrong = []
 
         def ask(client):
@@ -197,7 +262,7 @@ def many_clients():
             thread.join()
         want(wrong, [])
         clients.pop().close()
-        until(lambda: Client().ask("trace 1 1") is not None, "a free seat")
+        until(lambda: Client().ask("trace 1 1") == ["refused 1 NoTransaction"], "an answer at a free seat")
         for client in clients:
             client.close()
         until(lambda: one.clients_sit() == 1, "the end of the visits")
@@ -230,7 +295,7 @@ def broken_clients():
         long = one.client()
         with contextlib.suppress(OSError):
             long.stream.sendall(b"x" * 300_000)
-        want(long.answer() in (["bad command"], None), True)
+        want((long.answer(), long.line()), (["bad command"], None))
         for _ in range(200):
             # some of them get no seat
             gone = one.client()
@@ -241,26 +306,45 @@ def broken_clients():
         one.quits()
 
 
+def long_file(seq):
+    """An empty file with as many messages to the user as a datagram has room for: its event takes 128,000 octets."""
+    messages = (b"\x02\xff" + b"\0" * 255) * 250
+    fields = b"\x07\0" + bytes(4) + b"\x01a\x01b" + messages
+    return b"\x24" + len(fields).to_bytes(2, "big") + bytes([0, 1, seq, 2]) + fields, bytes.fromhex("24000a0001") + bytes([seq, 2, 4]) + bytes(9)
+
+
 @case
 def clients_that_do_not_read():
-    """A follower and a client that don't read are cut off; meanwhile a status comes at once, and files are received."""
+    """A follower that doesn't read is cut off, and so is one that asks on and on; both are counted. Meanwhile no status waits for them, and
+    files are received."""
     with server() as one:
         deaf = one.client()
         deaf.stream.sendall(b"follow\n")
         asking = one.client()
         asking.stream.setblocking(False)
         client = one.client()
-        slowest = 0.0
-        end = time.monotonic() + 3
-        while time.monotonic() < end:
+        counters = lambda: client.status()[0]["counters"]
+        slowest, seq = 0.0, 10
+        while counters()["dropped_clients"] < 2:
+            seq += 1
+            want(seq < 250, True)
             with contextlib.suppress(BlockingIOError, ConnectionError):
-                asking.stream.send(b"status\n" * 100)
+                asking.stream.send(b"follow 1024\n" * 10)
+            stored = counters()["stored"]
+            one.send(*long_file(seq))
+            until(lambda: counters()["stored"] > stored, "an empty file")
             begun = time.monotonic()
             client.status()
             slowest = max(slowest, time.monotonic() - begun)
-        want(slowest < 2, True)
-        one.send(METADATA, FILE_DATA, EOF)
-        until(lambda: os.path.exists("received/b"), "the file")
+        want((seq > 50, slowest < 10), (True, True))
+        for gone in (deaf, asking):
+            gone.stream.settimeout(20)
+            with contextlib.suppress(ConnectionResetError):
+                while gone.stream.recv(1_048_576):
+                    pass
+        stored = counters()["stored"]
+        one.send(*long_file(seq + 1))
+        until(lambda: counters()["stored"] > stored, "a file")
         one.quits()
 
 
@@ -377,10 +461,9 @@ def a_log():
 @case
 def a_log_on_a_full_disk():
     """The server keeps running, reports that the log fails, and continues it once there is room."""
-    os.makedirs("logs", exist_ok=True)
-    made = subprocess.run(["mount", "-t", "tmpfs", "-o", "size=16k", "tmpfs", "logs"], capture_output=True)
-    if made.returncode:
-        return "nothing can be mounted here"
+    why = mounted("logs", "size=16k")
+    if why:
+        return why
     try:
         with contextlib.suppress(OSError):
             pathlib.Path("logs/full").write_bytes(bytes(65_536))
@@ -399,7 +482,7 @@ def a_log_on_a_full_disk():
         events = [json.loads(line) for line in open("logs/log", encoding="utf-8")]
         want([event["number"] for event in events], list(range(1, len(events) + 1)))
     finally:
-        subprocess.run(["umount", "-l", "logs"], check=False)
+        unmount("logs")
     return None
 
 
@@ -414,10 +497,14 @@ def followers_that_read_late():
             one.send(METADATA[:5] + bytes([seq]) + METADATA[6:], FILE_DATA[:5] + bytes([seq]) + FILE_DATA[6:],
                      EOF[:5] + bytes([seq]) + EOF[6:])
             time.sleep(0.002)
+        seen = lambda: client.status()[0]["events"]
+        # each of the transactions has several
+        until(lambda: seen() > 600, "their events")
         time.sleep(1)
-        last = client.status()[0]["events"]
+        last = seen()
         late.wait_event(lambda event: event["number"] == last, "the last event")
-        want([event["number"] for event in late.events], list(range(late.events[0]["number"], last + 1)))
+        want((late.events[0]["number"] <= 2, [event["number"] for event in late.events]),
+             (True, list(range(late.events[0]["number"], last + 1))))
         one.quits()
 
 
@@ -437,4 +524,5 @@ def a_status_of_standard_input():
          [("alice", 0, 64), ("bob", 0, 64)])
 
 
+in_own_mounts()
 run_cases("a control socket", CASES)

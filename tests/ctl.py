@@ -1,8 +1,11 @@
 #!/usr/bin/env python3
 """cfdp_ctl with a fake station: its exit statuses, its output, and what it does when the station goes away.
 
-usage: tests/ctl.py PROGRAM
+usage: tests/ctl.py PROGRAM [SERVER]
+
+With a server, two of them exchange files as well, under the program's commands.
 """
+import atexit
 import contextlib
 import json
 import os
@@ -15,12 +18,13 @@ import sys
 import tempfile
 import time
 
-from support import fill_backlog
+from support import Relay, Station, fill_backlog, free_port
 
 PROGRAM = os.path.abspath(sys.argv[1])
 STATION = os.path.join(os.path.dirname(os.path.abspath(__file__)), "fake_station.py")
 PATIENCE = 60
 FOLDER = tempfile.mkdtemp(prefix="ctl-")
+atexit.register(shutil.rmtree, FOLDER, ignore_errors=True)
 SOCKET = os.path.join(FOLDER, "control")
 FILE = os.path.join(FOLDER, "a.bin")
 LOST = os.path.join(FOLDER, "lost.bin")
@@ -31,7 +35,6 @@ PLAIN = {name: value for name, value in os.environ.items() if name not in ("CFDP
 def want(title, holds, seen):
     if not holds:
         print(f"cfdp_ctl, {title}: {seen}")
-        shutil.rmtree(FOLDER, ignore_errors=True)
         sys.exit(1)
 
 
@@ -45,7 +48,6 @@ def station(*options):
         end = time.monotonic() + PATIENCE
         while not os.path.exists(SOCKET) and time.monotonic() < end:
             time.sleep(0.02)
-        time.sleep(0.1)
         yield run
     finally:
         run.kill()
@@ -60,6 +62,31 @@ def ctl(*words, given=b"", environment=None, control=True):
                          cwd=FOLDER)
     run.took = time.monotonic() - begun
     return run
+
+
+def wait_for(title, holds):
+    """Waits until something holds, which is asked again and again."""
+    end = time.monotonic() + PATIENCE
+    while not holds():
+        want(title, time.monotonic() < end, "it didn't come")
+        time.sleep(0.05)
+
+
+def lines_like(kind):
+    """The lines of this kind in a status of the station."""
+    return [line for line in map(json.loads, ctl("status", "--json").stdout.splitlines()) if line["kind"] == kind]
+
+
+def has_clients(count):
+    """Waits until so many clients follow: they connect, and ask at once."""
+    wait_for(f"{count} clients", lambda: lines_like("entity")[0]["clients"] > count)
+    time.sleep(0.3)
+
+
+def has_ended(*numbers):
+    """Waits until these transactions have ended, and their events are told."""
+    wait_for(f"the end of {numbers}", lambda: set(numbers) <= {line["seq"] for line in lines_like("transaction") if line["state"] == "ended"})
+    time.sleep(0.3)
 
 
 def check(title, run, status, out=None, errors=None):
@@ -88,6 +115,16 @@ def words_of_the_line():
             ("a remote that is no number", ["send", "--to", "x", FILE], b"'x'"),
             ("an option of send", ["status", "--wait"], b"--wait doesn't go with status"),
             ("an option of send, for the outbox", ["outbox", "--into", "x"], b"--into doesn't go with outbox"),
+            ("a history without a log", ["history"], b"--log FILE"),
+            ("an option of history", ["follow", "--since", "2026"], b"--since doesn't go with follow"),
+            ("all, and not all", ["cancel", "--all", "--remote", "7"], b"--all doesn't go with"),
+            ("a watch without a remote", ["watch", FOLDER], b"--to REMOTE"),
+            ("a watch of two folders", ["watch", "--to", "5", FOLDER, FOLDER], b"one folder"),
+            ("an option of watch", ["send", "--to", "5", "--once", FILE], b"--once doesn't go with send"),
+            ("too many events", ["follow", "--last", "1025"], b"'1025' is not a number from 0 to 1024"),
+            ("a level that isn't there", ["follow", "--level", "debug"], b"'debug' must be detail, info or warning"),
+            ("an option of send", ["watch", FOLDER, "--to", "5", "--urgent"], b"--urgent doesn't go with watch"),
+            ("a moment that is none", ["history", "--log", FILE, "--since", "26-11-2026"], b"'26-11-2026' is not a moment"),
             ("a word that a terminal would obey", ["status", "\x1b[2J"], b"'\\x1b[2J'"),
     ]:
         check(title, ctl(*line), 2, b"", errors)
@@ -126,18 +163,25 @@ def answers():
 def no_answers():
     run = ctl("status")
     check("no server", run, 1, b"", b"no server")
-    want("no server, how long it took", run.took < 5, run.took)
+    want("no server, its path", run.stderr == f"cfdp_ctl: {SOCKET}: no server answers at the control socket\n".encode(), run.stderr)
+    want("no server, how long it took", run.took < 20, run.took)
+    if os.getuid() != 0:
+        with station():
+            os.chmod(SOCKET, 0)
+            check("a socket of somebody else", ctl("status"), 1, b"",
+                  f"cfdp_ctl: {SOCKET}: permission denied; its owner or group may open it\n".encode())
     with station("--half"):
         run = ctl("status")
         check("half an answer", run, 1, b"")
-        want("half an answer, how long it took", 3 < run.took < 15, run.took)
+        want("half an answer, how long it took", 3 < run.took < 30, run.took)
     with station() as stopped:
         stopped.send_signal(signal.SIGSTOP)
         for title, waiting in (("a server that stands still", []), ("a server that lets nobody in", fill_backlog(SOCKET))):
             for words in (["status"], ["send", "--to", "5", FILE], ["--wait-for-server", "1", "status"]):
                 run = ctl(*words)
                 check(f"{title}, {words}", run, 1, b"", b"no server answers" if waiting else b"")
-                want(f"{title}, {words}, how long it took", run.took < 6, run.took)
+                # five seconds, and what a busy machine adds
+                want(f"{title}, {words}, how long it took", run.took < 20, run.took)
             for client in waiting:
                 client.close()
     with station("--busy"):
@@ -160,7 +204,7 @@ def no_answers():
 def tables():
     with station("--transactions", "40", "--odd", "--users", "ops,sim"):
         check("a put that ends", ctl("put", "ops", "0", "2", "5", FILE, "b"), 0)
-        time.sleep(0.6)
+        has_ended(100)
         run = ctl("status", "--width", "100")
         check("status", run, 0, b"Active")
         text = run.stdout
@@ -202,6 +246,12 @@ def layout():
             want(f"{octets} octets, its heads", run.stdout.startswith(
                 b"Entity 1, cfdp_server 0.1, since 2026-11-26T12:00:00.000Z, now 2028-03-01T00:00:00.000Z\n"
                 b"Workers that stopped reading because their socket failed: 2\n\nActive\n"), run.stdout)
+    with station(*said([{**under_way, "state": "ended"}, {**under_way, "seq": 42, "state": "ended", "condition": 8}])):
+        run = ctl("status", "--width", "200")
+        want("a transaction that is still ending", [line.split()[4:-3] for line in run.stdout.decode().split("\n")[2:4]]
+             == [["100", "B", "ending"], ["100", "B", "abandoned,", "inactivity", "detected"]], run.stdout)
+        want("a transaction that is still ending hasn't failed", b"1.41" not in ctl("status", "--failed").stdout
+             and b"1.42" in ctl("status", "--failed").stdout, ctl("status", "--failed").stdout)
     with station(*said([{"kind": "user", "name": "ops\x1b", "waiting": 3, "capacity": 1024}])):
         run = ctl("status")
         want("a table", run.stdout == b"Users\nwaiting    of  user\n      3  1024  ops\\x1b\n\n", run.stdout)
@@ -275,11 +325,15 @@ def words_of_events():
         ({**at, "kind": "end"}, "the server ends"),
     ]
     with station(*said(events=[event for event, _ in rows])):
-        run = subprocess.Popen([PROGRAM, "--control", SOCKET, "follow"], stdout=subprocess.PIPE, stderr=subprocess.DEVNULL,
-                               env=PLAIN)
-        time.sleep(1)
+        run = subprocess.Popen([PROGRAM, "--control", SOCKET, "follow", "--level", "detail"], stdout=subprocess.PIPE,
+                               stderr=subprocess.DEVNULL, env=PLAIN)
+        told, end = b"", time.monotonic() + PATIENCE
+        while told.count(b"\n") < len(rows) and time.monotonic() < end:
+            if select.select([run.stdout], [], [], 1)[0]:
+                told += os.read(run.stdout.fileno(), 65_536) or b"\n" * len(rows)
         ctl("quit")
         out, _ = run.communicate(timeout=PATIENCE)
+        out = told + out
     seen = out.decode().split("\n")
     for place, (_, wanted) in enumerate(rows):
         want(f"event {place}", seen[place:place + 1] == ["2026-11-26 12:00:00.000Z " + wanted], (seen[place:place + 1], wanted))
@@ -310,10 +364,10 @@ def events():
         chosen = {words: subprocess.Popen([PROGRAM, "--control", SOCKET, "follow", "--json", *words], stdout=subprocess.PIPE,
                                           stderr=subprocess.PIPE, env=PLAIN)
                   for words in [("--user", "nobody"), ("--transaction", "1.101"), ("--user", "ops", "--transaction", "1.100")]}
-        time.sleep(1)
+        has_clients(4)
         check("a put beside followers", ctl("put", "ops", "0", "2", "5", FILE, "b.bin"), 0)
         check("a put of a file that is lost", ctl("put", "ops", "0", "2", "5", LOST, "c.bin"), 0)
-        time.sleep(1)
+        has_ended(100, 101)
         ctl("quit")
         out, errors = run.communicate(timeout=PATIENCE)
         want("follow, its status", run.returncode == 1 and b"went away" in errors, (run.returncode, errors))
@@ -324,6 +378,43 @@ def events():
         for words, count in zip(chosen, (0, 3, 3)):
             out, _ = chosen[words].communicate(timeout=PATIENCE)
             want(f"follow {words}", chosen[words].returncode == 1 and out.count(b"\n") == count, (words, out))
+
+
+def last_events():
+    """The events that a server has kept come first, as many as are asked for."""
+    with station("--transactions", "0"):
+        for name in ("b", "c"):
+            check("a put before a follower", ctl("put", "ops", "0", "2", "5", FILE, name), 0)
+        has_ended(100, 101)
+        runs = [subprocess.Popen([PROGRAM, "--control", SOCKET, "follow", "--json", "--last", count], stdout=subprocess.PIPE,
+                                 stderr=subprocess.DEVNULL, env=PLAIN) for count in ("0", "2", "1024")]
+        has_clients(3)
+        ctl("quit")
+        seen = [[json.loads(line)["number"] for line in run.communicate(timeout=PATIENCE)[0].splitlines()] for run in runs]
+        want("the last events", seen == [[], [6, 7], [1, 2, 3, 4, 5, 6, 7]], seen)
+
+
+def next_servers():
+    """Who follows again waits for the next server, and gets its events too; of a level those and above."""
+    run = None
+    try:
+        for turn in range(3):
+            with station("--lose", "lost.bin"):
+                if run is None:
+                    run = subprocess.Popen([PROGRAM, "--control", SOCKET, "follow", "--json", "--level", "warning", "--follow-again"],
+                                           stdout=subprocess.PIPE, stderr=subprocess.PIPE, env=PLAIN)
+                has_clients(1)
+                check("a lost file beside a follower", ctl("put", "ops", "0", "2", "5", LOST, f"{turn}.bin"), 0)
+                has_ended(100)
+        run.terminate()
+        out, errors = run.communicate(timeout=PATIENCE)
+        seen = [(event["name"], event["level"]) for event in map(json.loads, out.splitlines())]
+        want("follow again", seen == [("Transaction-Finished", "warning")] * 3, out)
+        want("follow again, what is said", errors.count(b"waiting for it") in (2, 3), errors)
+    finally:
+        if run is not None and run.poll() is None:
+            run.kill()
+            run.wait()
 
 
 def sends():
@@ -359,7 +450,13 @@ def sends():
         want("a hundred files, their ends", run.stdout.count(b"complete, retained\n") == 100, run.stdout)
     with station("--users", "ops,sim\x1b"):
         check("two users", ctl("send", "--to", "5", FILE), 2, b"", b"--user is missing, and the server's users are: ops sim\\x1b\n")
-        check("one of two users", ctl("send", "--to", "5", "--user", "sim", FILE), 0)
+        check("one of two users", ctl("send", "--to", "5", "--user", "ops", FILE), 0)
+        run = ctl("send", "--to", "5", "--user", "sim", FILE)
+        check("a user that isn't there", run, 2, b"", b"--user sim: the server has no such user; its users are: ops sim\\x1b\n")
+        want("a user that isn't there, before anything is sent", run.stdout == b"", run.stdout)
+        run = ctl("send", "--to", "6", "--user", "ops", FILE)
+        check("an entity that isn't there", run, 2, b"", b"--to 6: the server has no such entity; its entities are: 5 7\n")
+        want("an entity that isn't there, before anything is sent", run.stdout == b"", run.stdout)
 
 
 def bad_ends():
@@ -381,18 +478,21 @@ def bad_ends():
         with station(option, "1", "--step", "30"):
             run = ctl("send", "--to", "5", "--wait", "1.bin")
             check("a station that goes away", run, 1, b"queued 1", b"cfdp_ctl: ")
-            want("a station that goes away, how long it took", run.took < 6, run.took)
+            want("a station that goes away, how long it took", run.took < 20, run.took)
 
 
 def outbox():
     with station():
         check("hold", ctl("hold", "5"), 0, b"ok\n")
         check("hold, of nobody", ctl("hold", "6"), 3, b"refused UnknownRemote\n")
+        check("journal", ctl("journal", "2.41"), 0, b"# a recording\ntake ops\n")
+        check("journal, of nothing", ctl("journal", "2.42"), 3, b"refused 1 NoTransaction\n")
+        check("journal, of no transaction", ctl("journal", "2-41"), 2, b"", b"error: journal: '2-41' is not a transaction")
         check("release, of nobody", ctl("release", "6"), 3, b"refused UnknownRemote\n")
         check("an outbox of nothing", ctl("outbox"), 0, b"")
         waiting = subprocess.Popen([PROGRAM, "--control", SOCKET, "send", "--to", "5", "--wait", FILE, LOST],
                                    stdout=subprocess.PIPE, env=PLAIN)
-        time.sleep(0.7)
+        wait_for("two files in the outbox", lambda: ctl("outbox", "--json").stdout.count(b"\n") == 2)
         run = ctl("outbox", "--width", "200")
         want("the outbox", run.stdout.startswith(b"Outbox\nnumber  user  to  class  since ")
              and f"{FILE} to a.bin\n".encode() in run.stdout and run.stdout.count(b"\n") == 5, run.stdout)
@@ -408,6 +508,396 @@ def outbox():
         out, _ = waiting.communicate(timeout=PATIENCE)
         want("a file that is dropped", waiting.returncode == 4 and b"for entity 5: dropped\n" in out
              and b"a.bin: finished: complete, retained\n" in out, (waiting.returncode, out))
+
+
+def lines_of(*events):
+    """A log with these events."""
+    return b"".join(json.dumps(event).encode() + b"\n" for event in events)
+
+
+def histories():
+    """The transactions of logs of both ends, as lines and as JSON."""
+    def at(second, **members):
+        return {"at": f"2026-11-26T12:00:{second:06.3f}Z", "number": 1, **members}
+
+    def told(second, seq, name, **members):
+        return at(second, kind="indication", user="ops", source=1, seq=seq, name=name, **members)
+
+    kept = {"condition": 0, "delivery": "complete", "status": "retained"}
+    lost = {"condition": 8, "delivery": "incomplete", "status": "discarded"}
+    put = {"kind": "put", "user": "ops", "source": 1, "peer": 7, "class": 2}
+    near, older, far = (os.path.join(FOLDER, name) for name in ("near", "near.1", "far"))
+    with open(older, "wb") as file:
+        file.write(lines_of(at(0, kind="start", id=1, version="0.1"), at(1, **put, seq=4, file="gone", to="gone", size=1),
+                            at(2, kind="start", id=1, version="0.1"),
+                            at(3, **put, seq=5, file="a.bin", to="b.bin", size=4096)))
+    with open(near, "wb") as file:
+        file.write(lines_of(told(5, 5, "Transaction-Finished", **kept)) + b"no JSON\n[1]\n" + b"x" * 3_000_000 + b"\n"
+                   + lines_of(told(6, 5, "Abandoned", condition=8, progress=1),
+                              at(10.25, **put, seq=6, file="c\n.bin", to_hex="ff", size=100),
+                              told(59.5, 6, "Transaction-Finished", **lost)))
+    with open(far, "wb") as file:
+        file.write(lines_of(at(0, kind="start", id=7, version="0.1"),
+                            told(3.5, 5, "Metadata-Recv", origin=1, size=4096, file="a.bin", to="b.bin", messages=[]),
+                            told(4.5, 5, "Transaction-Finished", **kept), told(5, 9, "Abandoned", condition=8, progress=0)))
+    first = b"2026-11-26 12:00:05.000Z  to 7        ops 1.5              4.0 KiB     2.000 s   2.0 KiB/s  " \
+            b"complete, retained      a.bin to b.bin\n"
+    second = b"2026-11-26 12:00:59.500Z  to 7        ops 1.6                100 B    49.250 s           -  " \
+             b"inactivity detected, incomplete, discarded  c\\x0a.bin to \\xff\n"
+    third = b"2026-11-26 12:00:04.500Z  from 1      ops 1.5              4.0 KiB     1.000 s   4.0 KiB/s  " \
+            b"complete, retained      a.bin to b.bin\n"
+    fourth = b"2026-11-26 12:00:05.000Z  from 1      ops 1.9                    -           -           -  " \
+             b"abandoned, inactivity detected  ? to ?\n"
+    sums = b"sent: 2, failed: 1, octets of the others: 4.0 KiB\nreceived: 2, failed: 1, octets of the others: 4.0 KiB\n" \
+           b"without an end: 1\nlines that are no JSON object, skipped: 3\n"
+    run = ctl("history", "--log", older, near, far, control=False)
+    check("a history", run, 0)
+    want("a history, its lines", run.stdout == first + second + third + fourth + sums, run.stdout.decode())
+    for words, lines in ((["--failed"], second + fourth), (["--remote", "7"], first + second), (["--remote", "1"], third + fourth),
+                         (["--since", "2026-11-26T12:00:05Z"], first + second + fourth), (["--since", "2026-11-27"], b""),
+                         (["--since", "2026-11-26T12:00:59.500Z"], second), (["--since", "2026-11-26T12:00:59.501Z"], b"")):
+        run = ctl("history", *words, "--log", older, near, far)
+        check(f"a history {words}", run, 0)
+        want(f"a history {words}, its lines", run.stdout.startswith(lines + b"sent: "), run.stdout.decode())
+    run = ctl("history", "--log", older, near, far, "--json")
+    objects = [json.loads(line) for line in run.stdout.splitlines()]
+    want("a history as JSON", objects[0] == {
+        "at": "2026-11-26T12:00:05.000Z", "way": "sent", "peer": 7, "user": "ops", "source": 1, "seq": 5, "file": "a.bin",
+        "to": "b.bin", "size": 4096, "milliseconds": 2000, "rate": 2048, "end": "kept", "how": "complete, retained"}, objects)
+    want("a history as JSON, without what isn't known", objects[3] == {
+        "at": "2026-11-26T12:00:05.000Z", "way": "received", "peer": 1, "user": "ops", "source": 1, "seq": 9, "file": "?", "to": "?",
+        "end": "failed", "how": "abandoned, inactivity detected"}, objects)
+    want("a history as JSON, its sums", objects[4] == {
+        "sent": {"ended": 2, "failed": 1, "octets": 4096}, "received": {"ended": 2, "failed": 1, "octets": 4096},
+        "unknown": {"ended": 0, "failed": 0, "octets": 0}, "open": 1, "skipped": 3}, objects)
+    run = ctl("history", "--log", near)
+    check("a history without its beginning", run, 0, b"12:00:05.000Z  with ?      ops 1.5 ")
+    check("a log that isn't there", ctl("history", "--log", "missing", near), 3, b"sent: ", b"cfdp_ctl: missing: no such file\n")
+
+
+def acts():
+    """Commands for one transaction, and for several."""
+    with station("--transactions", "200", "--users", "ops,sim", "--pace", "1"):
+        check("cancel", ctl("cancel", "7.150"), 0, b"cancel 7.150: ok\n")
+        check("cancel, of nothing", ctl("cancel", "7.900"), 3, b"", b"cfdp_ctl: no such transaction is under way\n")
+        check("cancel, as the server reads it", ctl("cancel", "ops", "7", "150"), 0, b"ok\n")
+        check("a word that is no transaction", ctl("resume", "150"), 3, b"refused 1 NoTransaction\n")
+        run = ctl("abandon", "--user", "sim", "--yes")
+        check("abandon, of a user", run, 0, b"abandon 7.151: ok\n")
+        want("abandon, of a user, and of no other", b"7.150" not in run.stdout and run.stdout.count(b": ok\n") == 100, run.stdout)
+        check("of another entity", ctl("resume", "--remote", "5", "--yes"), 0, b"", b"no such transaction")
+        check("all", ctl("resume", "--all", "--yes"), 0, b"".join(b"resume 7.%d: ok\n" % number for number in range(200)))
+        run = ctl("cancel", "--remote", "7", given=b"yes\n")
+        check("nobody can be asked", run, 2, b"", b"transactions: without a terminal give --yes\n")
+        want("nobody can be asked, and nothing is done", run.stdout == b"", run.stdout)
+        for typed, status in ((b"yes\n", 0), (b"no\n", 2), (b"\n", 2)):
+            person, program = pty.openpty()
+            run = subprocess.Popen([PROGRAM, "--control", SOCKET, "suspend", "--user", "ops"], stdin=program,
+                                   stdout=subprocess.PIPE, stderr=program, env=PLAIN)
+            os.close(program)
+            asked = b""
+            while b"Type yes to go on:" not in asked:
+                asked += os.read(person, 65_536)
+            os.write(person, typed)
+            out, _ = run.communicate(timeout=PATIENCE)
+            os.close(person)
+            want(f"who types {typed}", (run.returncode, b": ok\n" in out) == (status, status == 0), (run.returncode, out))
+
+
+def choices():
+    """Parts of a status."""
+    sender = {"kind": "transaction", "user": "ops", "lane": 0, "role": "sender", "class": 2, "file": "a", "to": "b", "size": 9,
+              "octets": 9, "events": 3, "last": "2026-11-26T12:00:00.000Z", "source": 1}
+    kept = {"state": "ended", "condition": 0, "delivery": "complete", "status": "retained"}
+    lost = {"state": "ended", "condition": 8, "delivery": "incomplete", "status": "discarded"}
+    status = [{"kind": "entity", "id": 1}, {"kind": "user", "name": "ops", "waiting": 0, "capacity": 9},
+              {**sender, "seq": 1, "peer": 5, **kept}, {**sender, "seq": 2, "peer": 5, **lost},
+              {**sender, "seq": 3, "peer": 7, **lost}, {**sender, "seq": 4, "peer": 7, "state": "active"},
+              {"kind": "queued", "number": 1, "destination": 5}, {"kind": "remote", "id": 5}, {"kind": "remote", "id": 7}]
+    with station(*said(status)):
+        for words, places in ((["--failed"], [0, 3, 4]), (["--remote", "7"], [0, 1, 4, 5, 8]), (["--remote", "5"], [0, 1, 2, 3, 6, 7]),
+                              (["--failed", "--remote", "7"], [0, 4])):
+            run = ctl("status", "--json", *words)
+            check(f"status {words}", run, 0)
+            want(f"status {words}, its lines", [json.loads(line) for line in run.stdout.splitlines()]
+                 == [status[place] for place in places], run.stdout)
+        run = ctl("status", "--failed")
+        want("the tables of what failed", b"Ended\n" in run.stdout and b"1.2 " in run.stdout and b"1.1 " not in run.stdout
+             and b"Users" not in run.stdout, run.stdout)
+
+
+def an_urgent_file(sender, log):
+    """All links are held and opened for a while, and of two files that waited meanwhile the urgent one goes first."""
+    def told(words, status, text):
+        run = sender.ctl(PROGRAM, *words)
+        want(" ".join(words), (run.returncode, run.stdout) == (status, text), run)
+
+    told(("hold", "all"), 0, "ok\n")
+    told(("send", "--to", "2", FILE), 0, f"queued 3: {FILE}\n")
+    told(("send", "--to", "2", "--urgent", LOST), 0, f"queued 4: {LOST}\n")
+    for words in (("rate", "2", "1000000"), ("rate", "off"), ("release", "2", "600"), ("reopen",)):
+        told(words, 0, "ok\n")
+    told(("rate", "3", "1"), 3, "refused UnknownRemote\n")
+
+    def puts():
+        with open(log, encoding="utf-8") as lines:
+            return [event["queued"] for event in map(json.loads, lines) if event["kind"] == "put"]
+
+    wait_for("the files that waited", lambda: sorted(puts()) == [1, 2, 3, 4])
+    want("the order of an urgent file", puts()[2:] == [4, 3], puts())
+    wait_for("their ends", lambda: all(json.loads(line)["state"] == "ended" for line in sender.ctl(
+        PROGRAM, "status", "--json").stdout.splitlines() if '"transaction"' in line))
+
+
+def with_servers(server):
+    """Two servers and their logs: what was sent is what their histories tell."""
+    ports = [free_port(), free_port()]
+    before = os.getcwd()
+    os.chdir(FOLDER)
+    both = []
+    try:
+        logs = [os.path.join(FOLDER, f"log{number}") for number in (1, 2)]
+        both += [Station(server, 1, ports[0], 2, ports[1], ("--log", logs[0]), users=("alice",)),
+                 Station(server, 2, ports[1], 1, ports[0], ("--log", logs[1]), users=("alice",))]
+        for one in both:
+            one.client().close()
+        sender = both[0]
+        run = sender.ctl(PROGRAM, "send", "--to", "2", "--wait", FILE, LOST)
+        want("files between servers", (run.returncode, run.stderr) == (0, ""), run)
+        an_urgent_file(sender, logs[0])
+        run = sender.ctl(PROGRAM, "send", "--to", "3", FILE)
+        want("an entity that a server doesn't have", run.returncode == 2 and "its entities are: 2\n" in run.stderr, run)
+        run = sender.ctl(PROGRAM, "send", "--to", "2", "--user", "bob", FILE)
+        want("a user that a server doesn't have", run.returncode == 2 and "its users are: alice\n" in run.stderr, run)
+        both[1].close()
+        run = sender.ctl(PROGRAM, "send", "--to", "2", FILE)
+        want("a file for nobody", run.returncode == 0, run)
+        def under_way():
+            lines = map(json.loads, sender.ctl(PROGRAM, "status", "--json", "--remote", "2").stdout.splitlines())
+            return [one for one in lines if one["kind"] == "transaction" and one["state"] != "ended"]
+
+        wait_for("a transaction that goes on", under_way)
+        going = under_way()
+        want("a transaction that goes on", len(going) == 1, going)
+        name = f"{going[0]['source']}.{going[0]['seq']}"
+        for verb in ("suspend", "resume"):
+            run = sender.ctl(PROGRAM, verb, name)
+            want(f"{verb} of a server", (run.returncode, run.stdout) == (0, f"{verb} {name}: ok\n"), run)
+        run = sender.ctl(PROGRAM, "abandon", "--remote", "2", "--yes")
+        want("abandon of a server", (run.returncode, run.stdout) == (0, f"abandon {name}: ok\n"), run)
+        wait_for("the end in the log", lambda: not under_way() and "Abandoned" in open(logs[0], encoding="utf-8").read())
+        run = sender.ctl(PROGRAM, "history", "--log", *logs, "--json")
+        ended = [json.loads(line) for line in run.stdout.splitlines()]
+        seen = sorted((one["way"], one["peer"], os.path.basename(one["file"]), one["size"], one["end"]) for one in ended[:-1])
+        wanted = sorted([("sent", 2, "a.bin", 5000, "failed"), *2 * [
+            (way, peer, name, 5000, "kept") for way, peer in (("sent", 2), ("received", 1)) for name in ("a.bin", "lost.bin")]])
+        want("the history of two servers", seen == wanted, run.stdout)
+        want("the sums of two servers", [ended[-1][key] for key in ("sent", "received", "open", "skipped")] == [
+            {"ended": 5, "failed": 1, "octets": 20_000}, {"ended": 4, "failed": 0, "octets": 20_000}, 0, 0], ended[-1])
+        # the receiver learns no folder of the sender's
+        names = {one["file"] for one in ended[:-1] if one["way"] == "received"}
+        want("the names that a receiver learns", names == {"a.bin", "lost.bin"}, names)
+    finally:
+        for one in both:
+            one.close()
+        os.chdir(before)
+
+
+def hot_folder_of_servers(server):
+    """A hundred files over a lossy link, while who watches and the sending server restart: each is once in `sent`, and arrives."""
+    ports, relay = [free_port(), free_port()], Relay(0.05)
+    relay.join(*ports)
+    before = os.getcwd()
+    os.chdir(FOLDER)
+    names = {f"{number:03}.bin": 100 + 37 * number for number in range(100)}
+    folder = hot_folder("hot", names)
+    started = []
+    try:
+        def start(number):
+            peer = 3 - number
+            words = (server, number, ports[number - 1], peer, relay.ports[number - 1], ("--numbers", f"numbers{number}"))
+            # a file may wait until the receiver gives up those of a sender that was killed, whose lanes they are in
+            one = Station(*words, users=("alice",), limit=60)
+            one.client().close()
+            started.append(one)
+            return one
+        receiver, sender = start(2), start(1)
+        line = [PROGRAM, "--control", sender.path, "watch", folder, "--to", "2"]
+        for seconds in (3, 3):
+            run = subprocess.Popen(line, stdout=subprocess.DEVNULL, stderr=subprocess.DEVNULL, env=PLAIN)
+            time.sleep(seconds)
+            sender.close()
+            time.sleep(0.5)
+            sender = start(1)
+            time.sleep(1)
+            run.kill()
+            run.wait()
+        run = subprocess.run([*line, "--once"], capture_output=True, timeout=110, env=PLAIN)
+        want("a hot folder of servers", (run.returncode, left_in(folder)) == (0, ([], sorted(names), [])), (run, left_in(folder)))
+        arrived = {path.name: path.stat().st_size for path in receiver.received().iterdir() if path.name in names}
+        want("a hot folder of servers, at the receiver", arrived == names, arrived)
+    finally:
+        for one in started:
+            one.close()
+        relay.close()
+        os.chdir(before)
+
+
+def completions():
+    """The words that bash offers."""
+    script = os.path.join(os.path.dirname(os.path.abspath(__file__)), "..", "docs", "completion", "cfdp_ctl")
+    for line, offered in (
+            ([""], {"--colour", "--control", "abandon", "cancel", "drop", "follow", "history", "hold", "journal", "outbox", "rate",
+                    "release", "reopen", "resume", "send", "status", "suspend", "watch", "--help", "--version", "--wait-for-server", "--width"}),
+            (["--c"], {"--colour", "--control"}), (["re"], {"release", "reopen", "resume"}), (["--control", "x", "sta"], {"status"}),
+            (["status", "--"], {"--json", "--watch", "--failed", "--remote"}), (["outbox", "-"], {"--json"}),
+            (["watch", "--"], {"--to", "--user", "--class", "--into", "--once"}), (["follow", "--l"], {"--last", "--level"}),
+            (["abandon", "--y"], {"--yes"}), (["send", "--to", "5", "--c"], {"--class", "--closure"}), (["send", "a"], set()),
+            (["history", "--l"], {"--log"}), (["hold", "--"], set()), (["any"], set())):
+        words = [PROGRAM, *line]
+        run = subprocess.run(["bash", "-c", 'source "$1"; shift; COMP_WORDS=("$@"); COMP_CWORD=$(($# - 1)); _cfdp_ctl; '
+                              'printf "%s\\n" "${COMPREPLY[@]}"', "bash", script, *words], capture_output=True, timeout=PATIENCE)
+        want(f"what is offered for {line}", (set(run.stdout.decode().split()), run.stderr) == (offered, b""), run)
+
+
+def sent_of(status):
+    """The files that a station has been given, by what its status says."""
+    objects = [json.loads(line) for line in status.splitlines()]
+    return sorted((os.path.basename(one["file"]), one["size"]) for one in objects
+                  if one["kind"] == "transaction" and one["role"] == "sender")
+
+
+def hot_folder(name, files):
+    """A folder with files, and with what is left alone."""
+    folder = os.path.join(FOLDER, name)
+    shutil.rmtree(folder, ignore_errors=True)
+    os.makedirs(os.path.join(folder, "below"))
+    os.symlink(FILE, os.path.join(folder, "a link"))
+    for one, size in {**files, ".hidden": 3}.items():
+        with open(os.path.join(folder, one), "wb") as file:
+            file.write(b"x" * size)
+    return folder
+
+
+def left_in(folder):
+    """What is in a hot folder, but for what is left alone, and in its folders for files that ended."""
+    inside = {path: sorted(os.listdir(os.path.join(folder, path))) if os.path.isdir(os.path.join(folder, path)) else []
+              for path in ("", "sent", "failed")}
+    want(f"{folder}, what is left alone", {".hidden", "a link", "below"} <= set(inside[""]), inside)
+    return sorted(set(inside[""]) - {".hidden", "a link", "below", "sent", "failed"}), inside["sent"], inside["failed"]
+
+
+def hot_folders():
+    """Files that come into a folder: each is sent once and moved, whoever restarts meanwhile."""
+    check("no folder", ctl("watch", "missing", "--to", "5"), 3, b"", b"cfdp_ctl: missing: no such file\n")
+    check("a file as a folder", ctl("watch", FILE, "--to", "5"), 3, b"", b"it is no folder\n")
+    if os.getuid() != 0:
+        with station("--transactions", "0"):
+            folder = hot_folder("hot", {"a": 1})
+            os.chmod(folder, 0o500)
+            check("a folder that can't be written", ctl("watch", folder, "--to", "5"), 3, b"", f"cfdp_ctl: {folder}: permission denied\n".encode())
+            os.chmod(folder, 0o700)
+    with station("--users", "ops,sim", "--transactions", "0"):
+        folder = hot_folder("hot", {"a": 1})
+        check("a watch for an entity that isn't there", ctl("watch", folder, "--to", "6", "--user", "ops"), 2, b"", b"--to 6: the server has no")
+        check("a watch for two users", ctl("watch", folder, "--to", "5"), 2, b"", b"--user is missing")
+        want("a watch of nobody sends nothing", left_in(folder) == (["a"], [], []), left_in(folder))
+    with station("--lose", "c.bin", "--unreadable", "b 1.bin", "--transactions", "0"):
+        folder = hot_folder("hot", {"c.bin": 30, "a.bin": 10, "b 1.bin": 20, "d.bin": 40})
+        run = ctl("watch", "hot", "--to", "5", "--into", "in", "--once")
+        check("a folder of four files", run, 4, b"queued 1: a.bin\nqueued 2: b 1.bin\nqueued 3: c.bin\nqueued 4: d.bin\n")
+        want("a folder of four files, where they are", left_in(folder) ==
+             ([], ["a.bin", "d.bin"], ["b 1.bin", "b 1.bin.why", "c.bin", "c.bin.why"]), left_in(folder))
+        with open(os.path.join(folder, "failed", "c.bin.why")) as file:
+            why = file.read()
+        want("why a file failed", why.endswith("Z ops 1.102 finished: inactivity detected, incomplete, discarded\n"), why)
+        want("a folder of four files, their names at the receiver", sorted(
+            json.loads(line)["to"] for line in ctl("status", "--json").stdout.splitlines() if b'"sender"' in line)
+            == ["in/a.bin", "in/c.bin", "in/d.bin"], ctl("status", "--json").stdout)
+        kept = os.path.join(folder, "sent", "a.bin")
+        shutil.copy2(kept, folder)
+        run = ctl("watch", folder, "--to", "5", "--once")
+        check("a file that is in sent", run, 0, b"", b"cfdp_ctl: a.bin: it is in sent already, and isn't sent again\n")
+        want("a file that is in sent stays", left_in(folder)[:2] == (["a.bin"], ["a.bin", "d.bin"]), left_in(folder))
+        for _ in range(2):
+            with open(os.path.join(folder, "a.bin"), "wb") as file:
+                file.write(b"another")
+            check("another file with the name of one in sent", ctl("watch", folder, "--to", "5", "--once"), 0, b"a.bin: finished: complete")
+        want("files with one name", left_in(folder)[:2] == ([], ["a.bin", "a.bin.2", "a.bin.3", "d.bin"]), left_in(folder))
+        check("an empty folder", ctl("watch", folder, "--to", "5", "--once"), 0, b"")
+    with station("--transactions", "0"):
+        folder = hot_folder("hot", {"a.bin": 10})
+        run = ctl("watch", folder, "--to", "5", "--class", "1", "--once")
+        check("a folder in class 1", run, 0)
+        want("a folder in class 1, where its file is", left_in(folder) == ([], ["a.bin"], []), left_in(folder))
+    with station("--refuse", "--transactions", "0"):
+        folder = hot_folder("hot", {"a.bin": 10})
+        run = subprocess.Popen([PROGRAM, "--control", SOCKET, "watch", folder, "--to", "5"], stdout=subprocess.PIPE, env=PLAIN)
+        time.sleep(3.5)
+        want("a full outbox is tried again", run.poll() is None and left_in(folder) == (["a.bin"], [], []), left_in(folder))
+        run.kill()
+        run.communicate()
+    hot_folders_change()
+    hot_folders_restart()
+
+
+def hot_folders_change():
+    """Files that are written while the folder is watched: none is sent before it has been the same for two seconds."""
+    with station("--transactions", "0", "--step", "1"):
+        folder = hot_folder("hot", {})
+        path, size = os.path.join(folder, "growing"), 0
+        run = subprocess.Popen([PROGRAM, "--control", SOCKET, "watch", folder, "--to", "5"], stdout=subprocess.PIPE, env=PLAIN)
+        for _ in range(8):
+            with open(path, "ab") as file:
+                size += file.write(b"x" * 100)
+            time.sleep(0.5)
+        want("a file that grows", sent_of(ctl("status", "--json").stdout) == [], ctl("status", "--json").stdout)
+        end = time.monotonic() + PATIENCE
+        while left_in(folder) != ([], ["growing"], []) and time.monotonic() < end:
+            time.sleep(0.1)
+        want("a file that has grown", sent_of(ctl("status", "--json").stdout) == [("growing", size)], ctl("status", "--json").stdout)
+        with open(path, "wb") as file:
+            file.write(b"first")
+        while len(sent_of(ctl("status", "--json").stdout)) < 2 and time.monotonic() < end:
+            time.sleep(0.1)
+        with open(path, "wb") as file:
+            file.write(b"another one")
+        while left_in(folder) != ([], ["growing", "growing.2"], []) and time.monotonic() < end:
+            time.sleep(0.1)
+        want("a file that changes while it is sent", sent_of(ctl("status", "--json").stdout) ==
+             [("growing", 5), ("growing", 11), ("growing", size)], ctl("status", "--json").stdout)
+        run.kill()
+        run.communicate()
+
+
+def hot_folders_restart():
+    """Who watches, and the server, end amid the files and begin again."""
+    names = {f"{number:02}.bin": number for number in range(20)}
+    folder = hot_folder("hot", names)
+    line = [PROGRAM, "--control", SOCKET, "watch", folder, "--to", "5"]
+    with station("--transactions", "0", "--step", "2", "--lanes", "3"):
+        for wait in (3, 1.5, 1.5, 0):
+            run = subprocess.Popen([*line, *(["--once"] if wait == 0 else [])], stdout=subprocess.DEVNULL, stderr=subprocess.DEVNULL, env=PLAIN)
+            if wait:
+                time.sleep(wait)
+                run.kill()
+            run.wait(PATIENCE)
+        want("a watch that restarts", (run.returncode, left_in(folder)) == (0, ([], sorted(names), [])), (run.returncode, left_in(folder)))
+        seen = sent_of(ctl("status", "--json").stdout)
+        # what ended while nobody watched is sent again
+        want("a watch that restarts sends what waits or goes only once", set(seen) == set(names.items()) and len(seen) <= len(names) + 9, seen)
+    folder = hot_folder("hot", names)
+    run = None
+    for seconds in (3, 2, None):
+        with station("--transactions", "0", "--step", "3"):
+            if run is None:
+                run = subprocess.Popen([*line, "--once"], stdout=subprocess.PIPE, stderr=subprocess.PIPE, env=PLAIN)
+            if seconds:
+                time.sleep(seconds)
+            else:
+                _, errors = run.communicate(timeout=PATIENCE)
+    want("a server that restarts", (run.returncode, left_in(folder)) == (0, ([], sorted(names), [])), (run.returncode, errors, left_in(folder)))
+    want("a server that restarts is waited for", errors.count(b"; waiting for it\n") == 2, errors)
 
 
 def progress():
@@ -427,7 +917,8 @@ def progress():
         os.close(person)
         want("progress, its status", run.returncode == 0, (run.returncode, out))
         want("progress, its lines", b"%" in held and b" of 4.8 KiB  n\\x0al.bin\r\n" in held and b"\x1b[1A\x1b[2K" in held, held)
-        want("progress, its end", held.endswith(b"\x1b[1A\x1b[2K"), held)
+        # on a slow machine no line may be left to show before the last one is printed
+        want("progress, its end", held.replace(b"\x1b[?7l\x1b[?7h", b"").endswith(b"\x1b[1A\x1b[2K"), held)
         want("progress, the output", b"\x1b" not in out and out.count(b"\n") == 6, out)
 
 
@@ -438,8 +929,8 @@ def pipes():
             run.stdout.close()
             run.wait(PATIENCE)
         begun = time.monotonic()
-        check("two thousand transactions", ctl("status"), 0)
-        want("two thousand transactions, how long it took", time.monotonic() - begun < 10, time.monotonic() - begun)
+        check("two thousand transactions", ctl("--wait-for-server", "40", "status"), 0)
+        want("two thousand transactions, how long it took", time.monotonic() - begun < 40, time.monotonic() - begun)
 
 
 for name in (FILE, LOST):
@@ -453,10 +944,19 @@ layout()
 words_of_events()
 at_a_terminal()
 events()
+last_events()
+next_servers()
 sends()
 bad_ends()
 outbox()
+histories()
+acts()
+choices()
+hot_folders()
+completions()
 progress()
 pipes()
-shutil.rmtree(FOLDER, ignore_errors=True)
-print("cfdp_ctl: words, answers, tables, events, files, and stations that go away")
+if len(sys.argv) > 2:
+    with_servers(os.path.abspath(sys.argv[2]))
+    hot_folder_of_servers(os.path.abspath(sys.argv[2]))
+print("cfdp_ctl: words, answers, tables, events, files, histories, hot folders, and stations that go away")

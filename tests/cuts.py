@@ -4,8 +4,7 @@ may leave is made of that. In each of them every file that anybody was told of a
 
 usage: tests/cuts.py SERVER
 
-A check of this kind must fail where a flush is left out: the script leaves out each one that was recorded, and wants that. With
-`--tree` the server flushes each folder on a file's way, also one that was flushed before; there it isn't wanted.
+A check of this kind must fail where a flush is left out: the script leaves out each one that was recorded, and wants that.
 """
 import itertools
 import json
@@ -219,14 +218,13 @@ def has_heard(peer, count):
     return len(heard) >= count
 
 
-def stores(options, names, places, needs_all=True):
-    """Checks a kind of store, which keeps files of these names at these places, and whether each of its flushes is needed."""
+def stores(options, names, places):
+    """Checks a kind of store, which keeps files of these names at these places."""
     files = {seq: (name, bytes([seq]) * 40) for seq, name in enumerate(names, 1)}
     calls, log, folder = receive(options, files)
     kept = {seq: (place, files[seq][1]) for seq, place in enumerate(places, 1)}
     want(check_stores(calls, log, kept, folder), len(set(places)))
-    if needs_all:
-        want_all_needed(lambda some: check_stores(some, log, kept, folder), calls, folder)
+    want_all_needed(lambda some: check_stores(some, log, kept, folder), calls, folder)
 
 
 CASES = []
@@ -249,7 +247,7 @@ def files_that_are_tried_first():
 
 @case
 def files_in_folders():
-    stores(("--tree",), (b"p/q/a", b"p/q/b", b"p/q/a", b"c"), ("p/q/a", "p/q/b", "p/q/a", "c"), needs_all=False)
+    stores(("--tree",), (b"p/q/a", b"p/q/b", b"p/q/a", b"c"), ("p/q/a", "p/q/b", "p/q/a", "c"))
 
 
 @case
@@ -259,7 +257,7 @@ def files_beside_others():
 
 @case
 def files_beside_others_in_folders():
-    stores(("--tree", "--keep"), (b"d/a", b"d/a", b"e/f/a"), ("d/a", "d/a.1", "e/f/a"), needs_all=False)
+    stores(("--tree", "--keep"), (b"d/a", b"d/a", b"e/f/a"), ("d/a", "d/a.1", "e/f/a"))
 
 
 def check_numbers(calls, path):

@@ -5,13 +5,16 @@
  *
  * FAIL_AT is the number of the allocation that is refused, counted from 1 in the order in which all threads make them;
  * without it none is. A block that grows counts as an allocation. FAIL_REPORT names a file into which the program's end
- * writes how many there were.
+ * writes how many there were. FAIL_SWITCH names a file of at least one octet: while that octet isn't 0, each allocation is
+ * refused.
  */
 #define _GNU_SOURCE
 #include <dlfcn.h>
 #include <errno.h>
+#include <fcntl.h>
 #include <stdio.h>
 #include <stdlib.h>
+#include <sys/mman.h>
 #include <sys/syscall.h>
 #include <unistd.h>
 
@@ -22,6 +25,7 @@ static int (*next_posix_memalign)(void **, size_t, size_t);
 
 static long count;
 static long refused;
+static const volatile char *all_refused;
 
 /* What the C library has under a name. */
 static void *next(const char *name)
@@ -34,6 +38,19 @@ static void *next(const char *name)
     return found;
 }
 
+/* Looks at the octet of the file that FAIL_SWITCH names from now on. */
+static void map_switch(void)
+{
+    const char *path = getenv("FAIL_SWITCH");
+    int file = path != NULL ? open(path, O_RDONLY) : -1;
+    if (file < 0)
+        return;
+    void *page = mmap(NULL, 1, PROT_READ, MAP_SHARED, file, 0);
+    close(file);
+    if (page != MAP_FAILED)
+        all_refused = page;
+}
+
 __attribute__((constructor)) static void begin(void)
 {
     const char *number = getenv("FAIL_AT");
@@ -43,6 +60,7 @@ __attribute__((constructor)) static void begin(void)
     next_posix_memalign = next("posix_memalign");
     __atomic_store_n(&count, 0, __ATOMIC_SEQ_CST);
     refused = number != NULL ? atol(number) : 0;
+    map_switch();
 }
 
 /* Writes how many allocations there were. */
@@ -73,6 +91,8 @@ void _exit(int status)
 /* Whether the allocation that comes now is the one that is refused. */
 static int is_refused(void)
 {
+    if (all_refused != NULL && *all_refused != 0)
+        return 1;
     return __atomic_add_fetch(&count, 1, __ATOMIC_SEQ_CST) == refused;
 }
 

@@ -5,7 +5,9 @@ usage: tests/fake_station.py SOCKET [OPTION..]
 
   --transactions N   transactions that are under way (3)
   --users A,B        users (ops)
+  --pace OCTETS      how many octets a second such a transaction receives (20000)
   --step SECONDS     how long a file takes from its start to its end (0.3)
+  --lanes N          how many files of the outbox are under way at once (any number)
   --odd              names with quotes, control characters and octets that are no text
   --vanish SECONDS   ends without a word, this long after the first send
   --half             answers a status with the beginning of a line only
@@ -16,6 +18,8 @@ usage: tests/fake_station.py SOCKET [OPTION..]
   --unreadable NAME  the file that can't be read when its turn comes
   --ended-reads N    workers that stopped reading (0)
   --reading A,B      files that are being read for Puts (none)
+  --storing N        received files that are being stored, of which all but the first couldn't be stored so far (none)
+  --recorded A,B,C   how many recordings were written, of how many transactions the journal was gone, and how many failed
   --parked N         lanes for which datagrams wait; one more has dropped some (0)
   --note             notes on the lanes of two remote entities
   --stop SECONDS     stops answering this long after the first send, and stays connected
@@ -71,6 +75,17 @@ def named(member, octets):
         return {member + "_hex": octets.hex()}
 
 
+LEVELS = ["detail", "info", "warning"]
+
+
+def level_of(event):
+    """The level of an event, of those that this station tells."""
+    if event.get("name") == "File-Segment-Recv":
+        return "detail"
+    is_bad = event["kind"] == "unsent" or event.get("name") in ("Fault", "Abandoned") or event.get("condition")
+    return "warning" if is_bad else "info"
+
+
 class Station:
     def __init__(self, options):
         self.options = options
@@ -81,7 +96,9 @@ class Station:
         self.clients = set()
         self.followers = set()
         self.sent = []
+        self.asked = []
         self.held = {}
+        self.open_until = {}
 
     def tell(self, **members):
         with self.lock:
@@ -89,7 +106,7 @@ class Station:
             event = {"at": moment(), "number": self.number, **members}
             self.kept = (self.kept + [event])[-1024:]
             for client in list(self.followers):
-                client.send("event " + json.dumps(event, ensure_ascii=False) + "\n")
+                client.tell(event)
 
     def indicate(self, sent, name, **members):
         self.tell(kind="indication", user=sent["user"], source=1, seq=sent["seq"], name=name, **members)
@@ -101,11 +118,15 @@ class Station:
             sent["state"] = "gone"
             self.unsend(sent, "read fault")
             return
-        while sent["peer"] in self.held and sent["state"] == "queued":
+        while (sent["peer"] in self.held or self.is_full()) and sent["state"] == "queued":
             time.sleep(0.02)
         if sent["state"] == "queued":
             sent["state"] = "active"
             self.run_file(sent, queued=sent["queued"])
+
+    def is_full(self):
+        """Whether no lane is idle."""
+        return self.options.lanes is not None and sum(one["state"] == "active" for one in self.sent) >= self.options.lanes
 
     def unsend(self, sent, why):
         sent["state"] = "gone"
@@ -151,13 +172,17 @@ class Station:
 
     def send_file(self, words):
         """The answer to `send`."""
-        if len(words) not in (6, 7) or not all(word.isdigit() for word in words[2:4]):
+        words, alias = (words[:-2], words[-1]) if words[-2] == b"as" else (words, None)
+        is_urgent = words[-1] == b"urgent"
+        words = words[: len(words) - is_urgent]
+        if len(words) not in (6, 7) or words[6:] not in ([], [b"closure"]) or not all(word.isdigit() for word in words[2:4]):
             return "bad command\n"
         if self.options.refuse:
             return "refused OutboxFull\n"
         if not os.path.isfile(words[4]):
             return "read fault\n"
         sent = self.add(*words[1:6], "queued", unreported=words[2] == b"1" and len(words) == 6)
+        self.asked.append((is_urgent, alias))
         if sent["queued"] == 1 and self.options.vanish is not None:
             threading.Timer(self.options.vanish, os._exit, [0]).start()
         if sent["queued"] == 1 and self.options.stop is not None:
@@ -169,7 +194,7 @@ class Station:
         age = time.time() - self.begun
         for n in range(self.options.transactions):
             size = 100_000 * (n + 1)
-            octets = min(size, int(age * 20_000))
+            octets = min(size, int(age * self.options.pace))
             name = b'a "b"\x1b[31m\n\xff' if self.options.odd and n % 2 == 0 else \
                 b"<img src=x onerror=alert(1)></script>" if self.options.odd else b"file %d.bin" % n
             end = {"condition": 0, "delivery": "complete", "status": "retained"} if octets == size else {}
@@ -183,6 +208,10 @@ class Station:
                        "lane": 100 + sent["queued"], "role": "sender", "peer": sent["peer"], "class": sent["class"],
                        "state": sent["state"], **named("file", sent["file"]), **named("to", sent["to"]),
                        "size": sent["size"], "octets": sent["octets"], "events": 3, "last": moment(), **sent.get("end", {})}
+
+    def is_going(self, words):
+        return any([word.decode("latin-1") for word in words] == [one["user"], str(one["source"]), str(one["seq"])]
+                   for one in self.transactions() if one["state"] != "ended")
 
     def queued(self):
         for sent in list(self.sent):
@@ -207,17 +236,23 @@ class Station:
         for name in self.options.reading:
             yield {"kind": "reading", "file": name, "since": moment(self.begun)}
         yield from self.queued()
+        for number in range(self.options.storing):
+            yield {"kind": "storing", "source": 9, "seq": 41 + number, "since": moment(self.begun),
+                   **({"why": "no space is left"} if number else {})}
         yield from self.parked()
         for number in (5, 7):
             held = self.held.get(number)
             yield {"kind": "remote", "id": number, "address": f"192.0.2.{number}:4556", "held": held is not None,
-                   **({"held_since": held} if held else {}), "datagrams_in": 1, "octets_in": 9, "datagrams_out": 1,
+                   **({"held_since": held} if held else {}),
+                   **({"open_until": self.open_until[number]} if number in self.open_until else {}), "datagrams_in": 1, "octets_in": 9, "datagrams_out": 1,
                    "octets_out": 9, "failed_sends": 0}
         yield {"kind": "refusal", "number": 20, "name": "DecodeFault", "fault": 3, "count": 3, "last": moment(),
                "from": "192.0.2.1:4556", "octets": "24000a"}
         if self.options.note:
             yield {"kind": "note", "remote": 7, "sending_lanes": 6, "receiving_lanes": 8, "better": [1, 2, 4, 8]}
             yield {"kind": "note", "remote": 5, "sending_lanes": 6, "receiving_lanes": 16, "better": [1, 2, 4, 8, 16]}
+        if self.options.recorded:
+            yield {"kind": "recorder", **dict(zip(("kept", "missed", "failed"), self.options.recorded))}
 
     def parked(self):
         for lane in range(self.options.parked):
@@ -240,8 +275,9 @@ class Station:
             return "bad command\n"
         if name == "status" and len(words) == 1:
             return self.lines(self.status())
-        if name == "follow" and len(words) <= 2:
+        if name == "follow" and len(words) <= 3:
             with self.lock:
+                client.level = words.pop().decode() if words[-1].decode("latin-1") in LEVELS else None
                 count = int(words[1]) if len(words) == 2 else 0
                 client.first = self.kept[len(self.kept) - count:] if count else []
                 if self.options.say:
@@ -251,25 +287,33 @@ class Station:
             return self.send_file(words)
         if name == "outbox":
             return self.lines(self.queued())
-        if name in ("hold", "release") and len(words) == 2:
-            if words[1] not in (b"5", b"7"):
+        if name in ("hold", "release") and len(words) == 2 or name == "release" and len(words) == 3:
+            if words[1] not in (b"5", b"7", b"all"):
                 return "refused UnknownRemote\n"
-            if name == "hold":
-                self.held.setdefault(int(words[1]), moment())
-            else:
-                self.held.pop(int(words[1]), None)
-            self.tell(kind=name, id=int(words[1]))
+            for remote in (5, 7) if words[1] == b"all" else (int(words[1]),):
+                self.held.pop(remote, None)
+                self.open_until.pop(remote, None)
+                if name == "hold":
+                    self.held[remote] = moment()
+                elif len(words) == 3:
+                    self.open_until[remote] = moment(time.time() + int(words[2]))
+                self.tell(kind=name, id=remote)
             return "ok\n"
+        if name == "rate" and len(words) in (2, 3):
+            return "ok\n" if len(words) == 2 or words[1] in (b"5", b"7") else "refused UnknownRemote\n"
         if name == "drop" and len(words) == 2 and words[1].isdigit():
             for sent in self.sent:
                 if sent["state"] == "queued" and sent["queued"] == int(words[1]):
                     self.unsend(sent, "dropped")
                     return "ok\n"
             return "refused NotQueued\n"
+        if name == "journal" and len(words) == 3:
+            known = any(words[1:] == [str(one["source"]).encode(), str(one["seq"]).encode()] for one in self.transactions())
+            return "# a recording\ntake ops\n" if known or words[1:] == [b"2", b"41"] else "refused 1 NoTransaction\n"
         if name == "take":
             return "refused TakenByEvents\n"
-        if name == "cancel":
-            return "refused 1 NoTransaction\n"
+        if name in ("cancel", "resume", "abandon"):
+            return "ok\n" if self.is_going(words[1:]) else "refused 1 NoTransaction\n"
         if name == "put":
             return self.put_file(words)
         if name in ("suspend", "quit"):
@@ -282,12 +326,21 @@ class Client:
         self.station = station
         self.stream = stream
         self.first = None
+        self.level = None
 
     def send(self, text):
         try:
             self.stream.sendall(text.encode())
         except OSError:
             self.station.followers.discard(self)
+
+    def tell(self, event):
+        """Sends an event; of a client's level or above, with its level, if the client follows a level."""
+        if self.level is not None:
+            event = {**event, "level": level_of(event)}
+            if LEVELS.index(event["level"]) < LEVELS.index(self.level):
+                return
+        self.send("event " + json.dumps(event, ensure_ascii=False) + "\n")
 
     def serve(self):
         if self.station.options.busy:
@@ -313,7 +366,7 @@ class Client:
             self.send(answer + ".\n")
             if self.first is not None:
                 for event in self.first:
-                    self.send("event " + json.dumps(event, ensure_ascii=False) + "\n")
+                    self.tell(event)
                 self.station.followers.add(self)
                 self.first = None
         if line == b"quit":
@@ -326,6 +379,7 @@ def main():
     parser.add_argument("--transactions", type=int, default=3)
     parser.add_argument("--users", type=lambda text: text.split(","), default=["ops"])
     parser.add_argument("--step", type=float, default=0.3)
+    parser.add_argument("--lanes", type=int)
     parser.add_argument("--odd", action="store_true")
     parser.add_argument("--vanish", type=float)
     parser.add_argument("--half", action="store_true")
@@ -336,6 +390,9 @@ def main():
     parser.add_argument("--unreadable")
     parser.add_argument("--ended-reads", type=int, default=0)
     parser.add_argument("--reading", type=lambda text: text.split(","), default=[])
+    parser.add_argument("--pace", type=int, default=20_000)
+    parser.add_argument("--storing", type=int, default=0)
+    parser.add_argument("--recorded", type=lambda text: [int(word) for word in text.split(",")])
     parser.add_argument("--parked", type=int, default=0)
     parser.add_argument("--note", action="store_true")
     parser.add_argument("--stop", type=float)
@@ -344,9 +401,11 @@ def main():
     if os.path.exists(options.socket):
         os.unlink(options.socket)
     listener = socket.socket(socket.AF_UNIX)
-    listener.bind(options.socket)
-    os.chmod(options.socket, 0o600)
+    listener.bind(options.socket + ".new")
+    os.chmod(options.socket + ".new", 0o600)
     listener.listen(16)
+    # who sees the path may connect
+    os.rename(options.socket + ".new", options.socket)
     station = Station(options)
     station.tell(kind="start", id=1, version="0.1")
     while True:

@@ -4,20 +4,19 @@ leaves twice over a link that loses nothing.
 
 usage: tests/many.py SERVER CTL
 
-Each case has its own servers on loopback, in its own folder, and ends within a minute.
+Each case has its own servers on loopback, in its own folder, and ends within three minutes.
 """
-import contextlib
 import os
 import pathlib
 import random
-import subprocess
+import re
 import sys
 
-from support import Relay, Station, end_of_file, file_data, free_port, metadata, run_cases, station, until, want
+from support import Relay, Station, end_of_file, file_data, linked, metadata, run_cases, station, until, want
 
 SERVER, CTL = (os.path.abspath(path) for path in sys.argv[1:3])
 EXAMPLES = pathlib.Path(__file__).resolve().parent.parent / "examples"
-SECONDS = 40
+SECONDS = 120
 # Octets a second: slower than the relay between the stations, so that it loses nothing.
 RATE = ("--rate", "3000000")
 
@@ -28,8 +27,9 @@ def named(count):
 
 
 def example(name):
-    """The text of an example's configuration for a station, its peer and the peer's port. The example is of entity 2."""
-    text = (EXAMPLES / name).read_text()
+    """The text of an example's configuration for a station, its peer and the peer's port. The example is of entity 2. Its timers are as
+    long as a busy machine may need."""
+    text = re.sub(r"^(ack|nak|check|inactivity)_ms = \d+$", r"\1_ms = 30000", (EXAMPLES / name).read_text(), flags=re.MULTILINE)
 
     def made(number, remote, port):
         lines = [f"id = {number if line == 'id = 2' else remote}" if line in ("id = 1", "id = 2")
@@ -39,24 +39,18 @@ def example(name):
     return made
 
 
-@contextlib.contextmanager
 def stations(first=(), second=(), text=None, peers_lanes=None, **around):
     """Two stations, 1 and 2, over a link that loses nothing. One worker takes datagrams in the order in which they come; several may
     take an EOF before the part that came before it, and ask for that again."""
-    relay = Relay()
-    ports = [free_port(), free_port()]
     around = {"workers": 1, **around}
-    own, other = around, {**around, "recv_lanes": peers_lanes} if peers_lanes else around
-    texts = [text(1, 2, relay.ports[0]), text(2, 1, relay.ports[1])] if text else [None, None]
-    both = [Station(SERVER, 1, ports[0], 2, relay.ports[0], (*RATE, *first), text=texts[0], **own),
-            Station(SERVER, 2, ports[1], 1, relay.ports[1], (*RATE, *second), text=texts[1], **other)]
-    relay.join(*ports)
-    try:
-        yield *both, relay
-    finally:
-        for one in both:
-            one.close()
-        relay.close()
+    rooms = [around, {**around, "recv_lanes": peers_lanes} if peers_lanes else around]
+
+    def start(place, port, peer):
+        own, other = place + 1, 2 - place
+        made = text(own, other, peer) if text else None
+        return Station(SERVER, own, port, other, peer, (*RATE, *(first, second)[place]), text=made, **rooms[place])
+
+    return linked(Relay(), start)
 
 
 class Sender:
@@ -108,8 +102,21 @@ def content(folder):
 
 
 def is_over(lines):
-    return all(line["state"] == "ended" for line in lines if line["kind"] == "transaction") and \
+    # how one ended is known once its last indication was taken
+    return all(line["state"] == "ended" and "condition" in line for line in lines if line["kind"] == "transaction") and \
         not any(line["kind"] in ("queued", "reading") for line in lines)
+
+
+def status_at_end(client):
+    """The status in which all transactions have ended. In the next one another may have begun, which only uses up a number."""
+    lines = []
+
+    def is_reached():
+        lines[:] = client.status()
+        return is_over(lines)
+
+    until(is_reached, "the end of all transactions", SECONDS)
+    return lines
 
 
 def is_bad(line):
@@ -125,10 +132,10 @@ def whole(receiver, *senders):
     want({name: len(octets) for name, octets in content(receiver.received()).items()}, {name: len(files[name]) for name in files})
     want([name for name, octets in content(receiver.received()).items() if files[name] != octets], [])
     for one in (client, *(sender.client for sender in senders)):
-        until(lambda: is_over(one.status()), "the end of all transactions", SECONDS)
-        want([line for line in one.status() if line["kind"] == "parked" and line["dropped"]], [])
-        want([line for line in one.status() if line.get("name") == "LaneBusy"], [])
-        want([line for line in one.status() if line["kind"] == "transaction" and is_bad(line)], [])
+        lines = status_at_end(one)
+        want([line for line in lines if line["kind"] == "parked" and line["dropped"]], [])
+        want([line for line in lines if line.get("name") == "LaneBusy"], [])
+        want([line for line in lines if line["kind"] == "transaction" and is_bad(line)], [])
     for sender in senders:
         want(sender.events("unsent"), [])
         sender.numbers_are_in_order()

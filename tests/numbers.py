@@ -16,7 +16,7 @@ import sys
 import tempfile
 import time
 
-from support import Wrong, configuration, want
+from support import Wrong, configuration, fastest, want
 
 SERVER, PUT = (os.path.abspath(path) for path in sys.argv[1:3])
 KILLS = 100
@@ -104,13 +104,17 @@ def ended(*options):
 
 def killed_servers(peer, chance):
     """A server is killed at random moments of many Puts, again and again."""
-    seen, answered = set(), set()
+    seen = set()
     for _ in range(KILLS):
         with server("--numbers", "numbers") as run:
             client = connected(run)
             puts = b"".join(b"put %s %d 1 1 file to\n" % (user, lane) for user in (b"alice", b"bob") for lane in (0, 1))
             client.sendall(puts * 50)
-            time.sleep(chance.random() * 0.05)
+            # after so many octets of answers, and a little later
+            left = chance.randrange(1_500)
+            while left > 0:
+                left -= len(client.recv(left)) or left
+            time.sleep(chance.random() * 0.005)
             run.kill()
             run.wait()
             client.close()
@@ -126,12 +130,14 @@ def killed_servers(peer, chance):
 
 
 def killed_puts(peer, chance):
-    """The put is killed at random moments of its run."""
+    """The put is killed at random moments of its run, which are drawn over what the fastest whole run takes."""
     seen = set()
+    words = ["--config", "config", "--bind", "127.0.0.1:0", "--user", "alice", "--remote", "1", "--class", "1"]
+    words = [PUT, *words, "--numbers", "put-numbers", "file", "to"]
+    whole = fastest(3, lambda: subprocess.run(words, stdout=subprocess.DEVNULL, timeout=60, check=False))
     for _ in range(KILLS):
-        words = ["--config", "config", "--bind", "127.0.0.1:0", "--user", "alice", "--remote", "1", "--class", "1"]
-        run = subprocess.Popen([PUT, *words, "--numbers", "put-numbers", "file", "to"], stdout=subprocess.DEVNULL)
-        time.sleep(chance.random() * 0.1)
+        run = subprocess.Popen(words, stdout=subprocess.DEVNULL)
+        time.sleep(chance.random() * 1.5 * whole)
         run.kill()
         run.wait()
         here = set(peer.numbers())

@@ -33,7 +33,7 @@ faults() {
     sed -n 's/^fault_number \([A-Za-z]*\) = \([0-9]*\)$/\2 \1/p' crates/pdu_reading/specs/Fault.antt | sort -u
 }
 told_faults() {
-    sed -n '1,/^Octets that are no PDU/s/^| \([0-9]\{1,2\}\) | \([A-Z][a-z]*[A-Z][A-Za-z]*\) |.*/\1 \2/p' docs/profile.md | sort -u
+    sed -n "1,/^Octets that aren't a PDU/"'s/^| \([0-9]\{1,2\}\) | \([A-Z][a-z]*[A-Z][A-Za-z]*\) |.*/\1 \2/p' docs/profile.md | sort -u
 }
 
 if [ -z "$(faults)" ] || ! diff <(faults) <(told_faults); then

@@ -4,9 +4,10 @@ with the text and the status that its manual page gives.
 
 usage: tests/server.py SERVER
 
-Each case has its own server on loopback, in its own folder, and ends within a minute.
+Each case has its own server on loopback, in its own folder, and ends within five minutes.
 """
 import contextlib
+import json
 import os
 import pathlib
 import select
@@ -16,7 +17,7 @@ import subprocess
 import sys
 import time
 
-from support import Wrong, configuration, free_port, run_cases, want
+from support import Wrong, configuration, free_port, in_own_mounts, mounted, run_cases, unmount, want
 
 SERVER = os.path.abspath(sys.argv[1])
 METADATA = bytes.fromhex("24000a0001050207000000000301610162")
@@ -48,10 +49,10 @@ class Server:
 
     def line(self):
         """The next line of the server's answers."""
-        end = time.monotonic() + 20
+        end = time.monotonic() + 60
         while b"\n" not in self.held:
             if not select.select([self.run.stdout], [], [], max(0.0, end - time.monotonic()))[0]:
-                raise Wrong("no answer came within 20 seconds")
+                raise Wrong("no answer came within 60 seconds")
             octets = os.read(self.run.stdout.fileno(), 65_536)
             if not octets:
                 raise Wrong(f"it ended: {self.ended()}")
@@ -69,12 +70,21 @@ class Server:
 
     def takes(self, beginning):
         """Takes indications until a line begins like this; gives the line."""
-        for _ in range(2_000):
+        end = time.monotonic() + 240
+        while time.monotonic() < end:
             line = self.ask("take alice")
             if line.startswith(beginning):
                 return line
             time.sleep(0.01)
         raise Wrong(f"{beginning} was never printed")
+
+    def status(self):
+        """The lines of a status."""
+        self.say(b"status\ntrace 1 9\n")
+        lines = []
+        while (line := self.line()) != "refused 1 NoTransaction":
+            lines.append(json.loads(line))
+        return lines
 
     def ended(self):
         """How the server ended: its status, and what it printed."""
@@ -161,7 +171,7 @@ def a_remote_that_nobody_answers_at():
 
 @case
 def a_remote_that_can_not_be_sent_to():
-    """Each send fails, since the socket has no permission to send there: as if nobody answered."""
+    """Each send fails, since the socket has no permission to send there: as if nobody answered. The status counts them."""
     pathlib.Path("a").write_bytes(bytes(1_000))
     with server(remote="255.255.255.255") as one:
         one.answers()
@@ -170,7 +180,10 @@ def a_remote_that_can_not_be_sent_to():
         want(one.ask("put alice 0 2 1 a b"), "ok")
         want(one.line(), "txn 2 2")
         want(one.takes("alice 2 2 Transaction-Finished "), "alice 2 2 Transaction-Finished 1 incomplete unreported")
-        one.answers()
+        lines = one.status()
+        counters, [remote] = lines[0]["counters"], [line for line in lines if line["kind"] == "remote"]
+        # at least the ACK of the EOF that came, the Metadata, the File Data in four parts and the EOF
+        want((counters["datagrams_out"], counters["failed_sends"] >= 7, remote["failed_sends"]), (0, True, counters["failed_sends"]))
         one.quits()
 
 
@@ -185,6 +198,20 @@ def a_file_at_the_limit():
         want(one.ask("put alice 0 1 1 large b"), "ok")
         want(one.line(), "txn 2 2")
         want(one.takes("alice 2 2 Transaction-Finished "), "alice 2 2 Transaction-Finished 0 incomplete unreported")
+        one.quits()
+
+
+@case
+def a_pipe_in_a_files_place():
+    """It is no file, even if somebody writes to it; the commands after it are carried out."""
+    os.mkfifo("pipe")
+    with server() as one:
+        want(one.ask("put alice 0 1 1 pipe b"), "read fault")
+        end = os.open("pipe", os.O_RDWR | os.O_NONBLOCK)
+        os.write(end, b"abc")
+        want(one.ask("put alice 0 1 1 pipe b"), "read fault")
+        os.close(end)
+        one.answers()
         one.quits()
 
 
@@ -221,11 +248,13 @@ def a_port_that_is_taken():
 
 @case
 def a_folder_that_is_read_only():
-    if os.geteuid() == 0:
-        return "a root user may write everywhere"
-    os.makedirs("received", exist_ok=True)
-    os.chmod("received", 0o500)
-    return rejects()
+    why = mounted("received", "ro")
+    if why:
+        return why
+    try:
+        return rejects()
+    finally:
+        unmount("received")
 
 
 @case
@@ -242,16 +271,15 @@ def a_folder_that_goes_away():
 
 @case
 def a_folder_that_is_full():
-    os.makedirs("received", exist_ok=True)
-    made = subprocess.run(["mount", "-t", "tmpfs", "-o", "size=8k", "tmpfs", "received"], capture_output=True)
-    if made.returncode:
-        return "nothing can be mounted here"
+    why = mounted("received", "size=8k")
+    if why:
+        return why
     try:
         with contextlib.suppress(OSError):
             pathlib.Path("received/full").write_bytes(bytes(65_536))
         return rejects()
     finally:
-        subprocess.run(["umount", "-l", "received"], check=False)
+        unmount("received")
 
 
 def rejects():
@@ -292,9 +320,7 @@ def an_output_that_is_closed():
         os.close(writing)
         os.close(reading)
         with contextlib.suppress(OSError):
-            one.say(b"take alice\n")
-            time.sleep(0.5)
-            one.say(b"take alice\n")
+            one.say(b"take alice\n" * 2)
             one.run.stdin.close()
         want(one.ended(), (1, "cfdp_server: write fault\n"))
 
@@ -310,4 +336,5 @@ def many_bad_commands():
         one.quits()
 
 
+in_own_mounts()
 run_cases("a running server", CASES)

@@ -3,17 +3,17 @@
 
 usage: tests/stores.py SERVER
 
-Each case has its own server on loopback, in its own folder, and ends within a minute.
+Each case has its own server on loopback, in its own folder, and ends within three minutes.
 """
+import json
 import os
 import pathlib
 import resource
-import subprocess
 import sys
 import time
 from unittest import mock
 
-from support import Wrong, end_of_file, file_data, metadata, run_cases, station, until, want
+from support import end_of_file, file_data, in_own_mounts, library, metadata, mounted, run_cases, station, unmount, until, want
 
 SERVER = os.path.abspath(sys.argv[1])
 BAD = [b"..", b".", b"../x", b"a/../x", b"a/..", b"./a", b"a/.", b"a/./b", b"a//b", b"a/", b"/", b"//", b"a\0b", b"a/\0", b"\xff",
@@ -103,32 +103,26 @@ def names_that_are_there():
             want((one.received() / place).read_bytes(), octets)
 
 
-def mounted(folder, size):
-    """A small file system mounted at a folder, or why that isn't possible."""
-    done = subprocess.run(["mount", "-t", "tmpfs", "-o", f"size={size}", "tmpfs", folder], capture_output=True, check=False)
-    return None if done.returncode == 0 else "no file system can be mounted here"
-
-
 @case
 def a_disk_that_is_full_for_a_while():
     """With --retry a file for which the disk has no room is stored once there is some; its sender is answered once."""
     with station(SERVER, options=("--retry", "30")) as (one, peer):
         folder = one.received()
-        why = mounted(folder, "64k")
+        why = mounted(folder, "size=64k")
         if why:
             return why
         try:
             receiver = Receiver(one, peer)
             (folder / "filler").write_bytes(bytes(60_000))
             seq = receiver.send(b"late", bytes(20_000))
-            time.sleep(2.5)
+            until(lambda: storing(receiver.client) == [(seq, "no space is left")], "what hinders the file")
             want([event for event in receiver.client.events if event["kind"] == "stored"], [])
             (folder / "filler").unlink()
             want(receiver.stored(seq), ("retained", None))
             want((folder / "late").read_bytes(), bytes(20_000))
             want(receiver.client.status()[0]["counters"]["failed_stores"], 0)
         finally:
-            subprocess.run(["umount", "-l", folder], check=False)
+            unmount(folder)
     return None
 
 
@@ -136,23 +130,126 @@ def a_disk_that_is_full_for_a_while():
 def a_folder_that_goes_away():
     """With --retry the folder may be missing for a while; after that time the store rejects the file, once. A bad name is
     refused at once."""
-    with station(SERVER, options=("--retry", "2")) as (one, peer):
+    with station(SERVER, options=("--retry", "6")) as (one, peer):
         receiver = Receiver(one, peer)
         folder, aside = one.received(), pathlib.Path(one.home, "aside")
         os.rename(folder, aside)
         seq = receiver.send(b"a")
-        time.sleep(0.5)
+        until(lambda: storing(receiver.client) == [(seq, "the folder isn't there")], "what hinders the file")
         os.rename(aside, folder)
         want(receiver.stored(seq), ("retained", None))
         os.rename(folder, aside)
         begun = time.monotonic()
         want(receiver.receives(b"b"), ("rejected", None))
-        want(1.5 < time.monotonic() - begun < 10, True)
+        want(5.5 < time.monotonic() - begun < 40, True)
         begun = time.monotonic()
         want(receiver.receives(b"../x"), ("rejected", None))
-        want(time.monotonic() - begun < 1, True)
+        # well before the time for which others are tried
+        want(time.monotonic() - begun < 5, True)
         counters = receiver.client.status()[0]["counters"]
         want((counters["stored"], counters["failed_stores"]), (1, 2))
+
+
+def slow_disk(milliseconds):
+    """What a server is started with, so that each flush takes so long."""
+    return {**os.environ, "LD_PRELOAD": library("slow_disk"), "FLUSH_MS": str(milliseconds)}
+
+
+def storing(client):
+    """The numbers of the files that are being stored, and of those that couldn't be stored so far, with what hindered each."""
+    return [(line["seq"], line.get("why")) for line in client.status() if line["kind"] == "storing"]
+
+
+@case
+def a_disk_whose_flushes_take_seconds():
+    """Meanwhile commands are answered, and a file leaves: all before the first file's two flushes have ended. The files are stored one
+    after the other."""
+    with station(SERVER, around=slow_disk(4_000)) as (one, peer):
+        receiver = Receiver(one, peer)
+        client = receiver.client
+        sent = time.monotonic()
+        seqs = [receiver.send(name) for name in (b"a", b"b")]
+        until(lambda: storing(client) == [(seqs[0], None)], "the first file at the store")
+        times = []
+        for _ in range(30):
+            begun = time.monotonic()
+            want(client.ask("status")[0].startswith("{"), True)
+            times.append(time.monotonic() - begun)
+        want((sorted(times)[15] < 0.25, max(times) < 3), (True, True))
+        pathlib.Path("sent").write_bytes(b"sent")
+        want(client.ask("put alice 0 1 2 sent sent")[0], "ok")
+        heard = b""
+        while b"sent" not in heard:
+            heard = peer.recv(2_048)
+        want(storing(client), [(seqs[0], None)])
+        want([receiver.stored(seq) for seq in seqs], [("retained", None)] * 2)
+        want((time.monotonic() - sent >= 16, everything(one.received()), storing(client)), (True, ["a", "b"], []))
+
+
+@case
+def an_end_while_a_file_is_being_stored():
+    """The server waits for that file, and says that it was stored; the next one isn't stored."""
+    with station(SERVER, options=("--log", "log"), around=slow_disk(3_000)) as (one, peer):
+        receiver = Receiver(one, peer)
+        seq = receiver.send(b"a")
+        until(lambda: storing(receiver.client) == [(seq, None)], "the file at the store")
+        receiver.send(b"b")
+        until(lambda: [line.get("state") for line in receiver.client.status()].count("storing") == 2, "the other file")
+        want((receiver.client.ask("quit"), one.run.wait(30)), (["ok"], 0))
+        events = [json.loads(line) for line in pathlib.Path("log").read_text().splitlines()]
+        want([(event["seq"], event["status"]) for event in events if event["kind"] == "stored"], [(seq, "retained")])
+        want((everything(one.received()), events[-1]["kind"]), (["a"], "end"))
+
+
+@case
+def an_end_while_the_disk_hangs():
+    """After ten seconds the server leaves its socket and says its end in the log; nothing says that the file was stored. The process
+    itself waits for the disk."""
+    with station(SERVER, options=("--log", "log"), around=slow_disk(600_000)) as (one, peer):
+        receiver = Receiver(one, peer)
+        seq = receiver.send(b"a")
+        until(lambda: storing(receiver.client) == [(seq, None)], "the file at the store")
+        begun = time.monotonic()
+        want(receiver.client.ask("quit"), ["ok"])
+        until(lambda: not os.path.exists(one.path), "the end of the socket", 60)
+        want((time.monotonic() - begun > 9, one.run.poll()), (True, None))
+        kinds = [json.loads(line)["kind"] for line in pathlib.Path("log").read_text().splitlines()]
+        want(("stored" in kinds, kinds[-1]), (False, "end"))
+
+
+@case
+def what_cannot_pass_fails_at_once():
+    """With --retry a file in a folder's place, or a folder in a file's, costs no time; and a status says what hinders others."""
+    with station(SERVER, options=("--tree", "--retry", "60")) as (one, peer):
+        receiver = Receiver(one, peer)
+        want(receiver.receives(b"a"), ("retained", "a"))
+        want(receiver.receives(b"d/a"), ("retained", "d/a"))
+        begun = time.monotonic()
+        for name in (b"a/x", b"d", b"a/y/z", b"/".join([b"f"] * 10)):
+            want((name, receiver.receives(name)), (name, ("rejected", None)))
+        # well before the minute for which others are tried
+        want(time.monotonic() - begun < 30, True)
+        os.rename(one.received(), "aside")
+        seqs = [receiver.send(name) for name in (b"p", b"q", b"r")]
+        until(lambda: sorted(storing(receiver.client)) == [(seq, "the folder isn't there") for seq in seqs], "what hinders three files")
+        os.rename("aside", one.received())
+        want([receiver.stored(seq) for seq in seqs], [("retained", name) for name in "pqr"])
+
+
+def burst(peer, target, datagram):
+    """Sends a hundred copies of a datagram, no faster than a server takes many of them."""
+    for _ in range(25):
+        for _ in range(4):
+            peer.sendto(datagram, target)
+        time.sleep(0.002)
+
+
+def flood(peer, target, datagram, is_enough):
+    """Sends copies of a datagram until there are enough, for two minutes at most."""
+    end = time.monotonic() + 120
+    while not is_enough():
+        want(time.monotonic() < end, True)
+        burst(peer, target, datagram)
 
 
 def virtual_octets(process):
@@ -166,6 +263,7 @@ def a_flood_behind_a_limit_of_memory():
     its transaction was abandoned. All threads take memory from one arena, as with `examples/cfdp_server.service`."""
     with mock.patch.dict(os.environ, MALLOC_ARENA_MAX="1"), station(SERVER) as (one, peer):
         client = one.client()
+        want(client.ask("trace 2 1"), ["refused 1 NoTransaction"])
         limit = virtual_octets(one.run.pid) + 2**26
         resource.prlimit(one.run.pid, resource.RLIMIT_AS, (limit, limit))
         target = ("127.0.0.1", one.port)
@@ -178,16 +276,44 @@ def a_flood_behind_a_limit_of_memory():
             return (one.received() / name.decode()).exists()
 
         peer.sendto(metadata(1, 100_000, b"flooded"), target)
-        part = file_data(1, 0, bytes(60_000))
-        for copy in range(4_000):
-            peer.sendto(part, target)
-            if copy % 10 == 0:
-                time.sleep(0.002)
-        want((one.run.poll(), virtual_octets(one.run.pid) > limit - 2**24), (None, True))
+        part = file_data(1, 0, bytes(20_000))
+        flood(peer, target, part, lambda: one.run.poll() is not None or virtual_octets(one.run.pid) > limit - 2**24)
+        # and much more, when it is full
+        for _ in range(20):
+            burst(peer, target, part)
+        want(one.run.poll(), None)
         until(lambda: moves(2, b"beside"), "a file through another lane")
+        # for a client that is connected there is memory
         until(lambda: client.ask("abandon alice 2 1") == ["ok"], "the end of the flooded transaction")
         until(lambda: moves(9, b"behind"), "a file through the lane that was flooded")
         want(client.ask("trace 2 2")[0].startswith("refused"), False)
 
 
+def has_dropped(one, least):
+    """Whether more datagrams were dropped that were parked for a lane; a client for which there is no memory says nothing."""
+    answer = one.client().ask("status") or []
+    return any(line.get("dropped", 0) > least for line in map(json.loads, answer) if line["kind"] == "parked")
+
+
+@case
+def parked_datagrams_give_way_where_memory_runs_out():
+    """A flood of datagrams that wait for a busy lane fills the memory; other lanes continue. A client for which there is no memory
+    is cut off; the next one is answered."""
+    options = ("--park", "1000000000")
+    with mock.patch.dict(os.environ, MALLOC_ARENA_MAX="1"), station(SERVER, options=options) as (one, peer):
+        want(one.client().ask("trace 2 1"), ["refused 1 NoTransaction"])
+        limit = virtual_octets(one.run.pid) + 2**26
+        resource.prlimit(one.run.pid, resource.RLIMIT_AS, (limit, limit))
+        target = ("127.0.0.1", one.port)
+        peer.sendto(metadata(1, 100_000, b"opened"), target)
+        flood(peer, target, file_data(9, 0, bytes(20_000)), lambda: one.run.poll() is not None or has_dropped(one, 1_000))
+        want(one.run.poll(), None)
+        for seq, name in enumerate((b"beside", b"again", b"more"), 2):
+            for datagram in (metadata(seq, 3, name), file_data(seq, 0, b"abc"), end_of_file(seq, b"abc")):
+                peer.sendto(datagram, target)
+            until(lambda name=name: (one.received() / name.decode()).exists(), "a file through another lane")
+        until(lambda: one.client().ask("abandon alice 2 1") == ["ok"], "the end of the transaction that was opened")
+
+
+in_own_mounts()
 run_cases("stores", CASES)

@@ -15,9 +15,10 @@ PAGE = TOP / "docs" / "trusted.md"
 WIDTH = 120
 MEANING, CODE, ROWS = "Meaning", "Of the code", "Rows"
 
-# The crates whose public calls carry the promises of the README, as its table names them.
+# The crates whose public calls carry the promises of the README, and those that programs go by.
 PROMISING = """entity_routing user_queues world_table world_core world_laws shared_lanes shared_entity entity_workers
-ends_schedules pdu_codec entity_config script_replay server_lines web_lines web_pages web_console cfdp_session cfdp_c""".split()
+ends_schedules pdu_codec entity_config disk number_file station_store script_replay journal_recording server_lines program_numbers
+ctl_views web_lines web_pages web_console cfdp_session cfdp_c""".split()
 
 INTRO = """# What has to be believed
 
@@ -25,13 +26,13 @@ INTRO = """# What has to be believed
 
 A proof says that a call keeps its contract. A contract speaks in definitions, which stand in the folders `specs/` of the crates. If a
 definition says something else than it should, the proofs are about something else; so somebody has to read the definitions. They are
-below in reading order: layer by layer (`docs/architecture.md`), and in a crate each behind those that it cites. The first line of each
+below in reading order: layer by layer (`docs/crates.md`), and in a crate each behind those that it cites. The first line of each
 file says what it is:
 
 - **Meaning**: the contracts of public calls and the laws speak in these. All of them are listed.
 - **Of the code**: how the code keeps what is meant, such as what a value of the code stands for, or what holds between two steps.
-  {cited} The others occur in proofs and in contracts of calls that only the repository's own code makes. No promise speaks in their
-  terms, so a wrong one could only make a proof fail, and nobody has to believe them.
+  {cited} The others occur in proofs and in contracts of calls that only the repository's own code makes. No promise of the README
+  speaks in their terms, so a wrong one could only make a proof fail, and nobody has to believe them.
 - **Rows**: worked examples, and the values that they use. They show that a definition says what it should. No promise rests on them,
   except where one is listed.
 
@@ -117,11 +118,12 @@ the entity for C: what a handle owns, what calls do to it, codes and names: cfdp
 the list of timers that run: timer_list/Timers
 what a disk was asked; what a power cut may leave of it; which faults may pass: disk/Steps Crash Faults
 what is promised of a file on a disk; how long it stays; why each flush is needed: disk/Promise Staying Needed
-what is known of a disk while a file is stored: disk/Parts
+what is known of a disk while a file is stored and written on: disk/Parts
 files that are stored over a part: whole_files/Wholes PartSteps
-where a store over a disk puts a file, what it has ready, and the effect of a deposit: disk_store/Paths Stations
-a file of numbers over a disk: what it covers, its text, what it has after a power cut, its law: disk_numbers/Rounds Texts Files RoundLaws
-file names that a folder store takes; a store in memory; faults of a store: file_stores/Names MemoryStore Faults
+what the file of numbers covers; its text; what it has after a power cut; its laws: number_file/Rounds Texts Files RoundLaws program_numbers/Held
+what an outbox's file says; its text; what it has after a power cut: outbox_file/Books Texts Files
+file names that a folder store takes; stores in memory and in a folder; faults: file_stores/Names MemoryStore FolderStore Faults
+where a store with folders puts a file, what it has ready, and the effect of a deposit: station_store/Paths Stations
 what lies behind a lane's lock, and a step of it: shared_lanes/Held
 what `Entity` may answer; what it is opened with: shared_entity/Answering Opening
 workers: what waits, faults, which answers a carrier accepts; deposits: entity_workers/Messages Faults Carrying Depositing
@@ -130,13 +132,14 @@ words of a line with quotes: quoted_words/Quoted
 printed lines: indications; answers and refusals: answer_texts/ToldTexts AnswerTexts
 what a line of a script says: script_lines/Commands
 the lines of a journal's events, how they are read back, and the script of a whole journal: journal_scripts/Rows Laws journal_recording/Recording
-what a PDU says in words: pdu_words/Words
 the first lines of a recording, its text, its pieces and the names of files; when a transaction began: program_recorder/Headings Recordings Pieces Names Sights
+what a PDU says in words: pdu_words/Words
 a reader's lines, what a writer gains, how the end of a run is reported: script_io/Lines Output Ending
 what a line does to a script's session, what it prints, and a whole script: script_replay/Sessions Texts Run
+how much each event matters, and which of the last ones are kept and shown: event_levels/Levels Events kept_events/Rings
 what a line of a server's commands asks for, and what of it is left at the desk: server_lines/Commands program_desk/Says
 options and words of the programs; numbers on a command line: program_words/Lines Numbers
-turns of files, timers and deposits; what becomes of a refusal: program_agenda/Turns Fates program_station/Obstacles
+turns of files and timers, files to be stored; what becomes of a refusal: program_agenda/Turns Stores Fates program_station/Obstacles
 the pace of what leaves, and its law: program_agenda/Paces PaceLaws
 datagrams that wait for their lane, their room, and the laws of both: program_parking/Lanes Parkings parking_laws/ParkingLaws program_lot/Waits
 which number begins next toward an entity, and its law; with how many lanes files don't wait: program_lineup/Lineups Counts lineup_laws/LineupLaws
@@ -311,8 +314,9 @@ def page():
     found = read_definitions([crate for _, crates in groups for crate in crates])
     listed = believed(found)
     others = [path for path in listed if found[path].kind != MEANING]
-    cited = (f"A definition of meaning, or the contract of a public call of a crate that the README's table of promises names, cites "
-             f"{len(others)} files of the code or of rows, directly or through others: these are listed, too, marked as what they are.")
+    cited = (f"A definition of meaning, or the contract of a public call of one of the crates that carry the promises of "
+             f"the README or that programs go by ({', '.join(f'`{one}`' for one in PROMISING)}), cites {len(others)} files of the code or of rows, directly or through "
+             f"others: these are listed, too, marked as what they are.")
     out = ["\n".join(wrap_intro(INTRO.format(cited=cited))), "\n".join(wrap_intro(READING))]
     out.append("## Where each notion is defined\n\n" + map_table())
     for title, crates in groups:

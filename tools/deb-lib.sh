@@ -13,7 +13,12 @@ mkdir -p "$top/out"
 
 # pack NAME SECTION DEPENDS TEXT: a package of what lies in its folder
 pack() {
-    mkdir -p "$room/$1/DEBIAN"
+    mkdir -p "$room/$1/DEBIAN" "$room/$1/usr/share/doc/$1"
+    if [ -f "$top/LICENSE" ]; then
+        install -m 644 "$top/LICENSE" "$room/$1/usr/share/doc/$1/copyright"
+    else
+        echo "No license has been chosen yet." > "$room/$1/usr/share/doc/$1/copyright"
+    fi
     cat > "$room/$1/DEBIAN/control" << CONTROL
 Package: $1
 Version: $version

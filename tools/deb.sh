@@ -17,6 +17,8 @@ for program in "$@"; do
     name=$(basename "$program")
     install -m 755 "$program" "$folder/usr/bin/$name"
     gzip -9 -n -c "$top/docs/man/$name.1" > "$folder/usr/share/man/man1/$name.1.gz"
+    [ ! -f "$top/docs/completion/$name" ] ||
+        install -D -m 644 "$top/docs/completion/$name" "$folder/usr/share/bash-completion/completions/$name"
 done
 for unit in "$top"/examples/*.service; do
     # a unit comes along with its program
@@ -24,8 +26,17 @@ for unit in "$top"/examples/*.service; do
     sed 's|/usr/local/bin/|/usr/bin/|' "$unit" > "$folder/lib/systemd/system/$(basename "$unit")"
 done
 install -m 644 "$top"/examples/station.toml "$top"/examples/entity.toml "$folder"/usr/share/doc/binesunset/examples
+install -m 755 "$top"/examples/packet_bridge.py "$folder"/usr/share/doc/binesunset/examples
+# what the server's unit reads, and who rotates its log; both are for an administrator to change
+install -D -m 644 "$top"/examples/station.toml "$folder"/etc/cfdp/station.toml
+install -D -m 644 "$top"/examples/cfdp_server.logrotate "$folder"/etc/logrotate.d/cfdp_server
+printf '%s\n' /etc/cfdp/station.toml /etc/logrotate.d/cfdp_server > "$folder/DEBIAN/conffiles"
 install -m 644 "$top"/README.md "$top"/docs/*.md "$folder"/usr/share/doc/binesunset
-if [ -f "$top/LICENSE" ]; then install -m 644 "$top/LICENSE" "$folder/usr/share/doc/binesunset/copyright"; fi
+if [ -f "$top/LICENSE" ]; then
+    install -m 644 "$top/LICENSE" "$folder/usr/share/doc/binesunset/copyright"
+else
+    echo "No license has been chosen yet." > "$folder/usr/share/doc/binesunset/copyright"
+fi
 cat > "$folder/DEBIAN/control" << CONTROL
 Package: binesunset
 Version: $version
@@ -48,11 +59,16 @@ for program in "$@"; do
     name=$(basename "$program")
     "$room/there/usr/bin/$name" --version | grep -q "^$name $version\$"
     gzip -d -c "$room/there/usr/share/man/man1/$name.1.gz" | cmp - "$top/docs/man/$name.1"
+    [ ! -f "$top/docs/completion/$name" ] ||
+        cmp "$top/docs/completion/$name" "$room/there/usr/share/bash-completion/completions/$name"
 done
 for unit in "$room"/there/lib/systemd/system/*.service; do
-    for named in $(grep -o '/usr/bin/cfdp_[a-z]*' "$unit" | sort -u); do
-        [ -x "$room/there$named" ] || { echo "$(basename "$unit") names $named, which the package doesn't have"; exit 1; }
+    for named in $(grep -v '^#' "$unit" | grep -oE '/(usr/bin|etc)/[a-z_./]*' | sort -u); do
+        [ -e "$room/there$named" ] || { echo "$(basename "$unit") names $named, which the package doesn't have"; exit 1; }
     done
+done
+for named in $(dpkg-deb --info "$top/out/$package.deb" conffiles); do
+    [ -f "$room/there$named" ] || { echo "the package doesn't have $named"; exit 1; }
 done
 [ "$(dpkg-deb --field "$top/out/$package.deb" Version)" = "$version" ]
 echo "out/$package.deb: $(dpkg-deb --contents "$top/out/$package.deb" | grep -c '^-') files, installed into a folder and tried"

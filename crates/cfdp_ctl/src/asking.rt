@@ -1,9 +1,12 @@
 //! The connection to the server, and its limits of time.
 use crate::fault::CtlFault;
-use station_client::Station;
+use crate::screen::Screen;
+use station_client::{Station, StationFault};
 use std::alloc::Global;
+use std::io::Write;
 use std::net::Net;
 use std::sync::Wait;
+use std::thread;
 use std::time::{Clock, Duration};
 
 // How many milliseconds a server may take to let the program in, and then to answer, unless the command line says how
@@ -11,6 +14,12 @@ use std::time::{Clock, Duration};
 const ENTRY_MILLIS: u64 = 400;
 
 const PATIENCE_MILLIS: u64 = 4_400;
+
+// How many milliseconds a server may take to send a transaction as a script.
+const LONG_MILLIS: u64 = 120_000;
+
+// How many milliseconds to wait before the next attempt to reach a server that went away.
+const REST_MILLIS: u64 = 500;
 
 /// A connection to a server, and how long the server may take to answer.
 #[derive(Drop)]
@@ -52,6 +61,16 @@ impl Line {
         Ok(self.station.ask(rt, command, self.limit)?)
     }
 
+    /// The lines of the answer to a command that a server works on for longer, and whose answer may be large.
+    pub(crate) fn ask_patiently<R: Clock + Wait>(
+        &mut self,
+        rt: &R,
+        command: &[u8],
+    ) -> Result<Vec<u8>, CtlFault> {
+        let limit = self.limit.max(Duration::from_millis(LONG_MILLIS));
+        Ok(self.station.ask(rt, command, limit)?)
+    }
+
     /// The JSON of the next event; `None` if none comes within this many milliseconds.
     pub(crate) fn next_event<R: Clock + Wait>(
         &mut self,
@@ -61,6 +80,40 @@ impl Line {
         let limit = Duration::from_millis(milliseconds);
         Ok(self.station.next_event(rt, limit)?)
     }
+}
+
+/// Whether a server may answer again after this fault.
+pub(crate) fn may_return(fault: StationFault) -> bool {
+    matches!(
+        fault,
+        StationFault::NoServer | StationFault::Busy | StationFault::Gone | StationFault::TimedOut
+    )
+}
+
+/// Another connection, as soon as there is one, after a fault that is reported with the socket's path.
+pub(crate) fn line_again<R, W, E>(
+    rt: &R,
+    alloc: Global,
+    screen: &mut Screen<W, E>,
+    path: &str,
+    fault: StationFault,
+) -> Result<Line, CtlFault>
+where
+    R: Net + Clock + Wait,
+    W: Write + Drop,
+    E: Write + Drop,
+{
+    let text = fault.text();
+    let waits = format!(in alloc; "cfdp_ctl: {path}: {text}; waiting for it")?;
+    screen.complain_line(alloc, waits.as_str());
+    for _ in rt.forever() {
+        thread::sleep(rt, Duration::from_millis(REST_MILLIS));
+        match Line::open(rt, alloc, path, None) {
+            Err(CtlFault::Station(again)) if may_return(again) => {}
+            opened => return opened,
+        }
+    }
+    Err(CtlFault::Station(StationFault::NoServer))
 }
 
 /// The first line of an answer, without its line feed.

@@ -2,7 +2,7 @@
 use crate::asking::{Line, first_line};
 use crate::fault::CtlFault;
 use crate::screen::Screen;
-use ctl_views::{StatusView, exit_status, outcome_of};
+use ctl_views::{StatusView, exit_status, outcome_of, shown_lines};
 use ctl_words::{OutboxWords, StatusWords};
 use std::alloc::Global;
 use std::io::Write;
@@ -50,12 +50,21 @@ where
 {
     let answer = line.ask(rt, b"status")?;
     let status = exit_status(outcome_of(first_line(answer.as_slice())));
-    if words.json || status != 0 {
+    if status != 0 || (words.json && is_whole(words)) {
         screen.print_lines(alloc, answer.as_slice())?;
+    } else if words.json {
+        let lines = String::from_utf8_lossy(alloc, answer.as_slice())?;
+        let shown = shown_lines(alloc, lines.as_str(), words.remote, words.failed)?;
+        screen.print_lines(alloc, shown.as_bytes())?;
     } else {
         print_status(alloc, screen, words, view, answer.as_slice())?;
     }
     Ok(status)
+}
+
+// Whether everything is shown.
+fn is_whole(words: StatusWords) -> bool {
+    words.remote.is_none() && !words.failed
 }
 
 fn print_status<W: Write + Drop, E: Write + Drop>(
@@ -66,7 +75,12 @@ fn print_status<W: Write + Drop, E: Write + Drop>(
     answer: &[u8],
 ) -> Result<(), CtlFault> {
     let lines = String::from_utf8_lossy(alloc, answer)?;
-    let page = view.look(lines.as_str(), screen.width)?;
+    let page = if is_whole(words) {
+        view.look(lines.as_str(), screen.width)?
+    } else {
+        let shown = shown_lines(alloc, lines.as_str(), words.remote, words.failed)?;
+        view.look(shown.as_str(), screen.width)?
+    };
     if words.watch {
         screen.print_over(alloc, &page)
     } else {

@@ -1,17 +1,24 @@
 //! Commands a running server over its control socket.
 #![tactic(auto)]
 
+mod acting;
 mod asking;
 mod fault;
 mod following;
+mod history;
+mod hot_files;
+mod hot_folder;
+mod known;
 mod looking;
 mod paths;
+mod reasons;
 mod running;
 mod screen;
 mod sending;
 mod sent;
 mod tasks;
 mod waiting;
+mod watching;
 
 use running::run;
 use screen::Screen;
@@ -24,5 +31,6 @@ fn main(rt: HostRuntime) -> ExitCode {
     let is_terminal = rt.stdout().is_terminal();
     let shows_progress = rt.stderr().is_terminal();
     let mut screen = Screen::new(io::writer(&rt), rt.stderr(), is_terminal, shows_progress);
+    screen.can_ask = shows_progress && rt.stdin().is_terminal();
     ExitCode::from(run(&rt, rt.alloc(), &mut screen))
 }

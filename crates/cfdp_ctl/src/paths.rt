@@ -53,7 +53,8 @@ pub(crate) fn target_name(
     }
 }
 
-fn base_name(path: &str) -> &str {
+/// The part of a path after the last slash.
+pub(crate) fn base_name(path: &str) -> &str {
     match path.rsplit_once('/') {
         Some((_, name)) => name,
         None => path,

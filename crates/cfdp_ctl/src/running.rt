@@ -1,11 +1,14 @@
 //! Does what the command line asks for.
+use crate::acting::act;
 use crate::asking::Line;
 use crate::fault::CtlFault;
 use crate::following::follow;
+use crate::history::print_history;
 use crate::looking::{look, look_at_outbox};
 use crate::screen::Screen;
 use crate::sending::{are_files, send};
-use crate::tasks::{run_command, run_input};
+use crate::tasks::{print_journal, run_command, run_input};
+use crate::watching::{is_folder, watch};
 use ctl_words::{Colour, CtlWords, Task, WordsFault, ctl_help, ctl_version, ctl_words};
 use std::alloc::Global;
 use std::env;
@@ -19,7 +22,7 @@ use std::time::Clock;
 /// Does what the command line asks for, and answers the exit status.
 pub(crate) fn run<R, W, E>(rt: &R, alloc: Global, screen: &mut Screen<W, E>) -> u8
 where
-    R: Net + Clock + Wait + Env + Files + Input + AllocGlobal,
+    R: Net + Clock + Wait + Env + Files + Input + AllocGlobal + Copy + Drop,
     W: Write + Drop,
     E: Write + Drop,
 {
@@ -48,7 +51,7 @@ fn words_given<R: Env + AllocGlobal>(rt: &R) -> Result<Vec<String>, CtlFault> {
 
 fn run_line<R, W, E>(rt: &R, alloc: Global, screen: &mut Screen<W, E>, line: &[String]) -> u8
 where
-    R: Net + Clock + Wait + Env + Files + Input + AllocGlobal,
+    R: Net + Clock + Wait + Env + Files + Input + AllocGlobal + Copy + Drop,
     W: Write + Drop,
     E: Write + Drop,
 {
@@ -130,7 +133,7 @@ fn run_words<R, W, E>(
     words: &CtlWords<'_>,
 ) -> Result<u8, CtlFault>
 where
-    R: Net + Clock + Wait + Env + Files + Input + AllocGlobal,
+    R: Net + Clock + Wait + Env + Files + Input + AllocGlobal + Copy + Drop,
     W: Write + Drop,
     E: Write + Drop,
 {
@@ -138,11 +141,14 @@ where
     if let Some(columns) = width_given(rt, words.width) {
         screen.width = columns;
     }
+    if let Task::History(task) = &words.task {
+        return print_history(rt, alloc, screen, task);
+    }
     if let Some(path) = words.control {
-        return run_at(rt, alloc, screen, words, path);
+        return run_told(rt, alloc, screen, words, path);
     }
     match variable(rt, "CFDP_CONTROL") {
-        Some(path) => run_at(rt, alloc, screen, words, path.as_str()),
+        Some(path) => run_told(rt, alloc, screen, words, path.as_str()),
         None => Err(CtlFault::NoPath),
     }
 }
@@ -163,6 +169,31 @@ fn width_given<R: Env + AllocGlobal>(rt: &R, width: Option<u64>) -> Option<usize
     }
 }
 
+// Does it at a control socket; a fault there is reported with the path.
+fn run_told<R, W, E>(
+    rt: &R,
+    alloc: Global,
+    screen: &mut Screen<W, E>,
+    words: &CtlWords<'_>,
+    path: &str,
+) -> Result<u8, CtlFault>
+where
+    R: Net + Clock + Wait + Env + Files + Input + AllocGlobal + Copy + Drop,
+    W: Write + Drop,
+    E: Write + Drop,
+{
+    match run_at(rt, alloc, screen, words, path) {
+        Err(CtlFault::Station(fault)) => {
+            let text = fault.text();
+            let line = format!(in alloc; "cfdp_ctl: {path}: {text}")?;
+            screen.clear_progress();
+            screen.complain_line(alloc, line.as_str());
+            Ok(CtlFault::Station(fault).status())
+        }
+        done => done,
+    }
+}
+
 fn run_at<R, W, E>(
     rt: &R,
     alloc: Global,
@@ -171,7 +202,7 @@ fn run_at<R, W, E>(
     path: &str,
 ) -> Result<u8, CtlFault>
 where
-    R: Net + Clock + Wait + Env + Files + Input + AllocGlobal,
+    R: Net + Clock + Wait + Env + Files + Input + AllocGlobal + Copy + Drop,
     W: Write + Drop,
     E: Write + Drop,
 {
@@ -180,12 +211,21 @@ where
     {
         return Ok(3);
     }
+    if let Task::Watch(task) = &words.task
+        && !is_folder(rt, alloc, screen, task.folder)?
+    {
+        return Ok(3);
+    }
     let mut line = Line::open(rt, alloc, path, words.patience)?;
     match &words.task {
         Task::Status(task) => look(rt, alloc, screen, &mut line, *task),
-        Task::Follow(task) => follow(rt, alloc, screen, &mut line, *task),
+        Task::Follow(task) => follow(rt, alloc, screen, &mut line, path, *task),
         Task::Outbox(task) => look_at_outbox(rt, alloc, screen, &mut line, *task),
         Task::Send(task) => send(rt, alloc, screen, &mut line, task),
+        Task::Watch(task) => watch(rt, alloc, screen, &mut line, path, *task),
+        Task::Journal(transaction) => print_journal(rt, alloc, screen, &mut line, *transaction),
+        Task::Act(task) => act(rt, alloc, screen, &mut line, *task),
+        Task::History(task) => print_history(rt, alloc, screen, task),
         Task::Command(text) => run_command(rt, alloc, screen, &mut line, text.as_bytes()),
         Task::Input => run_input(rt, alloc, screen, &mut line),
     }

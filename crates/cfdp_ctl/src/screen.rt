@@ -16,6 +16,8 @@ pub(crate) struct Screen<W: Drop, E: Drop> {
     pub(crate) is_terminal: bool,
     /// Whether the standard error is a terminal, so that progress is shown there.
     pub(crate) shows_progress: bool,
+    /// Whether somebody can be asked: the standard input and the standard error are terminals.
+    pub(crate) can_ask: bool,
     // How many lines of progress are shown now.
     standing: usize,
     /// Whether colours are printed.
@@ -37,6 +39,7 @@ impl<W: Write + Drop, E: Write + Drop> Screen<W, E> {
             errors,
             is_terminal,
             shows_progress,
+            can_ask: false,
             standing: 0,
             is_coloured: false,
             width: COLUMNS,

@@ -2,11 +2,12 @@
 use crate::asking::{Line, first_line};
 use crate::fault::CtlFault;
 use crate::following::ask_for_events;
-use crate::paths::{Folder, target_name, whole_path};
+use crate::known::{ask_for_known, user_for};
+use crate::paths::{Folder, base_name, target_name, whole_path};
 use crate::screen::Screen;
 use crate::sent::{SentFiles, have_arrived, send_status};
 use crate::waiting::wait_for_ends;
-use ctl_views::{Page, StatusLine, Tone, read_status_line};
+use ctl_views::{Page, Tone};
 use ctl_words::{SendCommand, SendWords, send_command};
 use std::alloc::{AllocError, Global};
 use std::env::Env;
@@ -66,13 +67,14 @@ where
     W: Write + Drop,
     E: Write + Drop,
 {
-    let Some(user) = user_of(rt, alloc, screen, line, words)? else {
+    let known = ask_for_known(rt, alloc, line)?;
+    let Some(user) = user_for(alloc, screen, words.remote, words.user, known)? else {
         return Ok(2);
     };
     let folder = Folder::of(rt, alloc, words.files.as_slice())?;
     let origin = Origin { user, folder };
     if words.wait {
-        let status = ask_for_events(rt, alloc, screen, line)?;
+        let status = ask_for_events(rt, alloc, screen, line, None, None)?;
         if status != 0 {
             return Ok(status);
         }
@@ -85,54 +87,6 @@ where
     }
     let all_arrived = have_arrived(is_reported, files.files.as_slice());
     Ok(send_status(all_taken, words.wait, all_arrived))
-}
-
-// The user whose files are sent: the one that the command line names, or the server's only one. If it has several,
-// prints their names and answers `None`.
-fn user_of<R, W, E>(
-    rt: &R,
-    alloc: Global,
-    screen: &mut Screen<W, E>,
-    line: &mut Line,
-    words: &SendWords<'_>,
-) -> Result<Option<String>, CtlFault>
-where
-    R: Clock + Wait,
-    W: Write + Drop,
-    E: Write + Drop,
-{
-    if let Some(name) = words.user {
-        return Ok(Some(String::from_str(alloc, name)?));
-    }
-    let answer = line.ask(rt, b"status")?;
-    let mut names = users_in(alloc, answer.as_slice())?;
-    if names.len() == 1 {
-        return Ok(names.pop());
-    }
-    let mut text = String::from_str(
-        alloc,
-        "cfdp_ctl: --user is missing, and the server's users are:",
-    )?;
-    for name in names.as_slice() {
-        text.push(' ')?;
-        text.push_str(name.as_str())?;
-    }
-    screen.complain_line(alloc, text.as_str());
-    Ok(None)
-}
-
-// The users' names in a status.
-fn users_in(alloc: Global, answer: &[u8]) -> Result<Vec<String>, AllocError> {
-    let lines = String::from_utf8_lossy(alloc, answer)?;
-    let mut names = Vec::new(alloc);
-    for line in lines.as_str().split('\n') {
-        if let StatusLine::User(name) = read_status_line(alloc, line)?
-            && names.push(name).is_err()
-        {
-            return Err(AllocError);
-        }
-    }
-    Ok(names)
 }
 
 // Puts each file in the outbox; answers whether the server took all of them.
@@ -169,13 +123,14 @@ where
     Ok(all)
 }
 
-// The number in an answer such as `queued 12`.
-fn number_of(line: &[u8]) -> Option<u64> {
+/// The number in an answer such as `queued 12`.
+pub(crate) fn number_of(line: &[u8]) -> Option<u64> {
     let text = str::from_utf8(line).ok()?;
     text.strip_prefix("queued ")?.parse::<u64>().ok()
 }
 
-fn print_queued<W: Write + Drop, E: Write + Drop>(
+/// Prints that a file is in the outbox.
+pub(crate) fn print_queued<W: Write + Drop, E: Write + Drop>(
     alloc: Global,
     screen: &mut Screen<W, E>,
     path: &str,
@@ -215,6 +170,8 @@ fn command_for(
         source: source.as_str(),
         target: target.as_str(),
         is_closed: words.is_closed,
+        is_urgent: words.is_urgent,
+        alias: base_name(path),
     };
     send_command(alloc, &send)
 }

@@ -3,6 +3,7 @@ use crate::asking::{Line, first_line};
 use crate::fault::CtlFault;
 use crate::screen::Screen;
 use ctl_views::{exit_status, outcome_of};
+use ctl_words::TransactionWord;
 use std::alloc::Global;
 use std::io::{BufRead, BufReader, Read, Write};
 use std::sync::Wait;
@@ -26,6 +27,26 @@ where
 {
     let answer = line.ask(rt, command)?;
     screen.print_lines(alloc, answer.as_slice())?;
+    Ok(exit_status(outcome_of(first_line(answer.as_slice()))))
+}
+
+/// Prints a transaction as a script, and answers the exit status.
+pub(crate) fn print_journal<R, W, E>(
+    rt: &R,
+    alloc: Global,
+    screen: &mut Screen<W, E>,
+    line: &mut Line,
+    transaction: TransactionWord,
+) -> Result<u8, CtlFault>
+where
+    R: Clock + Wait,
+    W: Write + Drop,
+    E: Write + Drop,
+{
+    let TransactionWord { source, seq } = transaction;
+    let command = format!(in alloc; "journal {source} {seq}")?;
+    let answer = line.ask_patiently(rt, command.as_bytes())?;
+    screen.print(answer.as_slice())?;
     Ok(exit_status(outcome_of(first_line(answer.as_slice()))))
 }
 

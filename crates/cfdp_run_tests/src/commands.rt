@@ -1,6 +1,6 @@
 //! The server alone: commands.
 use crate::lines::words;
-use cfdp_serve::serve;
+use cfdp_serve::{ServerFiles, serve};
 use program_start::{FileReader, RuntimeFiles};
 use std::alloc::{AllocError, Global};
 use std::fs;
@@ -68,7 +68,7 @@ const COMMANDS: [(&str, &str); 12] = [
 // Whether a server gives these answers to these lines, and ends well.
 fn is_answered<
     R: Threads + Wait + Net + Clock + Files + AllocGlobal + Copy + Drop + Send + Sync,
-    F: FileReader + Sync,
+    F: FileReader + ServerFiles + Sync,
 >(rt: R, files: &F, words: &[String], lines: &[u8], text: &str) -> bool {
     let alloc: Global = rt.alloc();
     let mut written = Vec::new(alloc);

@@ -1,7 +1,7 @@
 //! A server that has to end while a received file waits to be stored.
 use crate::commands::config_of;
 use crate::lines::words;
-use cfdp_serve::serve;
+use cfdp_serve::{ServerFiles, serve};
 use program_start::{FileReader, RuntimeFiles};
 use std::alloc::Global;
 use std::net::{Net, UdpSocket};
@@ -33,7 +33,7 @@ const PAUSE_MICROSECONDS: u64 = 500;
 // Runs the server; answers the exit status.
 fn run_server<
     R: Threads + Wait + Clock + Net + Files + AllocGlobal + Copy + Drop + Send + Sync,
-    F: FileReader + Sync,
+    F: FileReader + ServerFiles + Sync,
 >(rt: &R, files: &F, alloc: Global, pipes: &Pipes, line: &[String]) -> u8 {
     let mut errors = Vec::new(alloc);
     let status = serve(

@@ -19,7 +19,7 @@ use user_queues::Queues;
 
 /// Opens an entity with its queues, and puts the file.
 pub(crate) fn put_named<
-    R: Threads + Wait + Clock + Files + Copy + Drop + Send + Sync,
+    R: Threads + Wait + Clock + Files + AllocGlobal + Copy + Drop + Send + Sync,
     W: Write + Drop,
     P: Write + Drop,
 >(
@@ -27,7 +27,7 @@ pub(crate) fn put_named<
     alloc: Global,
     config: Config,
     socket: &UdpSocket,
-    wanted: Wanted,
+    wanted: Wanted<R>,
     outputs: Outputs<W, P>,
 ) -> Result<u8, ProgramFault> {
     let queues = queues_of(*rt, alloc, &config)?;
@@ -36,7 +36,7 @@ pub(crate) fn put_named<
 
 fn put_opened<
     N: Names + Send + Sync,
-    R: Threads + Wait + Clock + Files + Copy + Drop + Send + Sync,
+    R: Threads + Wait + Clock + Files + AllocGlobal + Copy + Drop + Send + Sync,
     W: Write + Drop,
     P: Write + Drop,
 >(
@@ -45,7 +45,7 @@ fn put_opened<
     config: Config,
     queues: Queues<R>,
     socket: &UdpSocket,
-    wanted: Wanted,
+    wanted: Wanted<R>,
     outputs: Outputs<W, P>,
 ) -> Result<u8, ProgramFault>
     requires { AreQueuesFor N.queue N.lanes config queues }

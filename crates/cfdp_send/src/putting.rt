@@ -229,12 +229,12 @@ fn config_by<R: Files>(
 }
 
 // What is put, and by whom: the user is looked up first, and then the file is read.
-fn wanted_by<R: Files>(
+fn wanted_by<R: Files + AllocGlobal + Drop>(
     rt: &R,
     alloc: Global,
     config: &Config,
     words: &PutWords<'_>,
-) -> Result<Wanted, ProgramFault> {
+) -> Result<Wanted<R>, ProgramFault> {
     let Some(user) = config.user_of(words.user) else {
         return Err(ProgramFault::Usage);
     };

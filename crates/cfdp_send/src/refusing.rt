@@ -1,5 +1,7 @@
+use cfdp_types::Octets;
+use disk::Hindrance;
 use entity_workers::{Filestore, StoreFault};
-use program_station::Preparing;
+use program_storing::StationFiles;
 
 /// A store that keeps nothing: an entity that sends a file here is notified that it was rejected.
 #[derive(Debug, Drop)]
@@ -31,8 +33,12 @@ impl Filestore for RefusingStore {
     }
 }
 
-impl Preparing for RefusingStore {
-    fn prepare(&mut self, _name: &[u8], _octets: &[u8]) -> bool {
-        true
+impl StationFiles for RefusingStore {
+    fn prepare(&mut self, _name: &Octets, _octets: &Octets) -> Result<(), Hindrance> {
+        Ok(())
+    }
+
+    fn place(&self) -> &str {
+        ""
     }
 }

@@ -8,7 +8,8 @@ use entity_routing::Request;
 use program_desk::{Desk, Step, Urgency, moment};
 use program_numbers::HeldNumbers;
 use program_start::ProgramFault;
-use program_station::{MainThread, REST_MS, Sources, Station, WayIn, flat, run_beside};
+use program_station::{MainThread, REST_MS, Sources, Station, WayIn, run_beside};
+use program_storing::{Depot, Storer, StorerTurn};
 use program_tallies::Tallies;
 use program_udp::PduSender;
 use shared_entity::{Entity, EntityRefusal};
@@ -31,25 +32,38 @@ const LONGEST_SLEEP_MS: u64 = 60_000;
 
 /// What is put, by which user, how fast its octets may be sent, and whose datagrams are taken.
 #[derive(Drop)]
-pub(crate) struct Wanted {
+pub(crate) struct Wanted<R: Files + AllocGlobal + Drop> {
     pub(crate) user: usize,
     pub(crate) put: PutRequest,
     pub(crate) octets_a_second: Option<u64>,
     pub(crate) sources: Sources,
     /// The file of transaction numbers, if there is one.
-    pub(crate) numbers: Option<HeldNumbers>,
+    pub(crate) numbers: Option<HeldNumbers<R>>,
+}
+
+// What the threads share.
+#[derive(Drop)]
+struct Shared<'x, N: Names, R: Copy> {
+    rt: &'x R,
+    alloc: Global,
+    entity: &'x Entity<N, R>,
+    socket: &'x UdpSocket,
+    desk: &'x Desk,
+    depot: &'x Depot,
 }
 
 // The state of the main thread.
 #[derive(Drop)]
-struct Putter<'a, N: Names, R: Copy, W: Drop, P: Drop> {
+struct Putter<'a, N: Names, R: Files + AllocGlobal + Copy + Drop, W: Drop, P: Drop> {
     rt: &'a R,
     alloc: Global,
     desk: &'a Desk,
     /// The steps that have yet to be noted, the last one first.
     steps: Vec<Step>,
-    station: Station<'a, N, R, RefusingStore>,
-    numbers: Option<HeldNumbers>,
+    station: Station<'a, N, R>,
+    /// What refuses files that this entity receives.
+    storer: Storer<'a, N, R, RefusingStore>,
+    numbers: Option<HeldNumbers<R>>,
     ports: Vec<UserPort>,
     user: usize,
     /// The request, until it was made.
@@ -62,7 +76,7 @@ struct Putter<'a, N: Names, R: Copy, W: Drop, P: Drop> {
 /// Puts a file with an open entity and its socket, and runs until the transaction has ended; answers the exit status.
 pub(crate) fn put_over<
     N: Names + Send + Sync,
-    R: Threads + Wait + Clock + Files + Copy + Drop + Send + Sync,
+    R: Threads + Wait + Clock + Files + AllocGlobal + Copy + Drop + Send + Sync,
     W: Write + Drop,
     P: Write + Drop,
 >(
@@ -71,14 +85,21 @@ pub(crate) fn put_over<
     entity: &Entity<N, R>,
     ports: Vec<UserPort>,
     socket: &UdpSocket,
-    wanted: Wanted,
+    wanted: Wanted<R>,
     outputs: Outputs<W, P>,
 ) -> Result<u8, ProgramFault> {
     let desk = Desk::new(alloc, STEPS, 1)?;
     let tallies = Tallies::new(alloc, 1, entity.config().remotes())?;
-    put_at(
-        rt, alloc, entity, ports, socket, &desk, &tallies, wanted, outputs,
-    )
+    let depot = Depot::new(alloc, entity.config())?;
+    let shared = Shared {
+        rt,
+        alloc,
+        entity,
+        socket,
+        desk: &desk,
+        depot: &depot,
+    };
+    put_at(shared, ports, &tallies, wanted, outputs)
 }
 
 // Puts a file with a desk whose memory is reserved; that of the threads is, too, before the first one starts. The
@@ -87,24 +108,26 @@ pub(crate) fn put_over<
 fn put_at<
     'x,
     N: Names + Send + Sync,
-    R: Threads + Wait + Clock + Files + Copy + Drop + Send + Sync,
+    R: Threads + Wait + Clock + Files + AllocGlobal + Copy + Drop + Send + Sync,
     W: Write + Drop,
     P: Write + Drop,
 >(
-    rt: &'x R,
-    alloc: Global,
-    entity: &'x Entity<N, R>,
+    shared: Shared<'x, N, R>,
     ports: Vec<UserPort>,
-    socket: &'x UdpSocket,
-    desk: &'x Desk,
     tallies: &'x Tallies,
-    wanted: Wanted,
+    wanted: Wanted<R>,
     outputs: Outputs<W, P>,
 ) -> Result<u8, ProgramFault> {
+    let Shared {
+        rt,
+        alloc,
+        entity,
+        socket,
+        desk,
+        ..
+    } = shared;
     let sources = wanted.sources;
-    let putter = putter_over(
-        rt, alloc, entity, ports, socket, desk, tallies, wanted, outputs,
-    )?;
+    let putter = putter_over(&shared, ports, tallies, wanted, outputs)?;
     let config = entity.config();
     let way_in = WayIn::new(
         rt,
@@ -120,17 +143,21 @@ fn put_at<
     run_beside(rt, alloc, entity, socket, desk, way_in, putter)
 }
 
-fn putter_over<'x, N: Names, R: Wait + Clock + Copy, W: Drop, P: Drop>(
-    rt: &'x R,
-    alloc: Global,
-    entity: &'x Entity<N, R>,
+fn putter_over<'x, N: Names, R: Wait + Clock + Files + AllocGlobal + Copy + Drop, W: Drop, P: Drop>(
+    shared: &Shared<'x, N, R>,
     ports: Vec<UserPort>,
-    socket: &'x UdpSocket,
-    desk: &'x Desk,
     tallies: &'x Tallies,
-    wanted: Wanted,
+    wanted: Wanted<R>,
     outputs: Outputs<W, P>,
 ) -> Result<Putter<'x, N, R, W, P>, AllocError> {
+    let Shared {
+        rt,
+        alloc,
+        entity,
+        socket,
+        desk,
+        depot,
+    } = *shared;
     let sender = PduSender::new(alloc, socket, entity.config(), &tallies.own, &tallies.links)?;
     let steps = Vec::with_capacity(alloc, desk.step_room())?;
     let Wanted {
@@ -147,7 +174,8 @@ fn putter_over<'x, N: Names, R: Wait + Clock + Copy, W: Drop, P: Drop>(
         alloc,
         desk,
         steps,
-        station: Station::new(rt, alloc, entity, sender, store, tallies, octets_a_second)?,
+        station: Station::new(rt, alloc, entity, sender, depot, tallies, octets_a_second)?,
+        storer: Storer::new(rt, alloc, entity, desk, depot, store),
         numbers,
         ports,
         user,
@@ -157,8 +185,13 @@ fn putter_over<'x, N: Names, R: Wait + Clock + Copy, W: Drop, P: Drop>(
     })
 }
 
-impl<'a, N: Names, R: Wait + Clock + Files + Copy, W: Write + Drop, P: Write + Drop> MainThread
-    for Putter<'a, N, R, W, P> {
+impl<
+    'a,
+    N: Names,
+    R: Wait + Clock + Files + AllocGlobal + Copy + Drop,
+    W: Write + Drop,
+    P: Write + Drop,
+> MainThread for Putter<'a, N, R, W, P> {
     /// Makes the Put, and works until the transaction has ended.
     fn work(self) -> Result<u8, ProgramFault> {
         let mut putter = self;
@@ -171,9 +204,12 @@ impl<'a, N: Names, R: Wait + Clock + Files + Copy, W: Write + Drop, P: Write + D
     }
 }
 
-fn put_and_work<N: Names, R: Wait + Clock + Files + Copy, W: Write + Drop, P: Write + Drop>(
-    putter: &mut Putter<'_, N, R, W, P>,
-) -> Result<u8, ProgramFault> {
+fn put_and_work<
+    N: Names,
+    R: Wait + Clock + Files + AllocGlobal + Copy + Drop,
+    W: Write + Drop,
+    P: Write + Drop,
+>(putter: &mut Putter<'_, N, R, W, P>) -> Result<u8, ProgramFault> {
     let (rt, desk) = (putter.rt, putter.desk);
     let key = putter.begin()?;
     let mut text = String::new(putter.alloc);
@@ -191,10 +227,12 @@ fn put_and_work<N: Names, R: Wait + Clock + Files + Copy, W: Write + Drop, P: Wr
         }
         let now = moment(rt);
         let has_worked = putter.station.turn(now);
+        putter.abandon_full(key);
+        let has_refused = putter.refuse_files(now);
         putter
             .outputs
             .show(putter.alloc, putter.station.reach(), putter.size);
-        if !has_settled && text.is_empty() && !has_worked {
+        if !has_settled && text.is_empty() && !has_worked && !has_refused {
             let until = putter.station.next_moment(now);
             desk.wait(rt, now, until.min(now.saturating_add(LONGEST_SLEEP_MS)));
         }
@@ -202,7 +240,13 @@ fn put_and_work<N: Names, R: Wait + Clock + Files + Copy, W: Write + Drop, P: Wr
     Ok(2)
 }
 
-impl<'a, N: Names, R: Wait + Clock + Files + Copy, W: Drop, P: Drop> Putter<'a, N, R, W, P> {
+impl<'a, N: Names, R: Wait + Clock + Files + AllocGlobal + Copy + Drop, W: Drop, P: Drop> Putter<
+    'a,
+    N,
+    R,
+    W,
+    P,
+> {
     // Passes the Put to the entity.
     fn begin(&mut self) -> Result<TxnKey, ProgramFault> {
         let entity = self.station.entity();
@@ -216,19 +260,58 @@ impl<'a, N: Names, R: Wait + Clock + Files + Copy, W: Drop, P: Drop> Putter<'a, 
             return Err(ProgramFault::Usage);
         }
         if let Some(numbers) = &mut self.numbers {
-            numbers.cover(self.rt)?;
+            numbers.cover()?;
         }
-        match flat(entity.request(self.rt, &NoGate, self.user, request)) {
-            Ok(done) => {
+        match entity.request(self.rt, &NoGate, self.user, request) {
+            Ok(Ok(done)) => {
                 let key = done.key;
                 self.station.begin(key, destination);
                 self.station.settle_own(done);
                 Ok(key)
             }
+            Ok(Err(refused)) => Err(ProgramFault::Refused(refused.why)),
             Err(EntityRefusal::Lane(refused)) => Err(ProgramFault::Refused(refused.why)),
             Err(EntityRefusal::Route(why)) => Err(ProgramFault::NotRouted(why)),
             Err(EntityRefusal::WrongLane) => Err(ProgramFault::WrongLane),
         }
+    }
+
+    // Abandons the Put's transaction where its journal is full, so that it can't end by itself. Where memory or room in the user's
+    // queue runs out, that is tried again.
+    fn abandon_full(&mut self, key: TxnKey) {
+        let Some(full) = self.station.take_full() else {
+            return;
+        };
+        if full != key {
+            return;
+        }
+        let entity = self.station.entity();
+        let request = Request::Abandon(key);
+        if !entity.may_request(self.user, &request) {
+            return;
+        }
+        let is_passing = match entity.request(self.rt, &NoGate, self.user, request) {
+            Ok(Ok(done)) => {
+                self.station.settle_own(done);
+                return;
+            }
+            Ok(Err(refused)) => EntityRefusal::Lane(refused).is_passing(),
+            Err(refusal) => refusal.is_passing(),
+        };
+        if is_passing {
+            self.station.give_back_full(key);
+        }
+    }
+
+    // Refuses a file that this entity has received; answers whether there was one.
+    fn refuse_files(&mut self, now: u64) -> bool {
+        let turn = self.storer.turn(now);
+        for _ in self.rt.forever() {
+            if self.station.take_stored().is_none() {
+                break;
+            }
+        }
+        turn == StorerTurn::Worked
     }
 
     // Takes the bundle at the front of the user's queue, if there is one, and adds its lines; answers the exit status

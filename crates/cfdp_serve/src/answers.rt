@@ -52,6 +52,11 @@ pub(crate) fn push_no_memory(text: &mut String) -> Result<(), AllocError>
     push_refusal(text, Refusal::NoMemory.number(), Refusal::NoMemory.name())
 }
 
+/// Adds the line for a file that is too large to be sent.
+pub(crate) fn push_too_large(text: &mut String) -> Result<(), AllocError> {
+    push_refusal(text, Refusal::TooLarge.number(), Refusal::TooLarge.name())
+}
+
 /// Adds the line for how far a transaction is.
 pub(crate) fn push_traced(text: &mut String, traced: Traced) -> Result<(), AllocError>
     ensures { OnOk result (string_bytes text.new ≡ string_bytes text.old ++ traced_text traced) }

@@ -1,7 +1,9 @@
 //! What users receive, and who reads it.
+use crate::recording::Watched;
 use crate::reports::Reports;
 use answer_texts::push_bundle;
 use entity_config::Config;
+use event_levels::Level;
 use indications::Bundle;
 use program_seats::{Asker, Seats};
 use std::alloc::{AllocError, Global};
@@ -21,6 +23,7 @@ pub(crate) struct Audience<'a, R: Files> {
     /// Whether each user's indications are printed as they are issued.
     follows: bool,
     pub(crate) reports: Reports<'a, R>,
+    pub(crate) watched: Watched<'a>,
 }
 
 impl<'a, R: Wait + Clock + Files> Audience<'a, R> {
@@ -32,6 +35,7 @@ impl<'a, R: Wait + Clock + Files> Audience<'a, R> {
         ports: Vec<UserPort>,
         follows: bool,
         reports: Reports<'a, R>,
+        watched: Watched<'a>,
     ) -> Audience<'a, R> {
         Audience {
             rt,
@@ -40,17 +44,23 @@ impl<'a, R: Wait + Clock + Files> Audience<'a, R> {
             ports,
             follows,
             reports,
+            watched,
         }
     }
 
     /// Whether each user's bundles are taken as they are issued.
     pub(crate) fn receives(&self) -> bool {
-        self.follows || self.reports.has_readers()
+        self.follows || self.is_reported()
     }
 
-    /// Takes and prints the bundle at the front of a user's queue, unless events report it.
+    /// Whether bundles are reported or recorded as they come, so that no command takes them.
+    pub(crate) fn is_reported(&self) -> bool {
+        self.reports.has_readers() || self.watched.book.records()
+    }
+
+    /// Takes and prints the bundle at the front of a user's queue, unless events report it or transactions are recorded.
     pub(crate) fn take(&mut self, user: usize, text: &mut String) -> Result<(), AllocError> {
-        if self.reports.has_readers() {
+        if self.is_reported() {
             return text.push_str("refused TakenByEvents\n");
         }
         match self.receive(user) {
@@ -73,9 +83,10 @@ impl<'a, R: Wait + Clock + Files> Audience<'a, R> {
         Ok(has_received)
     }
 
-    /// Sends a client the last events, at most `most`, and all later ones. If memory for that runs out, the client is cut off.
-    pub(crate) fn follow(&mut self, seats: &Seats, asker: Asker, most: u64) {
-        if self.reports.follow(asker, most).is_err() {
+    /// Sends a client the last events, at most `most`, and all later ones, from a level on if one is asked for. If memory for that runs
+    /// out, the client is cut off.
+    pub(crate) fn follow(&mut self, seats: &Seats, asker: Asker, most: u64, least: Option<Level>) {
+        if self.reports.follow(asker, most, least).is_err() {
             seats.cut(self.rt, asker);
         }
     }
@@ -93,7 +104,8 @@ impl<'a, R: Wait + Clock + Files> Audience<'a, R> {
     // Takes the bundle at the front of a user's queue, if there is one, and reports it.
     fn receive(&mut self, user: usize) -> Option<Bundle> {
         let bundle = self.next_bundle(user)?;
-        self.reports.receive(&bundle);
+        let at = self.reports.receive(&bundle);
+        self.watched.note(&bundle, at);
         Some(bundle)
     }
 

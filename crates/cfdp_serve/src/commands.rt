@@ -3,22 +3,24 @@ use crate::answers::{
     push_bad_command, push_entity_refusal, push_no_memory, push_taken, push_traced,
 };
 use crate::audience::Audience;
-use crate::places::Places;
+use crate::following::Spell;
+use crate::full::Begun;
 use crate::readiness::Readiness;
 use crate::skipping::Opened;
 use cfdp_types::{EntityId, Octets, PutFault, PutRequest, TxnKey};
-use entity_routing::Request;
-use entity_workers::Filestore;
+use entity_routing::{Place, Request};
+use event_levels::Level;
 use lane_table::Done;
 use program_desk::{Desk, Said, Step, wall_moment};
 use program_lot::Lot;
 use program_numbers::HeldNumbers;
-use program_outbox::Outgoing;
+use program_outbox::{Outgoing, Windows};
 use program_seats::{Asker, Seats};
 use program_start::ProgramFault;
-use program_station::{Preparing, Station, flat};
+use program_station::Station;
+use program_storing::Depot;
 use program_tallies::{RefusalKind, Tallies};
-use server_lines::{Command, PutCommand};
+use server_lines::{Command, PutCommand, Tuning};
 use shared_entity::{Entity, EntityRefusal};
 use shared_lanes::{Names, NoGate};
 use station_lines::Moment;
@@ -30,27 +32,34 @@ use txn_events::Refusal;
 
 /// What the main thread of a server has, but for where answers are printed.
 #[derive(Drop)]
-pub(crate) struct Server<'a, N: Names, R: Files + Copy, S: Drop> {
+pub(crate) struct Server<'a, N: Names, R: Files + AllocGlobal + Copy + Drop> {
     pub(crate) rt: &'a R,
     pub(crate) alloc: Global,
     pub(crate) desk: &'a Desk,
     /// The steps that are to be noted, the last one first.
     pub(crate) steps: Vec<Step>,
-    pub(crate) station: Station<'a, N, R, S>,
+    pub(crate) station: Station<'a, N, R>,
     /// The file of its numbers, where there is one.
-    pub(crate) numbers: Option<HeldNumbers>,
+    pub(crate) numbers: Option<HeldNumbers<R>>,
     pub(crate) audience: Audience<'a, R>,
     /// The seats of its clients, where it has a control socket.
     pub(crate) seats: Option<&'a Seats>,
-    /// Whether events say where the store kept a file: names may be others than the senders'.
-    pub(crate) shows_places: bool,
+    /// Where received files are left to be stored.
+    pub(crate) depot: &'a Depot,
     pub(crate) tallies: &'a Tallies,
     pub(crate) outgoing: Outgoing,
+    /// The links that are open for a time.
+    pub(crate) windows: Windows,
+    /// What the outbox began, and whether all transactions are abandoned whose journals are full, and not only those.
+    pub(crate) begun: Begun,
+    pub(crate) abandons_full: bool,
     pub(crate) readiness: Readiness,
     /// A transaction that was opened to use up its number, and isn't abandoned yet.
     pub(crate) opened: Option<Opened>,
     /// Where datagrams are parked.
     pub(crate) lot: &'a Lot,
+    /// What is known of clients that follow and fell behind, by seat.
+    pub(crate) spells: Vec<Option<Spell>>,
     pub(crate) started: Moment,
 }
 
@@ -58,8 +67,10 @@ pub(crate) struct Server<'a, N: Names, R: Files + Copy, S: Drop> {
 #[derive(Clone, Copy, Debug, PartialEq, Eq)]
 pub(crate) enum Next {
     GoesOn,
-    /// The client that asked follows from then on, after the last events, so many at most.
-    Follows(Asker, u64),
+    /// The client that asked follows from then on, after the last events, so many at most; from a level on, if one is asked for.
+    Follows(Asker, u64, Option<Level>),
+    /// The answer comes later.
+    Later,
     Quits,
 }
 
@@ -141,13 +152,37 @@ fn given_up_by(request: &Request) -> Option<TxnKey> {
     }
 }
 
+/// Where a Put comes from that a client didn't give: its number in the outbox, and its source file name, where that is another
+/// than its path.
+#[derive(Drop)]
+pub(crate) struct FromOutbox {
+    pub(crate) number: u64,
+    pub(crate) source_name: Option<Octets>,
+}
+
+// The source file name of a Put.
+fn name_of<'a>(put: &'a PutCommand, from: Option<&'a FromOutbox>) -> &'a [u8] {
+    let Some(from) = from else {
+        return put.source.as_slice();
+    };
+    match &from.source_name {
+        Some(name) => name.as_slice(),
+        None => put.source.as_slice(),
+    }
+}
+
 // The request for a Put.
-fn request_of(alloc: Global, put: &PutCommand, file: Octets) -> Result<Request, PutFault> {
+fn request_of(
+    alloc: Global,
+    put: &PutCommand,
+    from: Option<&FromOutbox>,
+    file: Octets,
+) -> Result<Request, PutFault> {
     let request = PutRequest::new(
         alloc,
         put.destination,
         put.class,
-        put.source.as_slice(),
+        name_of(put, from),
         put.destination_name.as_slice(),
         &[],
         &[],
@@ -170,12 +205,7 @@ fn trace<N: Names, R: Wait + Copy>(
     }
 }
 
-impl<
-    'a,
-    N: Names,
-    R: Wait + Clock + Files + AllocGlobal + Copy + Drop,
-    S: Filestore + Preparing + Places + Drop,
-> Server<'a, N, R, S> {
+impl<'a, N: Names, R: Wait + Clock + Files + AllocGlobal + Copy + Drop> Server<'a, N, R> {
     /// Does what a line says, and adds its answer.
     pub(crate) fn obey(
         &mut self,
@@ -186,6 +216,7 @@ impl<
         match said {
             Said::Command(command) => self.obey_command(command, asker, text),
             Said::Put(put, file) => goes_on(self.put(&put, file, text)),
+            Said::Send(send, size) => goes_on(self.queue_known(send, size, text)),
             Said::Nothing => goes_on(push_bad_command(text)),
             Said::NoMemory => goes_on(push_no_memory(text)),
         }
@@ -201,7 +232,15 @@ impl<
         match (command, asker) {
             (Command::Quit, None) => Ok(Next::Quits),
             (Command::Quit, Some(_)) => answered(text, Next::Quits),
-            (Command::Follow(most), Some(asker)) => answered(text, Next::Follows(asker, most)),
+            (Command::Follow(most), Some(asker)) => answered(
+                text,
+                Next::Follows(asker, most, None),
+            ),
+            (Command::Tune(Tuning::FollowFrom(most, least)), Some(asker)) => answered(
+                text,
+                Next::Follows(asker, most, Some(least)),
+            ),
+            (Command::Journal(key), asker) => self.record_for(key, asker, text),
             (other, _) => goes_on(self.do_command(other, text)),
         }
     }
@@ -218,7 +257,10 @@ impl<
             Command::Drop(number) => self.withdraw(number, text),
             Command::Hold(remote) => self.hold(remote, text),
             Command::Release(remote) => self.release(remote, text),
-            Command::Put(_) | Command::Follow(_) | Command::Quit => push_bad_command(text),
+            Command::Tune(tuning) => self.tune(tuning, text),
+            Command::Put(_) | Command::Follow(_) | Command::Journal(_) | Command::Quit => {
+                push_bad_command(text)
+            }
         }
     }
 
@@ -236,17 +278,18 @@ impl<
         }
     }
 
-    /// Puts a file; `queued` is its number in the outbox, where it comes from there.
+    /// Puts a file, `from` the outbox where it comes from there.
     pub(crate) fn put_file(
         &mut self,
         put: &PutCommand,
         file: Octets,
-        queued: Option<u64>,
+        from: Option<&FromOutbox>,
         text: &mut String,
     ) -> Result<PutEnd, AllocError> {
+        let queued = from.map(|from| from.number);
         let size = file.as_slice().len() as u64;
         let asked = match self.station.reserve() {
-            Ok(()) => request_of(self.alloc, put, file),
+            Ok(()) => request_of(self.alloc, put, from, file),
             Err(AllocError) => Err(PutFault::NoMemory),
         };
         match asked {
@@ -275,7 +318,7 @@ impl<
     /// Whether the file of numbers covers the next Put's number, where there is such a file.
     pub(crate) fn covers(&mut self) -> bool {
         match &mut self.numbers {
-            Some(numbers) => numbers.cover(self.rt).is_ok(),
+            Some(numbers) => numbers.cover().is_ok(),
             None => true,
         }
     }
@@ -294,6 +337,10 @@ impl<
                     numbers.note_put(key);
                 }
                 self.readiness.note(put.destination, key.seq);
+                if queued.is_some() {
+                    let (user, lane) = (put.user, put.lane);
+                    self.begun.note(Place { user, lane }, key);
+                }
                 self.audience.reports.put(put, size, queued, key);
                 Ok(PutEnd::Opened)
             }
@@ -328,10 +375,12 @@ impl<
             return refused(push_bad_command(text), PutEnd::Refused);
         }
         let destination = destination_of(&request);
-        match flat(entity.request(self.rt, &NoGate, user, request)) {
-            Ok(done) => self.go_on(done, destination, text),
-            Err(refusal) => refused(self.refuse(&refusal, text), end_of(&refusal)),
-        }
+        let refusal = match entity.request(self.rt, &NoGate, user, request) {
+            Ok(Ok(done)) => return self.go_on(done, destination, text),
+            Ok(Err(refused)) => EntityRefusal::Lane(refused),
+            Err(refusal) => refusal,
+        };
+        refused(self.refuse(&refusal, text), end_of(&refusal))
     }
 
     // Answers what the entity took, and carries out what the step gives. A Put has a destination.

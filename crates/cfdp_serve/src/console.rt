@@ -28,7 +28,10 @@ impl<'a, W: Write + Drop> Console<'a, W> {
         text: &mut String,
     ) -> Result<(), ProgramFault> {
         match self.seats() {
-            Some(seats) => send(rt, seats, asker, text),
+            Some(seats) => {
+                send(rt, seats, asker, text);
+                Ok(())
+            }
             None => self.print(text.as_str()),
         }
     }
@@ -42,16 +45,15 @@ impl<'a, W: Write + Drop> Console<'a, W> {
     }
 }
 
-// Sends an answer to the client that asked, with the line that ends it.
-fn send<R: Wait>(
-    rt: &R,
-    seats: &Seats,
-    asker: Option<Asker>,
-    text: &mut String,
-) -> Result<(), ProgramFault> {
-    if let Some(asker) = asker {
-        text.push_str(".\n")?;
+// Sends an answer to the client that asked, with the line that ends it. Where there is no memory for that line, the client is cut
+// off.
+fn send<R: Wait>(rt: &R, seats: &Seats, asker: Option<Asker>, text: &mut String) {
+    let Some(asker) = asker else {
+        return;
+    };
+    if text.push_str(".\n").is_ok() {
         let _is_there = seats.answer(rt, asker, text.as_bytes());
+    } else {
+        seats.cut(rt, asker);
     }
-    Ok(())
 }

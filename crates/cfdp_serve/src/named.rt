@@ -1,6 +1,7 @@
 //! The entity of a run, over queues that bear the run's name.
 ghost use Rattle.shared_entity.specs.Opening.{AreQueuesFor};
 
+use crate::files::ServerFiles;
 use crate::threads::{Given, Sockets, Starting, serve_over};
 use entity_config::Config;
 use program_start::{FileReader, ProgramFault};
@@ -17,14 +18,14 @@ use user_queues::Queues;
 /// Opens an entity with its queues, and serves.
 pub(crate) fn serve_named<
     R: Threads + Wait + Clock + Files + AllocGlobal + Copy + Drop + Send + Sync,
-    F: FileReader + Sync,
+    F: FileReader + ServerFiles + Sync,
     I: Read + Send + Drop,
     W: Write + Drop,
 >(
     starting: &Starting<'_, R, F>,
     config: Config,
     sockets: Sockets<'_>,
-    given: Given<I, W>,
+    given: Given<R, I, W>,
 ) -> Result<u8, ProgramFault> {
     let queues = queues_of(*starting.rt, starting.alloc, &config)?;
     serve_opened::<Brand, R, F, I, W>(starting, config, queues, sockets, given)
@@ -33,7 +34,7 @@ pub(crate) fn serve_named<
 fn serve_opened<
     N: Names + Send + Sync,
     R: Threads + Wait + Clock + Files + AllocGlobal + Copy + Drop + Send + Sync,
-    F: FileReader + Sync,
+    F: FileReader + ServerFiles + Sync,
     I: Read + Send + Drop,
     W: Write + Drop,
 >(
@@ -41,7 +42,7 @@ fn serve_opened<
     config: Config,
     queues: Queues<R>,
     sockets: Sockets<'_>,
-    given: Given<I, W>,
+    given: Given<R, I, W>,
 ) -> Result<u8, ProgramFault>
     requires { AreQueuesFor N.queue N.lanes config queues }
 {

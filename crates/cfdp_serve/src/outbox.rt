@@ -1,17 +1,16 @@
-//! What the server does about files that wait, and links that are held.
-use crate::answers::push_no_memory;
-use crate::commands::{PutEnd, Server};
-use crate::places::Places;
-use cfdp_types::{EntityId, Octets};
-use entity_workers::Filestore;
+//! What the server does about files that wait.
+use crate::answers::{push_entity_refusal, push_no_memory, push_too_large};
+use crate::commands::{FromOutbox, PutEnd, Server};
+use cfdp_types::Octets;
+use cfdp_types::limits::FILE_OCTETS;
+use entity_routing::RouteRefusal;
 use program_desk::{moment, wall_moment};
 use program_outbox::{OutboxFault, OutboxFile, Outgoing};
 use program_start::ProgramFault;
-use program_station::Preparing;
 use program_status::push_outbox;
 use server_lines::{PutCommand, SendCommand};
+use shared_entity::EntityRefusal;
 use shared_lanes::Names;
-use station_lines::Moment;
 use std::alloc::AllocError;
 use std::rt::Files;
 use std::sync::Wait;
@@ -20,26 +19,42 @@ use std::time::Clock;
 // Room for the answer to a Put.
 const ANSWER_OCTETS: usize = 1_024;
 
-impl<
-    'a,
-    N: Names,
-    R: Wait + Clock + Files + AllocGlobal + Copy + Drop,
-    S: Filestore + Preparing + Places + Drop,
-> Server<'a, N, R, S> {
+impl<'a, N: Names, R: Wait + Clock + Files + AllocGlobal + Copy + Drop> Server<'a, N, R> {
     /// A file waits from now on.
     pub(crate) fn queue(&mut self, send: SendCommand, text: &mut String) -> Result<(), AllocError> {
         let file = OutboxFile {
             class: send.class,
             destination: send.destination,
             source: send.source,
+            source_name: send.source_name,
             destination_name: send.destination_name,
             closure: send.closure,
+            is_urgent: send.is_urgent,
             since: wall_moment(self.rt),
         };
         match self.outgoing.push(send.user, file, moment(self.rt)) {
             Ok(number) => writeln!(text, "queued {number}"),
             Err(OutboxFault::Full) => text.push_str("refused OutboxFull\n"),
             Err(OutboxFault::NoMemory) => push_no_memory(text),
+        }
+    }
+
+    /// A file waits from now on whose size was looked at, unless it can't be sent.
+    pub(crate) fn queue_known(
+        &mut self,
+        send: SendCommand,
+        size: Result<u64, ProgramFault>,
+        text: &mut String,
+    ) -> Result<(), AllocError> {
+        if !self.station.is_known(send.destination) {
+            let refusal = EntityRefusal::Route(RouteRefusal::UnknownRemote);
+            return push_entity_refusal(self.alloc, text, &refusal);
+        }
+        match size {
+            Ok(size) if size > u64::from(FILE_OCTETS) => push_too_large(text),
+            Ok(_) => self.queue(send, text),
+            Err(ProgramFault::NoMemory) => push_no_memory(text),
+            Err(_) => text.push_str("read fault\n"),
         }
     }
 
@@ -136,7 +151,7 @@ impl<
         now: u64,
         answer: &mut String,
     ) -> Result<PutEnd, AllocError> {
-        let Some((mut put, number)) = put_of(&self.outgoing) else {
+        let Some((mut put, from)) = put_of(&self.outgoing) else {
             return Ok(PutEnd::Passing);
         };
         if self.station.is_held(put.destination) || answer.try_reserve(ANSWER_OCTETS).is_err() {
@@ -145,7 +160,7 @@ impl<
         match file {
             Ok(file) => {
                 self.look_at_lanes(now);
-                self.put_in_lane(&mut put, file, number, answer)
+                self.put_in_lane(&mut put, file, &from, answer)
             }
             Err(ProgramFault::NoMemory) => Ok(PutEnd::Passing),
             Err(_) => {
@@ -160,47 +175,16 @@ impl<
         &mut self,
         put: &mut PutCommand,
         file: Octets,
-        number: u64,
+        from: &FromOutbox,
         answer: &mut String,
     ) -> Result<PutEnd, AllocError> {
         match self.readiness.lane_for(put.user, put.destination) {
             Some(lane) => {
                 put.lane = lane;
-                self.put_file(put, file, Some(number), answer)
+                self.put_file(put, file, Some(from), answer)
             }
             None => Ok(PutEnd::Passing),
         }
-    }
-
-    /// Nothing leaves for a remote entity from now on.
-    pub(crate) fn hold(&mut self, remote: EntityId, text: &mut String) -> Result<(), AllocError> {
-        let was_held = self.station.is_held(remote);
-        let at = wall_moment(self.rt);
-        if !self.station.hold(remote, at) {
-            return text.push_str("refused UnknownRemote\n");
-        }
-        if !was_held {
-            self.audience.reports.hold(Moment(at), remote);
-        }
-        text.push_str("ok\n")
-    }
-
-    /// The link to a remote entity is open again.
-    pub(crate) fn release(
-        &mut self,
-        remote: EntityId,
-        text: &mut String,
-    ) -> Result<(), AllocError> {
-        let was_held = self.station.is_held(remote);
-        let now = moment(self.rt);
-        if !self.station.release(remote, now) {
-            return text.push_str("refused UnknownRemote\n");
-        }
-        self.outgoing.try_from(now);
-        if was_held {
-            self.audience.reports.release(remote);
-        }
-        text.push_str("ok\n")
     }
 }
 
@@ -209,8 +193,8 @@ fn path_of(outgoing: &Outgoing) -> Option<Octets> {
     outgoing.reading()?.file.source.copy().ok()
 }
 
-// The Put of the file that was read, in the user's first lane, and its number in the outbox, where there is memory for it.
-fn put_of(outgoing: &Outgoing) -> Option<(PutCommand, u64)> {
+// The Put of the file that was read, in the user's first lane, and where it comes from, where there is memory for it.
+fn put_of(outgoing: &Outgoing) -> Option<(PutCommand, FromOutbox)> {
     let waiting = outgoing.reading()?;
     let file = &waiting.file;
     let put = PutCommand {
@@ -222,5 +206,13 @@ fn put_of(outgoing: &Outgoing) -> Option<(PutCommand, u64)> {
         source: file.source.copy().ok()?,
         destination_name: file.destination_name.copy().ok()?,
     };
-    Some((put, waiting.number))
+    let source_name = match &file.source_name {
+        Some(name) => Some(name.copy().ok()?),
+        None => None,
+    };
+    let from = FromOutbox {
+        number: waiting.number,
+        source_name,
+    };
+    Some((put, from))
 }

@@ -1,6 +1,7 @@
 //! What a server reports: to clients that follow, and to its log.
 use cfdp_types::{EntityId, TxnKey};
 use entity_config::Config;
+use event_levels::Level;
 use indications::Bundle;
 use program_desk::wall_moment;
 use program_lot::Lot;
@@ -32,9 +33,8 @@ pub(crate) struct Reports<'a, R: Files> {
     turn_moment: Option<Moment>,
     /// When refusals are reported next, by the runtime's clock.
     refusals_due: u64,
-    /// How many refusals there were at the last report, and how many workers read no more by then.
+    /// How many refusals there were at the last report.
     refusals_seen: u64,
-    ended_reads_seen: u64,
     /// Where datagrams are parked, and how many were dropped there by the last report.
     lot: &'a Lot,
     unparked_seen: u64,
@@ -60,7 +60,6 @@ impl<'a, R: Wait + Clock + Files> Reports<'a, R> {
             turn_moment: None,
             refusals_due: 0,
             refusals_seen: 0,
-            ended_reads_seen: 0,
             lot,
             unparked_seen: 0,
         })
@@ -108,6 +107,14 @@ impl<'a, R: Wait + Clock + Files> Reports<'a, R> {
     pub(crate) fn log_status(&self) -> Option<LogStatus> {
         match &self.events {
             Some(events) => events.log_status(),
+            None => None,
+        }
+    }
+
+    /// Opens the log anew, if there is one; answers whether that worked.
+    pub(crate) fn reopen_log(&mut self) -> Option<bool> {
+        match &mut self.events {
+            Some(events) => events.reopen_log(self.rt),
             None => None,
         }
     }
@@ -178,10 +185,26 @@ impl<'a, R: Wait + Clock + Files> Reports<'a, R> {
         }
     }
 
+    /// Reports that a user's transaction was abandoned since its journal is full.
+    pub(crate) fn end_full(&mut self, user: usize, key: TxnKey) {
+        let at = self.now();
+        let name = self.config.name_of(user).unwrap_or("");
+        if let Some(events) = &mut self.events {
+            events.end_full(at, name, key);
+        }
+    }
+
     /// Reports that nothing leaves for a remote entity from a moment on.
     pub(crate) fn hold(&mut self, at: Moment, remote: EntityId) {
         if let Some(events) = &mut self.events {
             events.hold(at, remote);
+        }
+    }
+
+    /// Reports that nothing leaves for a remote entity from a moment on, since the time is over for which its link was open.
+    pub(crate) fn hold_planned(&mut self, at: Moment, remote: EntityId) {
+        if let Some(events) = &mut self.events {
+            events.hold_planned(at, remote);
         }
     }
 
@@ -201,14 +224,15 @@ impl<'a, R: Wait + Clock + Files> Reports<'a, R> {
         }
     }
 
-    /// Notes and reports a bundle that a user received in this turn.
-    pub(crate) fn receive(&mut self, bundle: &Bundle) {
+    /// Notes and reports a bundle that a user received in this turn, and answers at which moment.
+    pub(crate) fn receive(&mut self, bundle: &Bundle) -> Moment {
         let at = self.now_of_turn();
         self.notes.note(bundle, at);
         let name = self.config.name_of(bundle.user).unwrap_or("");
         if let Some(events) = &mut self.events {
-            events.receive(at, name, bundle);
+            events.receive(self.rt, at, name, bundle);
         }
+        at
     }
 
     /// Reports what became of a file that the store was given, and where it was kept, if that is to be shown.
@@ -230,8 +254,8 @@ impl<'a, R: Wait + Clock + Files> Reports<'a, R> {
         }
     }
 
-    // Reports what was refused since the last report, how many parked datagrams were dropped, and that a worker reads no more.
-    // Where there is no memory for that, it is reported later.
+    // Reports what was refused since the last report, and how many parked datagrams were dropped. Where there is no memory for
+    // that, it is reported later.
     fn refusals(&mut self) {
         let at = self.now();
         let unparked = self.lot.dropped(self.rt);
@@ -251,17 +275,17 @@ impl<'a, R: Wait + Clock + Files> Reports<'a, R> {
             events.unpark(at, unparked.saturating_sub(self.unparked_seen));
             self.unparked_seen = unparked;
         }
-        let ended = self.tallies.totals().ended_reads;
-        if ended != self.ended_reads_seen {
-            self.ended_reads_seen = ended;
-            events.end_reads(at);
-        }
     }
 
-    /// Sends a client the last events, at most so many, and all that come from now on.
-    pub(crate) fn follow(&mut self, asker: Asker, most: u64) -> Result<(), AllocError> {
+    /// Sends a client the last events, at most so many, and all that come from now on, from a level on if one is asked for.
+    pub(crate) fn follow(
+        &mut self,
+        asker: Asker,
+        most: u64,
+        least: Option<Level>,
+    ) -> Result<(), AllocError> {
         match &mut self.events {
-            Some(events) => events.follow(self.rt, asker, most),
+            Some(events) => events.follow(self.rt, asker, most, least),
             None => Ok(()),
         }
     }

@@ -1,4 +1,5 @@
 //! How the server starts.
+use crate::files::ServerFiles;
 use crate::lane_notes::{hints_of, push_hints};
 use crate::named::serve_named;
 use crate::threads::{Given, Sockets, Starting};
@@ -32,7 +33,7 @@ use std::time::Clock;
 /// line there explains the fault, as it does after a check of the configuration.
 pub fn serve<
     R: Threads + Wait + Net + Clock + Files + AllocGlobal + Copy + Drop + Send + Sync,
-    F: FileReader + Sync,
+    F: FileReader + ServerFiles + Sync,
     I: Read + Send + Drop,
     W: Write + Drop,
     E: Write,
@@ -188,7 +189,7 @@ fn fault_of(fault: WordsFault) -> ProgramFault {
 
 fn start<
     R: Threads + Wait + Net + Clock + Files + AllocGlobal + Copy + Drop + Send + Sync,
-    F: FileReader + Sync,
+    F: FileReader + ServerFiles + Sync,
     I: Read + Send + Drop,
     W: Write + Drop,
 >(
@@ -249,14 +250,14 @@ fn has_named(config: &Config, words: &ServerWords<'_>) -> bool {
 fn serve_at<
     'x,
     R: Threads + Wait + Net + Clock + Files + AllocGlobal + Copy + Drop + Send + Sync,
-    F: FileReader + Sync,
+    F: FileReader + ServerFiles + Sync,
     I: Read + Send + Drop,
     W: Write + Drop,
 >(
     starting: &Starting<'x, R, F>,
     config: Config,
     datagrams: &'x UdpSocket,
-    given: Given<I, W>,
+    given: Given<R, I, W>,
 ) -> Result<u8, ProgramFault> {
     let Some(path) = starting.words.control else {
         let sockets = Sockets {
@@ -266,7 +267,8 @@ fn serve_at<
         return serve_named(starting, config, sockets, given);
     };
     let seats = Seats::new(starting.alloc)?;
-    let Ok(socket) = ControlSocket::open(starting.rt, starting.alloc, path) else {
+    let mode = starting.words.control_mode;
+    let Ok(socket) = ControlSocket::open_for(starting.rt, starting.alloc, path, mode) else {
         return Err(ProgramFault::Bind);
     };
     let sockets = Sockets {

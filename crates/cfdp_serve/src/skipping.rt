@@ -1,11 +1,9 @@
 //! Uses up numbers that lag behind those used toward an entity, so that files can go to it.
 use crate::commands::Server;
-use crate::places::Places;
 use crate::readiness::Skip;
 use cfdp_types::{Class, EntityId, PutFault, PutRequest, TxnKey};
 use entity_routing::Request;
-use entity_workers::Filestore;
-use program_station::{Preparing, flat};
+use shared_entity::EntityRefusal;
 use shared_lanes::{Names, NoGate};
 use std::alloc::{AllocError, Global};
 use std::rt::Files;
@@ -27,18 +25,20 @@ pub(crate) struct Opened {
 
 // How what nobody asked for is refused.
 #[derive(Clone, Copy, Debug, PartialEq, Eq)]
-enum Refused {
+pub(crate) enum Refused {
     /// Memory, or room in the user's queue, ran out.
     ForNow,
     ForGood,
 }
 
-impl<
-    'a,
-    N: Names,
-    R: Wait + Clock + Files + AllocGlobal + Copy + Drop,
-    S: Filestore + Preparing + Places + Drop,
-> Server<'a, N, R, S> {
+impl Refused {
+    /// Whether it may be asked for again.
+    pub(crate) fn is_for_now(self) -> bool {
+        self == Refused::ForNow
+    }
+}
+
+impl<'a, N: Names, R: Wait + Clock + Files + AllocGlobal + Copy + Drop> Server<'a, N, R> {
     /// Uses up numbers of a lane, up to the next one that may go, where a file waits for nothing else; whether it used any.
     pub(crate) fn skip_some(&mut self, now: u64) -> bool {
         let Some(skip) = self.readiness.skip() else {
@@ -82,6 +82,7 @@ impl<
             numbers.note_put(key);
         }
         self.readiness.note_skipped(skip.user, skip.lane, key.seq);
+        self.audience.watched.skip(key);
         self.opened = Some(Opened {
             user: skip.user,
             key,
@@ -100,20 +101,25 @@ impl<
         }
     }
 
-    // Asks the entity for something that no user asked for.
-    fn ask_quietly(&mut self, user: usize, request: Request) -> Result<TxnKey, Refused> {
+    /// Asks the entity for something that no user asked for.
+    pub(crate) fn ask_quietly(&mut self, user: usize, request: Request) -> Result<TxnKey, Refused> {
         let entity = self.station.entity();
         if !entity.may_request(user, &request) {
             return Err(Refused::ForGood);
         }
-        match flat(entity.request(self.rt, &NoGate, user, request)) {
-            Ok(done) => {
+        let is_passing = match entity.request(self.rt, &NoGate, user, request) {
+            Ok(Ok(done)) => {
                 let key = done.key;
                 self.station.settle_own(done);
-                Ok(key)
+                return Ok(key);
             }
-            Err(refusal) if refusal.is_passing() => Err(Refused::ForNow),
-            Err(_) => Err(Refused::ForGood),
+            Ok(Err(refused)) => EntityRefusal::Lane(refused).is_passing(),
+            Err(refusal) => refusal.is_passing(),
+        };
+        if is_passing {
+            Err(Refused::ForNow)
+        } else {
+            Err(Refused::ForGood)
         }
     }
 }

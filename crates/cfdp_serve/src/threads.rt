@@ -2,19 +2,22 @@
 use crate::audience::Audience;
 use crate::commands::Server;
 use crate::console::Console;
+use crate::files::{FolderStoring, ServerFiles};
+use crate::full::Begun;
 use crate::readiness::Readiness;
+use crate::recording::{Book, Recorder, Watched};
 use crate::reports::Reports;
 use crate::working::Serving;
 use entity_config::Config;
-use entity_workers::Filestore;
-use program_desk::{Desk, Urgency, wall_moment};
+use program_desk::{Desk, Urgency, moment, wall_moment};
 use program_lot::Lot;
 use program_numbers::HeldNumbers;
-use program_outbox::Outgoing;
-use program_seats::Seats;
+use program_outbox::{Outgoing, Windows};
+use program_seats::{PLACES, Seats};
 use program_start::{FileReader, ProgramFault};
-use program_station::{Control, Preparing, Sources, Station, WayIn, run_commanded, run_controlled};
+use program_station::{Control, Sources, Station, WayIn, run_commanded, run_controlled};
 use program_status::{EventLog, Events};
+use program_storing::Depot;
 use program_tallies::Tallies;
 use program_udp::PduSender;
 use program_words::ServerWords;
@@ -22,12 +25,12 @@ use script_io::in_blocks;
 use shared_entity::Entity;
 use shared_lanes::Names;
 use station_lines::Moment;
-use station_store::{Clash, Layout, StationStore};
 use std::alloc::{AllocError, Global};
 use std::io::{BufReader, Read, Write};
 use std::net::UdpSocket;
 use std::rt::Files;
 use std::sync::Wait;
+use std::thread;
 use std::thread::Threads;
 use std::time::Clock;
 use user_queues::UserPort;
@@ -35,7 +38,7 @@ use user_queues::UserPort;
 // How many steps may wait for the main thread, and how many lines.
 const STEPS: usize = 1_024;
 
-const LINES: usize = 16;
+const LINES: usize = 17;
 
 /// What a server starts from: its runtime, who reads files that are to be sent, and the words of its command line.
 #[derive(Drop)]
@@ -56,8 +59,8 @@ pub(crate) struct Sockets<'x> {
 /// What a server is given: its numbers, where a file keeps them, and where commands come from and answers go without a control
 /// socket.
 #[derive(Drop)]
-pub(crate) struct Given<I: Drop, W: Drop> {
-    pub(crate) numbers: Option<HeldNumbers>,
+pub(crate) struct Given<R: Files + AllocGlobal + Drop, I: Drop, W: Drop> {
+    pub(crate) numbers: Option<HeldNumbers<R>>,
     pub(crate) reader: I,
     pub(crate) writer: W,
 }
@@ -66,7 +69,7 @@ pub(crate) struct Given<I: Drop, W: Drop> {
 pub(crate) fn serve_over<
     N: Names + Send + Sync,
     R: Threads + Wait + Clock + Files + AllocGlobal + Copy + Drop + Send + Sync,
-    F: FileReader + Sync,
+    F: FileReader + ServerFiles + Sync,
     I: Read + Send + Drop,
     W: Write + Drop,
 >(
@@ -74,7 +77,7 @@ pub(crate) fn serve_over<
     entity: &Entity<N, R>,
     ports: Vec<UserPort>,
     sockets: Sockets<'_>,
-    given: Given<I, W>,
+    given: Given<R, I, W>,
 ) -> Result<u8, ProgramFault> {
     let Starting {
         rt,
@@ -85,6 +88,19 @@ pub(crate) fn serve_over<
     let desk = Desk::new(alloc, STEPS, LINES)?;
     let tallies = Tallies::new(alloc, words.workers as usize, entity.config().remotes())?;
     let lot = Lot::new(alloc, entity.config(), words.park, takes_bundles(words))?;
+    let depot = Depot::new(alloc, entity.config())?;
+    let book = Book::new(alloc, words)?;
+    let seats = sockets.control.map(|control| control.seats);
+    let recorder = Recorder::new(
+        rt,
+        alloc,
+        files,
+        words,
+        entity.config(),
+        &book,
+        &desk,
+        seats,
+    )?;
     let opened = Opened {
         rt,
         alloc,
@@ -92,19 +108,99 @@ pub(crate) fn serve_over<
         entity,
         socket: sockets.datagrams,
         desk: &desk,
+        depot: &depot,
         tallies: &tallies,
         lot: &lot,
+        book: &book,
         words,
     };
-    match sockets.control {
-        None => serve_reader(&opened, ports, given),
-        Some(control) => serve_clients::<N, R, F, W>(&opened, ports, given.numbers, control),
+    serve_recorded(opened, ports, sockets.control, given, recorder)
+}
+
+// Serves beside a thread that records transactions.
+fn serve_recorded<
+    'x,
+    N: Names + Send + Sync,
+    R: Threads + Wait + Clock + Files + AllocGlobal + Copy + Drop + Send + Sync,
+    F: FileReader + ServerFiles + Sync,
+    I: Read + Send + Drop,
+    W: Write + Drop,
+>(
+    opened: Opened<'x, N, R, F>,
+    ports: Vec<UserPort>,
+    control: Option<Control<'x>>,
+    given: Given<R, I, W>,
+    recorder: Recorder<'x, R, F>,
+) -> Result<u8, ProgramFault> {
+    let (rt, book) = (opened.rt, opened.book);
+    thread::scope(
+        thread::scope_env(),
+        rt,
+        move |scope| -> Result<u8, ProgramFault> {
+            let Ok(_records) = scope.spawn(move || recorder.run()) else {
+                return Err(ProgramFault::Start);
+            };
+            let ended = serve_stored(opened, ports, control, given);
+            book.close(rt);
+            ended
+        },
+    )
+}
+
+// Serves beside a thread that stores received files.
+fn serve_stored<
+    'x,
+    N: Names + Send + Sync,
+    R: Threads + Wait + Clock + Files + AllocGlobal + Copy + Drop + Send + Sync,
+    F: FileReader + ServerFiles + Sync,
+    I: Read + Send + Drop,
+    W: Write + Drop,
+>(
+    opened: Opened<'x, N, R, F>,
+    ports: Vec<UserPort>,
+    control: Option<Control<'x>>,
+    given: Given<R, I, W>,
+) -> Result<u8, ProgramFault> {
+    let (rt, files, depot, book) = (opened.rt, opened.files, opened.depot, opened.book);
+    let storing = storing_over(&opened)?;
+    thread::scope(
+        thread::scope_env(),
+        rt,
+        move |scope| -> Result<u8, ProgramFault> {
+            let Ok(_stores) = scope.spawn(move || files.store(storing)) else {
+                return Err(ProgramFault::Start);
+            };
+            let ended = serve_commanded(&opened, ports, control, given);
+            depot.close(rt);
+            book.close(rt);
+            ended
+        },
+    )
+}
+
+// Serves by the lines of a reader, or by those of clients.
+fn serve_commanded<
+    'x,
+    N: Names + Send + Sync,
+    R: Threads + Wait + Clock + Files + AllocGlobal + Copy + Drop + Send + Sync,
+    F: FileReader + ServerFiles + Sync,
+    I: Read + Send + Drop,
+    W: Write + Drop,
+>(
+    opened: &Opened<'x, N, R, F>,
+    ports: Vec<UserPort>,
+    control: Option<Control<'x>>,
+    given: Given<R, I, W>,
+) -> Result<u8, ProgramFault> {
+    match control {
+        None => serve_reader(opened, ports, given),
+        Some(control) => serve_clients::<N, R, F, W>(opened, ports, given.numbers, control),
     }
 }
 
 // Whether the server itself takes from its users' queues as bundles come.
 fn takes_bundles(words: &ServerWords<'_>) -> bool {
-    words.follow || words.control.is_some() || words.log.is_some()
+    words.follow || words.control.is_some() || words.log.is_some() || words.record.is_some()
 }
 
 // What is opened of a server before its threads start.
@@ -116,8 +212,10 @@ struct Opened<'x, N: Names, R: Copy, F> {
     entity: &'x Entity<N, R>,
     socket: &'x UdpSocket,
     desk: &'x Desk,
+    depot: &'x Depot,
     tallies: &'x Tallies,
     lot: &'x Lot,
+    book: &'x Book,
     words: &'x ServerWords<'x>,
 }
 
@@ -126,13 +224,13 @@ fn serve_reader<
     'x,
     N: Names + Send + Sync,
     R: Threads + Wait + Clock + Files + AllocGlobal + Copy + Drop + Send + Sync,
-    F: FileReader + Sync,
+    F: FileReader + ServerFiles + Sync,
     I: Read + Send + Drop,
     W: Write + Drop,
 >(
     opened: &Opened<'x, N, R, F>,
     ports: Vec<UserPort>,
-    given: Given<I, W>,
+    given: Given<R, I, W>,
 ) -> Result<u8, ProgramFault> {
     let Given {
         numbers,
@@ -150,13 +248,13 @@ fn serve_lines<
     'x,
     N: Names + Send + Sync,
     R: Threads + Wait + Clock + Files + AllocGlobal + Copy + Drop + Send + Sync,
-    F: FileReader + Sync,
+    F: FileReader + ServerFiles + Sync,
     I: Read + Send + Drop,
     W: Write + Drop,
 >(
     opened: &Opened<'x, N, R, F>,
     ports: Vec<UserPort>,
-    numbers: Option<HeldNumbers>,
+    numbers: Option<HeldNumbers<R>>,
     reader: BufReader<I>,
     writer: W,
 ) -> Result<u8, ProgramFault> {
@@ -189,12 +287,12 @@ fn serve_clients<
     'x,
     N: Names + Send + Sync,
     R: Threads + Wait + Clock + Files + AllocGlobal + Copy + Drop + Send + Sync,
-    F: FileReader + Sync,
+    F: FileReader + ServerFiles + Sync,
     W: Write + Drop,
 >(
     opened: &Opened<'x, N, R, F>,
     ports: Vec<UserPort>,
-    numbers: Option<HeldNumbers>,
+    numbers: Option<HeldNumbers<R>>,
     control: Control<'x>,
 ) -> Result<u8, ProgramFault> {
     let Opened {
@@ -231,7 +329,9 @@ fn way_in_of<'x, N: Names, R: Wait + Clock + Copy, F>(
     } else {
         Urgency::WithItsTimers
     };
-    let sources = if words.known_sources {
+    let sources = if words.strict_sources {
+        Sources::OwnAlone
+    } else if words.known_sources {
         Sources::KnownAlone
     } else {
         Sources::Any
@@ -264,14 +364,16 @@ fn parking_of<'x, N: Names, R: Copy, F>(opened: &Opened<'x, N, R, F>) -> Option<
 fn server_over<'x, N: Names, R: Wait + Clock + Files + AllocGlobal + Copy + Drop, F>(
     opened: &Opened<'x, N, R, F>,
     ports: Vec<UserPort>,
-    numbers: Option<HeldNumbers>,
+    numbers: Option<HeldNumbers<R>>,
     seats: Option<&'x Seats>,
-) -> Result<Server<'x, N, R, StationStore<R>>, ProgramFault> {
+) -> Result<Server<'x, N, R>, ProgramFault> {
     let words = opened.words;
     let (alloc, config) = (opened.alloc, opened.entity.config());
     let steps = Vec::with_capacity(alloc, opened.desk.step_room())?;
     let outgoing = Outgoing::new(alloc, config.users())?;
+    let begun = Begun::new(alloc, config)?;
     let readiness = Readiness::new(alloc, config, words.lanes.as_slice())?;
+    let spells = Vec::from_elem(alloc, None, PLACES)?;
     let audience = audience_over(opened, ports, seats)?;
     match station_over(opened) {
         Ok(station) => Ok(Server {
@@ -283,12 +385,16 @@ fn server_over<'x, N: Names, R: Wait + Clock + Files + AllocGlobal + Copy + Drop
             numbers,
             audience,
             seats,
-            shows_places: words.tree || words.keep,
+            depot: opened.depot,
             tallies: opened.tallies,
             outgoing,
+            windows: Windows::new(alloc),
+            begun,
+            abandons_full: words.abandon_full,
             readiness,
             opened: None,
             lot: opened.lot,
+            spells,
             started: Moment(wall_moment(opened.rt)),
         }),
         Err(fault) => Err(fault),
@@ -306,26 +412,26 @@ fn audience_over<'x, N: Names, R: Wait + Clock + Files + Copy, F>(
     let events = events_of::<R>(alloc, words, seats)?;
     let reports = Reports::new(rt, alloc, config, opened.tallies, events, opened.lot)?;
     let follows = words.follow && seats.is_none();
-    Ok(Audience::new(rt, alloc, config, ports, follows, reports))
+    let watched = Watched::new(alloc, config, opened.book)?;
+    Ok(Audience::new(rt, alloc, config, ports, follows, reports, watched))
 }
 
 // The station of a server, with its store, and its links as the words say.
 fn station_over<'x, N: Names, R: Wait + Clock + Files + AllocGlobal + Copy + Drop, F>(
     opened: &Opened<'x, N, R, F>,
-) -> Result<Station<'x, N, R, StationStore<R>>, ProgramFault> {
+) -> Result<Station<'x, N, R>, ProgramFault> {
     let Opened {
         rt,
         alloc,
         entity,
         socket,
+        depot,
         tallies,
         words,
         ..
     } = *opened;
     let sender = PduSender::new(alloc, socket, entity.config(), &tallies.own, &tallies.links)?;
-    let folder = String::from_str(alloc, words.folder)?;
-    let store = store_of(*rt, folder, words);
-    let mut station = Station::new(rt, alloc, entity, sender, store, tallies, rest_of(words))?;
+    let mut station = Station::new(rt, alloc, entity, sender, depot, tallies, rest_of(words))?;
     set_links(rt, &mut station, words);
     if let Some(lot) = parking_of(opened) {
         station.use_lot(lot);
@@ -333,23 +439,20 @@ fn station_over<'x, N: Names, R: Wait + Clock + Files + AllocGlobal + Copy + Dro
     Ok(station)
 }
 
-// The store for received files.
-fn store_of<R: Files + AllocGlobal + Drop>(
-    rt: R,
-    folder: String,
-    words: &ServerWords<'_>,
-) -> StationStore<R> {
-    let layout = if words.tree {
-        Layout::Tree
-    } else {
-        Layout::Flat
-    };
-    let clash = if words.keep {
-        Clash::Keep
-    } else {
-        Clash::Replace
-    };
-    StationStore::new(rt, folder, layout, clash)
+// What the thread begins with that stores received files.
+fn storing_over<'x, N: Names, R: Copy, F>(
+    opened: &Opened<'x, N, R, F>,
+) -> Result<FolderStoring<'x, N, R>, AllocError> {
+    let folder = String::from_str(opened.alloc, opened.words.folder)?;
+    Ok(FolderStoring {
+        rt: opened.rt,
+        alloc: opened.alloc,
+        entity: opened.entity,
+        desk: opened.desk,
+        depot: opened.depot,
+        words: opened.words,
+        folder,
+    })
 }
 
 // How many octets a second may leave for the files to all remote entities without a limit of their own.
@@ -363,15 +466,14 @@ fn rest_of(words: &ServerWords<'_>) -> Option<u64> {
 }
 
 // Sets the limits of single remote entities, which the configuration has; and holds all links if that is wanted.
-fn set_links<N: Names, R: Wait + Clock + Copy, S: Filestore + Preparing + Drop>(
+fn set_links<N: Names, R: Wait + Clock + Copy>(
     rt: &R,
-    station: &mut Station<'_, N, R, S>,
+    station: &mut Station<'_, N, R>,
     words: &ServerWords<'_>,
 ) {
-    station.try_for(words.retry.unwrap_or(0).saturating_mul(1_000));
     for rate in &words.rates {
         if let Some(remote) = rate.remote {
-            let _is_there = station.limit(remote, rate.octets);
+            let _is_there = station.limit(remote, Some(rate.octets), moment(rt));
         }
     }
     if words.hold {
@@ -380,16 +482,26 @@ fn set_links<N: Names, R: Wait + Clock + Copy, S: Filestore + Preparing + Drop>(
 }
 
 // Nothing leaves for any remote entity until it is released.
-fn hold_all<N: Names, R: Wait + Clock + Copy, S: Filestore + Preparing + Drop>(
-    rt: &R,
-    station: &mut Station<'_, N, R, S>,
-) {
+fn hold_all<N: Names, R: Wait + Clock + Copy>(rt: &R, station: &mut Station<'_, N, R>) {
     let config = station.entity().config();
     for place in 0..config.remotes() {
         if let Some(remote) = config.remote_at(place) {
             let _is_held = station.hold(remote.id, wall_moment(rt));
         }
     }
+}
+
+// A log at a path, of the events that the words ask for.
+fn log_at<R: Files>(
+    alloc: Global,
+    words: &ServerWords<'_>,
+    path: &str,
+) -> Result<EventLog<R>, AllocError> {
+    let mut log = EventLog::new(alloc, String::from_str(alloc, path)?);
+    if let Some(least) = words.log_level {
+        log.write_from(least);
+    }
+    Ok(log)
 }
 
 // The events of a server, where clients or a log may read them.
@@ -399,7 +511,7 @@ fn events_of<'x, R: Wait + Files>(
     seats: Option<&'x Seats>,
 ) -> Result<Option<Events<'x, R>>, AllocError> {
     let log = match words.log {
-        Some(path) => Some(EventLog::new(alloc, String::from_str(alloc, path)?)),
+        Some(path) => Some(log_at(alloc, words, path)?),
         None => None,
     };
     if seats.is_none() && log.is_none() {

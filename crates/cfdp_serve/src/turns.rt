@@ -1,14 +1,19 @@
 //! A turn of the server, but for commands and what is printed.
 use crate::commands::Server;
-use crate::places::Places;
-use entity_workers::Filestore;
 use program_desk::moment;
-use program_station::{Preparing, StoredNote};
+use program_station::REST_MS;
+use program_storing::StoredNote;
 use shared_lanes::Names;
 use std::alloc::AllocError;
 use std::rt::Files;
 use std::sync::Wait;
 use std::time::Clock;
+
+// How many stored files are reported in a turn at most.
+const STORED: usize = 64;
+
+// How long a server that quits waits for the file that it is storing, in milliseconds.
+const LAST_STORE_MS: u64 = 10_000;
 
 // The longest sleep of the main thread, in milliseconds.
 const LONGEST_SLEEP_MS: u64 = 60_000;
@@ -16,41 +21,43 @@ const LONGEST_SLEEP_MS: u64 = 60_000;
 // The same where events are reported: once a second it looks at refusals, and tries again to write a log that failed.
 const LONGEST_SLEEP_WITH_EVENTS_MS: u64 = 1_000;
 
-impl<
-    'a,
-    N: Names,
-    R: Wait + Clock + Files + AllocGlobal + Copy + Drop,
-    S: Filestore + Preparing + Places + Drop,
-> Server<'a, N, R, S> {
+impl<'a, N: Names, R: Wait + Clock + Files + AllocGlobal + Copy + Drop> Server<'a, N, R> {
     /// Notes what steps have left at the desk. Answers whether there was anything.
     pub(crate) fn settle(&mut self) -> bool {
         self.station.settle_left(self.desk, &mut self.steps)
     }
 
-    /// Goes on with files of the outbox, timers, PDUs of files and deposits, and lets events leave. Answers whether there was
-    /// any work.
+    /// Goes on with files of the outbox, timers and PDUs of files, notes which files were stored, and lets events leave. Answers
+    /// whether there was any work.
     pub(crate) fn turn(&mut self, now: u64) -> Result<bool, AllocError> {
+        self.record_ended();
+        self.end_windows(now);
         let has_started = self.start_queued(now)?;
         let has_worked = self.station.turn(now);
-        self.report_stored();
+        self.abandon_full();
+        let has_stored = self.report_stored();
         self.audience.reports.end_turn(now);
-        Ok(has_started || has_worked)
+        Ok(has_started || has_worked || has_stored)
     }
 
-    /// Sleeps until something comes, or until there is work without that.
-    pub(crate) fn rest(&self, now: u64) {
-        let longest = if self.audience.reports.has_readers() {
+    /// Sleeps until something comes, or until there is work without that: soon, where users' bundles wait for a client.
+    pub(crate) fn rest(&self, now: u64, waits: bool) {
+        let longest = if waits {
+            REST_MS
+        } else if self.audience.reports.has_readers() {
             LONGEST_SLEEP_WITH_EVENTS_MS
         } else {
             LONGEST_SLEEP_MS
         };
         let until = self.outgoing.next_moment(self.station.next_moment(now));
+        let until = self.windows.next_moment(until);
         self.desk
             .wait(self.rt, now, until.min(now.saturating_add(longest)));
     }
 
     /// Reports the server's end, and leaves the file of numbers.
     pub(crate) fn end(&mut self) {
+        self.record_ended();
         let now = moment(self.rt);
         self.audience.reports.end(now);
         if let Some(numbers) = &self.numbers {
@@ -58,26 +65,39 @@ impl<
         }
     }
 
-    // Reports what became of the file that the last turn stored, if it stored one.
-    fn report_stored(&mut self) {
-        let Some(StoredNote { key, is_kept }) = self.station.take_stored() else {
-            return;
-        };
-        match self.place_shown(is_kept) {
-            Some(place) => self
-                .audience
-                .reports
-                .store(key, is_kept, Some(place.as_str())),
-            None => self.audience.reports.store(key, is_kept, None),
+    // Reports what became of files that were stored since; answers whether there were any.
+    fn report_stored(&mut self) -> bool {
+        let mut has_stored = false;
+        for _ in 0..STORED {
+            let Some(
+                StoredNote {
+                    key,
+                    is_kept,
+                    place,
+                },
+            ) = self.station.take_stored()
+            else {
+                break;
+            };
+            has_stored = true;
+            let reports = &mut self.audience.reports;
+            match place {
+                Some(place) => reports.store(key, is_kept, Some(place.as_str())),
+                None => reports.store(key, is_kept, None),
+            }
         }
+        has_stored
     }
 
-    // Where the last file was kept, if events show that.
-    fn place_shown(&self, is_kept: bool) -> Option<String> {
-        if self.shows_places && is_kept {
-            String::from_str(self.alloc, self.station.store().place()).ok()
-        } else {
-            None
+    /// Lets the file that is being stored come to its end, for some seconds at most, and notes what became of it.
+    pub(crate) fn end_storing(&mut self) {
+        let rt = self.rt;
+        self.depot.close(rt);
+        let _has_ended = self.depot.wait_end(rt, LAST_STORE_MS);
+        for _ in rt.forever() {
+            if !self.report_stored() {
+                break;
+            }
         }
     }
 }

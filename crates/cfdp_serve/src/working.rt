@@ -1,13 +1,14 @@
 //! The main thread of the server, which works in turns.
+use crate::answers::push_no_memory;
 use crate::audience::Audience;
 use crate::commands::{Next, Server};
 use crate::console::Console;
-use crate::places::Places;
-use entity_workers::Filestore;
-use program_desk::{AskedLine, NextLine, moment};
+use program_desk::{AskedLine, NextLine, Said, moment};
+use program_seats::{Asker, RESERVED_OCTETS};
 use program_start::ProgramFault;
-use program_station::{MainThread, Preparing, REST_MS};
+use program_station::{MainThread, REST_MS};
 use shared_lanes::Names;
+use std::alloc::AllocError;
 use std::io::Write;
 use std::rt::Files;
 use std::sync::Wait;
@@ -19,22 +20,20 @@ const ROUNDS: usize = 256;
 
 const PRINTED_OCTETS: usize = 65_536;
 
+// How often a server that quits takes what users received, at most.
+const LAST_RECEIPTS: usize = 64;
+
 /// A server with what answers are printed to.
 #[derive(Drop)]
-pub(crate) struct Serving<'a, N: Names, R: Files + Copy, S: Drop, W: Drop> {
-    pub(crate) server: Server<'a, N, R, S>,
+pub(crate) struct Serving<'a, N: Names, R: Files + AllocGlobal + Copy + Drop, W: Drop> {
+    pub(crate) server: Server<'a, N, R>,
     pub(crate) console: Console<'a, W>,
 }
 
-impl<
-    'a,
-    N: Names,
-    R: Wait + Clock + Files + AllocGlobal + Copy + Drop,
-    S: Filestore + Preparing + Places + Drop,
-    W: Write + Drop,
-> MainThread for Serving<'a, N, R, S, W> {
-    /// Works in turns until `quit` or the end of the commands. A turn handles at most one command, one timer that has expired,
-    /// a few PDUs of files under way and one deposit.
+impl<'a, N: Names, R: Wait + Clock + Files + AllocGlobal + Copy + Drop, W: Write + Drop> MainThread
+    for Serving<'a, N, R, W> {
+    /// Works in turns until `quit` or the end of the commands. A turn handles at most one command, and a few timers, parked
+    /// datagrams and PDUs of files under way.
     fn work(self) -> Result<u8, ProgramFault> {
         let Serving { server, console } = self;
         let mut server = server;
@@ -51,14 +50,12 @@ fn status_of(ended: Result<(), ProgramFault>) -> Result<u8, ProgramFault> {
     }
 }
 
-fn work<
-    N: Names,
-    R: Wait + Clock + Files + AllocGlobal + Copy + Drop,
-    S: Filestore + Preparing + Places + Drop,
-    W: Write + Drop,
->(server: &mut Server<'_, N, R, S>, console: &mut Console<'_, W>) -> Result<(), ProgramFault> {
+fn work<N: Names, R: Wait + Clock + Files + AllocGlobal + Copy + Drop, W: Write + Drop>(
+    server: &mut Server<'_, N, R>,
+    console: &mut Console<'_, W>,
+) -> Result<(), ProgramFault> {
     let rt = server.rt;
-    let mut text = String::new(server.alloc);
+    let mut text = String::with_capacity(server.alloc, RESERVED_OCTETS)?;
     server.audience.reports.start();
     for _ in rt.forever() {
         let has_settled = server.settle();
@@ -73,34 +70,56 @@ fn work<
             break;
         }
         let now = moment(rt);
-        let has_received = receive(rt, &mut server.audience, console, &mut text)?;
+        let waits = server.waits_for_followers(now);
+        let has_received = !waits && receive(rt, &mut server.audience, console, &mut text)?;
         if has_received {
             server.station.hear_of_room();
         }
         let has_worked = server.turn(now)?;
         if !has_settled && !has_answered && !has_received && !has_worked {
-            server.rest(now);
+            server.rest(now, waits);
         }
     }
-    if server.audience.reports.has_readers() {
-        server.audience.reports.begin_turn();
-        receive(rt, &mut server.audience, console, &mut text)?;
-    }
+    server.end_storing();
+    receive_last(server, console, &mut text)?;
     server.end();
     Ok(())
 }
 
+// Takes what users received up to the end, where it is reported or recorded.
+fn receive_last<N: Names, R: Wait + Clock + Files + AllocGlobal + Copy + Drop, W: Write + Drop>(
+    server: &mut Server<'_, N, R>,
+    console: &mut Console<'_, W>,
+    text: &mut String,
+) -> Result<(), ProgramFault> {
+    if !server.audience.is_reported() {
+        return Ok(());
+    }
+    for _ in 0..LAST_RECEIPTS {
+        server.audience.reports.begin_turn();
+        if !receive(server.rt, &mut server.audience, console, text)? {
+            break;
+        }
+        server.record_ended();
+    }
+    Ok(())
+}
+
 // Answers the next command, if there is one. Says whether there was one, and whether the server goes on.
-fn answer_next<
-    N: Names,
-    R: Wait + Clock + Files + AllocGlobal + Copy + Drop,
-    S: Filestore + Preparing + Places + Drop,
-    W: Write + Drop,
->(
-    server: &mut Server<'_, N, R, S>,
+fn answer_next<N: Names, R: Wait + Clock + Files + AllocGlobal + Copy + Drop, W: Write + Drop>(
+    server: &mut Server<'_, N, R>,
     console: &mut Console<'_, W>,
     text: &mut String,
 ) -> Result<(bool, Next), ProgramFault> {
+    if prints_recording(server, text) {
+        let has_printed = !text.is_empty();
+        if !has_printed {
+            thread::sleep(server.rt, Duration::from_millis(REST_MS));
+        }
+        console.answer(server.rt, None, text)?;
+        text.clear();
+        return Ok((has_printed, Next::GoesOn));
+    }
     let asked = match server.desk.take_line(server.rt) {
         NextLine::Line(asked) => asked,
         NextLine::Awaited => return Ok((false, Next::GoesOn)),
@@ -109,13 +128,47 @@ fn answer_next<
         NextLine::Deserted => return Err(ProgramFault::Start),
     };
     let AskedLine { said, asker } = asked;
-    let next = server.obey(said, asker, text)?;
-    console.answer(server.rt, asker, text)?;
-    if let (Next::Follows(asker, most), Some(seats)) = (next, server.seats) {
-        server.audience.follow(seats, asker, most);
+    let next = obey(server, said, asker, text)?;
+    if next != Next::Later {
+        console.answer(server.rt, asker, text)?;
+    }
+    if let (Next::Follows(asker, most, least), Some(seats)) = (next, server.seats) {
+        server.audience.follow(seats, asker, most, least);
     }
     text.clear();
     Ok((true, next))
+}
+
+// Adds the next piece of a recording that is to be printed, and answers whether one is. Where there is no memory for the piece, it is
+// printed later.
+fn prints_recording<N: Names, R: Wait + Clock + Files + AllocGlobal + Copy + Drop>(
+    server: &mut Server<'_, N, R>,
+    text: &mut String,
+) -> bool {
+    match server.print_recording(text) {
+        Ok(prints) => prints,
+        Err(AllocError) => {
+            text.clear();
+            true
+        }
+    }
+}
+
+// Does what a line says. Where there is no memory for the answer, that is the answer.
+fn obey<N: Names, R: Wait + Clock + Files + AllocGlobal + Copy + Drop>(
+    server: &mut Server<'_, N, R>,
+    said: Said,
+    asker: Option<Asker>,
+    text: &mut String,
+) -> Result<Next, AllocError> {
+    match server.obey(said, asker, text) {
+        Ok(next) => Ok(next),
+        Err(AllocError) => {
+            text.clear();
+            push_no_memory(text)?;
+            Ok(Next::GoesOn)
+        }
+    }
 }
 
 // Takes what users received so far, if that is wanted, in rounds, as long as the last round took a bundle. Says whether any

@@ -11,8 +11,6 @@ mod lines;
 #[cfg(test)]
 mod outputs;
 #[cfg(test)]
-mod runs_of_numbers;
-#[cfg(test)]
 mod stations;
 #[cfg(test)]
 mod stores;

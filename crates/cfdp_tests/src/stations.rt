@@ -1,12 +1,12 @@
 use cfdp_types::Octets;
 use disk::{Fault, SystemDisk};
-use disk_store::{Clash, Layout, Prepared, StationStore};
 use file_stores::{Filestore, StoreFault};
+use station_store::{Clash, Layout, Prepared, StationStore};
 use std::fs;
 use std::test::*;
 
 // The folder of these tests.
-const HOME: &str = "/tmp/disk_store";
+const HOME: &str = "/tmp/station_store";
 
 // A store in a folder.
 fn store_in(
@@ -49,13 +49,13 @@ fn is_file(rt: &HostRuntime, path: &str, octets: &[u8]) -> Result<bool, Fail> {
 
 // Names of files, where they are kept, and what is found there.
 const FILES: [(&[u8], &str, &str, &[u8]); 4] = [
-    (b"a/b/x", "a/b/x", "/tmp/disk_store/a/b/x", b"one"),
-    (b"/a/b/x", "a/b/x.1", "/tmp/disk_store/a/b/x.1", b"two"),
-    (b"a/b/x", "a/b/x.2", "/tmp/disk_store/a/b/x.2", b"six"),
+    (b"a/b/x", "a/b/x", "/tmp/station_store/a/b/x", b"one"),
+    (b"/a/b/x", "a/b/x.1", "/tmp/station_store/a/b/x.1", b"two"),
+    (b"a/b/x", "a/b/x.2", "/tmp/station_store/a/b/x.2", b"six"),
     (
         b"1/2/3/4/5/6/7/8/x",
         "1/2/3/4/5/6/7/8/x",
-        "/tmp/disk_store/1/2/3/4/5/6/7/8/x",
+        "/tmp/station_store/1/2/3/4/5/6/7/8/x",
         b"deep",
     ),
 ];
@@ -77,9 +77,9 @@ fn keeps_copies(rt: &HostRuntime) -> Result<bool, Fail> {
 fn tells_octets(rt: &HostRuntime) -> Result<bool, Fail> {
     let mut store = store_in(rt, HOME, Layout::Flat, Clash::Replace)?;
     let first = prepared(rt, &mut store, b"y", b"one")?;
-    let was_there = is_file(rt, "/tmp/disk_store/y", b"one")?;
+    let was_there = is_file(rt, "/tmp/station_store/y", b"one")?;
     let answer = stored(&mut store, b"y", b"two");
-    let is_there = is_file(rt, "/tmp/disk_store/y", b"two")?;
+    let is_there = is_file(rt, "/tmp/station_store/y", b"two")?;
     Ok(first == Prepared::Ready && was_there && answer == Ok(()) && is_there)
 }
 
@@ -89,7 +89,7 @@ fn tells_faults(rt: &HostRuntime) -> Result<bool, Fail> {
     let blocked = prepared(rt, &mut store, b"y/z", b"one")?;
     let reason = store.fault();
     let answer = stored(&mut store, b"y/z", b"one");
-    let mut gone = store_in(rt, "/tmp/disk_store/gone", Layout::Flat, Clash::Keep)?;
+    let mut gone = store_in(rt, "/tmp/station_store/gone", Layout::Flat, Clash::Keep)?;
     let later = prepared(rt, &mut gone, b"y", b"one")?;
     Ok(
         blocked == Prepared::Ready

@@ -1,3 +1,4 @@
+use disk::SystemDisk;
 use file_stores::{Filestore, FolderStore, StoreFault};
 use std::fs;
 use std::test::*;
@@ -6,8 +7,9 @@ use std::test::*;
 const HOME: &str = "/tmp/file_stores";
 
 // A store in a folder.
-fn store_in(rt: &HostRuntime, folder: &str) -> Result<FolderStore<HostRuntime>, Fail> {
-    Ok(FolderStore::new(*rt, String::from_str(rt.alloc(), folder)?))
+fn store_in(rt: &HostRuntime, folder: &str) -> Result<FolderStore<SystemDisk<HostRuntime>>, Fail> {
+    let disk = SystemDisk::new(*rt, String::from_str(rt.alloc(), folder)?);
+    Ok(FolderStore::new(disk, rt.alloc()))
 }
 
 // Whether a folder has this many files.
@@ -37,7 +39,7 @@ const BAD_NAMES: [&[u8]; 7] = [b"", b".", b"..", b"a/b", b"/a", b"a\0b", b"a\xff
 
 // What a store answers to a file, where its calls can be counted.
 fn stored(
-    store: &mut FolderStore<HostRuntime>,
+    store: &mut FolderStore<SystemDisk<HostRuntime>>,
     name: &[u8],
     octets: &[u8],
 ) -> Result<(), StoreFault> {
@@ -51,7 +53,10 @@ fn is_file(rt: &HostRuntime, path: &str, octets: &[u8]) -> Result<bool, Fail> {
     Ok(fs::read(rt, path)?.as_slice() == octets)
 }
 
-fn keeps_files(rt: &HostRuntime, store: &mut FolderStore<HostRuntime>) -> Result<bool, Fail> {
+fn keeps_files(
+    rt: &HostRuntime,
+    store: &mut FolderStore<SystemDisk<HostRuntime>>,
+) -> Result<bool, Fail> {
     for (name, path, octets) in FILES {
         if stored(store, name.as_bytes(), octets).is_err() || !is_file(rt, path, octets)? {
             return Ok(false);
@@ -60,7 +65,7 @@ fn keeps_files(rt: &HostRuntime, store: &mut FolderStore<HostRuntime>) -> Result
     Ok((store.calls(), store.failures()) == (8, 0))
 }
 
-fn refuses_names(store: &mut FolderStore<HostRuntime>) -> bool {
+fn refuses_names(store: &mut FolderStore<SystemDisk<HostRuntime>>) -> bool {
     for name in BAD_NAMES {
         if stored(store, name, b"abc") != Err(StoreFault::BadName) {
             return false;

@@ -67,7 +67,7 @@ pub(crate) struct Layout {
 }
 
 /// The tables, in the order in which they are shown.
-pub(crate) const LAYOUTS: [Layout; 8] = [
+pub(crate) const LAYOUTS: [Layout; 9] = [
     Layout {
         rows: Rows::Of("user"),
         title: "Users",
@@ -133,6 +133,19 @@ pub(crate) const LAYOUTS: [Layout; 8] = [
         columns: &[
             Left("since", &[Text("since", "?")]),
             Left("file", &[Name("file", "file_hex")]),
+        ],
+    },
+    Layout {
+        rows: Rows::Of("storing"),
+        title: "Storing",
+        shade: Shade::Plain,
+        columns: &[
+            Left(
+                "transaction",
+                &[Number("source", "?"), Words("."), Number("seq", "?")],
+            ),
+            Left("since", &[Text("since", "?")]),
+            Left("hindered by", &[Text("why", "-")]),
         ],
     },
     Layout {

@@ -18,15 +18,13 @@ pub enum End {
     Lost,
 }
 
-/// The end that an event or a line of a status reports.
-pub(crate) fn end_in(value: &Value<'_>) -> End {
-    match (
-        number_in(value, "condition"),
-        text_in(value, "delivery"),
-        text_in(value, "status"),
-    ) {
-        (Some(condition), Some(delivery), Some(status)) => end_of(condition, delivery, status),
-        _ => End::Lost,
+/// The end that an event or a line of a status reports; `None` if it has no condition, as the line of a transaction whose
+/// last indication the server hasn't taken yet.
+pub(crate) fn end_in(value: &Value<'_>) -> Option<End> {
+    let condition = number_in(value, "condition")?;
+    match (text_in(value, "delivery"), text_in(value, "status")) {
+        (Some(delivery), Some(status)) => Some(end_of(condition, delivery, status)),
+        _ => Some(End::Lost),
     }
 }
 
@@ -47,14 +45,18 @@ fn end_of(condition: u64, delivery: &str, status: &str) -> End
 /// The tone of the end that an event or a line of a status reports.
 pub(crate) fn end_tone(value: &Value<'_>) -> Tone {
     match end_in(value) {
-        End::Kept => Tone::Good,
-        End::Unreported | End::Lost => Tone::Bad,
+        Some(End::Kept) => Tone::Good,
+        Some(End::Unreported | End::Lost) => Tone::Bad,
+        None => Tone::Plain,
     }
 }
 
-/// Adds how a transaction ended: its condition if that is an error, its delivery, and what became of the file.
+/// Adds how a transaction ended: its condition if that is an error, its delivery, and what became of the file. If there is
+/// no condition, it is still ending.
 pub(crate) fn push_end(text: &mut String, value: &Value<'_>) -> Result<(), AllocError> {
-    let code = number_in(value, "condition").unwrap_or(0);
+    let Some(code) = number_in(value, "condition") else {
+        return text.push_str("ending");
+    };
     let words = condition_words(code);
     let status = text_in(value, "status").unwrap_or("?");
     match text_in(value, "delivery") {

@@ -93,7 +93,7 @@ fn step_of(value: &Value<'_>) -> Step {
     match text_in(value, "kind") {
         Some("put") => started_in(value),
         Some("unsent") => unsent_in(value),
-        Some("indication") if is_end(value) => Step::Ended(end_in(value)),
+        Some("indication") if is_end(value) => { Step::Ended(end_in(value).unwrap_or(End::Lost)) }
         _ => Step::Other,
     }
 }

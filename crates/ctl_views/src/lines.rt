@@ -8,6 +8,8 @@ use std::alloc::{AllocError, Global};
 pub enum StatusLine {
     /// The name of a user.
     User(String),
+    /// The ID of a remote entity.
+    Remote(u64),
     /// The progress of a file that is being sent.
     Sending(Progress),
     /// Anything else.
@@ -35,6 +37,7 @@ pub fn read_status_line(alloc: Global, line: &str) -> Result<StatusLine, AllocEr
 fn line_of(alloc: Global, value: &Value<'_>) -> Result<StatusLine, AllocError> {
     match text_in(value, "kind") {
         Some("user") => user_in(alloc, value),
+        Some("remote") => Ok(remote_in(value)),
         Some("transaction") => Ok(sending_in(value).unwrap_or(StatusLine::Other)),
         _ => Ok(StatusLine::Other),
     }
@@ -44,6 +47,13 @@ fn user_in(alloc: Global, value: &Value<'_>) -> Result<StatusLine, AllocError> {
     match text_in(value, "name") {
         Some(name) => Ok(StatusLine::User(String::from_str(alloc, name)?)),
         None => Ok(StatusLine::Other),
+    }
+}
+
+fn remote_in(value: &Value<'_>) -> StatusLine {
+    match number_in(value, "id") {
+        Some(id) => StatusLine::Remote(id),
+        None => StatusLine::Other,
     }
 }
 

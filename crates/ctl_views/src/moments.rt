@@ -1,7 +1,7 @@
 //! Reads moments in the form that the station writes.
 ghost use Rattle.std.specs.Prelude.{◌≤◌};
 
-use std::alloc::AllocError;
+use std::alloc::{AllocError, Global};
 
 const SECOND: u64 = 1000;
 
@@ -10,6 +10,29 @@ const MINUTE: u64 = 60 * SECOND;
 const HOUR: u64 = 60 * MINUTE;
 
 const DAY: u64 = 24 * HOUR;
+
+// A moment whose beginning is replaced by what is given; it stands for what is left out.
+const FORM: &str = "0000-01-01T00:00:00.000Z";
+
+/// The milliseconds of a moment such as `2026-11-26T12:00:00.000Z`, counted from a fixed day. Its end may be left out,
+/// down to the day; the first such moment is meant. `None` where that is no moment.
+pub fn moment_begun(alloc: Global, word: &str) -> Result<Option<u64>, AllocError> {
+    let word = word.strip_suffix('Z').unwrap_or(word);
+    if word.len() < 10 || !has_form(word) {
+        return Ok(None);
+    }
+    let Some(rest) = FORM.get(word.len()..) else {
+        return Ok(None);
+    };
+    let moment = format!(in alloc; "{word}{rest}")?;
+    Ok(milliseconds_of(moment.as_str()))
+}
+
+// Whether each octet is a digit where a moment has one, and else the sign that a moment has there.
+fn has_form(word: &str) -> bool {
+    word.as_bytes().iter().zip(FORM.as_bytes().iter()).all(|(octet, sign)| octet == sign
+        || octet.is_ascii_digit() && sign.is_ascii_digit())
+}
 
 /// The milliseconds of a moment such as `2026-11-26T12:00:00.000Z`, counted from a fixed day.
 pub(crate) fn milliseconds_of(moment: &str) -> Option<u64> {

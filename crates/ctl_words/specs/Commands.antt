@@ -2,6 +2,8 @@
 use Rattle.std.specs.Prelude.{◌≤◌, ◌==◌, ◌||◌, ◌&&◌, ◌/◌, ◌%◌, ◌+◌, ◌++◌, ◌∷◌, [], ℕ, Bool, false, not, List, if◌then◌else◌, nat_lt, length, codes, decimal, flat_map}
 use Rattle.std.specs.Char.{is_ascii_graphic}
 use Rattle.std.specs.List.{list_all}
+use Rattle.ctl_words.specs.declared.words.Verb.{Verb}
+use Rattle.ctl_words.specs.declared.words.Verb.TheVariants as verbs
 
 -- an octet that ends neither a word nor a line: no space and no line feed
 abbrev pub is_inner : ℕ → Bool
@@ -61,7 +63,31 @@ head_octets user class remote = codes "send " ++ (word_octets user ++ numbers_oc
 abbrev pub names_octets : List ℕ → List ℕ → List ℕ
 names_octets source target = word_octets source ++ (codes " " ++ word_octets target)
 
+-- the word of a file that goes before others of its user, with a space before it
+abbrev pub urgent_octets : Bool → List ℕ
+urgent_octets is_urgent = if is_urgent then codes " urgent" else []
+
+-- the source name that the receiver learns in place of the path, if there is one, with its word before it
+abbrev pub alias_octets : List ℕ → List ℕ
+alias_octets alias = if length alias == 0 then [] else codes " as " ++ word_octets alias
+
+-- the last words: what is asked for beside the file's names
+abbrev pub options_octets : Bool → Bool → List ℕ → List ℕ
+options_octets is_closed is_urgent alias = closure_octets is_closed ++ (urgent_octets is_urgent ++ alias_octets alias)
+
 -- the command that puts a file in the outbox
-abbrev pub send_octets : List ℕ → ℕ → ℕ → List ℕ → List ℕ → Bool → List ℕ
-send_octets user class remote source target is_closed =
-    head_octets user class remote ++ (names_octets source target ++ closure_octets is_closed)
+abbrev pub send_octets : List ℕ → ℕ → ℕ → List ℕ → List ℕ → List ℕ → List ℕ
+send_octets user class remote source target options =
+    head_octets user class remote ++ (names_octets source target ++ options)
+
+-- the first word of a command for a transaction, with the space after it
+abbrev pub verb_octets : Verb → List ℕ
+verb_octets verbs.Cancel = codes "cancel "
+verb_octets verbs.Suspend = codes "suspend "
+verb_octets verbs.Resume = codes "resume "
+verb_octets verbs.Abandon = codes "abandon "
+
+-- the command for a user's transaction, by its source and its number
+abbrev pub act_octets : Verb → List ℕ → ℕ → ℕ → List ℕ
+act_octets verb user source seq =
+    verb_octets verb ++ (word_octets user ++ (codes " " ++ (decimal source ++ (codes " " ++ decimal seq))))

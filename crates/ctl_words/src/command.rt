@@ -15,7 +15,8 @@ fn flag<'a>(alloc: Global, name: &'static str) -> Arg<'a> {
 /// The options and words of the program.
 pub(crate) fn command<'a>(alloc: Global) -> Result<Command<'a>, AllocError> {
     let command = with_options(alloc, Command::new(alloc, "cfdp_ctl").version("0.1"))?;
-    with_send(alloc, command)?.arg(
+    let command = with_send(alloc, command)?;
+    with_choice(alloc, command)?.arg(
         Arg::new(alloc, "words")
             .action(ArgAction::Append)
             .num_args(0..),
@@ -33,15 +34,31 @@ fn with_options<'a>(alloc: Global, command: Command<'a>) -> Result<Command<'a>, 
         .arg(flag(alloc, "json"))?
         .arg(flag(alloc, "watch"))?
         .arg(valued(alloc, "user"))?
-        .arg(valued(alloc, "transaction"))
+        .arg(valued(alloc, "transaction"))?
+        .arg(valued(alloc, "last"))?
+        .arg(valued(alloc, "level"))?
+        .arg(flag(alloc, "follow-again"))
 }
 
-// The options of `send`, except its user.
+// The options of `send` and `watch`, except their user.
 fn with_send<'a>(alloc: Global, command: Command<'a>) -> Result<Command<'a>, AllocError> {
     command
         .arg(valued(alloc, "to"))?
         .arg(valued(alloc, "class"))?
         .arg(flag(alloc, "closure"))?
+        .arg(flag(alloc, "urgent"))?
         .arg(valued(alloc, "into"))?
-        .arg(flag(alloc, "wait"))
+        .arg(flag(alloc, "wait"))?
+        .arg(flag(alloc, "once"))
+}
+
+// The options that choose transactions, of `status`, `history` and of commands for transactions.
+fn with_choice<'a>(alloc: Global, command: Command<'a>) -> Result<Command<'a>, AllocError> {
+    command
+        .arg(valued(alloc, "log"))?
+        .arg(valued(alloc, "since"))?
+        .arg(valued(alloc, "remote"))?
+        .arg(flag(alloc, "failed"))?
+        .arg(flag(alloc, "all"))?
+        .arg(flag(alloc, "yes"))
 }

@@ -12,34 +12,70 @@ Without a command it reads commands from standard input, one a line, and prints 
   --version                  prints the version, and ends
 
 Commands:
-  status [--json] [--watch]  prints users, transactions, the outbox, remotes and refusals as tables
+  status [--json] [--watch] [--failed] [--remote R]
+                             prints users, transactions, the outbox, remotes and refusals as tables
       --json                 prints the JSON lines as received
       --watch                refreshes each second
-  follow [--json] [--user U] [--transaction SOURCE.SEQ]
+      --failed               of all tables only transactions that failed
+      --remote R             without transactions, files and links of other entities
+  follow [--json] [--user U] [--transaction SOURCE.SEQ] [--last N] [--level L] [--follow-again]
                              prints a line for each event as it happens
       --json                 prints the JSON events as received
       --user U               only events of this user
       --transaction S.N      only events of this transaction
-  send --to REMOTE [--user U] [--class N] [--closure] [--into FOLDER] [--wait] FILE..
-                             puts files in the outbox, each under its own name
+      --last N               first the last N events that the server has kept, up to 1024
+      --level L              events of a level and above: detail, info or warning (default: info, which
+                             leaves out the pieces of files; with --json all)
+      --follow-again         if the server goes away, waits for the next one and follows that
+  send --to REMOTE [--user U] [--class N] [--closure] [--urgent] [--into FOLDER] [--wait] FILE..
+                             puts files in the outbox, each under its own name; the receiver learns
+                             no folder of this machine
       --to REMOTE            the receiving entity
       --user U               the user whose files they are (default: the server's only user)
       --class N              1 (unacknowledged) or 2 (acknowledged); default: 2
       --closure              asks the receiver, in class 1 too, to report at the end what became
                              of the file
+      --urgent               before the user's other files, unless these are urgent too
       --into FOLDER          a folder at the receiver
       --wait                 waits until each file has ended
+  watch FOLDER --to REMOTE [--user U] [--class N] [--into FOLDER] [--once]
+                             sends each file that comes into a folder, in the order of their names: one
+                             that has arrived is moved to its folder sent, another one to its folder
+                             failed, with the reason beside it; names that begin with a dot are left alone
+      --to REMOTE, --user U, --class N, --into FOLDER
+                             as for send
+      --once                 ends when no file is left to send
   outbox [--json]            prints the files that wait, with their numbers
   drop NUMBER                takes a file out of the outbox
-  hold REMOTE                holds the link to an entity: nothing is sent there
-  release REMOTE             opens the link to an entity again
+  hold REMOTE, hold all      holds the link to an entity, or each link: nothing is sent there
+  release REMOTE [SECONDS]   opens the link to an entity again, for so many seconds if these are given
+  release all                opens each link again
+  rate REMOTE N, rate N      sends files to an entity, or to each one without a limit of its own, at
+                             N octets a second at most; off in place of N: without a limit
+  reopen                     has the server open its log anew
+  cancel, suspend, resume, abandon SOURCE.SEQ
+                             does this to a transaction that is under way
+  cancel, suspend, resume, abandon [--all] [--remote R] [--user U] [--yes]
+                             does this to each transaction that is under way; on a terminal it asks first
+      --all                  all of them
+      --remote R             those with this entity at the other end
+      --user U               those of this user
+      --yes                  doesn't ask
+  history --log FILE.. [--since T] [--remote R] [--failed] [--json]
+                             prints a line for each transaction that ended, from files that the server
+                             wrote by --log, and their sums; it needs no server
+      --since T              those that ended since a moment in UTC: 2026-11-26, or 2026-11-26T12:00:00Z
+      --remote R             those with this entity at the other end
+      --failed               those that failed
+      --json                 prints JSON, an object for each
+  journal SOURCE.SEQ         prints a transaction as a script, which cfdp_replay plays
   any other                  is sent to the server as it is. Put -- before words that begin with a
                              hyphen.
 
-Status 0: the server took the command, or each of them; with send --wait, each file arrived. 1: no
-server answers, or it went away. 2: the command line is wrong. 3: the server refused a command, a
-line wasn't a command, a file doesn't exist or can't be read, or a number can't be kept. 4: with
-send --wait, a file didn't arrive.
+Status 0: the server took the command, or each of them; with send --wait or watch --once, each file
+arrived. 1: no server answers, or it went away. 2: the command line is wrong. 3: the server refused a
+command, a line wasn't a command, a file doesn't exist or can't be read, or a number can't be kept. 4:
+with send --wait or watch --once, a file didn't arrive.
 ";
 
 /// What `--help` prints.

@@ -2,9 +2,11 @@
 ghost use Rattle.std.specs.Prelude.{IfOk, IfSome};
 ghost use Rattle.ctl_words.specs.Commands.{IsWithin};
 
+use crate::choosing::{act_asked, history_task};
 use crate::command::command;
 use crate::fault::WordsFault;
 use crate::text::command_text;
+use crate::watching::watch_task;
 use crate::words::{
     Colour, CtlWords, FollowWords, OutboxWords, SendWords, StatusWords, Task, TransactionWord,
 };
@@ -15,16 +17,26 @@ use std::alloc::{AllocError, Global};
 // The most seconds to wait for a server.
 const MOST_PATIENCE: u64 = 86_400;
 
-// The options of `status`, `follow`, `outbox` and `send`, and those of all commands.
-const STATUS_OPTIONS: [&str; 2] = ["json", "watch"];
+// The most events that a server keeps.
+const MOST_EVENTS: u64 = 1_024;
 
-const FOLLOW_OPTIONS: [&str; 3] = ["json", "user", "transaction"];
+// The options of `status`, `follow`, `outbox` and `send`, and those of all commands.
+const STATUS_OPTIONS: [&str; 4] = ["json", "watch", "failed", "remote"];
+
+const FOLLOW_OPTIONS: [&str; 6] = [
+    "json",
+    "user",
+    "transaction",
+    "last",
+    "level",
+    "follow-again",
+];
 
 const OUTBOX_OPTIONS: [&str; 1] = ["json"];
 
-const SEND_OPTIONS: [&str; 6] = ["user", "to", "class", "closure", "into", "wait"];
+const SEND_OPTIONS: [&str; 7] = ["user", "to", "class", "closure", "urgent", "into", "wait"];
 
-const TASK_OPTIONS: [&str; 9] = [
+const TASK_OPTIONS: [&str; 20] = [
     "json",
     "watch",
     "user",
@@ -32,8 +44,19 @@ const TASK_OPTIONS: [&str; 9] = [
     "to",
     "class",
     "closure",
+    "urgent",
     "into",
     "wait",
+    "once",
+    "last",
+    "level",
+    "follow-again",
+    "log",
+    "since",
+    "remote",
+    "failed",
+    "all",
+    "yes",
 ];
 
 /// Parses a command line of the program; its first word is the program's own name.
@@ -59,7 +82,7 @@ fn fault_of(alloc: Global, error: &Error) -> WordsFault {
 }
 
 // A usage fault with a text, unless memory for the text ran out.
-fn usage(text: Result<String, AllocError>) -> WordsFault {
+pub(crate) fn usage(text: Result<String, AllocError>) -> WordsFault {
     match text {
         Ok(text) => WordsFault::Usage(text),
         Err(_) => WordsFault::NoMemory,
@@ -122,7 +145,13 @@ fn task_by<'a>(
         ["follow", others @ ..] => follow_task(alloc, matches, others),
         ["outbox", others @ ..] => outbox_task(alloc, matches, others),
         ["send", files @ ..] => send_task(alloc, matches, files),
-        [name, ..] => command_task(alloc, matches, name, words),
+        ["watch", folders @ ..] => watch_task(alloc, matches, folders),
+        ["journal", word] => journal_task(alloc, matches, word),
+        ["history", logs @ ..] => history_task(alloc, matches, logs),
+        [name, ..] => match act_asked(alloc, matches, words)? {
+            Some(act) => Ok(Task::Act(act)),
+            None => command_task(alloc, matches, name, words),
+        },
     }
 }
 
@@ -158,6 +187,8 @@ fn status_task<'a>(
     Ok(Task::Status(StatusWords {
         json: matches.get_flag("json"),
         watch: matches.get_flag("watch"),
+        failed: matches.get_flag("failed"),
+        remote: number_of(alloc, matches, "remote", 0, u64::MAX)?,
     }))
 }
 
@@ -172,7 +203,24 @@ fn follow_task<'a>(
         json: matches.get_flag("json"),
         user: matches.get_str("user"),
         transaction: transaction_asked(alloc, matches)?,
+        last: number_of(alloc, matches, "last", 0, MOST_EVENTS)?,
+        level: level_asked(alloc, matches)?,
+        again: matches.get_flag("follow-again"),
     }))
+}
+
+// The level of events to follow. People get no pieces of files unless they ask for them.
+fn level_asked<'a>(alloc: Global, matches: &ArgMatches<'a>) -> Result<Option<&'a str>, WordsFault> {
+    match matches.get_str("level") {
+        None if matches.get_flag("json") => Ok(None),
+        None => Ok(Some("info")),
+        Some(word) if is_level(word) => Ok(Some(word)),
+        Some(word) => Err(bad_value(alloc, "level", word, "must be detail, info or warning")),
+    }
+}
+
+fn is_level(word: &str) -> bool {
+    matches!(word, "detail" | "info" | "warning")
 }
 
 fn outbox_task<'a>(
@@ -201,11 +249,26 @@ fn send_task<'a>(
             user: matches.get_str("user"),
             class: class.unwrap_or(2),
             is_closed: matches.get_flag("closure"),
+            is_urgent: matches.get_flag("urgent"),
             into: matches.get_str("into"),
             wait: matches.get_flag("wait"),
             files: Vec::from_slice(alloc, files)?,
         })),
         _ => Err(usage(String::from_str(alloc, "error: send needs --to REMOTE, and files\n"))),
+    }
+}
+
+fn journal_task<'a>(
+    alloc: Global,
+    matches: &ArgMatches<'a>,
+    word: &str,
+) -> Result<Task<'a>, WordsFault> {
+    only_options(alloc, matches, "journal", &[])?;
+    match transaction_of(word) {
+        Some(transaction) => Ok(Task::Journal(transaction)),
+        None => Err(usage(format!(in alloc;
+            "error: journal: '{word}' is not a transaction (SOURCE.SEQ)\n"
+        ))),
     }
 }
 
@@ -229,7 +292,7 @@ fn transaction_asked(
 }
 
 // The transaction that a word names.
-fn transaction_of(word: &str) -> Option<TransactionWord> {
+pub(crate) fn transaction_of(word: &str) -> Option<TransactionWord> {
     let (source, seq) = word.split_once('.')?;
     let source = decimal(source)?;
     let seq = decimal(seq)?;
@@ -245,7 +308,7 @@ fn decimal(word: &str) -> Option<u64> {
 }
 
 // The number of an option, if it is given.
-fn number_of(
+pub(crate) fn number_of(
     alloc: Global,
     matches: &ArgMatches<'_>,
     name: &str,
@@ -266,7 +329,7 @@ fn number_of(
 }
 
 // Refuses the options that a command doesn't have.
-fn only_options(
+pub(crate) fn only_options(
     alloc: Global,
     matches: &ArgMatches<'_>,
     name: &str,
@@ -282,7 +345,19 @@ fn only_options(
 
 // Whether an option is given.
 fn is_given(matches: &ArgMatches<'_>, option: &str) -> bool {
-    if matches!(option, "json" | "watch" | "closure" | "wait") {
+    if matches!(
+        option,
+        "json"
+            | "watch"
+            | "closure"
+            | "urgent"
+            | "wait"
+            | "once"
+            | "failed"
+            | "all"
+            | "yes"
+            | "follow-again"
+    ) {
         matches.get_flag(option)
     } else {
         matches.contains_id(option)

@@ -1,7 +1,7 @@
 //! The command that puts a file in the outbox.
 ghost use Rattle.std.specs.Prelude.{◌≡◌, ◌++◌, ◌<◌, IfOk, OnOk, codes, flat_map};
 ghost use Rattle.std.specs.List.{list_all};
-ghost use Rattle.ctl_words.specs.Commands.{closure_octets, head_octets, hex_digit, is_marked, is_plain, is_plain_octet, is_printable, names_octets, numbers_octets, quoted_octet, send_octets, word_octets};
+ghost use Rattle.ctl_words.specs.Commands.{alias_octets, closure_octets, head_octets, hex_digit, is_marked, is_plain, is_plain_octet, is_printable, names_octets, numbers_octets, options_octets, quoted_octet, send_octets, urgent_octets, word_octets};
 
 use std::alloc::{AllocError, Global};
 
@@ -19,17 +19,22 @@ pub struct SendCommand<'a> {
     pub target: &'a str,
     /// Whether the receiver is asked to report at the end what became of the file, in class 1 too.
     pub is_closed: bool,
+    /// Whether the file goes before those of its user that aren't urgent.
+    pub is_urgent: bool,
+    /// The source file name that the receiver learns; if empty, it learns the path.
+    pub alias: &'a str,
 }
 
 /// The text of a `send`, without its line feed: printable ASCII characters only.
 pub fn send_command(alloc: Global, send: &SendCommand<'_>) -> Result<Vec<u8>, AllocError>
     ensures { IfOk result (λ command. command.items
-        ≡ send_octets send.now.user.now send.now.class send.now.remote send.now.source.now send.now.target.now send.now.is_closed) }
+        ≡ send_octets send.now.user.now send.now.class send.now.remote send.now.source.now send.now.target.now
+        (options_octets send.now.is_closed send.now.is_urgent send.now.alias.now)) }
 {
     let mut command = Vec::new(alloc);
     push_head(alloc, &mut command, send.user, send.class, send.remote)?;
     push_names(&mut command, send.source, send.target)?;
-    command.extend_from_slice(closure_word(send.is_closed))?;
+    push_options(&mut command, send.is_closed, send.is_urgent, send.alias)?;
     Ok(command)
 }
 
@@ -70,6 +75,38 @@ fn push_names(command: &mut Vec<u8>, source: &str, target: &str) -> Result<(), A
     push_word(command, target.as_bytes())
 }
 
+// Adds what is asked for beside the file's names.
+fn push_options(
+    command: &mut Vec<u8>,
+    is_closed: bool,
+    is_urgent: bool,
+    alias: &str,
+) -> Result<(), AllocError>
+    ensures { OnOk result (command.new.items ≡ command.old.items ++ options_octets is_closed is_urgent alias.now) }
+{
+    command.extend_from_slice(closure_word(is_closed))?;
+    command.extend_from_slice(urgent_word(is_urgent))?;
+    push_alias(command, alias)
+}
+
+// Adds the source file name that the receiver learns, unless it is empty.
+fn push_alias(command: &mut Vec<u8>, alias: &str) -> Result<(), AllocError>
+    ensures { OnOk result (command.new.items ≡ command.old.items ++ alias_octets alias.now) }
+{
+    if alias.is_empty() {
+        return Ok(());
+    }
+    command.extend_from_slice(b" as ")?;
+    push_word(command, alias.as_bytes())
+}
+
+// The word of a file that goes before others of its user.
+fn urgent_word(is_urgent: bool) -> &'static [u8]
+    ensures { result.now ≡ urgent_octets is_urgent }
+{
+    if is_urgent { b" urgent" } else { b"" }
+}
+
 // The last word, if the receiver is asked to report what became of the file.
 fn closure_word(is_closed: bool) -> &'static [u8]
     ensures { result.now ≡ closure_octets is_closed }
@@ -78,7 +115,7 @@ fn closure_word(is_closed: bool) -> &'static [u8]
 }
 
 // Adds a word, in quotes if it needs them.
-fn push_word(command: &mut Vec<u8>, word: &[u8]) -> Result<(), AllocError>
+pub(crate) fn push_word(command: &mut Vec<u8>, word: &[u8]) -> Result<(), AllocError>
     ensures { OnOk result (command.new.items ≡ command.old.items ++ word_octets word.now) }
 {
     if is_plain(word) {

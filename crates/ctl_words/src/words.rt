@@ -32,6 +32,14 @@ pub enum Task<'a> {
     /// Show the files that wait in the outbox.
     Outbox(OutboxWords),
     Send(SendWords<'a>),
+    /// Send the files that come into a folder.
+    Watch(WatchWords<'a>),
+    /// Print a transaction as a script.
+    Journal(TransactionWord),
+    /// Print the transactions of logs that ended.
+    History(HistoryWords<'a>),
+    /// Give a command for one transaction or for several.
+    Act(ActWords<'a>),
 }
 
 /// How the status is shown.
@@ -41,6 +49,10 @@ pub struct StatusWords {
     pub json: bool,
     /// Whether it is shown again each second.
     pub watch: bool,
+    /// Whether only transactions that failed are shown.
+    pub failed: bool,
+    /// The entity at the other end, if only what goes there or comes from there is shown.
+    pub remote: Option<u64>,
 }
 
 /// Which events are followed, and how they are printed.
@@ -50,6 +62,12 @@ pub struct FollowWords<'a> {
     pub json: bool,
     pub user: Option<&'a str>,
     pub transaction: Option<TransactionWord>,
+    /// How many of the last events come first, if the line says so: up to 1,024.
+    pub last: Option<u64>,
+    /// The level from which on events are followed, if not all are: `detail`, `info` or `warning`.
+    pub level: Option<&'a str>,
+    /// Whether the next server is followed after this one.
+    pub again: bool,
 }
 
 /// A transaction ID.
@@ -77,10 +95,71 @@ pub struct SendWords<'a> {
     pub class: u64,
     /// Whether the receiver is asked to report at the end what became of a file, in class 1 too.
     pub is_closed: bool,
+    /// Whether the files go before those of the user that aren't urgent.
+    pub is_urgent: bool,
     /// A folder at the receiver.
     pub into: Option<&'a str>,
     /// Whether to wait for the end of each file.
     pub wait: bool,
     /// The paths of the files: one or more.
     pub files: Vec<&'a str>,
+}
+
+/// Which folder is watched, and how its files are sent.
+#[derive(Clone, Copy)]
+pub struct WatchWords<'a> {
+    /// The path of the folder.
+    pub folder: &'a str,
+    /// The entity that receives the files.
+    pub remote: u64,
+    /// The user whose files they are, if the line says so.
+    pub user: Option<&'a str>,
+    /// 1 or 2.
+    pub class: u64,
+    /// A folder at the receiver.
+    pub into: Option<&'a str>,
+    /// Whether to end once no file is left to send.
+    pub once: bool,
+}
+
+/// Which transactions of logs are printed, and how.
+#[derive(Drop)]
+pub struct HistoryWords<'a> {
+    /// Whether they are printed as JSON.
+    pub json: bool,
+    /// A moment or its beginning, if only those that ended since then are printed.
+    pub since: Option<&'a str>,
+    /// The entity at the other end, if only those with this one are printed.
+    pub remote: Option<u64>,
+    /// Whether only those that failed are printed.
+    pub failed: bool,
+    /// The paths of the logs: one or more.
+    pub logs: Vec<&'a str>,
+}
+
+/// A command for one transaction, or for several.
+#[derive(Clone, Copy)]
+pub struct ActWords<'a> {
+    pub verb: Verb,
+    pub choice: Choice<'a>,
+    /// Whether nobody is asked first.
+    pub yes: bool,
+}
+
+/// What is done to a transaction.
+#[derive(Clone, Copy)]
+pub enum Verb {
+    Cancel,
+    Suspend,
+    Resume,
+    Abandon,
+}
+
+/// The transactions that a command is for.
+#[derive(Clone, Copy)]
+pub enum Choice<'a> {
+    /// This one.
+    One(TransactionWord),
+    /// Those that go on with this entity at the other end, and of this user, as far as these are given.
+    Many(Option<u64>, Option<&'a str>),
 }

@@ -137,13 +137,13 @@ module _ (s : List Step) where
       appends octets IsNew path found other may = other_old IsNew _ path found may.entry other (⊎_elim (λ here. inl (once here)) (λ gone. inr gone) may.named) may.leaves
 
       pub not_appended : (octets : List ℕ) (IsNew : List ℕ → Option (List ℕ) → Type 0) → OldOrNew (Is part) IsNew s (tried (append octets) ∷ s)
-      not_appended octets IsNew path found other may = other_old IsNew unknown path found may.entry other (⊎_elim (λ here. inl (twice here)) (λ gone. inr gone) may.named) may.leaves
+      not_appended octets IsNew path found other may = other_old IsNew _ path found may.entry other (⊎_elim (λ here. inl (twice here)) (λ gone. inr gone) may.named) may.leaves
 
       pub flushes : (IsNew : List ℕ → Option (List ℕ) → Type 0) → OldOrNew (Is part) IsNew s (did flush ∷ s)
       flushes IsNew path found other may = other_old IsNew _ path found may.entry other (⊎_elim (λ here. inl (once here)) (λ gone. inr gone) may.named) may.leaves
 
       pub not_flushed : (IsNew : List ℕ → Option (List ℕ) → Type 0) → OldOrNew (Is part) IsNew s (tried flush ∷ s)
-      not_flushed IsNew path found other may = other_old IsNew unknown path found may.entry other (⊎_elim (λ here. inl (twice here)) (λ gone. inr gone) may.named) may.leaves
+      not_flushed IsNew path found other may = other_old IsNew _ path found may.entry other (⊎_elim (λ here. inl (twice here)) (λ gone. inr gone) may.named) may.leaves
 
       pub has_octets : (octets : List ℕ) → IsOpen part (appended octets content) (did (append octets) ∷ s)
       has_octets octets = record {

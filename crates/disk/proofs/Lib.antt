@@ -5,4 +5,5 @@ pub mod Reach
 pub mod Answered
 pub mod Missing
 pub mod Spared
+pub mod Kept
 pub mod Rows

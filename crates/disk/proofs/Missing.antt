@@ -22,7 +22,8 @@ pub each_step_counts : EachStepCounts
 each_step_counts old part name octets = (
   record {
     flush_needed = two _ name octets (record { entry = open_file; named = inl (inl (inl (refl, inl (refl, refl)))); leaves = tt }) (record { entry = open_file; named = inl (inl (inl (refl, inl (refl, refl)))); leaves = tt });
-    flush_behind = two _ name octets (record { entry = open_file; named = inl (inl (inl (refl, inl (refl, refl)))); leaves = tt }) (record { entry = open_file; named = inl (inl (inl (refl, inl (refl, refl)))); leaves = tt });
+    flush_behind = two _ name octets (record { entry = open_file; named = inl (inl (inl (refl, inl (refl, refl)))); leaves = record { place = 0; zeros = 0; is = refl } })
+        (record { entry = open_file; named = inl (inl (inl (refl, inl (refl, refl)))); leaves = record { place = 0; zeros = 1; is = refl } });
     failed_flush_counts = two _ name octets (record { entry = open_file; named = inl (inl (inl (refl, inl (inl (refl, refl))))); leaves = tt }) (record { entry = open_file; named = inl (inl (inl (refl, inl (inl (refl, refl))))); leaves = tt });
     not_in_place = two _ name octets (record { entry = open_file; named = inl (inl (inl (refl, refl))); leaves = tt }) (record { entry = open_file; named = inl (inl (inl (refl, refl))); leaves = tt });
     folder_flush_needed = λ apart. gone _ name octets (record { entry = nothing; named = inl (inr (inl (inr (apart, (nothing, tt, refl))))); leaves = refl });

@@ -1,13 +1,14 @@
 -- Worked rows: folders of paths, notes, faults, and what a power cut leaves of contents.
-use Rattle.std.proofs.Common.{◌≡◌, true, false, ℕ, [], ◌∷◌, map, Ok, Err, Some, None, pos, codes, refl}
+use Rattle.std.proofs.Common.{◌≡◌, true, false, ℕ, List, [], ◌∷◌, map, Ok, Err, Some, None, pos, codes, refl}
 use Rattle.std.specs.declared.io.ErrorKind.TheVariants.{AlreadyExists, NotFound, PermissionDenied, QuotaExceeded, ReadOnlyFilesystem, StorageFull, Uncategorized}
 use Rattle.disk.specs.declared.device.Fault.TheVariants.{Exists, MayPass, Failed}
-use Rattle.disk.specs.Steps.{folder_of, looked_by, step_of}
+use Rattle.disk.specs.Steps.{Step, folder_of, looked_by, step_of}
 use Rattle.disk.specs.Steps.Call.{create, append, flush}
 use Rattle.disk.specs.Steps.Step.{did, tried, refused, saw_folder, cut}
-use Rattle.disk.specs.Crash.{state}
-use Rattle.disk.specs.Crash.Content.{written, flushed, unknown}
-use Rattle.disk.specs.Faults.{fault_of, words_of}
+use Rattle.disk.specs.Crash.{LeavesBehind, state}
+use Rattle.disk.specs.Crash.Content.{written, flushed, grown, worn, unknown}
+use Rattle.disk.specs.declared.faults.Hindrance.TheVariants.{NoFolder, NoSpace, InputOutput, TooManyFiles, Refuses}
+use Rattle.disk.specs.Faults.{fault_of, hindrance_of, words_of}
 
 folders : map folder_of (codes "a/b/c" ∷ codes "a" ∷ codes "" ∷ []) ≡ codes "a/b" ∷ [] ∷ [] ∷ []
 folders = refl
@@ -44,13 +45,34 @@ contents : map (λ steps. (state steps).file)
     ∷ (did flush ∷ tried flush ∷ did (append (1 ∷ [])) ∷ did (create (codes "a")) ∷ [])
     ∷ (cut ∷ did flush ∷ did (create (codes "a")) ∷ [])
     ∷ [])
-    ≡ written (1 ∷ []) ∷ flushed (1 ∷ []) ∷ written (1 ∷ 2 ∷ []) ∷ unknown ∷ unknown ∷ []
+    ≡ written (1 ∷ []) ∷ flushed (1 ∷ []) ∷ grown (1 ∷ []) (2 ∷ []) ∷ unknown ∷ unknown ∷ []
 contents = refl
 
-said : map (λ kind. words_of kind (Some (pos 28))) (StorageFull ∷ NotFound ∷ PermissionDenied ∷ [])
-    ≡ codes "no space is left" ∷ codes "the folder isn't there" ∷ codes "the system refuses it" ∷ []
-said = refl
+-- octets behind flushed ones: written twice, flushed too, not flushed, not written, and written behind those
+abbrev base : List Step
+base = did flush ∷ did (append (1 ∷ [])) ∷ did (create (codes "a")) ∷ []
 
-numbers_said : map (λ code. words_of Uncategorized code) (Some (pos 5) ∷ Some (pos 24) ∷ None ∷ [])
-    ≡ codes "an input or output error" ∷ codes "too many files are open" ∷ codes "the system refuses it" ∷ []
-numbers_said = refl
+grows : map (λ steps. (state steps).file)
+    ((did (append (3 ∷ [])) ∷ did (append (2 ∷ [])) ∷ base)
+    ∷ (did flush ∷ did (append (2 ∷ [])) ∷ base)
+    ∷ (did flush ∷ tried flush ∷ did (append (2 ∷ [])) ∷ base)
+    ∷ (tried (append (2 ∷ [])) ∷ base)
+    ∷ (did (append (3 ∷ [])) ∷ tried (append (2 ∷ [])) ∷ base)
+    ∷ [])
+    ≡ grown (1 ∷ []) (2 ∷ 3 ∷ []) ∷ flushed (1 ∷ 2 ∷ []) ∷ worn (1 ∷ []) (2 ∷ []) ∷ worn (1 ∷ []) (2 ∷ []) ∷ unknown ∷ []
+grows = refl
+
+-- a part of what stands behind is left, with zeros behind it
+leaves_part : LeavesBehind (1 ∷ []) (2 ∷ 3 ∷ []) (1 ∷ 2 ∷ 0 ∷ [])
+leaves_part = record { place = 1; zeros = 1; is = refl }
+
+hinders : map (λ kind. hindrance_of kind (Some (pos 28))) (StorageFull ∷ NotFound ∷ PermissionDenied ∷ [])
+    ≡ NoSpace ∷ NoFolder ∷ Refuses ∷ []
+hinders = refl
+
+numbers_hinder : map (λ code. hindrance_of Uncategorized code) (Some (pos 5) ∷ Some (pos 24) ∷ None ∷ [])
+    ≡ InputOutput ∷ TooManyFiles ∷ Refuses ∷ []
+numbers_hinder = refl
+
+said : map words_of (NoSpace ∷ InputOutput ∷ []) ≡ codes "no space is left" ∷ codes "an input or output error" ∷ []
+said = refl

@@ -1,15 +1,17 @@
 -- Meaning. What a power cut may leave of a disk, after steps, newest first.
 -- A cut within a call leaves what a cut before the call or one behind it may leave. No call takes a folder away.
-use Rattle.std.specs.Prelude.{◌≡◌, ◌≢◌, ◌⊎◌, ℕ, true, List, [], ◌∷◌, ◌++◌, take, slice_index, Option, Some, None}
+use Rattle.std.specs.Prelude.{◌≡◌, ◌≢◌, ◌⊎◌, ℕ, true, List, [], ◌∷◌, ◌++◌, take, replicate, slice_index, Option, Some, None}
 use Rattle.disk.specs.Steps.{Call, Step, folder_of, is_slash}
 use Rattle.disk.specs.Steps.Call.{create, append, flush, rename, link, remove, make_folder, flush_folder}
 use Rattle.disk.specs.Steps.Step.{did, tried, refused, saw, saw_folder, cut}
 
--- the octets of a file: written, of which a cut may leave anything; flushed, so that they stay; after a failed write or
--- flush nothing is known of them, and a later flush is not believed
+-- the octets of a file: written, of which a cut may leave anything; flushed, so that they stay; flushed, and others
+-- behind them; the same once a write or flush of those failed, and a later flush is not believed; nothing is known of them
 pub data Content : Type 0 where
   written : List ℕ → Content
   flushed : List ℕ → Content
+  grown : List ℕ → List ℕ → Content
+  worn : List ℕ → List ℕ → Content
   unknown : Content
 
 -- what a path stands for: no file, the open file, or an earlier one with this content
@@ -25,14 +27,24 @@ Entries = List ℕ → Entry → Type 0
 -- with octets behind it
 abbrev pub appended : List ℕ → Content → Content
 appended octets (written before) = written (before ++ octets)
-appended octets (flushed before) = written (before ++ octets)
+appended octets (flushed before) = grown before octets
+appended octets (grown before behind) = grown before (behind ++ octets)
+appended octets (worn before behind) = unknown
 appended octets unknown = unknown
 
 -- after a flush
 abbrev pub settled : Content → Content
 settled (written octets) = flushed octets
 settled (flushed octets) = flushed octets
+settled (grown before behind) = flushed (before ++ behind)
+settled (worn before behind) = worn before behind
 settled unknown = unknown
+
+-- after octets that couldn't be written or flushed behind it
+abbrev pub spoiled : List ℕ → Content → Content
+spoiled octets (flushed before) = worn before octets
+spoiled octets (grown before behind) = worn before (behind ++ octets)
+spoiled octets _ = unknown
 
 -- the open file after a call that was answered
 abbrev pub file_after : Call → Content → Content
@@ -44,8 +56,8 @@ file_after _ content = content
 -- the open file after a call that failed
 abbrev pub file_after_failed : Call → Content → Content
 file_after_failed (create path) content = unknown
-file_after_failed (append octets) content = unknown
-file_after_failed flush content = unknown
+file_after_failed (append octets) content = spoiled octets content
+file_after_failed flush content = spoiled [] content
 file_after_failed _ content = content
 
 -- an entry once its file is no longer the open one
@@ -158,9 +170,17 @@ abbrev pub state : List Step → State
 state [] = at_first
 state (step ∷ earlier) = after step (state earlier)
 
+-- of octets behind flushed ones a power cut leaves those up to some place, and maybe zeros from there on
+pub record LeavesBehind (before behind found : List ℕ) : Type 0 where
+  pub place : ℕ
+  pub zeros : ℕ
+  pub is : found ≡ before ++ (take place behind ++ replicate zeros 0)
+
 -- what a power cut may leave of a file with this content
 abbrev pub LeavesOctets : Content → List ℕ → Type 0
 LeavesOctets (flushed octets) found = found ≡ octets
+LeavesOctets (grown before behind) found = LeavesBehind before behind found
+LeavesOctets (worn before behind) found = LeavesBehind before behind found
 LeavesOctets (written octets) found = Unit {0}
 LeavesOctets unknown found = Unit {0}
 

@@ -1,10 +1,9 @@
 -- Of the code. What is known of a disk while a file is stored: where the open file is, and which octets it has.
-use Rattle.std.specs.Prelude.{◌≡◌, ◌≢◌, ℕ, List, Option}
+use Rattle.std.specs.Prelude.{◌≡◌, ◌≢◌, ℕ, List}
 use Rattle.disk.specs.Steps.{Step}
 use Rattle.disk.specs.Crash.{Content, Entry, state, left}
 use Rattle.disk.specs.Crash.Content.{flushed}
 use Rattle.disk.specs.Crash.Entry.{open_file}
-use Rattle.disk.specs.Promise.{Changes, Is, NothingNew}
 
 -- the open file has this content, and stands under this path alone
 pub record IsOpen (part : List ℕ) (content : Content) (steps : List Step) : Type 0 where
@@ -19,12 +18,9 @@ pub record IsNamed (name octets : List ℕ) (steps : List Step) : Type 0 where
   pub sole : (entry : Entry) → (state steps).has name entry → entry ≡ open_file
   pub there : (state steps).has name open_file
 
--- one path alone may have changed
-pub record OneChanged (before now : List Step) : Type 0 where
-  pub part : List ℕ
-  pub changes : Changes (Is part) NothingNew before now
-
--- one path alone may have changed, but for what is new
-pub record Stores (IsNew : List ℕ → Option (List ℕ) → Type 0) (before now : List Step) : Type 0 where
-  pub part : List ℕ
-  pub changes : Changes (Is part) IsNew before now
+-- the open file has this content, and stands under this name alone, but for the part that it was, whatever a cut leaves
+pub record IsKept (part name : List ℕ) (content : Content) (steps : List Step) : Type 0 where
+  pub file : (state steps).file ≡ content
+  pub only : (entry : Entry) → left (state steps) name entry → entry ≡ open_file
+  pub there : (state steps).has name open_file
+  pub alone : (path : List ℕ) → path ≢ part → path ≢ name → left (state steps) path open_file → ⊥

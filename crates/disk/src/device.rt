@@ -3,6 +3,8 @@ ghost use Rattle.std.specs.Prelude.{◌≡◌, ◌∷◌, List};
 ghost use Rattle.disk.specs.Steps.{Step, step_of, read_by, looked_by};
 ghost use Rattle.disk.specs.Steps.Call.{create, append, flush, rename, link, remove, make_folder, flush_folder};
 
+use crate::faults::Hindrance;
+
 /// Why a disk doesn't do what it was asked.
 #[derive(Clone, Copy, Debug, PartialEq, Eq)]
 pub enum Fault {
@@ -55,8 +57,8 @@ pub trait Disk {
     fn read(&mut self, path: &str) -> Result<Option<Vec<u8>>, Fault>
         ensures { done self.new ≡ read_by result path.now (done self.old) };
 
-    /// What the last call met that failed, in words for people; empty if none failed.
-    fn hindrance(&self) -> &'static str;
+    /// What the last call met that failed; None if none failed.
+    fn hindrance(&self) -> Option<Hindrance>;
 
     /// Whether there is a folder at a path, and no link to one.
     fn is_folder(&mut self, path: &str) -> Result<bool, Fault>

@@ -1,7 +1,7 @@
 //! Which failures of the system may pass.
 ghost use Rattle.std.specs.Prelude.{◌≡◌};
 ghost use Rattle.std.specs.IoError.{error_kind, raw_os_error};
-ghost use Rattle.disk.specs.Faults.{fault_of, numbered_words, passes, words_of};
+ghost use Rattle.disk.specs.Faults.{fault_of, hindrance_of, numbered_hindrance, passes, words_of};
 
 use crate::device::Fault;
 use std::io;
@@ -42,33 +42,65 @@ fn passes(code: Option<i32>) -> bool
     }
 }
 
-/// What an error of the system says, in words.
-pub(crate) fn words_of(error: &io::Error) -> &'static str
-    ensures { result.now ≡ words_of (error_kind error.now) (raw_os_error error.now) }
-{
-    match error.kind() {
-        ErrorKind::NotFound => "the folder isn't there",
-        ErrorKind::StorageFull => "no space is left",
-        ErrorKind::QuotaExceeded => "the quota is used up",
-        ErrorKind::ReadOnlyFilesystem => "the file system is read-only",
-        ErrorKind::OutOfMemory => "no memory is left",
-        _ => numbered_words(error.raw_os_error()),
+/// What hinders a disk from doing what it was asked.
+#[derive(Clone, Copy, Debug, PartialEq, Eq)]
+pub enum Hindrance {
+    NoFolder,
+    NoSpace,
+    NoQuota,
+    ReadOnly,
+    NoMemory,
+    InputOutput,
+    TooManyFiles,
+    /// Another error of the system.
+    Refuses,
+}
+
+impl Hindrance {
+    /// What hinders, in words for people.
+    pub fn words(self) -> &'static str
+        ensures { result.now ≡ words_of self }
+    {
+        match self {
+            Hindrance::NoFolder => "the folder isn't there",
+            Hindrance::NoSpace => "no space is left",
+            Hindrance::NoQuota => "the quota is used up",
+            Hindrance::ReadOnly => "the file system is read-only",
+            Hindrance::NoMemory => "no memory is left",
+            Hindrance::InputOutput => "an input or output error",
+            Hindrance::TooManyFiles => "too many files are open",
+            Hindrance::Refuses => "the system refuses it",
+        }
     }
 }
 
-// What an error with this number says.
-fn numbered_words(code: Option<i32>) -> &'static str
-    ensures { result.now ≡ numbered_words code }
+/// What hinders the disk where the system answers with an error.
+pub(crate) fn hindrance_of(error: &io::Error) -> Hindrance
+    ensures { result ≡ hindrance_of (error_kind error.now) (raw_os_error error.now) }
+{
+    match error.kind() {
+        ErrorKind::NotFound => Hindrance::NoFolder,
+        ErrorKind::StorageFull => Hindrance::NoSpace,
+        ErrorKind::QuotaExceeded => Hindrance::NoQuota,
+        ErrorKind::ReadOnlyFilesystem => Hindrance::ReadOnly,
+        ErrorKind::OutOfMemory => Hindrance::NoMemory,
+        _ => numbered_hindrance(error.raw_os_error()),
+    }
+}
+
+// What hinders where an error has this number and no kind of its own.
+fn numbered_hindrance(code: Option<i32>) -> Hindrance
+    ensures { result ≡ numbered_hindrance code }
 {
     match code {
-        None => "the system refuses it",
+        None => Hindrance::Refuses,
         Some(code) => {
             if code == INPUT_OUTPUT_ERROR {
-                "an input or output error"
+                Hindrance::InputOutput
             } else if code == TOO_MANY_FILES_IN_SYSTEM || code == TOO_MANY_FILES {
-                "too many files are open"
+                Hindrance::TooManyFiles
             } else {
-                "the system refuses it"
+                Hindrance::Refuses
             }
         }
     }

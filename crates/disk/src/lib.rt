@@ -8,6 +8,7 @@ mod log;
 mod system;
 
 pub use device::{Disk, Fault};
+pub use faults::Hindrance;
 pub use laws::{files_stay, steps_count};
 pub use log::{Asked, Log, Note};
 pub use system::SystemDisk;

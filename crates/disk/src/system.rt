@@ -1,10 +1,10 @@
 //! A folder of the system as a disk.
-ghost use Rattle.std.specs.Prelude.{◌≡◌, ◌∷◌};
+ghost use Rattle.std.specs.Prelude.{◌≡◌, [], ◌∷◌};
 ghost use Rattle.disk.specs.Asked.{noted};
 ghost use Rattle.disk.specs.declared.log.Note.TheVariants.{Called, Saw, SawFolder};
 
 use crate::device::{Disk, Fault};
-use crate::faults::{fault_of, words_of};
+use crate::faults::{Hindrance, fault_of, hindrance_of};
 use crate::log::{Asked, Log, Note};
 use std::fs::{File, OpenFile};
 use std::io::{ErrorKind, Read, Write};
@@ -17,18 +17,20 @@ pub struct SystemDisk<R: Files + AllocGlobal + Drop> {
     rt: R,
     folder: String,
     open: Option<R::File>,
-    hindrance: &'static str,
+    hindrance: Option<Hindrance>,
     pub(crate) log: Log,
 }
 
 impl<R: Files + AllocGlobal + Drop> SystemDisk<R> {
     /// The folder at a path.
-    pub fn new(rt: R, folder: String) -> SystemDisk<R> {
+    pub fn new(rt: R, folder: String) -> SystemDisk<R>
+        ensures { ⟦<SystemDisk<R> as Disk>⟧.done result ≡ [] }
+    {
         SystemDisk {
             rt,
             folder,
             open: None,
-            hindrance: "",
+            hindrance: None,
             log: Log::new(),
         }
     }
@@ -40,7 +42,7 @@ impl<R: Files + AllocGlobal + Drop> SystemDisk<R> {
         let answer = match self.perform(asked) {
             Ok(()) => Ok(()),
             Err(error) => {
-                self.hindrance = words_of(&error);
+                self.hindrance = Some(hindrance_of(&error));
                 Err(fault_of(&error))
             }
         };
@@ -113,11 +115,8 @@ impl<R: Files + AllocGlobal + Drop> SystemDisk<R> {
         }
     }
 
-    // A file that gets its name is written no more.
-    fn move_file(&mut self, from: &str, to: &str) -> io::Result<()>
-        ensures { self.new.log ≡ self.old.log }
-    {
-        self.open = None;
+    // A file that gets its name stays open: it may be written on.
+    fn move_file(&self, from: &str, to: &str) -> io::Result<()> {
         let from = self.place(from)?;
         let to = self.place(to)?;
         fs::rename(&self.rt, from.as_str(), to.as_str())
@@ -202,7 +201,7 @@ impl<R: Files + AllocGlobal + Drop> Disk for SystemDisk<R> {
         self.ask(Asked::FlushFolder(path))
     }
 
-    fn hindrance(&self) -> &'static str {
+    fn hindrance(&self) -> Option<Hindrance> {
         self.hindrance
     }
 
@@ -213,7 +212,7 @@ impl<R: Files + AllocGlobal + Drop> Disk for SystemDisk<R> {
                 Ok(found)
             }
             Err(error) => {
-                self.hindrance = words_of(&error);
+                self.hindrance = Some(hindrance_of(&error));
                 Err(fault_of(&error))
             }
         }
@@ -227,7 +226,7 @@ impl<R: Files + AllocGlobal + Drop> Disk for SystemDisk<R> {
             }
             Ok(false) => Ok(false),
             Err(error) => {
-                self.hindrance = words_of(&error);
+                self.hindrance = Some(hindrance_of(&error));
                 Err(fault_of(&error))
             }
         }

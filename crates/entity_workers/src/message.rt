@@ -30,6 +30,13 @@ impl Message {
         Message { pdu }
     }
 
+    /// The PDU.
+    pub fn pdu(&self) -> &Pdu
+        ensures { result.now ≡ self.now }
+    {
+        &self.pdu
+    }
+
     /// Takes the PDU out of the message.
     pub fn into_pdu(self) -> Pdu
         ensures pdu { result ≡ self }

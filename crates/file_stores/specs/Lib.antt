@@ -1,3 +1,4 @@
 pub mod Faults
+pub mod FolderStore
 pub mod MemoryStore
 pub mod Names

@@ -165,8 +165,10 @@ fn take_segment(segments: &mut Option<Segments>, offset: u32, length: u32) -> bo
 
 // The offsets of a segment; None where it is empty or exceeds the largest file.
 fn run_of(offset: u32, length: u32) -> Option<Run>
-    ensures some { IfSome result (λ run. (run.start ≡ offset) × (run.end ≡ offset + length)
-        × (0 < length) × (offset + length ≤ FILE_OCTETS)) }
+    ensures starts { IfSome result (λ run. run.start ≡ offset) }
+    ensures ends { IfSome result (λ run. run.end ≡ offset + length) }
+    ensures filled { IfSome result (λ _. 0 < length) }
+    ensures within { IfSome result (λ _. offset + length ≤ FILE_OCTETS) }
     ensures none { 0 < length → offset + length ≤ FILE_OCTETS → IsSome result }
 {
     let end = offset.checked_add(length)?;

@@ -10,9 +10,13 @@ use entity_config::{Config, Setting};
 use entity_routing::Place;
 use journal_scripts::{push_event, push_first, push_take};
 use lane_table::Done;
+use pdu_values::Body;
 use std::alloc::{AllocError, Global};
-use txn_events::{Event, Refusal};
+use txn_events::{Event, Refusal, What};
 use world_core::{EntityRefusal, World, WorldEvent};
+
+// How many octets of room an event has beside the digits of its file's octets. More than that only few need.
+const LINE_ROOM: usize = 128;
 
 /// Why a journal has no script.
 #[derive(Clone, Copy, Debug, PartialEq, Eq)]
@@ -37,7 +41,7 @@ impl From<AllocError> for ScriptFault {
 }
 
 /// The script of a journal: lines that bring a fresh entity of this configuration through the events of the lane at a
-/// place, with a take behind each event that its user was told of. For a transaction that the entity itself opened,
+/// place, with a take after each event that its user was told of. For a transaction that the entity itself opened,
 /// `first` is where the numbers of its lanes have to begin. To see where a take belongs, the events are played.
 pub fn script_of(
     alloc: Global,
@@ -48,7 +52,7 @@ pub fn script_of(
 ) -> Result<String, ScriptFault>
     ensures { IfOk result (λ script. IsScriptOf config first place journal.now (string_bytes script)) }
 {
-    let mut text = String::new(alloc);
+    let mut text = String::with_capacity(alloc, room_for(journal))?;
     let config = begin(config, first, &mut text)?;
     let name = name_in(alloc, &config, place.user)?;
     let mut world = World::open(alloc, config)?;
@@ -57,6 +61,28 @@ pub fn script_of(
         return Err(ScriptFault::NotPlayed);
     }
     Ok(text)
+}
+
+// About how many octets a script of a journal has, so that it doesn't double its memory as it grows.
+fn room_for(journal: &[Event]) -> usize {
+    let mut room = 0usize;
+    for event in journal {
+        let digits = file_octets(event).saturating_mul(2);
+        room = room.saturating_add(digits).saturating_add(LINE_ROOM);
+    }
+    room
+}
+
+// How many octets of a file an event brings.
+fn file_octets(event: &Event) -> usize {
+    match event {
+        Event::Put(put, _) => put.file().as_slice().len(),
+        Event::On(_, What::Pdu(pdu)) => match pdu.body() {
+            Body::FileData(data) => data.octets.as_slice().len(),
+            _ => 0,
+        },
+        Event::On(..) => 0,
+    }
 }
 
 // Makes the configuration that a script begins with, and adds the line for that.

@@ -1,2 +1,5 @@
+pub mod TextFacts
+pub mod TextRows
 pub mod RoundFacts
 pub mod RoundRows
+pub mod HistoryRows

@@ -1,26 +1,27 @@
 -- A lane gives no number twice.
-use Rattle.std.proofs.Common.{◌≡◌, ℕ, ◌+◌, ◌-◌, ◌*◌, ◌<◌, ◌≤◌, min, max, Bool, true, false, ◌&&◌, nat_lt, nat_le, if◌then◌else◌, List, [], ◌∷◌, All, refl, sym, subst, ap, arith}
-use Rattle.std.proofs.lemmas.Bool.{leb-true, ltb-true, lt-ltb, and_parts}
+use Rattle.std.proofs.Common.{◌≡◌, inl, inr, ⊎_elim, ℕ, ◌+◌, ◌*◌, ◌<◌, ◌≤◌, max, Bool, true, false, ◌&&◌, nat_lt, nat_le, if◌then◌else◌, List, [], ◌∷◌, ◌++◌, All, Option, Some, None, refl, sym, ◌∙◌, subst, ap, arith, append_assoc}
+use Rattle.std.proofs.lemmas.Bool.{leb-true, ltb-true, ltb-false, and_parts}
 use Rattle.std.proofs.lemmas.Grind.{div_ceil_times}
+use Rattle.std.proofs.lemmas.List.{append_cancel_right}
 use Rattle.std.proofs.lemmas.List.Elements.{All-nil, All-cons, All-weaker}
 use Rattle.std.proofs.Math.Nat.{mul_comm, mul-le-mul_left}
+use Rattle.disk.specs.Steps.{Step}
+use Rattle.disk.specs.Steps.Step.{saw, cut}
+use Rattle.disk.specs.Crash.{MayFind}
+use Rattle.disk.specs.Promise.{AtEach, AtEachMoment, Is, OldOrNew, Whole}
+use Rattle.disk.proofs.Calls.{cut_off}
+use Rattle.disk.proofs.Moments.{at_end, map_each}
+use Rattle.number_file.specs.declared.file.NumbersFault.{NumbersFault}
+use Rattle.number_file.specs.declared.file.NumbersFault.TheVariants.{Unreadable, Unwritable, Over}
 use Rattle.number_file.specs.declared.rounds.Cover.{Cover}
 use Rattle.number_file.specs.declared.rounds.Cover.TheVariants as cover
 use Rattle.number_file.specs.declared.rounds.Rounds.{Rounds}
-use Rattle.number_file.specs.Rounds.{cover_of, last_number, number_at, round_above, written, given}
-use Rattle.number_file.specs.RoundLaws.{Happening, Station, at_first, next_number, covering, putting, giving, after, run_of, IsRising, NeverTwice}
-use Rattle.number_file.specs.RoundLaws.Happening.{starts, puts, other}
-
--- ---- what holds at each moment
-
-pub record IsKept (station : Station) : Type 0 where
-  pub rising : IsRising station.gave
-  pub below_next : All (λ one. one < next_number station) station.gave
-  pub below_file : All (λ one. one < station.file) station.gave
-  pub lane_known : station.lane ≤ station.rounds.next
-  pub file_known : station.file ≡ number_at station.rounds.covered station.rounds
-  pub in_range : station.rounds.next < station.rounds.covered → station.rounds.covered ≤ last_number
-  pub inside : station.place < max station.rounds.width 1
+use Rattle.number_file.specs.Rounds.{begun, cover_of, given, last_number, number_at, round_above}
+use Rattle.number_file.specs.Texts.{beside, number_found, number_text}
+use Rattle.number_file.specs.Files.{Covered, Covers, Lasts, Opens, OpensNot, Reads, Writes, covered_by}
+use Rattle.number_file.specs.RoundLaws.{Happening, Run, Start, Station, giving, putting, covering, next_number, station, InRun, IsCovering, IsHistory, IsMoment, IsOpening, IsRising, NeverTwice, ReadsTruly}
+use Rattle.number_file.specs.RoundLaws.Happening.{opens, covers, puts, other_puts, stops_opening, stops_covering, cuts, goes_on}
+use Rattle.number_file.proofs.TextFacts.{apart, reads_back}
 
 all_below : (least most : ℕ) (numbers : List ℕ) → least ≤ most → All (λ one. one < least) numbers → All (λ one. one < most) numbers
 all_below least most numbers le all = All-weaker (λ one. one < least) (λ one. one < most) (λ one below. omega arith) numbers all
@@ -29,7 +30,7 @@ all_below least most numbers le all = All-weaker (λ one. one < least) (λ one. 
 
 abbrev Fits : Cover → Rounds → Type 0
 Fits cover.Covered rounds = rounds.next < rounds.covered
-Fits (cover.Write round) rounds = (rounds.next < round) × (round ≤ last_number)
+Fits (cover.Write round) rounds = (rounds.next < round) × (round ≤ last_number) × (number_at round rounds ≤ last_number) × (rounds.covered ≤ rounds.next)
 Fits cover.Over rounds = Unit {0}
 
 fits_by : (is_covered is_there : Bool) (rounds : Rounds) → nat_lt rounds.next rounds.covered ≡ is_covered
@@ -37,24 +38,64 @@ fits_by : (is_covered is_there : Bool) (rounds : Rounds) → nat_lt rounds.next 
     → Fits (if is_covered then cover.Covered else if is_there then cover.Write (rounds.next + max rounds.block 1) else cover.Over) rounds
 fits_by true is_there rounds covered there = ltb-true rounds.next rounds.covered covered
 fits_by false true rounds covered there =
-    (omega arith, leb-true (rounds.next + max rounds.block 1) last_number (and_parts (nat_le (rounds.next + max rounds.block 1) last_number) (nat_le (number_at (rounds.next + max rounds.block 1) rounds) last_number) there).0)
+    let both = and_parts (nat_le (rounds.next + max rounds.block 1) last_number) (nat_le (number_at (rounds.next + max rounds.block 1) rounds) last_number) there in
+    (omega arith, leb-true (rounds.next + max rounds.block 1) last_number both.0, leb-true (number_at (rounds.next + max rounds.block 1) rounds) last_number both.1, ltb-false rounds.next rounds.covered covered)
 fits_by false false rounds covered there = tt
 
 fits : (rounds : Rounds) → Fits (cover_of rounds) rounds
 fits rounds = fits_by (nat_lt rounds.next rounds.covered)
     (nat_le (rounds.next + max rounds.block 1) last_number && nat_le (number_at (rounds.next + max rounds.block 1) rounds) last_number) rounds refl refl
 
--- what is written covers the next Put's round
-pub write_covers : (rounds : Rounds) (round : ℕ) → cover_of rounds ≡ cover.Write round → cover_of (written round rounds) ≡ cover.Covered
-write_covers rounds round is =
-    let above : rounds.next < round = (subst (λ choice. Fits choice rounds) is (fits rounds)).0 in
-    ap (λ b. if b then cover.Covered else if nat_le (rounds.next + max rounds.block 1) last_number && nat_le (number_at (rounds.next + max rounds.block 1) rounds) last_number then cover.Write (rounds.next + max rounds.block 1) else cover.Over)
-    (lt-ltb rounds.next round above)
+-- ---- what may be found says no number below one
 
--- ---- one happening
+abbrev AtLeast : List ℕ → ℕ → List Step → Type 0
+AtLeast path least steps = (found : Option (List ℕ)) (number : ℕ) → MayFind steps path found → number_found found ≡ Some number → least ≤ number
 
-mul_next : (width lane : ℕ) → width * (lane + 1) ≡ width * lane + width
-mul_next width lane = omega arith
+lower : (path : List ℕ) (less more : ℕ) (steps : List Step) → less ≤ more → AtLeast path more steps → AtLeast path less steps
+lower path less more steps le at found number may says = let far = at found number may says in omega (arith, far)
+
+-- the text of a number says it
+text_says : (number other : ℕ) (found : Option (List ℕ)) → number ≤ last_number → found ≡ Some (number_text number) → number_found found ≡ Some other → number ≡ other
+text_says number other found small is says =
+    let same : Some number ≡ Some other = sym (reads_back number small) ∙ sym (ap number_found is) ∙ says in cc
+
+lasting : (path : List ℕ) (number : ℕ) (steps : List Step) → number ≤ last_number → Lasts path number steps → AtLeast path number steps
+lasting path number steps small lasts found other may says =
+    let same = text_says number other found small (lasts.only found may) says in omega (arith, same)
+
+writing : (path : List ℕ) (least number : ℕ) (before now : List Step) → number ≤ last_number → least ≤ number → Writes path number before now → AtLeast path least before
+    → AtEachMoment (AtLeast path least) before now
+writing path least number before now small le writes at = record {
+  more = writes.moments.more;
+  steps = writes.moments.steps;
+  each = map_each (OldOrNew (Is (beside path)) (Whole path (number_text number)) before) (AtLeast path least) says writes.moments.more before writes.moments.each;
+}
+  where
+    says : (steps : List Step) → OldOrNew (Is (beside path)) (Whole path (number_text number)) before steps → AtLeast path least steps
+    says steps either found other may is = ⊎_elim
+        (λ old. at found other old is)
+        (λ new. let same = text_says number other found small new.1 is in omega (arith, same))
+        (either path found (apart path (beside path) refl) may)
+
+nothing : (path : List ℕ) (least : ℕ) (before now : List Step) → now ≡ before → AtLeast path least before → AtEachMoment (AtLeast path least) before now
+nothing path least before now is at = record { more = []; steps = is; each = at }
+
+-- P at a moment
+at_moment : (P : List Step → Type 0) (before moment now : List Step) → AtEachMoment P before now → IsMoment before moment now → P moment
+at_moment P before moment now each is =
+    let same : each.more ≡ is.later ++ is.earlier =
+    append_cancel_right each.more (is.later ++ is.earlier) before (sym each.steps ∙ is.now_is ∙ sym (append_assoc is.later is.earlier before)) in
+    subst P (sym is.moment_is) (down is.later is.earlier (subst (λ (l : List Step). AtEach P l before) same each.each))
+  where
+    here : (earlier : List Step) → AtEach P earlier before → P (earlier ++ before)
+    here [] each = each
+    here (step ∷ earlier) each = each.0
+
+    down : (later earlier : List Step) → AtEach P (later ++ earlier) before → P (earlier ++ before)
+    down [] earlier each = here earlier each
+    down (step ∷ later) earlier each = down later earlier each.1
+
+-- ---- a run begins
 
 -- all numbers of a run are above what the file said
 above_file : (first file width : ℕ) → file ≤ max width 1 * max first (round_above file width)
@@ -65,113 +106,258 @@ above_file first file width =
     let more : max width 1 * round_above file width ≤ max width 1 * max first (round_above file width) = mul-le-mul_left (max width 1) (omega arith) in
     omega arith
 
-start_kept : (first width place block : ℕ) (station : Station) → IsKept station → IsKept (after (starts first width place block) station)
-start_kept first width place block station kept =
-    let above = above_file first station.file width in record {
-      rising = kept.rising;
-      below_next = all_below station.file (max width 1 * max first (round_above station.file width) + min place (max width 1 - 1)) station.gave (omega arith) kept.below_file;
-      below_file = all_below station.file (max width 1 * max first (round_above station.file width)) station.gave above kept.below_file;
+module _ (path : List ℕ) (least : ℕ) (before : List Step) (at : AtLeast path least before) where
+  -- what a read brought is not below
+  read_above : (now read later : List Step) (number : ℕ) (reads : Reads (Some number) path before read) → now ≡ later ++ read → ReadsTruly path before now → least ≤ number
+  read_above now read later number reads is truly =
+      at reads.found number (truly reads.found later (is ∙ ap (λ (l : List Step). later ++ l) reads.steps)) reads.says
+
+  read_keeps : (read : List Step) (number : Option ℕ) → Reads number path before read → AtLeast path least read
+  read_keeps read number reads found other may says =
+      let there : MayFind (saw path reads.found ∷ before) path found = subst (λ (l : List Step). MayFind l path found) reads.steps may in
+      at found other (record { entry = there.entry; named = there.named; leaves = there.leaves }) says
+
+  read_moment : (read : List Step) (number : Option ℕ) → Reads number path before read → AtEachMoment (AtLeast path least) before read
+  read_moment read number reads = record {
+    more = saw path reads.found ∷ [];
+    steps = reads.steps;
+    each = (subst (AtLeast path least) reads.steps (read_keeps read number reads), at);
+  }
+
+joined : (P : List Step → Type 0) (before mid now : List Step) → AtEachMoment P before mid → AtEachMoment P mid now → AtEachMoment P before now
+joined P before mid now one two = record {
+  more = two.more ++ one.more;
+  steps = two.steps ∙ ap (λ (l : List Step). two.more ++ l) one.steps ∙ sym (append_assoc two.more one.more before);
+  each = both two.more (subst (λ (l : List Step). AtEach P two.more l) one.steps two.each);
+}
+  where
+    both : (more : List Step) → AtEach P more (one.more ++ before) → AtEach P (more ++ one.more) before
+    both [] each = one.each
+    both (step ∷ more) each = (subst P (ap (λ (l : List Step). step ∷ l) (sym (append_assoc more one.more before))) each.0, both more each.1)
+
+module _ (path : List ℕ) (least : ℕ) (before now : List Step) (at : AtLeast path least before) (truly : ReadsTruly path before now) (first width block : ℕ) where
+  -- a run's first round is written: what was there is not below, nor is what is there now
+  begins : (number : ℕ) (read : List Step) → Reads (Some number) path before read → let rounds = begun first number width block in
+      number_at rounds.next rounds ≤ last_number → Writes path (number_at rounds.next rounds) read now
+      → (least ≤ number_at rounds.next rounds) × AtEachMoment (AtLeast path least) before now
+  begins number read reads small writes =
+      let rounds = begun first number width block in
+      let known : least ≤ number = read_above path least before at now read writes.moments.more number reads writes.moments.steps truly in
+      let above : number ≤ number_at rounds.next rounds = above_file first number width in
+      let le : least ≤ number_at rounds.next rounds = omega (arith, known, above) in (
+        le,
+        joined (AtLeast path least) before read now (read_moment path least before at read (Some number) reads)
+            (writing path least (number_at rounds.next rounds) read now small le writes (read_keeps path least before at read (Some number) reads)),
+      )
+
+  opened : (rounds : Rounds) → Opens path first width block before now rounds → (least ≤ number_at rounds.next rounds) × AtEachMoment (AtLeast path least) before now
+  opened rounds call =
+      let is = call.begins in
+      let same : (number_at rounds.next rounds ≡ number_at (begun first call.number width block).next (begun first call.number width block)) =
+      ap (λ (r : Rounds). number_at r.next r) is in
+      let both = begins call.number call.read call.reads (omega (arith, same, call.fits)) (subst (λ n. Writes path n call.read now) same call.writes) in
+      (let le = both.0 in omega (arith, same, le), both.1)
+
+  failed : (fault : NumbersFault) → OpensNot fault path first width block before now → AtEachMoment (AtLeast path least) before now
+  failed Unreadable call = ⊎_elim (λ is. nothing path least before now is at) (λ reads. read_moment path least before at now None reads) call
+  failed Over call = subst (AtEachMoment (AtLeast path least) before) (sym call.why.1) (read_moment path least before at call.read (Some call.number) call.reads)
+  failed Unwritable call = (begins call.number call.read call.reads call.why.0 call.why.1).1
+
+opening : (path : List ℕ) (least : ℕ) (before now : List Step) → AtLeast path least before → ReadsTruly path before now → (start : Start) → IsOpening path start before now
+    → AtEachMoment (AtLeast path least) before now
+opening path least before now at truly start (inl call) = (opened path least before now at truly start.first start.width start.block call.0 call.1).1
+opening path least before now at truly start (inr call) = failed path least before now at truly start.first start.width start.block call.0 call.1
+
+-- ---- what holds at each moment
+
+-- between runs: what may be found says no number that was given, nor one below it
+pub record IsKept (path : List ℕ) (steps : List Step) (gave : List ℕ) : Type 0 where
+  pub least : ℕ
+  pub there : AtLeast path least steps
+  pub below : All (λ one. one < least) gave
+
+-- in a run
+pub record IsFine (path : List ℕ) (steps : List Step) (gave : List ℕ) (run : Run) : Type 0 where
+  pub there : AtLeast path (number_at run.rounds.covered run.rounds) steps
+  pub below : All (λ one. one < number_at run.rounds.covered run.rounds) gave
+  pub below_next : All (λ one. one < next_number run) gave
+  pub lane_known : run.lane ≤ run.rounds.next
+  pub in_range : run.rounds.next < run.rounds.covered → run.rounds.covered ≤ last_number
+  pub inside : run.place < max run.rounds.width 1
+
+abbrev Known : List ℕ → List Step → List ℕ → Option Run → Type 0
+Known path steps gave None = IsKept path steps gave
+Known path steps gave (Some run) = IsFine path steps gave run
+
+kept_of : (path : List ℕ) (steps : List Step) (gave : List ℕ) (run : Option Run) → Known path steps gave run → IsKept path steps gave
+kept_of path steps gave None known = known
+kept_of path steps gave (Some run) known = record { least = number_at run.rounds.covered run.rounds; there = known.there; below = known.below }
+
+begins_fine : (path : List ℕ) (before now : List Step) (gave : List ℕ) (start : Start) (rounds : Rounds) → IsKept path before gave → Opens path start.first start.width start.block before now rounds
+    → ReadsTruly path before now → start.place < max start.width 1 → IsFine path now gave (record { rounds = rounds; lane = rounds.next; place = start.place })
+begins_fine path before now gave start rounds kept call truly inside =
+    let le = (opened path kept.least before now kept.there truly start.first start.width start.block rounds call).0 in
+    let same : rounds.covered ≡ rounds.next = ap (λ (r : Rounds). r.covered) call.begins ∙ sym (ap (λ (r : Rounds). r.next) call.begins) in
+    let wide : rounds.width ≡ start.width = ap (λ (r : Rounds). r.width) call.begins in
+    let number : number_at rounds.next rounds ≡ number_at rounds.covered rounds = ap (λ n. number_at n rounds) (sym same) in record {
+      there = subst (λ n. AtLeast path n now) number (lasting path (number_at rounds.next rounds) now call.fits call.lasts);
+      below = all_below kept.least (number_at rounds.covered rounds) gave (omega (arith, le, number)) kept.below;
+      below_next = all_below kept.least (number_at rounds.next rounds + start.place) gave (omega (arith, le)) kept.below;
       lane_known = omega arith;
-      file_known = refl;
-      in_range = λ below. omega arith;
-      inside = omega arith;
+      in_range = λ below. omega (arith, same, below);
+      inside = subst (λ w. start.place < max w 1) (sym wide) inside;
     }
 
--- a Put whose round is below what is covered
-put_below : (covered : ℕ) (station : Station) → IsRising station.gave → All (λ one. one < next_number station) station.gave
-    → station.lane ≤ station.rounds.next → station.rounds.next < covered → covered ≤ last_number → station.place < max station.rounds.width 1
-    → IsKept (record station {
-      file = number_at covered station.rounds;
-      rounds = given station.lane (written covered station.rounds);
-      lane = station.lane + 1;
-      gave = next_number station ∷ station.gave;
-    })
-put_below covered station rising below_next known above near inside =
-    let next = mul_next (max station.rounds.width 1) station.lane in
-    let whole : max station.rounds.width 1 * (station.lane + 1) ≤ max station.rounds.width 1 * covered = mul-le-mul_left (max station.rounds.width 1) (omega arith) in record {
-      rising = (below_next, rising);
-      below_next = All-cons (λ one. one < number_at (station.lane + 1) station.rounds + station.place) (next_number station) station.gave (omega arith)
-          (all_below (next_number station) (number_at (station.lane + 1) station.rounds + station.place) station.gave (omega arith) below_next);
-      below_file = All-cons (λ one. one < number_at covered station.rounds) (next_number station) station.gave (omega arith)
-          (all_below (next_number station) (number_at covered station.rounds) station.gave (omega arith) below_next);
+mul_next : (width lane : ℕ) → width * (lane + 1) ≡ width * lane + width
+mul_next width lane = omega arith
+
+-- what was given is covered
+puts_fine : (path : List ℕ) (steps : List Step) (gave : List ℕ) (run : Run) → IsFine path steps gave run → cover_of run.rounds ≡ cover.Covered
+    → IsFine path steps (next_number run ∷ gave) (record run { rounds = given run.lane run.rounds; lane = run.lane + 1 })
+puts_fine path steps gave run fine is =
+    let more : run.rounds.next < run.rounds.covered = subst (λ choice. Fits choice run.rounds) is (fits run.rounds) in
+    let near = fine.in_range more in
+    let known = fine.lane_known in
+    let inside = fine.inside in
+    let next = mul_next (max run.rounds.width 1) run.lane in
+    let whole : max run.rounds.width 1 * (run.lane + 1) ≤ max run.rounds.width 1 * run.rounds.covered = mul-le-mul_left (max run.rounds.width 1) (omega arith) in record {
+      there = fine.there;
+      below = All-cons (λ one. one < number_at run.rounds.covered run.rounds) (next_number run) gave (omega arith) fine.below;
+      below_next = All-cons (λ one. one < number_at (run.lane + 1) run.rounds + run.place) (next_number run) gave (omega arith)
+          (all_below (next_number run) (number_at (run.lane + 1) run.rounds + run.place) gave (omega arith) fine.below_next);
       lane_known = omega arith;
-      file_known = refl;
       in_range = λ below. near;
       inside = inside;
     }
 
-put_kept : (choice : Cover) (station : Station) → Fits choice station.rounds → IsKept station → IsKept (putting choice (covering choice station))
-put_kept cover.Covered station fit kept =
-    subst (λ file. IsKept (record station {
-      file = file;
-      rounds = given station.lane station.rounds;
-      lane = station.lane + 1;
-      gave = next_number station ∷ station.gave;
-    })) (sym kept.file_known)
-    (put_below station.rounds.covered station kept.rising kept.below_next kept.lane_known fit (kept.in_range fit) kept.inside)
-put_kept (cover.Write round) station fit kept =
-    put_below round station kept.rising kept.below_next kept.lane_known fit.0 fit.1 kept.inside
-put_kept cover.Over station fit kept = kept
-
-cover_kept : (choice : Cover) (station : Station) → Fits choice station.rounds → IsKept station → IsKept (covering choice station)
-cover_kept cover.Covered station fit kept = kept
-cover_kept (cover.Write round) station fit kept =
-    let above = fit.0 in
-    let near = fit.1 in
-    let known = kept.lane_known in
-    let inside = kept.inside in
-    let next = mul_next (max station.rounds.width 1) station.lane in
-    let whole : max station.rounds.width 1 * (station.lane + 1) ≤ max station.rounds.width 1 * round = mul-le-mul_left (max station.rounds.width 1) (omega arith) in record {
-      rising = kept.rising;
-      below_next = kept.below_next;
-      below_file = all_below (next_number station) (number_at round station.rounds) station.gave (omega arith) kept.below_next;
-      lane_known = kept.lane_known;
-      file_known = refl;
-      in_range = λ below. near;
-      inside = kept.inside;
-    }
-cover_kept cover.Over station fit kept = kept
-
-other_kept : (round : ℕ) (is_known : Bool) (station : Station) → IsKept station
-    → IsKept (if is_known then record station { rounds = given round station.rounds } else station)
-other_kept round true station kept =
-    let known = kept.lane_known in record {
-      rising = kept.rising;
-      below_next = kept.below_next;
-      below_file = kept.below_file;
+notes_fine : (path : List ℕ) (steps : List Step) (gave : List ℕ) (run : Run) (round : ℕ) → IsFine path steps gave run → IsFine path steps gave (record run { rounds = given round run.rounds })
+notes_fine path steps gave run round fine =
+    let known = fine.lane_known in record {
+      there = fine.there;
+      below = fine.below;
+      below_next = fine.below_next;
       lane_known = omega arith;
-      file_known = kept.file_known;
-      in_range = λ below. kept.in_range (omega (arith, below));
-      inside = kept.inside;
+      in_range = λ below. fine.in_range (omega (arith, below));
+      inside = fine.inside;
     }
-other_kept round false station kept = kept
 
-give_kept : (choice : Cover) (round : ℕ) (station : Station) → IsKept station → IsKept (giving choice round station)
-give_kept cover.Covered round station kept = other_kept round (nat_le round station.rounds.next) station kept
-give_kept (cover.Write _) round station kept = other_kept round (nat_le round station.rounds.next) station kept
-give_kept cover.Over round station kept = kept
+-- a cover, at each moment
+cover_keeps : (path : List ℕ) (before now : List Step) (rounds : Rounds) (choice : Cover) → Fits choice rounds → AtLeast path (number_at rounds.covered rounds) before → Covers choice path rounds before now
+    → AtEachMoment (AtLeast path (number_at rounds.covered rounds)) before now
+cover_keeps path before now rounds cover.Covered fit at is = nothing path (number_at rounds.covered rounds) before now is at
+cover_keeps path before now rounds (cover.Write round) fit at writes =
+    let far = fit.0 in let covered = fit.3 in
+    let le : max rounds.width 1 * rounds.covered ≤ max rounds.width 1 * round = mul-le-mul_left (max rounds.width 1) (omega arith) in
+    writing path (number_at rounds.covered rounds) (number_at round rounds) before now fit.2 le writes at
+cover_keeps path before now rounds cover.Over fit at is = nothing path (number_at rounds.covered rounds) before now is at
 
--- ---- any run
+-- a cover that failed, and one that was answered
+module _ (path : List ℕ) (before now : List Step) (gave : List ℕ) (run : Run) (fine : IsFine path before gave run) where
+  same_fine : Covers (cover_of run.rounds) path run.rounds before now → IsFine path now gave run
+  same_fine call = record {
+    there = at_end (AtLeast path (number_at run.rounds.covered run.rounds)) before now (cover_keeps path before now run.rounds (cover_of run.rounds) (fits run.rounds) fine.there call);
+    below = fine.below;
+    below_next = fine.below_next;
+    lane_known = fine.lane_known;
+    in_range = fine.in_range;
+    inside = fine.inside;
+  }
 
-first_kept : IsKept at_first
-first_kept = record {
-  rising = tt;
-  below_next = All-nil (λ one. one < 0);
-  below_file = All-nil (λ one. one < 0);
-  lane_known = omega arith;
-  file_known = refl;
-  in_range = λ below. omega arith;
-  inside = omega arith;
+  covered_fine : (choice : Cover) → Fits choice run.rounds → Covers choice path run.rounds before now → Covered choice path run.rounds now → IsFine path now gave run
+      → IsFine path now gave (record run { rounds = covered_by choice run.rounds })
+  covered_fine cover.Covered fit call lasts same = same
+  covered_fine (cover.Write round) fit call lasts same =
+      let far = fit.0 in let covered = fit.3 in
+      let le : max run.rounds.width 1 * run.rounds.covered ≤ max run.rounds.width 1 * round = mul-le-mul_left (max run.rounds.width 1) (omega arith) in record {
+        there = lasting path (number_at round run.rounds) now fit.2 lasts;
+        below = all_below (number_at run.rounds.covered run.rounds) (number_at round run.rounds) gave le same.below;
+        below_next = same.below_next;
+        lane_known = same.lane_known;
+        in_range = λ below. fit.1;
+        inside = same.inside;
+      }
+  covered_fine cover.Over fit call lasts same = absurd lasts
+
+  covers_fine : (rounds : Rounds) → IsCovering path run.rounds rounds before now → IsFine path now gave (record run { rounds = rounds })
+  covers_fine rounds call = ⊎_elim
+      (λ same. subst (λ (r : Rounds). IsFine path now gave (record run { rounds = r })) (sym same) (same_fine call.0))
+      (λ done. subst (λ (r : Rounds). IsFine path now gave (record run { rounds = r })) (sym done.0) (covered_fine (cover_of run.rounds) (fits run.rounds) call.0 done.1 (same_fine call.0)))
+      call.1
+
+fewer : (path : List ℕ) (before now : List Step) (gave : List ℕ) (run : Option Run) → ((found : Option (List ℕ)) → MayFind now path found → MayFind before path found)
+    → Known path before gave run → Known path now gave run
+fewer path before now gave None to known = record { least = known.least; there = λ found number may. known.there found number (to found may); below = known.below }
+fewer path before now gave (Some run) to known = record {
+  there = λ found number may. known.there found number (to found may);
+  below = known.below;
+  below_next = known.below_next;
+  lane_known = known.lane_known;
+  in_range = known.in_range;
+  inside = known.inside;
 }
 
-run_kept : (run : List Happening) → IsKept (run_of run)
-run_kept [] = first_kept
-run_kept (starts first width place block ∷ earlier) = start_kept first width place block (run_of earlier) (run_kept earlier)
-run_kept (puts ∷ earlier) =
-    put_kept (cover_of (run_of earlier).rounds) (run_of earlier) (fits (run_of earlier).rounds) (run_kept earlier)
-run_kept (other round ∷ earlier) =
-    let choice = cover_of (run_of earlier).rounds in
-    give_kept choice round (covering choice (run_of earlier)) (cover_kept choice (run_of earlier) (fits (run_of earlier).rounds) (run_kept earlier))
+cut_kept : (path : List ℕ) (steps : List Step) (gave : List ℕ) → IsKept path steps gave → IsKept path (cut ∷ steps) gave
+cut_kept path steps gave kept = record {
+  least = kept.least;
+  there = λ found number may. kept.there found number (⊎_elim (λ old. old) (λ new. absurd new) (cut_off steps path found (λ never. never) may));
+  below = kept.below;
+}
+
+-- ---- any history
+
+module _ (path : List ℕ) (first : List Step) where
+  abbrev Holds : Station → Type 0
+  Holds s = Known path s.steps s.gave s.run × IsRising s.gave
+
+  putting_run : (s : Station) (run : Option Run) → InRun run (λ run. cover_of run.rounds ≡ cover.Covered) → Known path s.steps s.gave run → IsRising s.gave → Holds (putting run s)
+  putting_run s None may known rising = absurd may
+  putting_run s (Some run) may known rising = (puts_fine path s.steps s.gave run known may, (known.below_next, rising))
+
+  giving_run : (s : Station) (run : Option Run) (round : ℕ) → Known path s.steps s.gave run → Known path s.steps s.gave (giving round run)
+  giving_run s None round known = known
+  giving_run s (Some run) round known = notes_fine path s.steps s.gave run round known
+
+  covering_run : (s : Station) (run : Option Run) (now : List Step) (rounds : Rounds) → InRun run (λ run. IsCovering path run.rounds rounds s.steps now) → Known path s.steps s.gave run
+      → Known path now s.gave (covering rounds run)
+  covering_run s None now rounds may known = absurd may
+  covering_run s (Some run) now rounds may known = covers_fine path s.steps now s.gave run known rounds may
+
+  stopping_run : (s : Station) (run : Option Run) (moment now : List Step) → InRun run (λ run. Covers (cover_of run.rounds) path run.rounds s.steps now) → IsMoment s.steps moment now
+      → Known path s.steps s.gave run → IsKept path moment s.gave
+  stopping_run s None moment now may is known = absurd may
+  stopping_run s (Some run) moment now may is known = record {
+    least = number_at run.rounds.covered run.rounds;
+    there = at_moment (AtLeast path (number_at run.rounds.covered run.rounds)) s.steps moment now (cover_keeps path s.steps now run.rounds (cover_of run.rounds) (fits run.rounds) known.there may) is;
+    below = known.below;
+  }
+
+  holds : (history : List Happening) → IsHistory path first history → Holds (station first history)
+  holds [] happened = (record { least = 0; there = λ found number may says. omega arith; below = All-nil (λ one. one < 0) }, tt)
+  holds (opens start now rounds ∷ earlier) happened =
+      let s = station first earlier in let known = holds earlier happened.1 in
+      (begins_fine path s.steps now s.gave start rounds (kept_of path s.steps s.gave s.run known.0) happened.0.0 happened.0.1 happened.0.2, known.1)
+  holds (covers now rounds ∷ earlier) happened =
+      let s = station first earlier in let known = holds earlier happened.1 in (covering_run s s.run now rounds happened.0 known.0, known.1)
+  holds (puts ∷ earlier) happened =
+      let s = station first earlier in let known = holds earlier happened.1 in putting_run s s.run happened.0 known.0 known.1
+  holds (other_puts round ∷ earlier) happened =
+      let s = station first earlier in let known = holds earlier happened.1 in (giving_run s s.run round known.0, known.1)
+  holds (stops_opening start moment now ∷ earlier) happened =
+      let s = station first earlier in let known = holds earlier happened.1 in
+      let kept = kept_of path s.steps s.gave s.run known.0 in (
+        record {
+          least = kept.least;
+          there = at_moment (AtLeast path kept.least) s.steps moment now (opening path kept.least s.steps now kept.there happened.0.1 start happened.0.0) happened.0.2;
+          below = kept.below;
+        },
+        known.1,
+      )
+  holds (stops_covering moment now ∷ earlier) happened =
+      let s = station first earlier in let known = holds earlier happened.1 in (stopping_run s s.run moment now happened.0.0 happened.0.1 known.0, known.1)
+  holds (cuts ∷ earlier) happened =
+      let s = station first earlier in let known = holds earlier happened.1 in (cut_kept path s.steps s.gave (kept_of path s.steps s.gave s.run known.0), known.1)
+  holds (goes_on now ∷ earlier) happened =
+      let s = station first earlier in let known = holds earlier happened.1 in (fewer path s.steps now s.gave s.run happened.0 known.0, known.1)
 
 pub never_twice : NeverTwice
-never_twice run = (run_kept run).rising
+never_twice path first history happened = (holds path first history happened).1

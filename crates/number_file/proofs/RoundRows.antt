@@ -1,9 +1,7 @@
 -- Rounds, computed.
-use Rattle.std.proofs.Common.{◌≡◌, [], ◌∷◌, refl}
+use Rattle.std.proofs.Common.{◌≡◌, refl}
 use Rattle.number_file.specs.declared.rounds.Cover.TheVariants as cover
 use Rattle.number_file.specs.Rounds.{begun, cover_of, number_at, written, given, last_number}
-use Rattle.number_file.specs.RoundLaws.{run_of}
-use Rattle.number_file.specs.RoundLaws.Happening.{starts, puts, other}
 
 -- the higher of both, where all numbers are above what the file says, and something has to be covered before the first Put
 file_is_higher : begun 1 397 4 16 ≡ record { next = 100; covered = 100; width = 4; block = 16 }
@@ -39,7 +37,3 @@ over = refl
 
 too_wide : cover_of (begun 2305843009213693951 0 4 1) ≡ cover.Over
 too_wide = refl
-
--- two Puts, another lane's, a stop, and a Put of the next run with fewer lanes
-two_runs : (run_of (puts ∷ starts 1 1 0 2 ∷ other 1 ∷ puts ∷ puts ∷ starts 1 4 3 2 ∷ [])).gave ≡ 20 ∷ 11 ∷ 7 ∷ []
-two_runs = refl

@@ -1,2 +1,4 @@
 pub mod Rounds
+pub mod Texts
+pub mod Files
 pub mod RoundLaws

@@ -1,72 +1,137 @@
--- Meaning. How a file of numbers keeps a lane's numbers apart, in any run of starts and Puts.
-use Rattle.std.specs.Prelude.{ℕ, ◌+◌, ◌-◌, ◌<◌, min, max, All, List, [], ◌∷◌, nat_le, if◌then◌else◌}
-use Rattle.number_file.specs.declared.rounds.Cover.{Cover}
+-- Meaning. How a file of numbers keeps a lane's numbers apart, whatever programs run, wherever they stop, and whenever the power
+-- is cut.
+use Rattle.std.specs.Prelude.{◌≡◌, ◌⊎◌, ℕ, ◌+◌, ◌<◌, ◌≤◌, max, All, List, [], ◌∷◌, ◌++◌, Option, Some, None}
+use Rattle.disk.specs.Steps.{Step}
+use Rattle.disk.specs.Steps.Step.{saw, cut}
+use Rattle.disk.specs.Crash.{MayFind}
+use Rattle.number_file.specs.declared.file.NumbersFault.{NumbersFault}
 use Rattle.number_file.specs.declared.rounds.Cover.TheVariants as cover
 use Rattle.number_file.specs.declared.rounds.Rounds.{Rounds}
-use Rattle.number_file.specs.Rounds.{begun, cover_of, number_at, written, given}
+use Rattle.number_file.specs.Rounds.{cover_of, given, number_at}
+use Rattle.number_file.specs.Files.{Covered, Covers, Opens, OpensNot, covered_by}
 
--- what happens: a program starts, wherever the one before it stopped, with a first round, the width of a round, the
--- place of the lane's number in a round, and a block; the lane puts; another lane gives a round
-pub data Happening : Type 0 where
-  starts : ℕ → ℕ → ℕ → ℕ → Happening
-  puts : Happening
-  other : ℕ → Happening
+-- how a program starts: its first round, the width of a round, how many rounds are covered at once, and the place of the
+-- lane's number in a round
+pub record Start : Type 0 where
+  pub first : ℕ
+  pub width : ℕ
+  pub block : ℕ
+  pub place : ℕ
 
--- the number in the file, what the program knows, the round that the lane gives next, the place of its number in a
--- round, and the numbers that it gave, newest first
-pub record Station : Type 0 where
-  pub file : ℕ
+-- a program that runs: its rounds, the round that the lane gives next, and the place of the lane's number in a round
+pub record Run : Type 0 where
   pub rounds : Rounds
   pub lane : ℕ
   pub place : ℕ
+
+-- what happens: a program opens the file; it covers the next Put's round, or fails to; the lane puts; another lane gives a
+-- round to a Put; the program stops at a moment of an open, or of a cover; the power is cut; the disk goes on with other things
+pub data Happening : Type 0 where
+  opens : Start → List Step → Rounds → Happening
+  covers : List Step → Rounds → Happening
+  puts : Happening
+  other_puts : ℕ → Happening
+  stops_opening : Start → List Step → List Step → Happening
+  stops_covering : List Step → List Step → Happening
+  cuts : Happening
+  goes_on : List Step → Happening
+
+-- the steps of the disk, the program, if one runs, and the numbers that the lane gave, newest first
+pub record Station : Type 0 where
+  pub steps : List Step
+  pub run : Option Run
   pub gave : List ℕ
 
--- before there is a file
-abbrev pub at_first : Station
-at_first = record { file = 0; rounds = record { next = 0; covered = 0; width = 1; block = 1 }; lane = 0; place = 0; gave = [] }
-
 -- the lane's next number
-abbrev pub next_number : Station → ℕ
-next_number station = number_at station.lane station.rounds + station.place
+abbrev pub next_number : Run → ℕ
+next_number run = number_at run.lane run.rounds + run.place
 
--- the file is written where that is necessary
-abbrev pub covering : Cover → Station → Station
-covering cover.Covered station = station
-covering (cover.Write round) station = record station { file = number_at round station.rounds; rounds = written round station.rounds }
-covering cover.Over station = station
+-- the program once a lane gave a round
+abbrev pub noting : ℕ → Run → Run
+noting round run = record run { rounds = given round run.rounds }
 
--- a Put takes the lane's next number
-abbrev pub putting : Cover → Station → Station
-putting cover.Over station = station
-putting _ station = record station { rounds = given station.lane station.rounds; lane = station.lane + 1; gave = next_number station ∷ station.gave }
+-- the lane puts
+abbrev pub putting : Option Run → Station → Station
+putting None station = station
+putting (Some run) station = record station { run = Some (record (noting run.lane run) { lane = run.lane + 1 }); gave = next_number run ∷ station.gave }
 
--- another lane gives a round, which is not above what the program knows
-abbrev pub giving : Cover → ℕ → Station → Station
-giving cover.Over round station = station
-giving _ round station = if nat_le round station.rounds.next then record station { rounds = given round station.rounds } else station
+-- another lane puts
+abbrev pub giving : ℕ → Option Run → Option Run
+giving round None = None
+giving round (Some run) = Some (noting round run)
 
--- a program starts; the place is within a round
-abbrev pub started : Rounds → ℕ → Station → Station
-started rounds place station = record station
-    { file = number_at rounds.covered rounds; rounds = rounds; lane = rounds.next; place = min place (max rounds.width 1 - 1) }
+-- the program has these rounds
+abbrev pub covering : Rounds → Option Run → Option Run
+covering rounds None = None
+covering rounds (Some run) = Some (record run { rounds = rounds })
 
--- the station after a happening
+-- the station after something happened
 abbrev pub after : Happening → Station → Station
-after (starts first width place block) station = started (begun first station.file width block) place station
-after puts station = putting (cover_of station.rounds) (covering (cover_of station.rounds) station)
-after (other round) station = giving (cover_of station.rounds) round (covering (cover_of station.rounds) station)
+after (opens start now rounds) station = record station { steps = now; run = Some (record { rounds = rounds; lane = rounds.next; place = start.place }) }
+after (covers now rounds) station = record station { steps = now; run = covering rounds station.run }
+after puts station = putting station.run station
+after (other_puts round) station = record station { run = giving round station.run }
+after (stops_opening start moment now) station = record station { steps = moment; run = None }
+after (stops_covering moment now) station = record station { steps = moment; run = None }
+after cuts station = record station { steps = cut ∷ station.steps; run = None }
+after (goes_on now) station = record station { steps = now }
 
--- the station after a run of happenings, newest first
-abbrev pub run_of : List Happening → Station
-run_of [] = at_first
-run_of (happening ∷ earlier) = after happening (run_of earlier)
+-- a read of the path that comes first found what might be found there
+abbrev pub ReadsTruly : List ℕ → List Step → List Step → Type 0
+ReadsTruly path before now = (found : Option (List ℕ)) (later : List Step) → now ≡ later ++ (saw path found ∷ before) → MayFind before path found
+
+-- a moment between two lists of steps
+pub record IsMoment (before moment now : List Step) : Type 0 where
+  pub later : List Step
+  pub earlier : List Step
+  pub now_is : now ≡ later ++ (earlier ++ before)
+  pub moment_is : moment ≡ earlier ++ before
+
+-- what `open` promises, however it ends
+abbrev pub IsOpening : List ℕ → Start → List Step → List Step → Type 0
+IsOpening path start before now = ((rounds : Rounds) × Opens path start.first start.width start.block before now rounds)
+    ⊎ ((fault : NumbersFault) × OpensNot fault path start.first start.width start.block before now)
+
+-- what `cover` promises, however it ends
+abbrev pub IsCovering : List ℕ → Rounds → Rounds → List Step → List Step → Type 0
+IsCovering path old new before now = Covers (cover_of old) path old before now ×
+    ((new ≡ old) ⊎ ((new ≡ covered_by (cover_of old) old) × Covered (cover_of old) path old now))
+
+-- P of the program, if one runs
+abbrev pub InRun : Option Run → (Run → Type 0) → Type 0
+InRun None P = ⊥
+InRun (Some run) P = P run
+
+-- each call keeps its promise; reads are true; a round is given once it is covered
+abbrev pub MayHappen : List ℕ → Happening → Station → Type 0
+MayHappen path (opens start now rounds) station =
+    Opens path start.first start.width start.block station.steps now rounds × ReadsTruly path station.steps now × (start.place < max start.width 1)
+MayHappen path (covers now rounds) station = InRun station.run (λ run. IsCovering path run.rounds rounds station.steps now)
+MayHappen path puts station = InRun station.run (λ run. cover_of run.rounds ≡ cover.Covered)
+MayHappen path (other_puts round) station = InRun station.run (λ run. (cover_of run.rounds ≡ cover.Covered) × (round ≤ run.rounds.next))
+MayHappen path (stops_opening start moment now) station =
+    IsOpening path start station.steps now × ReadsTruly path station.steps now × IsMoment station.steps moment now
+MayHappen path (stops_covering moment now) station =
+    InRun station.run (λ run. Covers (cover_of run.rounds) path run.rounds station.steps now) × IsMoment station.steps moment now
+MayHappen path cuts station = Unit {0}
+MayHappen path (goes_on now) station = (found : Option (List ℕ)) → MayFind now path found → MayFind station.steps path found
+
+-- the station after all that happened, newest first; at first nothing was given
+abbrev pub station : List Step → List Happening → Station
+station first [] = record { steps = first; run = None; gave = [] }
+station first (happening ∷ earlier) = after happening (station first earlier)
+
+-- each might happen
+abbrev pub IsHistory : List ℕ → List Step → List Happening → Type 0
+IsHistory path first [] = Unit {0}
+IsHistory path first (happening ∷ earlier) = MayHappen path happening (station first earlier) × IsHistory path first earlier
 
 -- each number is above all that were given before it
 abbrev pub IsRising : List ℕ → Type 0
 IsRising [] = Unit {0}
 IsRising (number ∷ earlier) = All (λ one. one < number) earlier × IsRising earlier
 
--- in any run of starts, stops and Puts, even where the numbers of lanes and users change in between, each number that
--- a lane gives is above all that were given at its place before, and above all of earlier runs
+-- Whatever may be on the disk at first: in any history, also where the numbers of lanes and users change from one start to
+-- the next, each number that a lane gives is above all that were given at its place before, in this run and in earlier ones.
 abbrev pub NeverTwice : Type 0
-NeverTwice = (run : List Happening) → IsRising (run_of run).gave
+NeverTwice = (path : List ℕ) (first : List Step) (history : List Happening) → IsHistory path first history → IsRising (station first history).gave

@@ -1,17 +1,17 @@
 //! The number file on disk.
-ghost use Rattle.std.specs.Prelude.{◌≡◌, ◌≤◌, IfOk, OnErr, OnOk};
-ghost use Rattle.number_file.specs.Rounds.{cover_of, given, number_at};
+ghost use Rattle.std.specs.Prelude.{◌≡◌, ◌⊎◌, None, Some, IfErr, IfOk, OnErr, OnOk, string_bytes};
+ghost use Rattle.std.specs.List.{list_any};
+ghost use Rattle.disk.specs.Steps.{is_slash};
+ghost use Rattle.number_file.specs.Files.{Covered, Covers, Lasts, Opens, OpensNot, Reads, Writes, covered_by, fault_of};
+ghost use Rattle.number_file.specs.Rounds.{cover_of, given};
+ghost use Rattle.number_file.specs.declared.file.NumbersFault.TheVariants.{Unreadable, Unwritable};
 ghost use Rattle.number_file.specs.declared.rounds.Cover.TheVariants as cover;
 
-use crate::rounds::{Cover, LAST_NUMBER, Rounds};
+use crate::rounds::{Cover, Rounds};
+use crate::texts::number_in;
+use disk::Disk;
 use std::alloc::Global;
-use std::fs::{File, OpenFile};
-use std::io::{ErrorKind, Read, Write};
-use std::rt::Files;
-use std::{fs, io};
-
-// How many octets are read: a number, a line feed, and some more, so that a longer text is recognized as invalid.
-const MOST_OCTETS: u64 = 32;
+use whole_files::replace_beside;
 
 /// Why the file yields no numbers.
 #[derive(Clone, Copy, Debug, PartialEq, Eq)]
@@ -28,60 +28,62 @@ pub enum NumbersFault {
 #[derive(Drop)]
 pub struct NumberFile {
     alloc: Global,
-    path: String,
+    /// Its name, in the folder that the disk is.
+    pub path: String,
     /// The rounds that the file covers.
     pub rounds: Rounds,
-    /// The number in the file.
-    pub says: u64,
 }
 
 impl NumberFile {
-    /// Opens the file for a run, which begins at the round `first`, or at the first round that has no number below the
-    /// one in the file, if that is higher. A round has `width` numbers, and `block` rounds are covered at once. The
-    /// file is created if it is missing, and written at once, so that an error shows before any Put. A file that
-    /// doesn't contain a number is left as it is.
-    pub fn open<R: Files>(
-        rt: &R,
+    /// Opens the file of this name in the disk's own folder for a run, which begins at the round `first`, or at the
+    /// first round that has no number below the one in the file, if that is higher. A round has `width` numbers, and
+    /// `block` rounds are covered at once. The file is created if it is missing, and written at once, so that an error
+    /// shows before any Put. A file that doesn't contain a number is left as it is. A name with a slash can't be
+    /// written.
+    pub fn open<D: Disk>(
+        disk: &mut D,
         alloc: Global,
         path: String,
         first: u64,
         width: u64,
         block: u64,
     ) -> Result<NumberFile, NumbersFault>
-        ensures first { IfOk result (λ file. first ≤ file.rounds.next) }
-        ensures width { IfOk result (λ file. file.rounds.width ≡ width) }
-        ensures says { IfOk result (λ file. file.says ≡ number_at file.rounds.covered file.rounds) }
+        ensures opens { IfOk result (λ file. Opens (string_bytes path) first width block (D.done disk.old) (D.done disk.new) file.rounds) }
+        ensures path { IfOk result (λ file. string_bytes file.path ≡ string_bytes path) }
+        ensures not { IfErr result (λ fault. OpensNot fault (string_bytes path) first width block (D.done disk.old) (D.done disk.new)) }
     {
-        let number = read_number(rt, alloc, path.as_str())?;
+        let number = read_number(disk, path.as_str())?;
         let rounds = Rounds::begin(first, number, width, block);
-        let Some(covered) = rounds.number_at(rounds.covered) else {
+        let Some(covered) = rounds.number_at(rounds.next) else {
             return Err(NumbersFault::Over);
         };
-        let says = write_number(rt, alloc, path.as_str(), covered)?;
+        write_number(disk, alloc, path.as_str(), covered)?;
         Ok(NumberFile {
             alloc,
             path,
             rounds,
-            says,
         })
     }
 
     /// Ensures that the round of the next Put is covered, writing the file if necessary. The file is on disk when this
     /// returns.
-    pub fn cover<R: Files>(&mut self, rt: &R) -> Result<(), NumbersFault>
+    pub fn cover<D: Disk>(&mut self, disk: &mut D) -> Result<(), NumbersFault>
         ensures covered { OnOk result (cover_of self.new.rounds ≡ cover.Covered) }
-        ensures says { self.old.says ≡ number_at self.old.rounds.covered self.old.rounds
-            → self.new.says ≡ number_at self.new.rounds.covered self.new.rounds }
-        ensures next { self.new.rounds.next ≡ self.old.rounds.next }
+        ensures asked { Covers (cover_of self.old.rounds) (string_bytes self.old.path) self.old.rounds (D.done disk.old) (D.done disk.new) }
+        ensures lasts { OnOk result (Covered (cover_of self.old.rounds) (string_bytes self.old.path) self.old.rounds (D.done disk.new)) }
+        ensures rounds { OnOk result (self.new.rounds ≡ covered_by (cover_of self.old.rounds) self.old.rounds) }
+        ensures fault { IfErr result (λ fault. fault ≡ fault_of (cover_of self.old.rounds)) }
         ensures same { OnErr result (self.new.rounds ≡ self.old.rounds) }
+        ensures next { self.new.rounds.next ≡ self.old.rounds.next }
+        ensures path { string_bytes self.new.path ≡ string_bytes self.old.path }
     {
         match self.rounds.cover() {
             Cover::Covered => Ok(()),
             Cover::Write(round) => {
                 let Some(number) = self.rounds.number_at(round) else {
-                    return Err(NumbersFault::Over);
+                    return Err(NumbersFault::Unwritable);
                 };
-                self.says = write_number(rt, self.alloc, self.path.as_str(), number)?;
+                write_number(disk, self.alloc, self.path.as_str(), number)?;
                 self.rounds.note_written(round);
                 Ok(())
             }
@@ -92,76 +94,52 @@ impl NumberFile {
     /// Notes that a lane gave this round to a Put.
     pub fn note_given(&mut self, round: u64)
         ensures rounds { self.new.rounds ≡ given round self.old.rounds }
-        ensures says { self.new.says ≡ self.old.says }
+        ensures path { string_bytes self.new.path ≡ string_bytes self.old.path }
     {
         self.rounds.note_given(round);
     }
 }
 
 // The number in the file, 0 where there is no file.
-fn read_number<R: Files>(rt: &R, alloc: Global, path: &str) -> Result<u64, NumbersFault> {
-    match octets_of(rt, alloc, path) {
-        Ok(octets) => number_in(octets.as_slice()).ok_or(NumbersFault::Unreadable),
-        Err(error) if error.kind() == ErrorKind::NotFound => Ok(0),
+fn read_number<D: Disk>(disk: &mut D, path: &str) -> Result<u64, NumbersFault>
+    ensures ok { IfOk result (λ number. Reads (Some number) path.now (D.done disk.old) (D.done disk.new)) }
+    ensures err { IfErr result (λ fault. (fault ≡ Unreadable) × ((D.done disk.new ≡ D.done disk.old) ⊎ Reads None path.now (D.done disk.old) (D.done disk.new))) }
+{
+    match disk.read(path) {
+        Ok(Some(octets)) => number_in(octets.as_slice()).ok_or(NumbersFault::Unreadable),
+        Ok(None) => Ok(0),
         Err(_) => Err(NumbersFault::Unreadable),
     }
 }
 
-// The octets of a file, at most the first `MOST_OCTETS`.
-fn octets_of<R: Files>(rt: &R, alloc: Global, path: &str) -> io::Result<Vec<u8>> {
-    let mut octets = Vec::new(alloc);
-    let file = File::open(rt, path)?;
-    let _count = file.take(MOST_OCTETS).read_to_end(&mut octets)?;
-    Ok(octets)
-}
-
-// The number in a text: decimal digits, with or without a line feed after them.
-fn number_in(octets: &[u8]) -> Option<u64> {
-    let digits = octets.strip_suffix(b"\n").unwrap_or(octets);
-    let is_whole = octets.len() as u64 != MOST_OCTETS;
-    if !is_whole || digits.is_empty() || !digits.iter().all(|octet| octet.is_ascii_digit()) {
-        return None;
-    }
-    let number = str::from_utf8(digits).ok()?.parse::<u64>().ok()?;
-    if number > LAST_NUMBER {
-        None
-    } else {
-        Some(number)
-    }
-}
-
-// Replaces the file, and returns the number in it.
-fn write_number<R: Files>(
-    rt: &R,
+// Replaces the file by one with this number. Without memory nothing is asked of the disk.
+fn write_number<D: Disk>(
+    disk: &mut D,
     alloc: Global,
     path: &str,
     number: u64,
-) -> Result<u64, NumbersFault>
-    ensures { IfOk result (λ says. says ≡ number) }
+) -> Result<(), NumbersFault>
+    ensures writes { Writes path.now number (D.done disk.old) (D.done disk.new) }
+    ensures lasts { OnOk result (Lasts path.now number (D.done disk.new)) }
+    ensures fault { IfErr result (λ fault. fault ≡ Unwritable) }
 {
-    match write_beside(rt, alloc, path, number) {
-        Ok(()) => Ok(number),
-        Err(_) => Err(NumbersFault::Unwritable),
+    if has_slash(path) {
+        return Err(NumbersFault::Unwritable);
     }
+    let Ok(beside) = format!(in alloc; "{path}.new") else {
+        return Err(NumbersFault::Unwritable);
+    };
+    let Ok(text) = format!(in alloc; "{number}\n") else {
+        return Err(NumbersFault::Unwritable);
+    };
+    replace_beside(disk, beside.as_str(), path, text.as_bytes()).map_err(
+        |_| NumbersFault::Unwritable,
+    )
 }
 
-// Writes a new file next to the old one, flushes it, renames it and flushes the folder: at each moment the file has
-// either the number before or this one.
-fn write_beside<R: Files>(rt: &R, alloc: Global, path: &str, number: u64) -> io::Result<()> {
-    let beside = format!(in alloc; "{path}.new")?;
-    let text = format!(in alloc; "{number}\n")?;
-    let mut file = File::create(rt, beside.as_str())?;
-    file.write_all(text.as_bytes())?;
-    file.sync_all()?;
-    fs::rename(rt, beside.as_str(), path)?;
-    File::open(rt, folder_of(path))?.sync_all()
-}
-
-// The folder of a path.
-fn folder_of(path: &str) -> &str {
-    match path.rsplit_once('/') {
-        None => ".",
-        Some(("", _)) => "/",
-        Some((folder, _)) => folder,
-    }
+// Whether a path leads into a folder below.
+fn has_slash(path: &str) -> bool
+    ensures { result ≡ list_any is_slash path.now }
+{
+    path.as_bytes().iter().any(|octet| *octet == b'/')
 }

@@ -1,8 +1,8 @@
-//! Laws of a lane's rounds in any run of starts and Puts, stated over the definitions alone.
+//! Laws of the numbers that a lane gives, stated over the definitions alone.
 
 ghost use Rattle.number_file.specs.RoundLaws.{NeverTwice};
 
-/// In any run of starts, stops and Puts, a lane gives no number twice.
+/// Whatever programs run, wherever they stop, and whenever the power is cut, a lane gives no number twice.
 pub fn numbers()
     ensures { NeverTwice }
 {}

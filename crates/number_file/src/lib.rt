@@ -4,6 +4,7 @@
 mod file;
 mod laws;
 mod rounds;
+mod texts;
 
 pub use file::{NumberFile, NumbersFault};
 pub use laws::numbers;

@@ -1,11 +1,12 @@
 -- Each datagram that was parked is in one place, over every run of a lane.
-use Rattle.std.proofs.Common.{◌≡◌, ◌⊎◌, ℕ, ◌+◌, ◌<◌, ◌≤◌, Bool, true, false, if◌then◌else◌, List, [], ◌∷◌, ◌++◌, Option, Some, None, length, take, zero, suc, refl, sym, subst, arith, inl, inr}
+use Rattle.std.proofs.Common.{◌≡◌, ◌⊎◌, ℕ, ◌+◌, ◌/◌, ◌<◌, ◌≤◌, Bool, true, false, if◌then◌else◌, List, [], ◌∷◌, ◌++◌, Option, Some, None, length, take, zero, suc, refl, sym, subst, arith, inl, inr}
 use Rattle.std.proofs.lemmas.Bool.{cases_Bool}
 use Rattle.std.specs.List.{filter, position_or_len}
 use Rattle.program_parking.specs.declared.parked.Parked.{Parked}
 use Rattle.program_parking.specs.declared.parked.Lent.{Lent}
-use Rattle.program_parking.specs.Lanes.{LaneValue, behind, front_of, inserted, is_behind, is_of_other, lendable, within}
-use Rattle.parking_laws.specs.ParkingLaws.{AreMoves, Key, MayMove, Move, Run, forgets, is_key, key_of, key_of_lent, lends, line_of, of_number, parks, run_lent, run_of, run_settled, settles, step, times, up_to, without, without_room}
+use Rattle.program_parking.specs.Lanes.{LaneValue, behind, costs, front_of, halved, inserted, is_behind, is_of_other, lendable, within}
+use Rattle.program_parking.proofs.PlaceFacts.{fitting_is_front}
+use Rattle.parking_laws.specs.ParkingLaws.{AreMoves, Key, MayMove, Move, Run, forgets, given_up, gives_way, is_key, key_of, key_of_lent, lends, line_of, of_number, parks, run_lent, run_of, run_settled, settles, step, times, up_to, without, without_room}
 use Rattle.parking_laws.proofs.LineFacts.{behind_before, keys, within_is}
 use Rattle.parking_laws.proofs.RunFacts.{RunIsOrdered, runs_ordered}
 use Rattle.parking_laws.proofs.TimesFacts.{key_parts, key_same, one_if, times_append, times_before, times_behind, times_filters, times_inserted, times_itself, times_take_drop, times_taken}
@@ -164,6 +165,28 @@ forgets_counted number run counted = record {
   lent = counted.lent;
 }
 
+-- ---- the last ones go
+
+gives_way_placed : (run : Run) (key : Key) → IsCounted run
+    → times key run.parked ≡ times key run.out + times key (keys (halved run.lane).waiting) + times key (given_up run.lane ++ run.dropped)
+gives_way_placed run key counted =
+    let count : ℕ = length (halved run.lane).waiting in
+    let was : times key run.parked ≡ times key run.out + times key (keys run.lane.waiting) + times key run.dropped = counted.placed key in
+    let parts : times key (keys run.lane.waiting) ≡ times key (keys (take count run.lane.waiting)) + times key (given_up run.lane) = times_take_drop key count run.lane.waiting in
+    let these : take count run.lane.waiting ≡ (halved run.lane).waiting = fitting_is_front (costs run.lane.waiting / 2) run.lane.waiting in
+    let fits : times key (keys run.lane.waiting) ≡ times key (keys (halved run.lane).waiting) + times key (given_up run.lane) =
+    subst (λ (xs : List Parked). times key (keys run.lane.waiting) ≡ times key (keys xs) + times key (given_up run.lane)) these parts in
+    let gone : times key (given_up run.lane ++ run.dropped) ≡ times key (given_up run.lane) + times key run.dropped = times_append key (given_up run.lane) run.dropped in
+    omega arith
+
+gives_way_counted : (run : Run) → IsCounted run → IsCounted (step gives_way run)
+gives_way_counted run counted = record {
+  placed = λ key. gives_way_placed run key counted;
+  once = counted.once;
+  early = counted.early;
+  lent = counted.lent;
+}
+
 -- ---- every run
 
 step_counted : (it : Move) (run : Run) → MayMove it run → RunIsOrdered run → IsCounted run → IsCounted (step it run)
@@ -171,6 +194,7 @@ step_counted (parks limit one) run (last, least) ordered counted = parks_counted
 step_counted lends run may ordered counted = lends_counted (lendable run.lane) run refl counted
 step_counted (settles taken) run may ordered counted = settled_counted taken run.lent run refl ordered counted
 step_counted (forgets number) run may ordered counted = forgets_counted number run counted
+step_counted gives_way run may ordered counted = gives_way_counted run counted
 
 runs_counted : (moves : List Move) → AreMoves moves → IsCounted (run_of moves)
 runs_counted [] all = record { placed = λ key. refl; once = λ key. omega arith; early = λ key some. absurd (none some); lent = tt }

@@ -1,10 +1,11 @@
 -- What every run of a lane keeps.
-use Rattle.std.proofs.Common.{◌≡◌, ℕ, ◌+◌, ◌<◌, ◌≤◌, Bool, true, false, max, List, [], ◌∷◌, ◌++◌, Option, Some, None, length, take, refl, sym, subst, arith}
+use Rattle.std.proofs.Common.{◌≡◌, ℕ, ◌+◌, ◌/◌, ◌<◌, ◌≤◌, Bool, true, false, max, List, [], ◌∷◌, ◌++◌, Option, Some, None, length, take, refl, sym, subst, arith}
 use Rattle.std.specs.List.{filter, position_or_len}
 use Rattle.program_parking.specs.declared.parked.Parked.{Parked}
 use Rattle.program_parking.specs.declared.parked.Lent.{Lent}
-use Rattle.program_parking.specs.Lanes.{LaneValue, behind, inserted, is_behind, is_of_other, lendable, within}
-use Rattle.parking_laws.specs.ParkingLaws.{AreMoves, IsRising, Key, MayMove, Move, Run, forgets, key_of, key_of_lent, lends, line_of, parks, run_lent, run_of, run_settled, settles, step}
+use Rattle.program_parking.specs.Lanes.{LaneValue, behind, costs, halved, inserted, is_behind, is_of_other, lendable, within}
+use Rattle.program_parking.proofs.PlaceFacts.{fitting_is_front}
+use Rattle.parking_laws.specs.ParkingLaws.{AreMoves, IsRising, Key, MayMove, Move, Run, forgets, gives_way, key_of, key_of_lent, lends, line_of, parks, run_lent, run_of, run_settled, settles, step}
 use Rattle.parking_laws.proofs.LineFacts.{AreBefore, AreEarly, AreLow, apart_drop, apart_filter, apart_inserted, apart_take, are_before_append, behind_before, early_drop, early_filter, early_inserted, early_more, early_take, keys, low_append, low_more, rising_append, rising_drop, rising_filter, rising_inserted, rising_take, within_is}
 
 -- of the datagram that is lent: it comes after all that were handed in for good
@@ -112,6 +113,26 @@ forgotten_ordered number lane lent out arrivals ordered = record {
   next = ordered.next;
 }
 
+-- ---- the last ones go
+
+halved_ordered : (lane : LaneValue) (lent : Option Lent) (out : List Key) (arrivals : ℕ) → IsOrdered lane lent out arrivals → IsOrdered (halved lane) lent out arrivals
+halved_ordered lane lent out arrivals ordered =
+    let count : ℕ = length (halved lane).waiting in
+    let rises : IsRising (keys (take count lane.waiting)) = rising_take count lane.waiting ordered.line_rises in
+    let apart : AreBefore out (keys (take count lane.waiting)) = apart_take out count lane.waiting ordered.apart in
+    let came : AreEarly arrivals (take count lane.waiting) = early_take arrivals count lane.waiting ordered.early in
+    let these : take count lane.waiting ≡ (halved lane).waiting = fitting_is_front (costs lane.waiting / 2) lane.waiting in
+    let P : List Parked → Type 0 = λ xs. IsRising (keys xs) × AreBefore out (keys xs) × AreEarly arrivals xs in
+    let (r, a, e) = subst P these (rises, apart, came) in
+    record {
+      out_rises = ordered.out_rises;
+      line_rises = r;
+      apart = a;
+      low = ordered.low;
+      early = e;
+      next = ordered.next;
+    }
+
 -- ---- every run
 
 abbrev pub RunIsOrdered : Run → Type 0
@@ -131,6 +152,7 @@ step_ordered (parks limit one) run (last, least) ordered = parked_ordered limit 
 step_ordered lends run may ordered = run_lent_ordered (lendable run.lane) run refl ordered
 step_ordered (settles taken) run may ordered = settled_ordered taken run.lent run refl ordered
 step_ordered (forgets number) run may ordered = forgotten_ordered number run.lane run.lent run.out run.arrivals ordered
+step_ordered gives_way run may ordered = halved_ordered run.lane run.lent run.out run.arrivals ordered
 
 pub runs_ordered : (moves : List Move) → AreMoves moves → RunIsOrdered (run_of moves)
 runs_ordered [] all = record { out_rises = tt; line_rises = tt; apart = tt; low = tt; early = tt; next = tt }

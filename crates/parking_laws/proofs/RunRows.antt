@@ -1,7 +1,7 @@
 -- Worked runs of a lane.
 use Rattle.std.proofs.Common.{◌≡◌, ℕ, ◌-◌, true, List, [], ◌∷◌, arith, refl}
 use Rattle.program_parking.specs.declared.parked.Parked.{Parked}
-use Rattle.parking_laws.specs.ParkingLaws.{AreMoves, Move, forgets, lends, line_of, parks, run_of, settles, times}
+use Rattle.parking_laws.specs.ParkingLaws.{AreMoves, Move, forgets, gives_way, lends, line_of, parks, run_of, settles, times}
 
 -- a datagram of two octets, of a transaction, that came so late
 abbrev pub datagram : ℕ → ℕ → Parked
@@ -55,3 +55,13 @@ one_at_a_time = refl
 
 twice_there : times (record { number = 8; arrival = 0 }) (record { number = 8; arrival = 0 } ∷ record { number = 8; arrival = 1 } ∷ record { number = 8; arrival = 0 } ∷ []) ≡ 2
 twice_there = refl
+
+-- where memory ran out the later half goes, and may come again
+abbrev pub without_memory : List Move
+without_memory = gives_way ∷ parks 1000 (datagram 16 1) ∷ parks 1000 (datagram 8 0) ∷ []
+
+later_half_goes : (run_of without_memory).dropped ≡ record { number = 16; arrival = 1 } ∷ []
+later_half_goes = refl
+
+first_half_stays : line_of (run_of without_memory) ≡ record { number = 8; arrival = 0 } ∷ []
+first_half_stays = refl

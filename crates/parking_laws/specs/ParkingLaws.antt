@@ -3,7 +3,7 @@ use Rattle.std.specs.Prelude.{◌≡◌, ℕ, ◌+◌, ◌<◌, ◌≤◌, ◌==
 use Rattle.std.specs.List.{filter, position_or_len}
 use Rattle.program_parking.specs.declared.parked.Parked.{Parked}
 use Rattle.program_parking.specs.declared.parked.Lent.{Lent}
-use Rattle.program_parking.specs.Lanes.{LaneValue, inserted, is_behind, is_of_other, lendable, parked_in, settled, within, without_number}
+use Rattle.program_parking.specs.Lanes.{LaneValue, halved, inserted, is_behind, is_of_other, lendable, parked_in, settled, within, without_number}
 
 -- a datagram by its transaction's number and by its place in the order of arrival, which counts those of all lanes
 pub record Key : Type 0 where
@@ -36,6 +36,8 @@ pub data Move : Type 0 where
   settles : (taken : Bool) → Move
   -- nothing waits any more of a transaction
   forgets : (number : ℕ) → Move
+  -- memory ran out: the last ones go, until the others take up half as much at most
+  gives_way : Move
 
 -- a lane, and what is to be known of its run: the datagram that is lent, all that were parked, newest first, those that were handed
 -- in for good, oldest first, those that are gone otherwise, and a place behind those of all that were parked
@@ -64,6 +66,10 @@ keys_from count waiting = map key_of (drop count waiting)
 -- those that have no room with one more
 abbrev pub without_room : ℕ → Parked → LaneValue → List Key
 without_room limit one lane = keys_from (length (within limit (inserted one lane.waiting))) (inserted one lane.waiting)
+
+-- those that go where memory ran out
+abbrev pub given_up : LaneValue → List Key
+given_up lane = keys_from (length (halved lane).waiting) lane.waiting
 
 -- those that wait, up to the one that was handed in
 abbrev pub up_to : Lent → List Parked → List Key
@@ -107,6 +113,10 @@ step (forgets number) run = record run {
   lane = without_number number run.lane;
   dropped = of_number number run.lane.waiting ++ run.dropped;
 }
+step gives_way run = record run {
+  lane = halved run.lane;
+  dropped = given_up run.lane ++ run.dropped;
+}
 
 -- a move may be made: only datagrams that don't come too late are parked, each with a place behind all before it
 abbrev pub MayMove : Move → Run → Type 0
@@ -114,6 +124,7 @@ MayMove (parks limit one) run = (run.arrivals ≤ one.arrival) × (run.lane.floo
 MayMove lends run = Unit {0}
 MayMove (settles taken) run = Unit {0}
 MayMove (forgets number) run = Unit {0}
+MayMove gives_way run = Unit {0}
 
 -- the run after some moves, newest first
 abbrev pub run_of : List Move → Run

@@ -3,7 +3,7 @@
 
 ghost use Rattle.parking_laws.specs.ParkingLaws.{ComesOutInOrder, AccountsForEach};
 
-/// Whatever is parked, handed in, dropped and forgotten: what was handed in for good, followed by what waits, is in the order of
+/// Whatever is parked, handed in, dropped and forgotten, and wherever memory runs out: what was handed in for good, followed by what waits, is in the order of
 /// the numbers and, within a number, in the order in which it came.
 pub fn order()
     ensures { ComesOutInOrder }

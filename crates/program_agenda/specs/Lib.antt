@@ -3,4 +3,5 @@ pub mod Links
 pub mod Paces
 pub mod PaceLaws
 pub mod Places
+pub mod Stores
 pub mod Turns

@@ -1,4 +1,4 @@
--- Meaning. The work that a program does without an event from outside: expired timers, files that are sent, deposits.
+-- Meaning. The work that a program does without an event from outside: expired timers, files that are sent.
 use Rattle.std.specs.Prelude.{ℕ, Bool, nat_le, min, fold, map, set, List, [], ◌∷◌, ◌++◌, Option, Some, None, position, option_map}
 use Rattle.cfdp_types.specs.declared.key.TxnKey.{TxnKey}
 use Rattle.timer_list.specs.declared.armed.Armed.{Armed}
@@ -61,23 +61,11 @@ woken_one sending = record sending { rests_until = 0 }
 abbrev pub woken : List Sending → List Sending
 woken sendings = map woken_one sendings
 
--- ---- deposits
-
--- the first item of a list, and the others
-abbrev pub front_of : {D : Type 0} → List D → Option D
-front_of [] = None
-front_of (first ∷ rest) = Some first
-
-abbrev pub behind_front : {D : Type 0} → List D → List D
-behind_front [] = []
-behind_front (first ∷ rest) = rest
-
 -- ---- the whole
 
 -- the timers that run, in the order in which they were armed; those that rest, in the order in which they expired;
--- files, in the order of their turns; deposits, in the order in which they came
-pub record AgendaValue (D : Type 0) : Type 0 where
+-- files, in the order of their turns
+pub record AgendaValue : Type 0 where
   pub timers : List Armed
   pub resting : List Resting
   pub sendings : List Sending
-  pub deposits : List D

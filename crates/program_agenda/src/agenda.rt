@@ -1,47 +1,51 @@
-ghost use Rattle.std.specs.Prelude.{◌≡◌, ◌++◌, ◌∷◌, [], IsTrue, OnOk, OnErr, IfErr, length, ◌<◌, ◌==◌, not};
+ghost use Rattle.std.specs.Prelude.{◌≡◌, ◌++◌, ◌∷◌, [], IsTrue, OnOk, OnErr, IfErr};
 ghost use Rattle.timer_list.specs.Timers.{after, first_due, without_due};
 ghost use Rattle.timer_list.specs.Slots.{none_before};
 ghost use Rattle.program_agenda.specs.Links.{next_resting, superseded, without_next};
-ghost use Rattle.program_agenda.specs.Turns.{next_key, turned, rested, forgotten, begun, woken, least_rest, front_of, behind_front};
+ghost use Rattle.program_agenda.specs.Turns.{next_key, turned, rested, forgotten, begun, woken, least_rest};
 
 use crate::resting::RestingTimers;
 use crate::rotation::Rotation;
 use cfdp_types::{TimerOp, TxnKey};
 use std::alloc::{AllocError, Global};
-use std::collections::VecDeque;
 use std::marker::Model;
 use timer_list::{Armed, TimerList};
 
-/// The work that a program has to do without an event from outside: timers that expire, files that are being sent, and
-/// deposits that wait; also the timers that rest because the link to their remote entity is held. Contracts see the
-/// four lists.
+/// The work that a program has to do without an event from outside: timers that expire, and files that are being sent; also
+/// the timers that rest because the link to their remote entity is held. Contracts see the three lists.
 #[derive(Drop)]
-pub struct Agenda<D: Drop> {
+pub struct Agenda {
     timers: TimerList,
     resting: RestingTimers,
     sendings: Rotation,
-    deposits: VecDeque<D>,
 }
 
-impl<D: Drop> Model for Agenda<D> {
+impl Model for Agenda {
     ghost use Rattle.program_agenda.specs.Turns.{AgendaValue};
 
-    ghost Value = { AgendaValue D };
+    ghost Value = { AgendaValue };
 
-    ghost view = { λ a. record { timers = a.timers; resting = a.resting; sendings = a.sendings; deposits = a.deposits.items } };
+    ghost view = { λ a. record { timers = a.timers; resting = a.resting; sendings = a.sendings } };
 }
 
-impl<D: Drop> Agenda<D> {
+impl Agenda {
     /// An empty agenda.
-    pub fn new(alloc: Global) -> Agenda<D>
-        ensures { result ≡ record { timers = []; resting = []; sendings = []; deposits = [] } }
+    pub fn new(alloc: Global) -> Agenda
+        ensures { result ≡ record { timers = []; resting = []; sendings = [] } }
     {
         Agenda {
             timers: TimerList::new(alloc),
             resting: RestingTimers::new(alloc),
             sendings: Rotation::new(alloc),
-            deposits: VecDeque::new(alloc),
         }
+    }
+
+    /// Reserves memory, so that as many timers may run or rest at once as given, and none of them finds no memory.
+    pub fn reserve_timers(&mut self, timers: usize) -> Result<(), AllocError>
+        ensures { self.new ≡ self.old }
+    {
+        self.timers.reserve(timers)?;
+        self.resting.reserve(timers)
     }
 
     /// Takes out the first timer that has expired at this moment.
@@ -58,14 +62,6 @@ impl<D: Drop> Agenda<D> {
         ensures left { self.new ≡ record self.old { sendings = turned now self.old.sendings } }
     {
         self.sendings.next(now)
-    }
-
-    /// Takes out the first deposit.
-    pub fn next_deposit(&mut self) -> Option<D>
-        ensures deposit { result ≡ front_of self.old.deposits }
-        ensures left { self.new ≡ record self.old { deposits = behind_front self.old.deposits } }
-    {
-        self.deposits.pop_front()
     }
 
     /// Arms and disarms timers as an operation of a step at this moment says. A resting timer that it arms anew or
@@ -146,25 +142,6 @@ impl<D: Drop> Agenda<D> {
         ensures { self.new ≡ record self.old { sendings = forgotten key self.old.sendings } }
     {
         self.sendings.forget(key);
-    }
-
-    /// Appends a deposit. It is returned if memory runs out.
-    pub fn keep(&mut self, deposit: D) -> Result<(), D>
-        ensures ok { OnOk result (self.new ≡ record self.old { deposits = self.old.deposits ++ deposit ∷ [] }) }
-        ensures given_back { IfErr result (λ back. back ≡ deposit) }
-        ensures err { OnErr result (self.new ≡ self.old) }
-    {
-        match self.deposits.push_back(deposit) {
-            Ok(()) => Ok(()),
-            Err(back) => Err(back.value),
-        }
-    }
-
-    /// Whether a deposit waits.
-    pub fn has_deposits(&self) -> bool
-        ensures { result ≡ not (length self.now.deposits == 0) }
-    {
-        !self.deposits.is_empty()
     }
 
     /// A moment before which no timer expires.

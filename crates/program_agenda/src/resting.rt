@@ -3,7 +3,7 @@ ghost use Rattle.std.specs.Prelude.{◌≡◌, ◌<◌, ◌++◌, ◌∷◌, [],
 ghost use Rattle.program_agenda.specs.Links.{deadline_behind, link_place, next_resting, resting_place, superseded, without_next};
 
 use cfdp_types::{TimerKind, TimerOp, TxnKey};
-use std::alloc::Global;
+use std::alloc::{AllocError, Global};
 use std::marker::Model;
 use timer_list::Armed;
 
@@ -38,6 +38,13 @@ impl RestingTimers {
         RestingTimers {
             timers: Vec::new(alloc),
         }
+    }
+
+    /// Reserves memory for so many more timers.
+    pub fn reserve(&mut self, timers: usize) -> Result<(), AllocError>
+        ensures { self.new ≡ self.old }
+    {
+        self.timers.reserve(timers)
     }
 
     /// Appends a timer that expired. It is returned if memory runs out.

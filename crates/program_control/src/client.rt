@@ -1,5 +1,6 @@
 //! The two threads that serve a client.
 use crate::reading::read_commands;
+use crate::urgent::{PATIENCE_MS, read_urgent};
 use crate::writing::write_answers;
 use entity_config::Config;
 use program_desk::Desk;
@@ -12,9 +13,10 @@ use std::os::unix::net::UnixStream;
 use std::sync::Wait;
 use std::thread;
 use std::thread::Threads;
-use std::time::Clock;
+use std::time::{Clock, Duration};
 
-/// Serves the client of a seat until it leaves: this thread reads, and a second one writes.
+/// Serves the client of a seat until it leaves: this thread reads, and a second one writes. A client at the spare seat gives one
+/// command.
 pub(crate) fn serve_client<'x, R: Threads + Wait + Clock + Sync, F: FileReader>(
     rt: &'x R,
     alloc: Global,
@@ -25,13 +27,19 @@ pub(crate) fn serve_client<'x, R: Threads + Wait + Clock + Sync, F: FileReader>(
     desk: &'x Desk,
     seats: &'x Seats,
 ) {
+    let is_spare = Seats::is_spare(asker);
+    if is_spare {
+        let _as_it_may = stream.set_write_timeout(Some(Duration::from_millis(PATIENCE_MS)));
+    }
     let shared = &stream;
     thread::scope(thread::scope_env(), rt, move |scope| {
         let started = scope.spawn(move || {
             let mut writer = shared;
             write_answers(rt, alloc, &mut writer, asker, seats)
         });
-        if started.is_ok()
+        if started.is_ok() && is_spare {
+            read_urgent(rt, alloc, config, shared, asker, desk, seats);
+        } else if started.is_ok()
             && let Ok(mut reader) = in_blocks(alloc, shared)
         {
             read_commands(rt, alloc, files, config, &mut reader, asker, desk, seats);

@@ -8,6 +8,9 @@ use std::io::{BufRead, Read};
 use std::sync::Wait;
 use std::time::Clock;
 
+// For how many octets of a command memory is reserved, so that a short one needs none.
+const RESERVED_OCTETS: usize = 1_024;
+
 /// How many octets a command may have, its line feed included.
 pub const COMMAND_OCTETS: u64 = 131_072;
 
@@ -24,8 +27,11 @@ pub(crate) fn read_commands<R: Wait + Clock, F: FileReader, B: BufRead + Drop>(
     desk: &Desk,
     seats: &Seats,
 ) {
+    let Ok(mut line) = Vec::with_capacity(alloc, RESERVED_OCTETS) else {
+        return;
+    };
     for _ in rt.forever() {
-        let mut line = Vec::new(alloc);
+        line.clear();
         let wants_more = match reader.take(COMMAND_OCTETS).read_until(b'\n', &mut line) {
             Ok(count) => {
                 if line.pop() == Some(b'\n') {
@@ -46,7 +52,7 @@ pub(crate) fn read_commands<R: Wait + Clock, F: FileReader, B: BufRead + Drop>(
     }
 }
 
-// Leaves one parsed line and waits for its answer; answers whether more may be read.
-fn ask<R: Wait>(rt: &R, asker: Asker, said: Said, desk: &Desk, seats: &Seats) -> bool {
+/// Leaves one parsed line and waits for its answer; answers whether more may be read.
+pub(crate) fn ask<R: Wait>(rt: &R, asker: Asker, said: Said, desk: &Desk, seats: &Seats) -> bool {
     seats.ask(rt, asker) && desk.leave_line(rt, said, Some(asker)) && seats.wait_answer(rt, asker)
 }

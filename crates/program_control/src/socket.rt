@@ -1,11 +1,11 @@
 //! The socket: its file, the clients it lets in, and its end.
 use crate::client::serve_client;
 use crate::probing::{Probed, probe};
+use crate::urgent::refuse;
 use entity_config::Config;
 use program_desk::Desk;
 use program_seats::Seats;
 use program_start::FileReader;
-use script_io::write_whole;
 use std::alloc::Global;
 use std::fs::Permissions;
 use std::io::ErrorKind;
@@ -19,11 +19,11 @@ use std::thread::Threads;
 use std::time::{Clock, Duration};
 use std::{fs, io, thread};
 
-// The file's permissions: only the owner may connect.
+// The usual permissions of the file: only the owner may connect.
 const OWNER_ALONE: u32 = 0o600;
 
 // How many clients may wait to be let in.
-const WAITING: i32 = 16;
+const WAITING: i32 = 128;
 
 // How many temporary paths next to the wanted one are tried.
 const BESIDE: u64 = 100;
@@ -54,14 +54,26 @@ pub struct ControlSocket {
 }
 
 impl ControlSocket {
-    /// Makes the socket's file, which gets the owner's permissions before anyone can connect. The file of a server that
-    /// is gone is replaced. Of several servers that start at the same time, one gets the path.
+    /// Makes the socket's file, to which only its owner may connect, as [`ControlSocket::open_for`] does.
     pub fn open<R: Files + Net>(
         rt: &R,
         alloc: Global,
         path: &str,
     ) -> Result<ControlSocket, ControlFault> {
-        let (socket, own) = open_beside(rt, alloc, path).map_err(|_| ControlFault::System)?;
+        ControlSocket::open_for(rt, alloc, path, None)
+    }
+
+    /// Makes the socket's file, which gets its permissions before anyone can connect: its owner's alone, unless others are given. The file of a server that
+    /// is gone is replaced. Of several servers that start at the same time, one gets the path.
+    pub fn open_for<R: Files + Net>(
+        rt: &R,
+        alloc: Global,
+        path: &str,
+        mode: Option<u32>,
+    ) -> Result<ControlSocket, ControlFault> {
+        let (socket, own) = open_beside(rt, alloc, path, mode.unwrap_or(OWNER_ALONE)).map_err(
+            |_| ControlFault::System,
+        )?;
         let placed = place(rt, alloc, own.as_str(), path);
         let _gone = fs::remove_file(rt, own.as_str());
         placed?;
@@ -93,7 +105,7 @@ impl ControlSocket {
                                 seats.leave(rt, asker);
                             }
                         }
-                        None => refuse(stream),
+                        None => refuse(&stream),
                     },
                     Err(_) => {
                         if seats.is_closed(rt) {
@@ -185,10 +197,11 @@ fn open_beside<R: Files + Net>(
     rt: &R,
     alloc: Global,
     path: &str,
+    mode: u32,
 ) -> io::Result<(ControlSocket, String)> {
     for number in 0..BESIDE {
         let own = format!(in alloc; "{path}.{number}")?;
-        match open_new(rt, own.as_str()) {
+        match open_new(rt, own.as_str(), mode) {
             Ok(socket) => return Ok((socket, own)),
             Err(error) if error.kind() == ErrorKind::AddrInUse => {}
             Err(error) => return Err(error),
@@ -198,19 +211,24 @@ fn open_beside<R: Files + Net>(
 }
 
 // Opens a socket: makes its file, sets its permissions, and only then lets clients connect.
-fn open_new<R: Files + Net>(rt: &R, path: &str) -> io::Result<ControlSocket> {
+fn open_new<R: Files + Net>(rt: &R, path: &str, mode: u32) -> io::Result<ControlSocket> {
     let address = SocketAddr::from_pathname(path)?;
     let socket = rt.unix_socket()?;
     rt.bind_unix(socket.as_fd(), &address)?;
-    let listening = listen_at(rt, path, socket);
+    let listening = listen_at(rt, path, socket, mode);
     if listening.is_err() {
         let _gone = fs::remove_file(rt, path);
     }
     listening
 }
 
-fn listen_at<R: Files>(rt: &R, path: &str, socket: OwnedFd) -> io::Result<ControlSocket> {
-    fs::set_permissions(rt, path, Permissions::from_mode(OWNER_ALONE))?;
+fn listen_at<R: Files>(
+    rt: &R,
+    path: &str,
+    socket: OwnedFd,
+    mode: u32,
+) -> io::Result<ControlSocket> {
+    fs::set_permissions(rt, path, Permissions::from_mode(mode))?;
     let found = fs::symlink_metadata(rt, path)?;
     if libc::net::listen(socket.as_raw_fd(), WAITING) < 0 {
         return Err(ErrorKind::Other.into());
@@ -222,10 +240,4 @@ fn listen_at<R: Files>(rt: &R, path: &str, socket: OwnedFd) -> io::Result<Contro
         device: found.dev(),
         node: found.ino(),
     })
-}
-
-// Tells a client that no seat is free.
-fn refuse(stream: UnixStream) {
-    let mut writer = &stream;
-    let _as_it_may = write_whole(&mut writer, b"busy\n");
 }

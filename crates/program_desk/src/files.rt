@@ -34,6 +34,19 @@ impl Desk {
         file
     }
 
+    /// Looks at the size of a file to be sent, and lists it in `readings` meanwhile.
+    pub(crate) fn look_at_file<R: Wait + Clock, F: FileReader>(
+        &self,
+        rt: &R,
+        files: &F,
+        path: &Octets,
+    ) -> Result<u64, ProgramFault> {
+        let number = self.begin_reading(rt, path)?;
+        let size = size_of(files, path.as_slice());
+        self.end_reading(rt, number);
+        size
+    }
+
     // Lists a file as being read; answers the number of the reading.
     fn begin_reading<R: Wait + Clock>(&self, rt: &R, path: &Octets) -> Result<u64, AllocError> {
         let (path, since) = (path.copy()?, wall_moment(rt));
@@ -120,6 +133,14 @@ pub fn read_files<R: Wait + Clock, F: FileReader>(rt: &R, alloc: Global, files: 
 fn load<F: FileReader>(alloc: Global, files: &F, path: &[u8]) -> Result<Octets, ProgramFault> {
     match str::from_utf8(path) {
         Ok(path) => files.load(alloc, path),
+        Err(_) => Err(ProgramFault::Read),
+    }
+}
+
+// The size of a file. A path that is not UTF-8 can't be read.
+fn size_of<F: FileReader>(files: &F, path: &[u8]) -> Result<u64, ProgramFault> {
+    match str::from_utf8(path) {
+        Ok(path) => files.size(path),
         Err(_) => Err(ProgramFault::Read),
     }
 }

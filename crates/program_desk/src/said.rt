@@ -5,26 +5,33 @@ use crate::desk::Desk;
 use cfdp_types::Octets;
 use entity_config::Config;
 use program_start::{FileReader, ProgramFault};
-use server_lines::{Command, PutCommand, command_of};
+use server_lines::{Command, PutCommand, SendCommand, command_of};
 use std::alloc::{AllocError, Global};
 use std::sync::Wait;
 use std::time::Clock;
 
-/// A line of commands, parsed, with the file of a Put.
+/// A line of commands, parsed, with the file of a Put, or the size of one that is looked at before it waits.
 #[derive(Drop)]
 pub enum Said {
     /// A command other than a Put.
     Command(Command),
     /// A Put, with its file, or the fault if that can't be read.
     Put(PutCommand, Result<Octets, ProgramFault>),
+    /// A file for the outbox that was looked at: its size, or the fault if it can't be read.
+    Send(SendCommand, Result<u64, ProgramFault>),
     /// The line is not a command.
     Nothing,
     /// Memory for the line ran out.
     NoMemory,
 }
 
-/// Parses a line by a configuration, and reads the file of a Put. The desk shows meanwhile that this file is being
-/// read.
+// Whether the file of a send is looked at before it waits: where the line has any of the words that ask for more.
+fn is_looked_at(send: &SendCommand) -> bool {
+    send.is_urgent || send.source_name.is_some()
+}
+
+/// Parses a line by a configuration, and reads the file of a Put, or looks at that of a send which asks for more. The desk shows
+/// meanwhile that this file is being read.
 pub fn said_by<R: Wait + Clock, F: FileReader>(
     rt: &R,
     alloc: Global,
@@ -39,6 +46,14 @@ pub fn said_by<R: Wait + Clock, F: FileReader>(
         Ok(Some(Command::Put(put))) => {
             let file = desk.read_file(rt, alloc, files, &put.source);
             Said::Put(put, file)
+        }
+        Ok(Some(Command::Send(send))) => {
+            if is_looked_at(&send) {
+                let size = desk.look_at_file(rt, files, &send.source);
+                Said::Send(send, size)
+            } else {
+                Said::Command(Command::Send(send))
+            }
         }
         Ok(Some(command)) => Said::Command(command),
         Ok(None) => Said::Nothing,

@@ -8,7 +8,7 @@ pub enum Standing {
     Free,
     /// Once the transaction ended that is open with the same remainder.
     Awaits,
-    /// No more: a greater number with the same remainder was used.
+    /// Not: this number, or a greater one with the same remainder, was used.
     Lags,
 }
 

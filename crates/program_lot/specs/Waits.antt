@@ -1,7 +1,7 @@
 -- Meaning. Which refusals of a datagram pass, so that it is worth keeping.
 use Rattle.std.specs.Prelude.{Bool, true, false}
 use Rattle.txn_events.specs.declared.refusal.Refusal.{Refusal}
-use Rattle.txn_events.specs.declared.refusal.Refusal.TheVariants.{LaneBusy, QueueFull}
+use Rattle.txn_events.specs.declared.refusal.Refusal.TheVariants.{LaneBusy, NoMemory, QueueFull}
 use Rattle.lane_table.specs.declared.refused.Refused.{Refused}
 use Rattle.entity_parts.specs.declared.refusal.EntityRefusal.{EntityRefusal}
 use Rattle.entity_parts.specs.declared.refusal.EntityRefusal.TheVariants.{Lane}
@@ -15,3 +15,12 @@ waits_for takes other = false
 abbrev pub may_wait : Bool → EntityRefusal → Bool
 may_wait takes (Lane refused) = waits_for takes refused.why
 may_wait takes other = false
+
+-- memory ran out
+abbrev pub is_lack : Refusal → Bool
+is_lack NoMemory = true
+is_lack other = false
+
+abbrev pub lacks_memory : EntityRefusal → Bool
+lacks_memory (Lane refused) = is_lack refused.why
+lacks_memory other = false

@@ -10,5 +10,5 @@ mod report;
 pub use address::{LotAddress, address_of};
 pub use handed::{Handed, ParkEnd};
 pub use lot::Lot;
-pub use refusals::may_wait;
+pub use refusals::{lacks_memory, may_wait};
 pub use report::ParkedLane;

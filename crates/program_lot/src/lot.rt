@@ -100,7 +100,7 @@ impl Lot {
     }
 
     /// Parks a datagram that came at `since`, in milliseconds since 1970; `now` is the moment by the runtime's clock. Where
-    /// there is no room or memory, it or others are dropped.
+    /// there is no room or memory, it or others are dropped: without memory first the later half of what each lane has.
     pub fn park<R: Wait>(
         &self,
         rt: &R,
@@ -135,6 +135,17 @@ impl Lot {
         let mut lanes = self.lanes.lock(rt);
         settle_in(&mut lanes, &handed, is_taken, now);
         self.note(&lanes);
+    }
+
+    /// Memory ran out somewhere, so the later half of what waits for each lane is dropped; answers how many datagrams that was.
+    pub fn give_way<R: Wait>(&self, rt: &R) -> usize {
+        if !self.is_occupied() {
+            return 0;
+        }
+        let mut lanes = self.lanes.lock(rt);
+        let dropped = give_way_in(&mut lanes);
+        self.note(&lanes);
+        dropped
     }
 
     /// A lane was heard of: what waits for it may be handed in.
@@ -238,15 +249,37 @@ fn park_in(
     since: u64,
     now: u64,
 ) -> usize {
+    if count_in(lanes, index) == 0
+        && let Some(turn) = lanes.turns.get_mut(index)
+    {
+        turn.due = now.saturating_add(RETRY_MS);
+    }
     let before = count_in(lanes, index);
+    if lanes.parking.park(index, number, since, octets).is_ok() {
+        return note_dropped(lanes, index, before.saturating_add(1));
+    }
+    let given_up = give_way_in(lanes);
+    let left = count_in(lanes, index);
     let _has_memory = lanes.parking.park(index, number, since, octets);
-    let after = count_in(lanes, index);
-    let dropped = before.saturating_add(1).saturating_sub(after);
+    given_up.saturating_add(note_dropped(lanes, index, left.saturating_add(1)))
+}
+
+// Counts what was dropped of a lane that had so many datagrams, and answers how many that were.
+fn note_dropped(lanes: &mut Lanes, index: usize, before: usize) -> usize {
+    let dropped = before.saturating_sub(count_in(lanes, index));
     if let Some(turn) = lanes.turns.get_mut(index) {
         turn.dropped = turn.dropped.saturating_add(dropped as u64);
-        if before == 0 {
-            turn.due = now.saturating_add(RETRY_MS);
-        }
+    }
+    dropped
+}
+
+// Drops the later half of what waits for each lane; counts it, and answers how many datagrams that were.
+fn give_way_in(lanes: &mut Lanes) -> usize {
+    let mut dropped = 0usize;
+    for index in 0..lanes.turns.len() {
+        let before = count_in(lanes, index);
+        lanes.parking.give_way(index);
+        dropped = dropped.saturating_add(note_dropped(lanes, index, before));
     }
     dropped
 }
@@ -277,7 +310,7 @@ fn is_due(lanes: &Lanes, index: usize, now: u64) -> bool {
     }
 }
 
-// Takes a datagram of the next lane in turn.
+// Takes a datagram of the next lane in turn. Without memory for that, what waits gives way.
 fn lend_from(lanes: &mut Lanes, now: u64) -> Option<Handed> {
     let count = lanes.turns.len();
     for step in 0..count {
@@ -286,7 +319,11 @@ fn lend_from(lanes: &mut Lanes, now: u64) -> Option<Handed> {
             continue;
         }
         lanes.first = index.saturating_add(1) % count;
-        let lent = lanes.parking.lend(index)?;
+        let Ok(lent) = lanes.parking.lend(index) else {
+            let _dropped = give_way_in(lanes);
+            return None;
+        };
+        let lent = lent?;
         return Some(Handed {
             index,
             number: lent.number,
@@ -299,18 +336,28 @@ fn lend_from(lanes: &mut Lanes, now: u64) -> Option<Handed> {
 
 // Settles a datagram that was handed in; counts those that came too late, since they are before it.
 fn settle_in(lanes: &mut Lanes, handed: &Handed, is_taken: bool, now: u64) {
-    let before = count_in(lanes, handed.index);
+    let mut before = count_in(lanes, handed.index);
+    if is_taken && waits_in(lanes, handed) {
+        before = before.saturating_sub(1);
+    }
     lanes
         .parking
         .settle(handed.index, handed.number, handed.arrival, is_taken);
-    let gone = before.saturating_sub(count_in(lanes, handed.index));
+    let _late = note_dropped(lanes, handed.index, before);
     if let Some(turn) = lanes.turns.get_mut(handed.index) {
-        turn.dropped = turn.dropped.saturating_add(gone.saturating_sub(1) as u64);
         turn.due = if is_taken {
             0
         } else {
             now.saturating_add(RETRY_MS)
         };
+    }
+}
+
+// Whether a datagram that was handed in still waits, and wasn't dropped meanwhile.
+fn waits_in(lanes: &Lanes, handed: &Handed) -> bool {
+    match lanes.parking.lanes().get(handed.index) {
+        Some(lane) => lane.has(handed.number, handed.arrival),
+        None => false,
     }
 }
 

@@ -1,5 +1,5 @@
 ghost use Rattle.std.specs.Prelude.{◌≡◌};
-ghost use Rattle.program_lot.specs.Waits.{may_wait};
+ghost use Rattle.program_lot.specs.Waits.{lacks_memory, may_wait};
 
 use entity_parts::EntityRefusal;
 use txn_events::Refusal;
@@ -15,6 +15,16 @@ pub fn may_wait(takes: bool, refusal: &EntityRefusal) -> bool
             Refusal::QueueFull => takes,
             _ => false,
         },
+        _ => false,
+    }
+}
+
+/// Whether a datagram was refused since memory ran out.
+pub fn lacks_memory(refusal: &EntityRefusal) -> bool
+    ensures { result ≡ lacks_memory refusal.now }
+{
+    match refusal {
+        EntityRefusal::Lane(refused) => refused.why == Refusal::NoMemory,
         _ => false,
     }
 }

@@ -1,3 +1,4 @@
 pub mod OutboxRows
 pub mod OutgoingRows
 pub mod TurnFacts
+pub mod WindowRows

@@ -1,14 +1,19 @@
 -- Whose turn it is, computed.
-use Rattle.std.proofs.Common.{◌≡◌, ℕ, Bool, true, false, List, [], ◌∷◌, Some, None, refl}
+use Rattle.std.proofs.Common.{◌≡◌, ℕ, Bool, true, false, List, [], ◌∷◌, map, Some, None, refl}
 use Rattle.cfdp_types.specs.declared.names.Class.TheVariants.{Two}
 use Rattle.program_outbox.specs.declared.outbox.OutboxFile.{OutboxFile}
 use Rattle.program_outbox.specs.declared.outbox.Stop.{Stop}
 use Rattle.program_outbox.specs.declared.outbox.Waiting.{Waiting}
-use Rattle.program_outbox.specs.Outboxes.{OutboxValue, first_turns, going, after_going, withdrawn, queued, number_place}
+use Rattle.program_outbox.specs.Outboxes.{OutboxValue, first_turns, going, after_going, withdrawn, queued, queued_as, number_place}
 
 -- a file for an entity
 abbrev pub file_for : ℕ → OutboxFile
-file_for entity = record { class = Two; destination = record { 0 = entity }; source = []; destination_name = []; closure = false; since = 0 }
+file_for entity =
+    record { class = Two; destination = record { 0 = entity }; source = []; source_name = None; destination_name = []; closure = false; is_urgent = false; since = 0 }
+
+-- the same, urgent
+abbrev pub urgent : Waiting → Waiting
+urgent one = record one { file = record (one.file) { is_urgent = true } }
 
 abbrev pub waiting : ℕ → ℕ → ℕ → Waiting
 waiting number user entity = record { number = number; user = user; file = file_for entity }
@@ -36,6 +41,20 @@ then_the_other = refl
 
 turns_after : (after_going both [] two_users).turns ≡ 1 ∷ 0 ∷ []
 turns_after = refl
+
+-- an urgent file goes before its user's others, and no other user's
+urgent_goes : map (λ waiting. going both [] (record two_users { waiting = waiting }))
+    ((waiting 1 0 7 ∷ urgent (waiting 2 0 8) ∷ []) ∷ (waiting 1 0 7 ∷ urgent (waiting 3 1 7) ∷ []) ∷ [])
+    ≡ Some (urgent (waiting 2 0 8)) ∷ Some (waiting 1 0 7) ∷ []
+urgent_goes = refl
+
+-- where it can't go, the others do
+urgent_waits : going both (stop 0 8 ∷ []) (record two_users { waiting = waiting 1 0 7 ∷ urgent (waiting 2 0 8) ∷ [] }) ≡ Some (waiting 1 0 7)
+urgent_waits = refl
+
+-- a file that comes back from an earlier run has its number, and those after it go on
+numbers_go_on : (queued 0 (file_for 7) (queued_as 9 0 (file_for 8) (record { waiting = []; turns = []; next = 1 }))).waiting ≡ waiting 9 0 8 ∷ waiting 10 0 7 ∷ []
+numbers_go_on = refl
 
 -- a user whose lanes are busy waits
 busy_waits : going (false ∷ true ∷ []) [] two_users ≡ Some (waiting 3 1 7)

@@ -1,2 +1,3 @@
 pub mod Outboxes
 pub mod Outgoings
+pub mod Windows

@@ -1,6 +1,7 @@
 -- Meaning. Files that wait until a sending lane of their user is idle.
 use Rattle.std.specs.Prelude.{ℕ, ◌+◌, ◌==◌, ◌&&◌, Bool, false, not, List, [], ◌∷◌, ◌++◌, Option, Some, None, position, slice_get, option_to_list}
 use Rattle.std.specs.List.{remove, list_any, range_with_len}
+use Rattle.std.specs.Option.{option_or}
 use Rattle.cfdp_types.specs.declared.key.EntityId.{EntityId}
 use Rattle.program_outbox.specs.declared.outbox.OutboxFile.{OutboxFile}
 use Rattle.program_outbox.specs.declared.outbox.Stop.{Stop}
@@ -57,17 +58,28 @@ turn_place idle stops outbox = position (can_go idle stops outbox.waiting) outbo
 abbrev pub first_turns : ℕ → List ℕ
 first_turns users = range_with_len 0 users
 
--- one more file waits, after all others
-abbrev pub queued : ℕ → OutboxFile → OutboxValue → OutboxValue
-queued user file outbox = record outbox {
-  waiting = outbox.waiting ++ record { number = outbox.next; user = user; file = file } ∷ [];
-  next = outbox.next + 1;
+-- one more file waits, after all others, with a number, and the next one gets the number after it
+abbrev pub queued_as : ℕ → ℕ → OutboxFile → OutboxValue → OutboxValue
+queued_as number user file outbox = record outbox {
+  waiting = outbox.waiting ++ record { number = number; user = user; file = file } ∷ [];
+  next = number + 1;
 }
 
--- the place of a user's first file that may go
+-- with the next number
+abbrev pub queued : ℕ → OutboxFile → OutboxValue → OutboxValue
+queued user file outbox = queued_as outbox.next user file outbox
+
+-- a file is urgent, is this user's, and the user's files to its entity may go
+abbrev pub is_free_urgent : List Stop → ℕ → Waiting → Bool
+is_free_urgent stops user file = file.file.is_urgent && is_free stops user file
+
+-- the place of a user's first file that may go, the first urgent one if there is one
+abbrev pub free_place : List Stop → ℕ → List Waiting → Option ℕ
+free_place stops user waiting = option_or (position (is_free_urgent stops user) waiting) (position (is_free stops user) waiting)
+
 abbrev pub place_of_user : List Stop → Option ℕ → List Waiting → Option ℕ
 place_of_user stops None waiting = None
-place_of_user stops (Some user) waiting = position (is_free stops user) waiting
+place_of_user stops (Some user) waiting = free_place stops user waiting
 
 -- the place of the file to be sent: such a file of the user whose turn it is
 abbrev pub going_place : List Bool → List Stop → OutboxValue → Option ℕ

@@ -4,7 +4,7 @@ use Rattle.std.specs.Option.{option_or}
 use Rattle.program_outbox.specs.declared.outbox.OutboxFile.{OutboxFile}
 use Rattle.program_outbox.specs.declared.outbox.Stop.{Stop}
 use Rattle.program_outbox.specs.declared.outbox.Waiting.{Waiting}
-use Rattle.program_outbox.specs.Outboxes.{OutboxValue, after_going, at_place, going, has_number, is_idle, is_stopped, number_place, queued, withdrawn, without_place}
+use Rattle.program_outbox.specs.Outboxes.{OutboxValue, after_going, at_place, going, has_number, is_idle, is_stopped, number_place, queued, queued_as, withdrawn, without_place}
 
 -- files whose turn has not come; the file that is being read, unless it was withdrawn meanwhile; whether one is being read;
 -- files that came back, in the order in which they did; the moments before which none is tried, and none that came back
@@ -20,7 +20,11 @@ pub record OutgoingValue : Type 0 where
 abbrev pub file_count : OutgoingValue → ℕ
 file_count o = length o.outbox.waiting + length o.returned + length (option_to_list o.reading)
 
--- one more file waits, after all others, and files are tried from this moment on
+-- one more file waits, after all others, with a number, and files are tried from this moment on
+abbrev pub queued_as_at : ℕ → ℕ → OutboxFile → ℕ → OutgoingValue → OutgoingValue
+queued_as_at number user file now o = record o { outbox = queued_as number user file o.outbox; outbox_due = min o.outbox_due now }
+
+-- with the next number
 abbrev pub queued_at : ℕ → OutboxFile → ℕ → OutgoingValue → OutgoingValue
 queued_at user file now o = record o { outbox = queued user file o.outbox; outbox_due = min o.outbox_due now }
 

@@ -3,6 +3,8 @@
 
 mod outbox;
 mod outgoing;
+mod windows;
 
 pub use outbox::{MOST_FILES, Outbox, OutboxFault, OutboxFile, Stop, Waiting};
 pub use outgoing::Outgoing;
+pub use windows::{Window, Windows};

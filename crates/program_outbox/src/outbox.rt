@@ -1,6 +1,6 @@
-ghost use Rattle.std.specs.Prelude.{◌≡◌, ◌≤◌, ◌<◌, ◌↔◌, ◌⊎◌, [], IfOk, IfSome, OnErr, Err, ◌+◌, length, option_to_list, position, true};
+ghost use Rattle.std.specs.Prelude.{◌≡◌, ◌≤◌, ◌<◌, ◌↔◌, ◌⊎◌, [], IfOk, IfSome, OnErr, OnOk, Err, ◌+◌, length, option_to_list, position, true};
 ghost use Rattle.std.specs.List.{list_any};
-ghost use Rattle.program_outbox.specs.Outboxes.{after_going, at_place, can_go, first_turns, going, has_number, is_free, is_idle, is_stopped, number_place, queued, withdrawn};
+ghost use Rattle.program_outbox.specs.Outboxes.{after_going, at_place, can_go, first_turns, free_place, going, has_number, is_free, is_free_urgent, is_idle, is_stopped, number_place, queued, queued_as, withdrawn};
 
 use cfdp_types::{Class, EntityId, Octets};
 use std::alloc::{AllocError, Global};
@@ -14,11 +14,15 @@ pub const MOST_FILES: usize = 1_024;
 pub struct OutboxFile {
     pub class: Class,
     pub destination: EntityId,
-    /// The path of the file, and its source file name.
+    /// The path of the file, and its source file name where it has no other.
     pub source: Octets,
+    /// Its source file name, where that is another than the path.
+    pub source_name: Option<Octets>,
     /// Its destination file name.
     pub destination_name: Octets,
     pub closure: bool,
+    /// Whether it goes before its user's files that aren't urgent.
+    pub is_urgent: bool,
     /// When it was put in the outbox, in milliseconds since the start of 1970.
     pub since: u64,
 }
@@ -33,7 +37,7 @@ pub struct Waiting {
     pub file: OutboxFile,
 }
 
-/// Nothing of this user goes to this entity now: its link is stops, or no idle sending lane has a number that may go there.
+/// Nothing of this user goes to this entity now: its link is held, or no idle sending lane has a number that may go there.
 #[derive(Clone, Copy, Debug, PartialEq, Eq)]
 pub struct Stop {
     /// The user's number in the configuration.
@@ -92,21 +96,40 @@ impl Outbox {
             ↔ ((1024 ≤ length self.old.waiting) ⊎ (self.old.next ≡ 18446744073709551615)) }
     {
         let number = self.next;
+        self.push_as(number, user, file)?;
+        Ok(number)
+    }
+
+    /// Puts a user's file after all others, with this number, as one that waited when an earlier run stopped. The next file
+    /// gets the number after it.
+    pub fn push_as(&mut self, number: u64, user: usize, file: OutboxFile) -> Result<(), OutboxFault>
+        ensures ok { OnOk result (self.new ≡ queued_as number user file self.old) }
+        ensures err { OnErr result (self.new ≡ self.old) }
+        ensures full { (result ≡ Err OutboxFault.Full)
+            ↔ ((1024 ≤ length self.old.waiting) ⊎ (number ≡ 18446744073709551615)) }
+    {
         if self.waiting.len() >= MOST_FILES || number == u64::MAX {
             return Err(OutboxFault::Full);
         }
         match self.waiting.push(Waiting { number, user, file }) {
             Ok(()) => {
                 self.next = number + 1;
-                Ok(number)
+                Ok(())
             }
             Err(_) => Err(OutboxFault::NoMemory),
         }
     }
 
+    /// Has the next file get this number, which an earlier run left.
+    pub fn go_on_from(&mut self, next: u64)
+        ensures { self.new ≡ record self.old { next = next } }
+    {
+        self.next = next;
+    }
+
     /// Takes out the next file to be sent. `idle` says for each user whether a lane is idle, and `stops` which user's files
-    /// don't go to which entity. It is the first file that may go of the user whose turn it is; that user's next turn is after
-    /// all others.
+    /// don't go to which entity. It is the first file that may go of the user whose turn it is, the first urgent one if there
+    /// is one; that user's next turn is after all others.
     pub fn take(&mut self, idle: &[bool], stops: &[Stop]) -> Option<Waiting>
         ensures file { result ≡ going idle.now stops.now self.old }
         ensures rest { self.new ≡ after_going idle.now stops.now self.old }
@@ -184,12 +207,33 @@ fn turn_place(turns: &[usize], waiting: &[Waiting], idle: &[bool], stops: &[Stop
         .position(|user| can_go(idle, stops, waiting, *user))
 }
 
-// The place of a user's first file that may go.
+// The place of a user's first file that may go, the first urgent one if there is one.
 fn place_of(waiting: &[Waiting], stops: &[Stop], user: usize) -> Option<usize>
+    ensures place { result ≡ free_place stops.now user waiting.now }
+    ensures range { IfSome result (λ place. place < length waiting.now) }
+{
+    match urgent_place(waiting, stops, user) {
+        Some(place) => Some(place),
+        None => plain_place(waiting, stops, user),
+    }
+}
+
+// The place of a user's first file that may go.
+fn plain_place(waiting: &[Waiting], stops: &[Stop], user: usize) -> Option<usize>
     ensures place { result ≡ position (is_free stops.now user) waiting.now }
     ensures range { IfSome result (λ place. place < length waiting.now) }
 {
     waiting.iter().position(|one| is_free(stops, user, one))
+}
+
+// The place of a user's first urgent file that may go.
+fn urgent_place(waiting: &[Waiting], stops: &[Stop], user: usize) -> Option<usize>
+    ensures place { result ≡ position (is_free_urgent stops.now user) waiting.now }
+    ensures range { IfSome result (λ place. place < length waiting.now) }
+{
+    waiting
+        .iter()
+        .position(|one| one.file.is_urgent && is_free(stops, user, one))
 }
 
 /// The place of the file with this number.

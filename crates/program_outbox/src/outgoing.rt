@@ -1,7 +1,7 @@
-ghost use Rattle.std.specs.Prelude.{◌≡◌, ◌≤◌, ◌<◌, ◌↔◌, ◌⊎◌, ◌+◌, IfOk, IfSome, OnErr, Err, None, false, is_some, length, min, option_to_list, position, vec_capacity};
+ghost use Rattle.std.specs.Prelude.{◌≡◌, ◌≤◌, ◌<◌, ◌↔◌, ◌⊎◌, ◌+◌, IfOk, IfSome, OnErr, OnOk, Err, None, false, nat_le, is_some, length, min, option_to_list, position, vec_capacity};
 ghost use Rattle.std.specs.Option.{option_copied};
 ghost use Rattle.program_outbox.specs.Outboxes.{after_going, first_turns, has_number};
-ghost use Rattle.program_outbox.specs.Outgoings.{begun, can_leave, file_count, given_back, has_waiting, is_due, is_named, moment_until, named, next_file, queued_at, left_of, turn_of, without_named};
+ghost use Rattle.program_outbox.specs.Outgoings.{begun, can_leave, file_count, given_back, has_waiting, is_due, is_named, moment_until, named, next_file, queued_as_at, queued_at, left_of, turn_of, without_named};
 
 use crate::outbox::{
     MOST_FILES, Outbox, OutboxFault, OutboxFile, Stop, Waiting, is_idle, is_stopped, number_place,
@@ -79,6 +79,42 @@ impl Outgoing {
         let number = self.outbox.push(user, file)?;
         self.try_from(now);
         Ok(number)
+    }
+
+    /// Puts a user's file after all others, with this number, as one that waited when an earlier run stopped. The next file
+    /// gets the number after it.
+    pub fn push_as(
+        &mut self,
+        number: u64,
+        user: usize,
+        file: OutboxFile,
+        now: u64,
+    ) -> Result<(), OutboxFault>
+        ensures ok { OnOk result (self.new ≡ queued_as_at number user file now self.old) }
+        ensures err { OnErr result (self.new ≡ self.old) }
+        ensures full { (result ≡ Err OutboxFault.Full)
+            ↔ ((1024 ≤ file_count self.old) ⊎ (number ≡ 18446744073709551615)) }
+    {
+        if self.file_count() >= MOST_FILES {
+            return Err(OutboxFault::Full);
+        }
+        self.outbox.push_as(number, user, file)?;
+        self.try_from(now);
+        Ok(())
+    }
+
+    /// Has the next file get this number, which an earlier run left.
+    pub fn go_on_from(&mut self, next: u64)
+        ensures { self.new ≡ record self.old { outbox = record self.old.outbox { next = next } } }
+    {
+        self.outbox.go_on_from(next);
+    }
+
+    /// Whether no more file has room.
+    pub fn is_full(&self) -> bool
+        ensures { result ≡ nat_le 1024 (file_count self.now) }
+    {
+        self.file_count() >= MOST_FILES
     }
 
     // How many files are in it.

@@ -1,12 +1,12 @@
 -- What a room keeps to when one lane changes.
-use Rattle.std.proofs.Common.{◌≡◌, ℕ, ◌+◌, ◌-◌, ◌/◌, ◌<◌, ◌≤◌, All, min, false, nat_lt, nat_eq, List, [], ◌∷◌, ◌++◌, Some, length, set, slice_get, get_or, refl, sym, subst, arith, length-append}
+use Rattle.std.proofs.Common.{◌≡◌, ℕ, ◌+◌, ◌-◌, ◌/◌, ◌<◌, ◌≤◌, All, min, false, nat_lt, nat_eq, List, [], ◌∷◌, ◌++◌, Option, Some, None, length, set, slice_get, get_or, refl, sym, subst, arith, length-append}
 use Rattle.std.proofs.lemmas.List.Sums.{sum_by-append, sum_by-set, get_or-le-sum_by}
 use Rattle.std.proofs.lemmas.Bool.Decides.{nat_tests}
 use Rattle.std.proofs.lemmas.List.Elements.{All-push, All-set, All-weaker}
 use Rattle.std.proofs.lemmas.Option.{slice_get-get_or, slice_get_read, slice_get_within, get_or_from_slice_get}
 use Rattle.program_parking.specs.declared.parked.Lent.{Lent}
-use Rattle.program_parking.specs.Lanes.{LaneValue, lendable, parked_in}
-use Rattle.program_parking.specs.Parkings.{IsKept, ParkingValue, lane_costs, lendable_at, lent_out, limit, parked, replaced, used}
+use Rattle.program_parking.specs.Lanes.{LaneValue, lendable, lending, lent_of, parked_in}
+use Rattle.program_parking.specs.Parkings.{IsKept, ParkingValue, lane_costs, lendable_at, limit, parked, replaced, used}
 
 -- a lane's part of what is taken up, and the whole with another lane in its place
 pub part_of : (lanes : List LaneValue) (place : ℕ) (lane : LaneValue) → slice_get lanes place ≡ Some lane → lane_costs lane ≤ used lanes
@@ -163,10 +163,17 @@ empty_kept room count lanes empty =
       ),
     )
 
--- a datagram that is lent, at the value that a parking shows
-pub lend_is : (p shown : ParkingValue) (place : ℕ) (lane : LaneValue) (lent : Lent) (news : List LaneValue) → shown ≡ p → slice_get p.lanes place ≡ Some lane
-    → lendable lane ≡ Some lent → news ≡ set p.lanes place (lent_out lane)
-    → (lendable_at (slice_get shown.lanes place) ≡ Some lent) × (record p { lanes = news } ≡ replaced place lent_out shown)
-lend_is p shown place lane lent news is there may are =
-    let out : lendable_at (slice_get p.lanes place) ≡ Some lent = rw there may in
-    (subst (λ (it : ParkingValue). lendable_at (slice_get it.lanes place) ≡ Some lent) (sym is) out, replaced_is p shown place lent_out lane news is there are)
+-- the datagram that is lent, at the value that a parking shows
+pub lend_is : (p shown : ParkingValue) (place : ℕ) (lane : LaneValue) (lent : Option Lent) → shown ≡ p → slice_get p.lanes place ≡ Some lane → lent ≡ lendable lane
+    → lent ≡ lendable_at (slice_get shown.lanes place)
+lend_is p shown place lane lent is there may =
+    let out : lent ≡ lendable_at (slice_get p.lanes place) = rw there may in
+    subst (λ (it : ParkingValue). lent ≡ lendable_at (slice_get it.lanes place)) (sym is) out
+
+-- a lane of which one is lent takes up as much as before
+pub lending_costs : (lane : LaneValue) → lane_costs (lending lane) ≡ lane_costs lane
+lending_costs lane = by (lendable lane)
+  where
+    by : (lent : Option Lent) → lane_costs (lent_of lent lane) ≡ lane_costs lane
+    by None = refl
+    by (Some lent) = refl

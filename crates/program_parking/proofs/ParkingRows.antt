@@ -1,8 +1,9 @@
 -- Worked lines of datagrams.
-use Rattle.std.proofs.Common.{◌≡◌, ℕ, ◌-◌, true, false, List, [], ◌∷◌, Option, Some, None, map, refl}
+use Rattle.std.proofs.Common.{◌≡◌, ℕ, ◌-◌, true, false, List, [], ◌∷◌, Some, None, refl}
+use Rattle.std.specs.List.{list_any}
 use Rattle.program_parking.specs.declared.parked.Parked.{Parked}
-use Rattle.program_parking.specs.Lanes.{LaneValue, behind, cost, costs, fitting, inserted, is_crowded, lendable, oldest, parked_in, settled, transactions, within, without_number}
-use Rattle.program_parking.specs.Parkings.{ParkingValue, limit, parked, used}
+use Rattle.program_parking.specs.Lanes.{LaneValue, cost, halved, inserted, is_crowded, is_one, lendable, lending, oldest, parked_in, settled, transactions, without_number}
+use Rattle.program_parking.specs.Parkings.{ParkingValue, limit, parked}
 
 -- a datagram of two octets, of a transaction, that came so late
 abbrev pub datagram : ℕ → ℕ → Parked
@@ -37,6 +38,22 @@ first_is_lent = refl
 
 one_at_a_time : lendable (record lane { is_lent = true }) ≡ None
 one_at_a_time = refl
+
+being_lent : lending lane ≡ record lane { is_lent = true }
+being_lent = refl
+
+none_to_lend : lending (record lane { waiting = [] }) ≡ record lane { waiting = [] }
+none_to_lend = refl
+
+by_number_and_arrival : list_any (is_one 8 2) three ≡ true
+by_number_and_arrival = refl
+
+of_no_other : list_any (is_one 16 2) three ≡ false
+of_no_other = refl
+
+-- half of what is taken up goes, of the highest number first
+half_goes : (halved lane).waiting ≡ datagram 8 0 ∷ []
+half_goes = refl
 
 -- it stays, or is gone with what stands before it
 stays : settled false 8 0 (record lane { is_lent = true }) ≡ lane

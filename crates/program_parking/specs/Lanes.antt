@@ -1,5 +1,5 @@
 -- Meaning. The datagrams that wait for one lane, and what becomes of them.
-use Rattle.std.specs.Prelude.{ℕ, ◌+◌, ◌-◌, ◌==◌, ◌||◌, ◌&&◌, min, max, Bool, true, false, not, nat_le, nat_lt, if◌then◌else◌, List, [], ◌∷◌, length, fold, take, drop, Option, Some, None}
+use Rattle.std.specs.Prelude.{ℕ, ◌+◌, ◌-◌, ◌/◌, ◌==◌, ◌||◌, ◌&&◌, min, max, Bool, true, false, not, nat_le, nat_lt, if◌then◌else◌, List, [], ◌∷◌, length, fold, take, drop, Option, Some, None}
 use Rattle.std.specs.List.{filter, insert, position_or_len, sum_by}
 use Rattle.program_parking.specs.declared.parked.Parked.{Parked}
 use Rattle.program_parking.specs.declared.counted.Counted.{Counted}
@@ -44,6 +44,10 @@ within limit waiting = fitting limit (take 16384 waiting)
 abbrev pub parked_in : ℕ → Parked → LaneValue → LaneValue
 parked_in limit one lane = record lane { waiting = within limit (inserted one lane.waiting) }
 
+-- the last datagrams of the highest number go, until the others take up half as much at most
+abbrev pub halved : LaneValue → LaneValue
+halved lane = record lane { waiting = fitting (costs lane.waiting / 2) lane.waiting }
+
 -- ---- handing in
 
 -- the datagram that is handed in next, unless one is being handed in
@@ -53,6 +57,18 @@ front_of (one ∷ later) = Some (record { number = one.number; arrival = one.arr
 
 abbrev pub lendable : LaneValue → Option Lent
 lendable lane = if lane.is_lent then None else front_of lane.waiting
+
+-- the lane while that one is being handed in, if there is one
+abbrev pub lent_of : Option Lent → LaneValue → LaneValue
+lent_of None lane = lane
+lent_of (Some lent) lane = record lane { is_lent = true }
+
+abbrev pub lending : LaneValue → LaneValue
+lending lane = lent_of (lendable lane) lane
+
+-- a datagram is the one with this number and arrival
+abbrev pub is_one : ℕ → ℕ → Parked → Bool
+is_one number arrival one = (one.number == number) && (one.arrival == arrival)
 
 -- a datagram comes after the one with this number and arrival
 abbrev pub is_behind : ℕ → ℕ → Parked → Bool
@@ -85,7 +101,7 @@ is_of_other number one = not (one.number == number)
 abbrev pub without_number : ℕ → LaneValue → LaneValue
 without_number number lane = record lane { waiting = filter (is_of_other number) lane.waiting }
 
--- some datagram waits whose number isn't above this one
+-- the first datagram that waits has a number that isn't above this one
 abbrev pub is_crowded : ℕ → List Parked → Bool
 is_crowded number [] = false
 is_crowded number (one ∷ later) = nat_le one.number number

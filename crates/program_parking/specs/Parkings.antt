@@ -1,5 +1,5 @@
 -- Meaning. The datagrams that wait for all lanes, within one room.
-use Rattle.std.specs.Prelude.{ℕ, ◌+◌, ◌-◌, ◌/◌, ◌≤◌, All, ◌==◌, ◌||◌, min, Bool, true, nat_lt, if◌then◌else◌, List, set, slice_get, Option, Some, None}
+use Rattle.std.specs.Prelude.{ℕ, ◌+◌, ◌-◌, ◌/◌, ◌≤◌, All, ◌==◌, ◌||◌, min, Bool, nat_lt, if◌then◌else◌, List, set, slice_get, Option, Some, None}
 use Rattle.std.specs.List.{sum_by}
 use Rattle.program_parking.specs.declared.parked.Lent.{Lent}
 use Rattle.program_parking.specs.Lanes.{LaneValue, costs, lendable, parked_in}
@@ -56,7 +56,3 @@ replaced place change p = record p { lanes = replaced_at place (slice_get p.lane
 abbrev pub lendable_at : Option LaneValue → Option Lent
 lendable_at None = None
 lendable_at (Some lane) = lendable lane
-
--- it is being handed in
-abbrev pub lent_out : LaneValue → LaneValue
-lent_out lane = record lane { is_lent = true }

@@ -1,6 +1,6 @@
-ghost use Rattle.std.specs.Prelude.{◌≡◌, ◌≤◌, ◌<◌, ◌+◌, ◌-◌, [], false, true, not, length, take, drop, IfOk, OnOk, OnErr, IfSome, IfNone};
-ghost use Rattle.std.specs.List.{filter, position, position_or_len};
-ghost use Rattle.program_parking.specs.Lanes.{behind, cost, costs, fitting, inserted, is_above, is_behind, is_crowded, is_of_other, lendable, oldest, parked_in, settled, transactions, within, without_number};
+ghost use Rattle.std.specs.Prelude.{◌≡◌, ◌≤◌, ◌<◌, ◌+◌, ◌-◌, [], false, true, not, length, take, drop, IfOk, OnOk, OnErr};
+ghost use Rattle.std.specs.List.{filter, list_any, position, position_or_len};
+ghost use Rattle.program_parking.specs.Lanes.{behind, cost, costs, fitting, halved, inserted, is_above, is_behind, is_crowded, is_of_other, is_one, lendable, lending, oldest, parked_in, settled, transactions, within, without_number};
 
 use crate::counted::Counted;
 use crate::parked::{Lent, Parked, cost_of};
@@ -82,23 +82,25 @@ impl LaneParking {
         Ok(())
     }
 
-    /// Lends the first datagram to be handed in, unless one is lent already, or there is no memory for that.
-    pub fn lend(&mut self) -> Option<Lent>
-        ensures lent { IfSome result (λ lent. (lendable self.old ≡ Some lent) × (self.new ≡ record self.old { is_lent = true })) }
-        ensures none { IfNone result (self.new ≡ self.old) }
+    /// Lends the first datagram to be handed in, unless one is lent already. The error says that memory ran out.
+    pub fn lend(&mut self) -> Result<Option<Lent>, AllocError>
+        ensures lent { IfOk result (λ lent. lent ≡ lendable self.old) }
+        ensures ok { OnOk result (self.new ≡ lending self.old) }
+        ensures err { OnErr result (self.new ≡ self.old) }
     {
         if self.is_lent {
-            return None;
+            return Ok(None);
         }
-        let front = self.waiting.front()?;
-        let octets = front.octets.copy().ok()?;
+        let Some(front) = self.waiting.front() else {
+            return Ok(None);
+        };
         let lent = Lent {
             number: front.number,
             arrival: front.arrival,
-            octets,
+            octets: front.octets.copy()?,
         };
         self.is_lent = true;
-        Some(lent)
+        Ok(Some(lent))
     }
 
     /// The datagram that was lent was handed in for good, or else stays where it is.
@@ -125,7 +127,26 @@ impl LaneParking {
         self.octets = fit(&self.waiting, self.octets).1;
     }
 
-    /// Whether a datagram waits whose number isn't above this one.
+    /// The last datagrams of the highest number go, until the others take up half as much at most.
+    #[tactic(auto, using(crate::proofs::PlaceFacts::fitting_room))]
+    pub fn give_way(&mut self)
+        ensures after { self.new ≡ halved self.old }
+        ensures room { costs self.new.waiting ≤ costs self.old.waiting }
+    {
+        let limit = self.octets / 2;
+        self.octets = shorten(&mut self.waiting, limit);
+    }
+
+    /// Whether the datagram with this number and arrival waits.
+    pub fn has(&self, number: u64, arrival: u64) -> bool
+        ensures { result ≡ list_any (is_one number arrival) self.now.waiting }
+    {
+        self.waiting
+            .iter()
+            .any(|one| one.number == number && one.arrival == arrival)
+    }
+
+    /// Whether the first datagram that waits has a number that isn't above this one.
     pub fn is_crowded(&self, number: u64) -> bool
         ensures { result ≡ is_crowded number self.now.waiting }
     {
@@ -294,13 +315,21 @@ fn drop_front(waiting: &mut VecDeque<Parked>, octets: u64, count: usize) -> u64
     octets
 }
 
-// Drops the last datagrams that don't fit into some octets; answers how many octets are left.
-#[tactic(auto, using(crate::proofs::PlaceFacts::fitting_is_front))]
+// Drops the last datagrams that don't fit into some octets, or of which more than enough wait; answers how many octets are left.
 fn cut(waiting: &mut VecDeque<Parked>, limit: u64) -> u64
     ensures within { waiting.new.items ≡ within limit waiting.old.items }
     ensures octets { result ≡ costs waiting.new.items }
 {
     waiting.truncate(MOST_DATAGRAMS);
+    shorten(waiting, limit)
+}
+
+// Drops the last datagrams that don't fit into some octets; answers how many octets are left.
+#[tactic(auto, using(crate::proofs::PlaceFacts::fitting_is_front))]
+fn shorten(waiting: &mut VecDeque<Parked>, limit: u64) -> u64
+    ensures fitting { waiting.new.items ≡ fitting limit waiting.old.items }
+    ensures octets { result ≡ costs waiting.new.items }
+{
     let (count, octets) = fit(waiting, limit);
     waiting.truncate(count);
     octets

@@ -1,7 +1,7 @@
-ghost use Rattle.std.specs.Prelude.{◌≡◌, ◌≤◌, ◌<◌, ◌+◌, ◌-◌, ◌/◌, All, length, min, set, slice_get, slice_index, IfOk, IfSome, IfNone, OnOk, OnErr, Some, false, []};
+ghost use Rattle.std.specs.Prelude.{◌≡◌, ◌≤◌, ◌<◌, ◌+◌, ◌-◌, ◌/◌, All, length, min, set, slice_get, slice_index, IfOk, OnOk, OnErr, Some, false, []};
 ghost use Rattle.std.specs.Option.{option_copied};
-ghost use Rattle.program_parking.specs.Lanes.{LaneValue, costs, lendable, parked_in, settled, without_number};
-ghost use Rattle.program_parking.specs.Parkings.{IsKept, lendable_at, lent_out, limit, parked, replaced, used};
+ghost use Rattle.program_parking.specs.Lanes.{LaneValue, costs, halved, lendable, lending, parked_in, settled, without_number};
+ghost use Rattle.program_parking.specs.Parkings.{IsKept, lendable_at, limit, parked, replaced, used};
 
 use crate::lane::LaneParking;
 use crate::parked::{Lent, Parked};
@@ -100,16 +100,17 @@ impl Parking {
         Ok(())
     }
 
-    /// Lends the next datagram of a lane to be handed in, unless one is lent already, or there is no memory for that.
-    pub fn lend(&mut self, place: usize) -> Option<Lent>
-        ensures lent { IfSome result (λ lent. (lendable_at (slice_get self.old.lanes place) ≡ Some lent) × (self.new ≡ replaced place lent_out self.old)) }
-        ensures none { IfNone result (self.new ≡ self.old) }
+    /// Lends the next datagram of a lane to be handed in, unless one is lent already. The error says that memory ran out.
+    pub fn lend(&mut self, place: usize) -> Result<Option<Lent>, AllocError>
+        ensures lent { IfOk result (λ lent. lent ≡ lendable_at (slice_get self.old.lanes place)) }
+        ensures ok { OnOk result (self.new ≡ replaced place lending self.old) }
+        ensures err { OnErr result (self.new ≡ self.old) }
     {
         if place >= self.lanes.len() {
-            return None;
+            return Ok(None);
         }
         let lent = lend_at(&mut self.lanes, place)?;
-        Some(lent)
+        Ok(lent)
     }
 
     /// The datagram that was lent, by its number and arrival, was handed in for good, or else stays where it is.
@@ -130,6 +131,17 @@ impl Parking {
         if let Some(lane) = self.lanes.get(place) {
             let others = self.octets - lane.octets();
             let now = forget_at(&mut self.lanes, place, number);
+            self.octets = others + now;
+        }
+    }
+
+    /// Memory ran out: the last datagrams of a lane's highest number go, until its others take up half as much at most.
+    pub fn give_way(&mut self, place: usize)
+        ensures { self.new ≡ replaced place halved self.old }
+    {
+        if let Some(lane) = self.lanes.get(place) {
+            let others = self.octets - lane.octets();
+            let now = give_way_at(&mut self.lanes, place);
             self.octets = others + now;
         }
     }
@@ -154,11 +166,11 @@ fn park_at(
 }
 
 // Lends the next datagram of the lane at a place.
-fn lend_at(lanes: &mut Vec<LaneParking>, place: usize) -> Option<Lent>
+fn lend_at(lanes: &mut Vec<LaneParking>, place: usize) -> Result<Option<Lent>, AllocError>
     requires { place < length lanes.old.items }
-    ensures lent { IfSome result (λ lent. (lane : LaneValue) → slice_get lanes.old.items place ≡ Some lane
-        → (lendable lane ≡ Some lent) × (lanes.new.items ≡ set lanes.old.items place (lent_out lane))) }
-    ensures none { IfNone result (lanes.new.items ≡ lanes.old.items) }
+    ensures lent { IfOk result (λ lent. (lane : LaneValue) → slice_get lanes.old.items place ≡ Some lane → lent ≡ lendable lane) }
+    ensures ok { OnOk result ((lane : LaneValue) → slice_get lanes.old.items place ≡ Some lane → lanes.new.items ≡ set lanes.old.items place (lending lane)) }
+    ensures err { OnErr result (lanes.new.items ≡ lanes.old.items) }
 {
     lanes[place].lend()
 }
@@ -192,5 +204,17 @@ fn forget_at(lanes: &mut Vec<LaneParking>, place: usize, number: u64) -> u64
 {
     let lane = &mut lanes[place];
     lane.forget(number);
+    lane.octets()
+}
+
+// Halves what waits for the lane at a place; answers how much of the room the lane takes up then.
+fn give_way_at(lanes: &mut Vec<LaneParking>, place: usize) -> u64
+    requires { place < length lanes.old.items }
+    ensures lanes { (lane : LaneValue) → slice_get lanes.old.items place ≡ Some lane → lanes.new.items ≡ set lanes.old.items place (halved lane) }
+    ensures octets { (lane : LaneValue) → slice_get lanes.old.items place ≡ Some lane → result ≡ costs (halved lane).waiting }
+    ensures less { (lane : LaneValue) → slice_get lanes.old.items place ≡ Some lane → result ≤ costs lane.waiting }
+{
+    let lane = &mut lanes[place];
+    lane.give_way();
     lane.octets()
 }

@@ -1,5 +1,5 @@
 //! A transaction's recording: its first lines and its script.
-ghost use Rattle.std.specs.Prelude.{◌≡◌, ◌/◌, ◌*◌, ◌++◌, IfOk, IfSome, length, None, string_bytes};
+ghost use Rattle.std.specs.Prelude.{◌≡◌, ◌≢◌, ◌≤◌, ◌⊎◌, ◌/◌, ◌*◌, ◌^◌, ◌++◌, IfOk, IfNone, IfSome, length, None, string_bytes};
 ghost use Rattle.program_recorder.specs.Recordings.{IsRecordingOf};
 
 use crate::heading::{Facts, push_heading};
@@ -38,8 +38,10 @@ pub fn recording_of(
 /// Where the numbers of a fresh entity's lanes have to begin for it to open this transaction; none for a transaction that
 /// another entity opened.
 pub fn first_of(config: &Config, key: TxnKey) -> Option<u64>
-    ensures { IfSome result (λ first. (key.source ≡ config.now.entity.local)
+    ensures some { IfSome result (λ first. (key.source ≡ config.now.entity.local)
         × (first ≡ key.seq / (config.now.entity.put_lanes * length config.now.users))) }
+    ensures none { IfNone result ((key.source ≢ config.now.entity.local)
+        ⊎ ((config.now.entity.put_lanes * length config.now.users ≡ 0) ⊎ (2 ^ 64 ≤ config.now.entity.put_lanes * length config.now.users))) }
 {
     let entity = config.entity();
     if key.source != entity.local {

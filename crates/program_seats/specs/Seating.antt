@@ -1,6 +1,7 @@
 -- Meaning. A seat for one client, and what each call does to it.
 use Rattle.std.specs.Prelude.{◌≡◌, ◌≢◌, ◌⊎◌, ◌+◌, ◌++◌, ◌==◌, ◌&&◌, ◌||◌, ◌≤◌, ℕ, Bool, true, false, if◌then◌else◌, List, length, not}
 use Rattle.program_seats.specs.Outboxes.{OutboxValue, cut_off, empty, ended}
+use Rattle.program_seats.specs.declared.outbox.Way.{Way}
 use Rattle.program_seats.specs.declared.outbox.Way.TheVariants.{Open}
 use Rattle.program_seats.specs.declared.seat.Given.{Given}
 use Rattle.program_seats.specs.declared.seat.Given.TheVariants.{Taken, Dropped, Gone}
@@ -26,6 +27,14 @@ is_here visit seat = seat.is_taken && (seat.visits == visit)
 -- a client may sit down
 abbrev pub may_sit : SeatValue → Bool
 may_sit seat = not (seat.is_closed || seat.is_taken)
+
+-- how many octets wait for a client that follows events and still takes some
+abbrev pub behind : SeatValue → ℕ
+behind seat = if seat.follows then by_way seat.outbox.way else 0
+  where
+    by_way : Way → ℕ
+    by_way Open = length seat.outbox.waiting
+    by_way way = 0
 
 -- the next client has sat down, with nothing of the one before
 abbrev pub sat : SeatValue → SeatValue

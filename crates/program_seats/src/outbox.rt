@@ -1,9 +1,12 @@
 //! Text on its way to one client.
 ghost use Rattle.std.specs.Prelude.{◌≡◌, ◌≤◌, [], IsTrue, ◌↔◌, length, vec_len};
 
-use std::alloc::Global;
+use std::alloc::{AllocError, Global};
 use std::marker::Model;
 use std::mem;
+
+/// For how many octets to one client memory is reserved, so that a short answer needs none.
+pub const RESERVED_OCTETS: usize = 4_096;
 
 /// Whether text can still be sent to a client.
 #[derive(Clone, Copy, Debug, PartialEq, Eq)]
@@ -45,6 +48,29 @@ impl<const ROOM: usize> Outbox<ROOM> {
             pending: Vec::new(alloc),
             way: Way::Open,
         }
+    }
+
+    /// Reserves memory for `RESERVED_OCTETS` more octets.
+    pub fn reserve(&mut self) -> Result<(), AllocError>
+        ensures { self.new ≡ self.old }
+    {
+        self.pending.reserve(RESERVED_OCTETS)
+    }
+
+    /// Drops what waited, and opens the way again. The memory that was reserved stays.
+    pub fn reopen(&mut self)
+        ensures { self.new ≡ empty }
+    {
+        self.pending.clear();
+        self.pending.shrink_to(RESERVED_OCTETS);
+        self.way = Way::Open;
+    }
+
+    /// How many octets wait.
+    pub fn waiting(&self) -> usize
+        ensures { result ≡ length self.now.waiting }
+    {
+        self.pending.len()
     }
 
     /// Whether text can still be sent.

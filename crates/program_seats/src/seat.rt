@@ -1,9 +1,9 @@
 //! The state of one seat.
 ghost use Rattle.std.specs.Prelude.{◌≡◌, ◌↔◌, ◌⊎◌, [], IfSome, IfNone, IsFalse, false, true};
-ghost use Rattle.program_seats.specs.Seating.{IsAnswered, IsSent, IsSentTo, IsTold, asked, closing, cut, followed, free_seat, is_here, left, may_sit, sat};
+ghost use Rattle.program_seats.specs.Seating.{IsAnswered, IsSent, IsSentTo, IsTold, asked, behind, closing, cut, followed, free_seat, is_here, left, may_sit, sat};
 
 use crate::outbox::{Outbox, Way};
-use std::alloc::Global;
+use std::alloc::{AllocError, Global};
 use std::marker::Model;
 use std::net::Shutdown;
 use std::os::unix::net::UnixStream;
@@ -66,6 +66,24 @@ impl<const ROOM: usize> Seat<ROOM> {
         }
     }
 
+    /// Reserves memory for a short text.
+    pub fn reserve(&mut self) -> Result<(), AllocError>
+        ensures { self.new ≡ self.old }
+    {
+        self.outbox.reserve()
+    }
+
+    /// How many octets wait for a client that follows events, and is neither cut off nor leaving.
+    pub fn behind(&self) -> usize
+        ensures { result ≡ behind self.now }
+    {
+        if self.follows && self.outbox.way() == Way::Open {
+            self.outbox.waiting()
+        } else {
+            0
+        }
+    }
+
     /// Whether a client sits here.
     pub fn is_taken(&self) -> bool
         ensures { result ≡ self.now.is_taken }
@@ -117,7 +135,7 @@ impl<const ROOM: usize> Seat<ROOM> {
 
     /// Lets a client sit down, with nothing of the one before, and answers the visit's number; none where the seat is
     /// taken or closed, or the visit numbers are used up.
-    pub fn sit(&mut self, alloc: Global, stream: UnixStream) -> Option<u64>
+    pub fn sit(&mut self, stream: UnixStream) -> Option<u64>
         ensures number { IfSome result (λ visit. visit ≡ self.new.visits) }
         ensures was_free { IfSome result (λ _. may_sit self.old ≡ true) }
         ensures seated { IfSome result (λ _. self.new ≡ sat self.old) }
@@ -131,7 +149,7 @@ impl<const ROOM: usize> Seat<ROOM> {
         self.stream = Some(stream);
         self.follows = false;
         self.is_asking = false;
-        self.outbox = Outbox::new(alloc);
+        self.outbox.reopen();
         Some(self.visits)
     }
 

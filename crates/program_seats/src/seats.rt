@@ -1,18 +1,38 @@
 //! All seats, each with its own lock.
+ghost use Rattle.std.specs.Prelude.{◌≡◌, nat_le};
+
 use crate::asker::Asker;
 use crate::outbox::Way;
 use crate::seat::{Given, Seat};
 use std::alloc::{AllocError, Global};
 use std::os::unix::net::UnixStream;
-use std::sync::atomic::{AtomicU64, Ordering};
+use std::sync::atomic::{AtomicU64, AtomicUsize, Ordering};
 use std::sync::{Condvar, CondvarTimeouts, Mutex, Wait};
 use std::time::{Clock, Duration};
 
-/// How many clients are served at once.
+/// How many clients are served at once, but for one that comes while all seats are taken.
 pub const SEATS: usize = 16;
+
+/// The seats, and a spare one.
+pub const PLACES: usize = SEATS + 1;
 
 /// How many octets may wait for one client.
 pub const TEXT_OCTETS: usize = 8 * 1024 * 1024;
+
+/// How many streams of events there are. A client that follows gets one of them: which events of each is the caller's affair.
+pub const STREAMS: usize = 4;
+
+// From how many octets on that it hasn't taken a client is behind.
+const BEHIND_OCTETS: u64 = 1024 * 1024;
+
+/// How far a client that follows events is behind.
+#[derive(Clone, Copy, Debug, PartialEq, Eq)]
+pub struct Lag {
+    /// How many octets it hasn't taken.
+    pub octets: u64,
+    /// How many octets were written at its seat so far.
+    pub written: u64,
+}
 
 /// How many milliseconds the clients have at the end to take what waits for them.
 pub const LAST_MS: u64 = 200;
@@ -22,29 +42,37 @@ pub const LAST_MS: u64 = 200;
 struct Place {
     seat: Mutex<Seat<TEXT_OCTETS>>,
     changed: Condvar,
+    /// Which stream the client gets, if it follows events.
+    stream: AtomicUsize,
+    /// How many octets were given out for clients that sat here, and how many of them were written.
+    given_out: AtomicU64,
+    written: AtomicU64,
 }
 
 /// The seats of clients. The thread that answers never waits for a client. Each change of a seat is made by a method of
 /// `Seat`, under the seat's lock.
 #[derive(Drop)]
 pub struct Seats {
-    alloc: Global,
     places: Vec<Place>,
     dropped: AtomicU64,
 }
 
 impl Seats {
-    /// `SEATS` free seats.
+    /// `SEATS` free seats, and a spare one.
     pub fn new(alloc: Global) -> Result<Seats, AllocError> {
-        let mut places = Vec::with_capacity(alloc, SEATS)?;
-        for _ in 0..SEATS {
+        let mut places = Vec::with_capacity(alloc, PLACES)?;
+        for _ in 0..PLACES {
+            let mut seat = Seat::new(alloc);
+            seat.reserve()?;
             places.push(Place {
-                seat: Mutex::new(Seat::new(alloc)),
+                seat: Mutex::new(seat),
                 changed: Condvar::new(),
+                stream: AtomicUsize::new(0),
+                given_out: AtomicU64::new(0),
+                written: AtomicU64::new(0),
             })?;
         }
         Ok(Seats {
-            alloc,
             places,
             dropped: AtomicU64::new(0),
         })
@@ -70,7 +98,14 @@ impl Seats {
         let _before = self.dropped.fetch_add(1, Ordering::Relaxed);
     }
 
-    /// Lets a client sit down, if a seat is free. The stream is a second handle of the client's.
+    /// Whether a client has the spare seat, so that it may give one command alone.
+    pub fn is_spare(asker: Asker) -> bool
+        ensures { result ≡ nat_le 16 asker.seat }
+    {
+        asker.seat >= SEATS
+    }
+
+    /// Lets a client sit down, if a seat is free; the spare one comes last. The stream is a second handle of the client's.
     pub fn sit<R: Wait>(&self, rt: &R, stream: &UnixStream) -> Option<Asker> {
         for (number, place) in self.places.iter().enumerate() {
             let mut seat = place.seat.lock(rt);
@@ -78,7 +113,7 @@ impl Seats {
                 continue;
             }
             let other = stream.try_clone().ok()?;
-            let visit = seat.sit(self.alloc, other)?;
+            let visit = seat.sit(other)?;
             return Some(Asker {
                 seat: number,
                 visit,
@@ -152,27 +187,39 @@ impl Seats {
         }
     }
 
-    /// Sends events to the client, too, from now on.
-    pub fn follow<R: Wait>(&self, rt: &R, asker: Asker) {
+    /// Sends a stream of events to the client, too, from now on, in place of another that it followed.
+    pub fn follow<R: Wait>(&self, rt: &R, asker: Asker, stream: usize) {
         if let Some(place) = self.places.get(asker.seat) {
-            place.seat.lock(rt).follow(asker.visit);
-        }
-    }
-
-    /// Whether any client follows events.
-    pub fn has_followers<R: Wait>(&self, rt: &R) -> bool {
-        for place in &self.places {
-            if place.seat.lock(rt).follows() {
-                return true;
+            let mut seat = place.seat.lock(rt);
+            if seat.is_here(asker.visit) {
+                seat.follow(asker.visit);
+                place.stream.store(stream, Ordering::SeqCst);
             }
         }
-        false
     }
 
-    /// Sends a text, of whole lines, to all clients that follow events. A client without room for it is cut off.
-    pub fn tell<R: Wait>(&self, rt: &R, text: &[u8]) {
+    /// Which streams any client follows.
+    pub fn followed<R: Wait>(&self, rt: &R) -> [bool; STREAMS] {
+        let mut followed = [false; STREAMS];
         for place in &self.places {
-            let given = place.seat.lock(rt).tell(text);
+            let seat = place.seat.lock(rt);
+            let stream = place.stream.load(Ordering::SeqCst);
+            if seat.follows() && stream < STREAMS {
+                followed[stream] = true;
+            }
+        }
+        followed
+    }
+
+    /// Sends a text, of whole lines, to all clients that follow a stream. A client without room for it is cut off.
+    pub fn tell<R: Wait>(&self, rt: &R, stream: usize, text: &[u8]) {
+        for place in &self.places {
+            let mut seat = place.seat.lock(rt);
+            if place.stream.load(Ordering::SeqCst) != stream {
+                continue;
+            }
+            let given = seat.tell(text);
+            drop(seat);
             let _is_taken = self.note_given(place, given);
         }
     }
@@ -182,6 +229,16 @@ impl Seats {
         if let Some(place) = self.places.get(asker.seat) {
             let given = place.seat.lock(rt).send(asker.visit, text);
             let _is_taken = self.note_given(place, given);
+        }
+    }
+
+    /// Whether a client has taken all text that was sent to it; none if it has left, or takes no more.
+    pub fn has_taken<R: Wait>(&self, rt: &R, asker: Asker) -> Option<bool> {
+        let seat = self.places.get(asker.seat)?.seat.lock(rt);
+        if seat.is_here(asker.visit) && seat.way() == Way::Open {
+            Some(!seat.has_text())
+        } else {
+            None
         }
     }
 
@@ -197,6 +254,9 @@ impl Seats {
             }
             if seat.has_text() {
                 seat.take(texts);
+                let _before = place
+                    .given_out
+                    .fetch_add(texts.len() as u64, Ordering::Relaxed);
                 return true;
             }
             if seat.way() == Way::Ending {
@@ -205,6 +265,28 @@ impl Seats {
             seat = place.changed.wait(rt, seat);
         }
         false
+    }
+
+    /// Notes that so many octets were written to the client.
+    pub fn note_written(&self, asker: Asker, octets: usize) {
+        if let Some(place) = self.places.get(asker.seat) {
+            let _before = place.written.fetch_add(octets as u64, Ordering::Relaxed);
+        }
+    }
+
+    /// How far the client at a seat is behind, if it follows events and more than `BEHIND_OCTETS` wait for it or are being written.
+    pub fn lag<R: Wait>(&self, rt: &R, seat: usize) -> Option<Lag> {
+        let place = self.places.get(seat)?;
+        let waiting = place.seat.lock(rt).behind();
+        let written = place.written.load(Ordering::Relaxed);
+        let given_out = place.given_out.load(Ordering::Relaxed);
+        let under_way = given_out.saturating_sub(written);
+        let octets = under_way.saturating_add(waiting as u64);
+        if octets > BEHIND_OCTETS {
+            Some(Lag { octets, written })
+        } else {
+            None
+        }
     }
 
     /// Reads no more from the client; what waits for it is still sent.

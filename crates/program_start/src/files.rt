@@ -77,10 +77,22 @@ pub fn load_file<R: Files>(rt: &R, alloc: Global, path: &str) -> Result<Octets, 
     }
 }
 
+// The size of a plain file.
+fn size_of<R: Files>(rt: &R, path: &str) -> Result<u64, ProgramFault> {
+    match fs::metadata(rt, path) {
+        Ok(found) if found.is_file() => Ok(found.len()),
+        Ok(_) => Err(ProgramFault::Read),
+        Err(error) => Err(fault_of(&error)),
+    }
+}
+
 /// Reads files to be sent. Threads other than the main one use it.
 pub trait FileReader {
     /// The octets of a plain file, as [`load_file`] reads them.
     fn load(&self, alloc: Global, path: &str) -> Result<Octets, ProgramFault>;
+
+    /// How many octets a plain file has, without reading them.
+    fn size(&self, path: &str) -> Result<u64, ProgramFault>;
 }
 
 /// Reads files through a runtime.
@@ -93,10 +105,19 @@ impl<R> RuntimeFiles<R> {
     pub fn new(rt: R) -> RuntimeFiles<R> {
         RuntimeFiles { rt }
     }
+
+    /// The runtime.
+    pub fn runtime(&self) -> &R {
+        &self.rt
+    }
 }
 
 impl<R: Files> FileReader for RuntimeFiles<R> {
     fn load(&self, alloc: Global, path: &str) -> Result<Octets, ProgramFault> {
         load_file(&self.rt, alloc, path)
+    }
+
+    fn size(&self, path: &str) -> Result<u64, ProgramFault> {
+        size_of(&self.rt, path)
     }
 }

@@ -1,21 +1,9 @@
 ghost use Rattle.std.specs.Prelude.{◌≡◌};
-ghost use Rattle.program_station.specs.Answers.{flat};
 ghost use Rattle.program_station.specs.Obstacles.{obstacle_of};
 
-use lane_table::{Done, Refused};
 use program_agenda::Obstacle;
 use shared_entity::EntityRefusal;
-
-/// Flattens the answer of a gate that has the lane step: the step's answer, or the refusal.
-pub fn flat(answer: Result<Result<Done, Refused>, EntityRefusal>) -> Result<Done, EntityRefusal>
-    ensures { result ≡ flat answer }
-{
-    match answer {
-        Ok(Ok(done)) => Ok(done),
-        Ok(Err(refused)) => Err(EntityRefusal::Lane(refused)),
-        Err(refusal) => Err(refusal),
-    }
-}
+use txn_events::Refusal;
 
 /// What a refusal means for the work that was refused.
 pub(crate) fn obstacle_of(refusal: &EntityRefusal) -> Obstacle
@@ -27,5 +15,13 @@ pub(crate) fn obstacle_of(refusal: &EntityRefusal) -> Obstacle
         Obstacle::Final
     } else {
         Obstacle::Lasting
+    }
+}
+
+/// Whether a refusal says that the transaction's journal is full.
+pub(crate) fn is_full(refusal: &EntityRefusal) -> bool {
+    match refusal {
+        EntityRefusal::Lane(refused) => refused.why == Refusal::JournalFull,
+        _ => false,
     }
 }

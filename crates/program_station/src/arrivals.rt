@@ -4,16 +4,21 @@ ghost use Rattle.program_station.specs.Hearing.{is_heard};
 use crate::forwarder::Forwarder;
 use entity_workers::{Message, Source, message_of};
 use lane_table::{Done, Refused};
+use pdu_reading::DecodeFault;
 use program_desk::Desk;
 use program_tallies::RefusalKind;
 use program_udp::wake_reader;
 use std::alloc::Global;
+use std::io::ErrorKind;
 use std::net::UdpSocket;
 use std::sync::Wait;
-use std::time::Clock;
+use std::thread;
+use std::time::{Clock, Duration};
 
-/// After this many failed reads in a row, a worker stops reading.
-pub const READ_FAILURES: u32 = 1_000_000;
+// How long a worker pauses after a failed read, in milliseconds: at first, and at most after several in a row.
+const SHORT_PAUSE_MS: u64 = 1;
+
+const LONG_PAUSE_MS: u64 = 100;
 
 /// Whose datagrams are taken.
 #[derive(Clone, Copy, Debug, PartialEq, Eq)]
@@ -21,6 +26,9 @@ pub enum Sources {
     Any,
     /// Those from an address in the configuration. All others are counted and dropped unread.
     KnownAlone,
+    /// Of these, those whose PDU comes from the address of the entity that it says it comes from. All others are counted and
+    /// dropped.
+    OwnAlone,
 }
 
 // Whether a datagram is taken, by whether its source address is in the configuration.
@@ -56,7 +64,7 @@ impl<'a> Arrivals<'a> {
     }
 
     // The message for a worker, from the first `count` octets that were read. A datagram that is not taken, is not a
-    // PDU, or for which memory runs out, is counted and dropped.
+    // PDU, comes from another address than that of its own entity where that is wanted, or for which memory runs out even where parked ones gave way, is counted and dropped.
     fn message<R: Wait + Clock>(
         &self,
         forwarder: &Forwarder<'_, R>,
@@ -70,7 +78,18 @@ impl<'a> Arrivals<'a> {
             return None;
         }
         let octets = forwarder.datagram.get(..count)?;
-        match message_of(self.alloc, octets) {
+        let mut read = message_of(self.alloc, octets);
+        if let Err(DecodeFault::NoMemory) = read
+            && forwarder.gives_way()
+        {
+            read = message_of(self.alloc, octets);
+        }
+        match read {
+            Ok(message)
+                if self.sources == Sources::OwnAlone && !forwarder.comes_from_its_own(&message) => {
+                forwarder.note_refusal(RefusalKind::ForeignSource);
+                None
+            }
             Ok(message) => Some(message),
             Err(fault) => {
                 forwarder.note_decode_fault(fault);
@@ -82,36 +101,43 @@ impl<'a> Arrivals<'a> {
 
 impl<'a, 'b, R: Wait + Clock> Source<R, Result<Done, Refused>, Forwarder<'a, R>> for Arrivals<'b> {
     /// Takes a parked datagram that may be handed in, or else waits for a datagram that is taken and is a PDU; one that has
-    /// to wait behind parked ones is parked. `None` once the desk is closed, which is checked after each datagram, or once
-    /// reading has failed `READ_FAILURES` times in a row. A worker that finds the desk closed wakes the next one.
+    /// to wait behind parked ones is parked. After a failed read it pauses, the longer the more have failed in a row. `None` once
+    /// the desk is closed, which is checked after each read and once a second. A worker that finds the desk closed wakes the next.
     fn next(&self, rt: &R, forwarder: &mut Forwarder<'a, R>) -> Option<Message> {
-        let mut failures = 0u32;
+        let mut pause = SHORT_PAUSE_MS;
         for _ in rt.forever() {
             if !self.desk.is_closed()
                 && let Some(message) = forwarder.next_parked()
             {
+                forwarder.note_message(&message);
                 return Some(message);
             }
             match self.socket.recv_from(forwarder.datagram.as_mut_slice()) {
                 Ok((count, from)) => {
-                    failures = 0;
+                    pause = SHORT_PAUSE_MS;
                     if self.desk.is_closed() {
                         break;
                     }
                     let is_known = forwarder.note_arrival(count, from);
-                    if let Some(message) = self.message(forwarder, count, is_known)
-                        && !forwarder.parks_behind(count)
-                    {
-                        return Some(message);
+                    if let Some(message) = self.message(forwarder, count, is_known) {
+                        forwarder.note_message(&message);
+                        if !forwarder.parks_behind(count) {
+                            return Some(message);
+                        }
+                    }
+                }
+                Err(error) if error.kind() == ErrorKind::WouldBlock => {
+                    if self.desk.is_closed() {
+                        break;
                     }
                 }
                 Err(_) => {
-                    failures = failures.saturating_add(1);
                     forwarder.traffic.note_failed_read();
-                    if failures >= READ_FAILURES {
-                        forwarder.traffic.note_end_of_reads();
+                    if self.desk.is_closed() {
                         break;
                     }
+                    thread::sleep(rt, Duration::from_millis(pause));
+                    pause = pause.saturating_mul(2).min(LONG_PAUSE_MS);
                 }
             }
         }

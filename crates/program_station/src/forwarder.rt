@@ -1,5 +1,4 @@
 //! Handles a worker's answers.
-use crate::answers::flat;
 use crate::arrivals::Arrivals;
 use crate::parked::{Crowd, WorkersLot};
 use cfdp_types::EntityId;
@@ -8,8 +7,9 @@ use entity_routing::RouteRefusal;
 use entity_workers::{Carrier, Message, WorkersFault, run_workers_from};
 use lane_table::{Done, Refused};
 use pdu_reading::DecodeFault;
+use pdu_values::Body;
 use program_desk::{Desk, Step, Urgency, moment, wall_moment};
-use program_lot::Lot;
+use program_lot::{Lot, lacks_memory};
 use program_tallies::{Ledger, RefusalKind, Tallies, Traffic};
 use program_udp::PduSender;
 use shared_entity::{Entity, EntityRefusal};
@@ -42,6 +42,8 @@ pub struct Forwarder<'a, R> {
     pub(crate) datagram: Vec<u8>,
     /// The number of octets of the last datagram, and its source address.
     last: Option<(usize, SocketAddr)>,
+    /// Whether the PDU that was handed over last is a Prompt.
+    is_prompted: bool,
     /// The source address that was looked up last, and the position of its remote entity in the configuration, from 0.
     known: Option<(SocketAddr, Option<usize>)>,
 }
@@ -63,6 +65,14 @@ impl<'a, R: Wait + Clock> Forwarder<'a, R> {
         place.is_some()
     }
 
+    /// Whether the datagram that was read comes from the address of the entity that its PDU says it comes from.
+    pub(crate) fn comes_from_its_own(&self, message: &Message) -> bool {
+        match self.last {
+            Some((_, from)) => self.sender.comes_from(message.pdu(), from),
+            None => false,
+        }
+    }
+
     /// Counts a datagram that is not a PDU, or for which memory ran out.
     pub(crate) fn note_decode_fault(&self, fault: DecodeFault) {
         if fault == DecodeFault::NoMemory {
@@ -73,9 +83,16 @@ impl<'a, R: Wait + Clock> Forwarder<'a, R> {
         }
     }
 
-    /// Takes a parked datagram that may be handed in at once, if there is one.
+    /// Takes a parked datagram that may be handed in at once, if there is one. The main thread may have looked while one was out
+    /// for which memory ran out, so it looks again.
     pub(crate) fn next_parked(&mut self) -> Option<Message> {
-        self.lot.next_message(self.rt)
+        match self.lot.next_message(self.rt) {
+            Ok(message) => message,
+            Err(AllocError) => {
+                self.desk.wake(self.rt);
+                None
+            }
+        }
     }
 
     /// Parks the datagram that was read, from its first `count` octets, if others of its lane wait before it; answers whether
@@ -84,8 +101,11 @@ impl<'a, R: Wait + Clock> Forwarder<'a, R> {
         self.lot.is_occupied() && self.parks(count, Crowd::Wanted)
     }
 
-    // Parks the datagram that was read. Where something was dropped for it, that counts as a refusal.
+    // Parks the datagram that was read, unless it is a Prompt: the peer asks again. Where something was dropped for it, that counts as a refusal.
     fn parks(&self, count: usize, crowd: Crowd) -> bool {
+        if self.is_prompted {
+            return false;
+        }
         let octets = self.datagram.get(..count).unwrap_or(&[]);
         let Some(end) = self.lot.park(self.rt, octets, crowd) else {
             return false;
@@ -109,9 +129,24 @@ impl<'a, R: Wait + Clock> Forwarder<'a, R> {
         was_handed
     }
 
-    // Puts a datagram that was refused for now back, or parks it; answers whether it waits.
+    /// Has parked datagrams give way where memory ran out, and counts that as a refusal; answers whether anything was dropped.
+    pub(crate) fn gives_way(&self) -> bool {
+        let gives_way = self.lot.gives_way(self.rt);
+        if gives_way {
+            self.note_refusal(RefusalKind::Lane(Refusal::NoMemory));
+        }
+        gives_way
+    }
+
+    // Puts a datagram that was refused for now back, or parks it; answers whether it waits. Where memory ran out, it waits if
+    // others gave way.
     fn waits(&mut self, refusal: &EntityRefusal) -> bool {
-        if !self.lot.may_wait(refusal) {
+        let may_wait = if lacks_memory(refusal) {
+            self.gives_way()
+        } else {
+            self.lot.may_wait(refusal)
+        };
+        if !may_wait {
             return false;
         }
         if self.settle_handed(false) {
@@ -120,6 +155,20 @@ impl<'a, R: Wait + Clock> Forwarder<'a, R> {
         match self.last {
             Some((count, _)) => self.parks(count, Crowd::Any),
             None => false,
+        }
+    }
+
+    /// Notes which PDU is handed over next.
+    pub(crate) fn note_message(&mut self, message: &Message) {
+        self.is_prompted = matches!(message.pdu().body(), Body::Prompt(_));
+    }
+
+    // Sends the PDUs of a step. Those that answer a Prompt may have to be left out.
+    fn send(&mut self, done: &Done) {
+        if self.is_prompted {
+            self.sender.send_prompted(done, moment(self.rt));
+        } else {
+            self.sender.send_done(done);
         }
     }
 
@@ -137,6 +186,31 @@ impl<'a, R: Wait + Clock> Forwarder<'a, R> {
             None => self.ledger.note(self.rt, kind, at, None, &[]),
         }
     }
+
+    // Sends the PDUs of a step, and leaves the rest of it at the desk.
+    fn forward(&mut self, done: Done) {
+        self.settle_handed(true);
+        self.send(&done);
+        let is_awaited = done.deposit.is_some() || done.key.source == self.local;
+        let urgency = if is_awaited {
+            Urgency::Now
+        } else {
+            self.others
+        };
+        let step = Step::of(done, moment(self.rt));
+        self.lot.hear(self.rt, &step);
+        self.desk.leave_step(self.rt, step, urgency);
+    }
+
+    // Counts a refusal and sends its echo, unless the datagram waits.
+    fn refuse(&mut self, refusal: &EntityRefusal) {
+        if self.waits(refusal) {
+            return;
+        }
+        self.note_refusal(RefusalKind::of(refusal));
+        self.settle_handed(true);
+        self.sender.send_echo(refusal, moment(self.rt));
+    }
 }
 
 impl<'a, R: Wait + Clock> Carrier<Result<Done, Refused>> for Forwarder<'a, R> {
@@ -145,28 +219,10 @@ impl<'a, R: Wait + Clock> Carrier<Result<Done, Refused>> for Forwarder<'a, R> {
     fn carry(&mut self, answer: Result<Result<Done, Refused>, EntityRefusal>)
         requires { Unit {0} }
     {
-        match flat(answer) {
-            Ok(done) => {
-                self.settle_handed(true);
-                self.sender.send_done(&done);
-                let is_awaited = done.deposit.is_some() || done.key.source == self.local;
-                let urgency = if is_awaited {
-                    Urgency::Now
-                } else {
-                    self.others
-                };
-                let step = Step::of(done, moment(self.rt));
-                self.lot.hear(self.rt, &step);
-                self.desk.leave_step(self.rt, step, urgency);
-            }
-            Err(refusal) => {
-                if self.waits(&refusal) {
-                    return;
-                }
-                self.note_refusal(RefusalKind::of(&refusal));
-                self.settle_handed(true);
-                self.sender.send_echo(&refusal);
-            }
+        match answer {
+            Ok(Ok(done)) => self.forward(done),
+            Ok(Err(refused)) => self.refuse(&EntityRefusal::Lane(refused)),
+            Err(refusal) => self.refuse(&refusal),
         }
     }
 }
@@ -196,6 +252,7 @@ pub fn forwarders_of<'a, R>(
             ledger: &tallies.ledger,
             lot: WorkersLot::new(alloc, config, lot),
             last: None,
+            is_prompted: false,
             known: None,
             datagram: Vec::from_elem(alloc, 0u8, DATAGRAM_OCTETS)?,
         })?;

@@ -1,13 +1,10 @@
 //! The main thread hands in what is parked.
-use crate::answers::flat;
 use crate::parked::hear_step;
 use crate::station::Station;
-use crate::storing::Preparing;
 use cfdp_types::TxnKey;
 use entity_routing::place_of_key;
-use entity_workers::Filestore;
 use program_desk::{Step, wall_moment};
-use program_lot::{Handed, Lot, LotAddress, may_wait};
+use program_lot::{Handed, Lot, LotAddress, lacks_memory, may_wait};
 use program_tallies::RefusalKind;
 use shared_entity::EntityRefusal;
 use shared_lanes::{Names, NoGate};
@@ -17,7 +14,7 @@ use std::time::Clock;
 // How many parked datagrams are handed in in a turn at most.
 const HANDED: usize = 64;
 
-impl<'a, N: Names, R: Wait + Copy + Clock, S: Filestore + Preparing + Drop> Station<'a, N, R, S> {
+impl<'a, N: Names, R: Wait + Copy + Clock> Station<'a, N, R> {
     /// Hands in datagrams that are parked here from now on.
     pub fn use_lot(&mut self, lot: &'a Lot) {
         self.lot = Some(lot);
@@ -40,6 +37,13 @@ impl<'a, N: Names, R: Wait + Copy + Clock, S: Filestore + Preparing + Drop> Stat
         {
             let number = key.seq;
             let _dropped = lot.forget(self.rt, LotAddress { place, number });
+        }
+    }
+
+    // Has parked datagrams give way where memory ran out. What is dropped is reported like what has no room.
+    pub(crate) fn give_way(&self) {
+        if let Some(lot) = self.lot {
+            let _dropped = lot.give_way(self.rt);
         }
     }
 
@@ -68,23 +72,32 @@ impl<'a, N: Names, R: Wait + Copy + Clock, S: Filestore + Preparing + Drop> Stat
         let answer = self
             .entity
             .deliver(self.rt, &NoGate, handed.octets.as_slice());
-        match flat(answer) {
-            Ok(done) => {
+        match answer {
+            Ok(Ok(done)) => {
                 lot.settle(self.rt, handed, true, now);
                 self.settle_own(done);
                 true
             }
-            Err(refusal) if may_wait(lot.takes(), &refusal) => {
-                lot.settle(self.rt, handed, false, now);
-                false
-            }
-            Err(refusal) => {
-                self.note_refused(&refusal, handed.octets.as_slice());
-                lot.settle(self.rt, handed, true, now);
-                self.send_echo(&refusal);
-                true
-            }
+            Ok(Err(refused)) => self.hold_back(lot, handed, now, &EntityRefusal::Lane(refused)),
+            Err(refusal) => self.hold_back(lot, handed, now, &refusal),
         }
+    }
+
+    // Settles a datagram that was handed in and refused; answers whether it was refused for good.
+    fn hold_back(&mut self, lot: &Lot, handed: Handed, now: u64, refusal: &EntityRefusal) -> bool {
+        if may_wait(lot.takes(), refusal) {
+            lot.settle(self.rt, handed, false, now);
+            return false;
+        }
+        if lacks_memory(refusal) {
+            lot.settle(self.rt, handed, false, now);
+            self.give_way();
+            return false;
+        }
+        self.note_refused(refusal, handed.octets.as_slice());
+        lot.settle(self.rt, handed, true, now);
+        self.send_echo(refusal);
+        true
     }
 
     // Counts a refusal of a parked datagram.

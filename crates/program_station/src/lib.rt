@@ -10,13 +10,10 @@ mod hand_in;
 mod link_book;
 mod parked;
 mod station;
-mod storing;
 mod way_in;
 
-pub use answers::flat;
-pub use arrivals::{Arrivals, READ_FAILURES, Sources};
+pub use arrivals::{Arrivals, Sources};
 pub use beside::{Control, MainThread, run_beside, run_commanded, run_controlled};
 pub use forwarder::{Forwarder, forwarders_of, run_forwarders};
 pub use station::{REST_MS, Station};
-pub use storing::{Preparing, StoredNote};
 pub use way_in::WayIn;

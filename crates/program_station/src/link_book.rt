@@ -16,7 +16,7 @@ struct Link {
     silence: u64,
     /// How fast octets may be sent to it, if it has a limit of its own.
     pace: Option<Pace>,
-    /// How many octets had been sent to it when its pace was last updated.
+    /// How many of the octets that were sent to it its pace has counted.
     counted: u64,
     /// When the link was last released, or 0.
     released: u64,
@@ -72,12 +72,22 @@ impl<'a> LinkBook<'a> {
         self.links.iter().position(|link| link.id == id)
     }
 
-    /// Limits the octets that are sent to this remote entity to this many a second.
-    pub(crate) fn limit(&mut self, place: usize, octets: u64) {
+    /// Limits the octets that are sent to this remote entity to this many a second from a moment on, or lets it share the pace of
+    /// the links without a limit of their own.
+    pub(crate) fn limit(&mut self, place: usize, octets: Option<u64>, now: u64) {
+        self.tallies.links.limit_replies(place, octets.unwrap_or(0));
+        let left = self.tallies.remote_totals(place).octets_out;
         if let Some(link) = self.links.get_mut(place) {
-            link.pace = Some(Pace::new(Some(octets)));
-            self.has_paces = true;
+            match (octets, link.pace) {
+                (Some(_), Some(pace)) => link.pace = Some(pace.limited(octets, now)),
+                (Some(_), None) => {
+                    link.pace = Some(Pace::new(octets));
+                    link.counted = left;
+                }
+                (None, _) => link.pace = None,
+            }
         }
+        self.has_paces = self.links.iter().any(|link| link.pace.is_some());
     }
 
     /// Whether a link has a limit of its own.
@@ -164,8 +174,8 @@ impl<'a> LinkBook<'a> {
         }
     }
 
-    /// When the next PDU of a transaction's file may be sent. All octets that were sent to its entity meanwhile count,
-    /// also the answers that workers sent.
+    /// When the next PDU of a transaction's file may be sent. What else was sent to its entity meanwhile, such as the answers of
+    /// workers, counts too, as far as idle time doesn't pay for it, and holds the file back for a second at most.
     pub(crate) fn departure(&mut self, key: TxnKey, now: u64) -> Departure {
         let Some(place) = self.link_of(key) else {
             return Departure::Shared;
@@ -180,13 +190,26 @@ impl<'a> LinkBook<'a> {
     }
 }
 
+impl<'a> LinkBook<'a> {
+    /// Octets of a transaction's file were sent at a moment.
+    pub(crate) fn note_sent(&mut self, key: TxnKey, octets: u64, now: u64) {
+        if let Some(place) = self.link_of(key)
+            && let Some(link) = self.links.get_mut(place)
+            && let Some(pace) = link.pace
+        {
+            link.pace = Some(pace.spend(octets, now));
+            link.counted = link.counted.saturating_add(octets);
+        }
+    }
+}
+
 // When octets may be sent over a link that is not held.
 fn depart(link: &mut Link, tallies: &Tallies, place: usize, now: u64) -> Departure {
     let Some(pace) = link.pace else {
         return Departure::Shared;
     };
     let left = tallies.remote_totals(place).octets_out;
-    let pace = pace.spend(left.saturating_sub(link.counted), now);
+    let pace = pace.charge(left.saturating_sub(link.counted), now);
     link.counted = left;
     link.pace = Some(pace);
     if pace.is_free(now) {

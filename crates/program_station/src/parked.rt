@@ -5,7 +5,7 @@ use entity_workers::{Message, message_of};
 use program_desk::{Step, moment, wall_moment};
 use program_lot::{Handed, Lot, ParkEnd, address_of, may_wait};
 use shared_entity::EntityRefusal;
-use std::alloc::Global;
+use std::alloc::{AllocError, Global};
 use std::sync::Wait;
 use std::time::Clock;
 
@@ -52,6 +52,14 @@ impl<'a> WorkersLot<'a> {
         }
     }
 
+    /// Where a refusal or a fault says that memory ran out: drops the later half of what is parked; answers whether anything was.
+    pub(crate) fn gives_way<R: Wait>(&self, rt: &R) -> bool {
+        match self.lot {
+            Some(lot) => lot.give_way(rt) > 0,
+            None => false,
+        }
+    }
+
     /// The octets of the datagram that is handed in, if there is one.
     pub(crate) fn handed_octets(&self) -> Option<&[u8]> {
         match &self.handed {
@@ -60,21 +68,29 @@ impl<'a> WorkersLot<'a> {
         }
     }
 
-    /// Takes a datagram to be handed in, of a lane that was heard of.
-    pub(crate) fn next_message<R: Wait + Clock>(&mut self, rt: &R) -> Option<Message> {
-        let lot = self.lot?;
+    /// Takes a datagram to be handed in, of a lane that was heard of. Where memory for its message runs out, it stays, and waits some
+    /// milliseconds.
+    pub(crate) fn next_message<R: Wait + Clock>(
+        &mut self,
+        rt: &R,
+    ) -> Result<Option<Message>, AllocError> {
+        let Some(lot) = self.lot else {
+            return Ok(None);
+        };
         if !lot.is_ready() {
-            return None;
+            return Ok(None);
         }
-        let handed = lot.lend(rt, 0)?;
+        let Some(handed) = lot.lend(rt, 0) else {
+            return Ok(None);
+        };
         match message_of(self.alloc, handed.octets.as_slice()) {
             Ok(message) => {
                 self.handed = Some(handed);
-                Some(message)
+                Ok(Some(message))
             }
             Err(_) => {
                 lot.settle(rt, handed, false, moment(rt));
-                None
+                Err(AllocError)
             }
         }
     }

@@ -1,13 +1,12 @@
 //! The state of the main thread, and its turns.
-use crate::answers::{flat, obstacle_of};
+use crate::answers::{is_full, obstacle_of};
 use crate::link_book::{Departure, LinkBook};
-use crate::storing::{Preparing, StoredNote, Waiting};
-use cfdp_types::{EntityId, TxnKey};
-use entity_workers::Filestore;
+use cfdp_types::{Deposit, EntityId, TxnKey};
 use lane_table::Done;
 use program_agenda::{Agenda, Fate, Pace, fate_of_pump, fate_of_retry};
-use program_desk::{Desk, Step, moment};
+use program_desk::{Desk, Step, moment, wall_moment};
 use program_lot::Lot;
+use program_storing::{Depot, Stored, StoredNote};
 use program_tallies::Tallies;
 use program_udp::{PduSender, reach_of};
 use shared_entity::{Entity, EntityRefusal};
@@ -26,6 +25,9 @@ const PUMPS: usize = 16;
 
 const EXPIRATIONS: usize = 16;
 
+// How many kinds of timer a lane has.
+const TIMER_KINDS: usize = 4;
+
 // How many timers of a released link run again in a turn at most.
 const GOING_ON: usize = 64;
 
@@ -40,77 +42,80 @@ struct Unsettled {
     operations_done: usize,
 }
 
-/// An entity with the state of its main thread: the agenda, the store for received files, and what waits for memory.
-/// Nothing new is begun while something waits for memory.
+/// An entity with the state of its main thread: the agenda, where received files are left to be stored, and what waits for
+/// memory. Nothing new is begun while something waits for memory.
 #[derive(Drop)]
-pub struct Station<'a, N: Names, R: Copy, S: Drop> {
+pub struct Station<'a, N: Names, R: Copy> {
     pub(crate) rt: &'a R,
     pub(crate) entity: &'a Entity<N, R>,
     sender: PduSender<'a>,
-    pub(crate) store: S,
-    pub(crate) agenda: Agenda<Waiting>,
+    depot: &'a Depot,
+    agenda: Agenda,
     /// How fast octets may be sent over the links without a limit of their own.
     pace: Pace,
     links: LinkBook<'a>,
     reach: u64,
     unsettled: Option<Unsettled>,
     kept_timer: Option<Armed>,
-    kept_deposit: Option<Waiting>,
-    pub(crate) stored: Option<StoredNote>,
-    /// For how many milliseconds storing a file is retried.
-    pub(crate) retry: u64,
+    kept_deposit: Option<Deposit>,
     pub(crate) tallies: &'a Tallies,
     /// Where datagrams are parked, if any are.
     pub(crate) lot: Option<&'a Lot>,
     pub(crate) may_have_ended: bool,
+    /// Transactions that take no more events, since their journals are full.
+    full: Vec<TxnKey>,
 }
 
-impl<'a, N: Names, R: Wait + Copy + Clock, S: Filestore + Preparing + Drop> Station<'a, N, R, S> {
-    /// A station without work, which sends at most `octets_a_second` for its files. All links are open.
+impl<'a, N: Names, R: Wait + Copy + Clock> Station<'a, N, R> {
+    /// A station without work, which sends at most `octets_a_second` for its files. All links are open. Memory for the timers of
+    /// all lanes is reserved, so the rest of a step needs none.
     pub fn new(
         rt: &'a R,
         alloc: Global,
         entity: &'a Entity<N, R>,
         sender: PduSender<'a>,
-        store: S,
+        depot: &'a Depot,
         tallies: &'a Tallies,
         octets_a_second: Option<u64>,
-    ) -> Result<Station<'a, N, R, S>, AllocError> {
+    ) -> Result<Station<'a, N, R>, AllocError> {
+        let mut agenda = Agenda::new(alloc);
+        agenda.reserve_timers(depot.room().saturating_mul(TIMER_KINDS))?;
         Ok(Station {
             rt,
             entity,
             sender,
-            store,
-            agenda: Agenda::new(alloc),
+            depot,
+            agenda,
             pace: Pace::new(octets_a_second),
             links: LinkBook::new(alloc, entity.config(), tallies)?,
             reach: 0,
             unsettled: None,
             kept_timer: None,
             kept_deposit: None,
-            stored: None,
-            retry: 0,
             tallies,
             lot: None,
             may_have_ended: false,
+            full: Vec::new(alloc),
         })
     }
 
-    /// Sets for how many milliseconds storing a file is retried.
-    pub fn try_for(&mut self, milliseconds: u64) {
-        self.retry = milliseconds;
-    }
-
-    /// Gives a remote entity its own limit in octets a second for files; whatever else is sent to it counts, too.
-    /// Answers whether the configuration has the entity.
-    pub fn limit(&mut self, remote: EntityId, octets_a_second: u64) -> bool {
+    /// Gives a remote entity its own limit in octets a second for files from a moment on, or takes it away; whatever else is sent
+    /// to it counts, too. Answers whether the configuration has the entity.
+    pub fn limit(&mut self, remote: EntityId, octets_a_second: Option<u64>, now: u64) -> bool {
         match self.links.place_of(remote) {
             Some(place) => {
-                self.links.limit(place, octets_a_second);
+                self.links.limit(place, octets_a_second, now);
+                self.agenda.wake_all();
                 true
             }
             None => false,
         }
+    }
+
+    /// Limits the octets a second for files over all links without a limit of their own from a moment on, or lifts that limit.
+    pub fn limit_rest(&mut self, octets_a_second: Option<u64>, now: u64) {
+        self.pace = self.pace.limited(octets_a_second, now);
+        self.agenda.wake_all();
     }
 
     /// Holds the link to a remote entity from a moment on, in milliseconds since 1970: nothing is sent to it, its files
@@ -137,6 +142,11 @@ impl<'a, N: Names, R: Wait + Copy + Clock, S: Filestore + Preparing + Drop> Stat
             }
             None => false,
         }
+    }
+
+    /// Whether the configuration has a remote entity.
+    pub fn is_known(&self, remote: EntityId) -> bool {
+        self.links.place_of(remote).is_some()
     }
 
     /// Whether the link to a remote entity is held.
@@ -183,7 +193,7 @@ impl<'a, N: Names, R: Wait + Copy + Clock, S: Filestore + Preparing + Drop> Stat
 
     /// Sends the PDU with which a refusal answers, if there is one.
     pub fn send_echo(&mut self, refusal: &EntityRefusal) {
-        self.sender.send_echo(refusal);
+        self.sender.send_echo(refusal, moment(self.rt));
     }
 
     // Notes the rest of a step: its timers, its deposit, and that its transaction's file need not rest any more. If
@@ -215,13 +225,13 @@ impl<'a, N: Names, R: Wait + Copy + Clock, S: Filestore + Preparing + Drop> Stat
             }
         }
         if let Some(deposit) = step.deposit {
-            self.keep(Waiting::New(deposit));
+            self.keep(deposit);
         }
     }
 
-    // Adds a deposit after all others.
-    pub(crate) fn keep(&mut self, waiting: Waiting) {
-        if let Err(back) = self.agenda.keep(waiting) {
+    // Leaves a received file to be stored.
+    fn keep(&mut self, deposit: Deposit) {
+        if let Err(back) = self.depot.leave(self.rt, deposit, wall_moment(self.rt)) {
             self.kept_deposit = Some(back);
         }
     }
@@ -233,13 +243,16 @@ impl<'a, N: Names, R: Wait + Copy + Clock, S: Filestore + Preparing + Drop> Stat
         }
     }
 
-    // Continues what waits for memory; answers whether all of it is done.
+    // Continues what waits for memory, for which parked datagrams give way; answers whether all of it is done.
     fn catch_up(&mut self) -> bool {
+        if !self.is_settled() {
+            self.give_way();
+        }
         if let Some(timer) = self.kept_timer.take() {
             self.put_back(timer);
         }
-        if let Some(waiting) = self.kept_deposit.take() {
-            self.keep(waiting);
+        if let Some(deposit) = self.kept_deposit.take() {
+            self.keep(deposit);
         }
         if let Some(unsettled) = self.unsettled.take() {
             self.note(unsettled);
@@ -271,8 +284,27 @@ impl<'a, N: Names, R: Wait + Copy + Clock, S: Filestore + Preparing + Drop> Stat
         count > 0
     }
 
-    /// A turn: at most sixty-four parked datagrams, sixteen timers, sixteen PDUs of files in rotation, and one deposit.
-    /// Answers whether it did any work.
+    /// Notes the steps of lanes whose files were stored, up to the first file that the store was given, and answers what became of
+    /// that; `None` if there is no more, or if something waits for memory.
+    pub fn take_stored(&mut self) -> Option<StoredNote> {
+        let rt = self.rt;
+        for _ in rt.forever() {
+            if !self.is_settled() {
+                break;
+            }
+            let Stored { note, done } = self.depot.take_stored(rt)?;
+            if let Some(done) = done {
+                self.settle_own(done);
+            }
+            if note.is_some() {
+                return note;
+            }
+        }
+        None
+    }
+
+    /// A turn: at most sixty-four parked datagrams, sixteen timers, and sixteen PDUs of files in rotation. Answers whether it did
+    /// any work.
     pub fn turn(&mut self, now: u64) -> bool {
         if !self.is_settled() {
             return false;
@@ -281,8 +313,7 @@ impl<'a, N: Names, R: Wait + Copy + Clock, S: Filestore + Preparing + Drop> Stat
         let has_handed = self.hand_in_some(now);
         let has_expired = self.expire_some(now);
         let has_pumped = self.pump_some(now);
-        let has_stored = self.is_settled() && self.store_one(now);
-        has_gone_on || has_handed || has_expired || has_pumped || has_stored
+        has_gone_on || has_handed || has_expired || has_pumped
     }
 
     // Lets timers run again that rested for a link which is open again; answers whether there were any.
@@ -346,20 +377,41 @@ impl<'a, N: Names, R: Wait + Copy + Clock, S: Filestore + Preparing + Drop> Stat
             stamp,
             ..
         } = timer;
-        match flat(self.entity.timer(self.rt, &NoGate, key, kind, stamp)) {
-            Ok(done) => {
+        match self.entity.timer(self.rt, &NoGate, key, kind, stamp) {
+            Ok(Ok(done)) => {
                 self.settle_own(done);
                 true
             }
-            Err(refusal) if fate_of_retry(obstacle_of(&refusal)) == Fate::Again => {
-                self.put_back(Armed {
-                    deadline: now.saturating_add(REST_MS),
-                    ..timer
-                });
-                false
-            }
-            Err(_) => true,
+            Ok(Err(refused)) => self.hold_expired(timer, now, &EntityRefusal::Lane(refused)),
+            Err(refusal) => self.hold_expired(timer, now, &refusal),
         }
+    }
+
+    // Puts back a timer whose expiration was refused, where that may pass; false if it may.
+    fn hold_expired(&mut self, timer: Armed, now: u64, refusal: &EntityRefusal) -> bool {
+        let is_passing = fate_of_retry(obstacle_of(refusal)) == Fate::Again;
+        if is_passing || (is_full(refusal) && !self.note_full(timer.key)) {
+            self.put_back(Armed {
+                deadline: now.saturating_add(REST_MS),
+                ..timer
+            });
+        }
+        !is_passing
+    }
+
+    // Notes a transaction that takes no more events; answers whether there was memory for that.
+    fn note_full(&mut self, key: TxnKey) -> bool {
+        self.full.contains(&key) || self.full.push(key).is_ok()
+    }
+
+    /// Takes a transaction that takes no more events, since its journal is full; it can't end by itself.
+    pub fn take_full(&mut self) -> Option<TxnKey> {
+        self.full.pop()
+    }
+
+    /// Has a transaction that takes no more events taken again later.
+    pub fn give_back_full(&mut self, key: TxnKey) {
+        let _there_was_room = self.note_full(key);
     }
 
     // Sends the next PDUs of files in turn, as many as the pace and memory allow; answers whether there was one.
@@ -395,13 +447,15 @@ impl<'a, N: Names, R: Wait + Copy + Clock, S: Filestore + Preparing + Drop> Stat
 
     // Sends the next PDU of a file.
     fn pump_file(&mut self, key: TxnKey, departure: Departure, now: u64) -> bool {
-        match flat(self.entity.pump(self.rt, &NoGate, key)) {
-            Ok(done) => {
+        match self.entity.pump(self.rt, &NoGate, key) {
+            Ok(Ok(done)) => {
                 let octets = self.sender.send_done(&done) as u64;
                 let reach = reach_of(&done);
                 self.reach = self.reach.max(reach);
                 if departure == Departure::Shared {
                     self.pace = self.pace.spend(octets, now);
+                } else {
+                    self.links.note_sent(key, octets, now);
                 }
                 if reach == 0 {
                     self.may_have_ended = true;
@@ -409,22 +463,33 @@ impl<'a, N: Names, R: Wait + Copy + Clock, S: Filestore + Preparing + Drop> Stat
                 self.settle(Step::of(done, now));
                 true
             }
+            Ok(Err(refused)) => {
+                self.hold_file(key, now, &EntityRefusal::Lane(refused));
+                false
+            }
             Err(refusal) => {
-                match fate_of_pump(obstacle_of(&refusal)) {
-                    Fate::Again => self.agenda.rest(key, now.saturating_add(REST_MS)),
-                    Fate::Awaits => self.agenda.rest(key, u64::MAX),
-                    Fate::Over => self.agenda.forget(key),
-                }
+                self.hold_file(key, now, &refusal);
                 false
             }
         }
     }
 
+    // Holds a file whose next PDU was refused, as long as the refusal asks for.
+    fn hold_file(&mut self, key: TxnKey, now: u64, refusal: &EntityRefusal) {
+        if is_full(refusal) {
+            let _noted_where_there_is_memory = self.note_full(key);
+        }
+        match fate_of_pump(obstacle_of(refusal)) {
+            Fate::Again => self.agenda.rest(key, now.saturating_add(REST_MS)),
+            Fate::Awaits => self.agenda.rest(key, u64::MAX),
+            Fate::Over => self.agenda.forget(key),
+        }
+    }
+
     /// After a turn without work: the moment until which there is nothing to do unless another thread leaves work.
     pub fn next_moment(&self, now: u64) -> u64 {
-        let soon = now.saturating_add(REST_MS);
         if !self.is_settled() {
-            return soon;
+            return now.saturating_add(REST_MS);
         }
         let mut sending = self.agenda.soonest_sending();
         if !self.links.has_paces() && !self.pace.is_free(now) {
@@ -432,11 +497,6 @@ impl<'a, N: Names, R: Wait + Copy + Clock, S: Filestore + Preparing + Drop> Stat
             sending = sending.max(free.max(now.saturating_add(GATHERING_MS)));
         }
         let until = self.agenda.soonest_timer().min(sending);
-        let until = until.min(self.soonest_parked());
-        if self.agenda.has_deposits() {
-            until.min(soon)
-        } else {
-            until
-        }
+        until.min(self.soonest_parked())
     }
 }

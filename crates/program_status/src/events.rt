@@ -1,23 +1,23 @@
 //! The events that a server reports.
 use crate::event_log::EventLog;
-use crate::kept::Kept;
 use crate::refused::{origin_of, refused_case};
+use crate::streams::{Streams, WORD, form_of, stream_of};
 use cfdp_types::{EntityId, TxnKey};
+use event_levels::{EventKind, Level};
 use indications::Bundle;
+use kept_events::KeptEvents;
 use program_seats::{Asker, Seats};
 use program_tallies::RefusalCase;
 use station_lines::{
     EventHead, IndicationEvent, LogStatus, Moment, PutEvent, SkippedEvent, UnsentEvent,
-    push_end_event, push_hold_event, push_indication_event, push_put_event, push_reads_ended_event,
-    push_refused_event, push_release_event, push_skipped_event, push_start_event,
-    push_stored_event, push_unparked_event, push_unsent_event,
+    push_end_event, push_hold_event, push_indication_event, push_journal_full_event,
+    push_planned_hold_event, push_put_event, push_refused_event, push_release_event,
+    push_skipped_event, push_start_event, push_stored_event, push_unparked_event,
+    push_unsent_event,
 };
 use std::alloc::{AllocError, Global};
 use std::rt::Files;
 use std::sync::Wait;
-
-// The word before an event that is sent to a client.
-const WORD: &str = "event ";
 
 /// The events that a server reports: to the clients that follow, to the log, and to clients that follow later. The
 /// events of a turn are sent at its end. An event for which memory runs out is lost, and its number is missing.
@@ -26,11 +26,10 @@ pub struct Events<'a, R: Files> {
     alloc: Global,
     seats: Option<&'a Seats>,
     log: Option<EventLog<R>>,
-    kept: Kept,
+    kept: KeptEvents,
     number: u64,
-    has_followers: bool,
     /// What is sent to the clients that follow at the end of the turn.
-    told: String,
+    streams: Streams,
     /// How many octets of events this turn has had.
     octets: usize,
 }
@@ -46,10 +45,9 @@ impl<'a, R: Wait + Files> Events<'a, R> {
             alloc,
             seats,
             log,
-            kept: Kept::new(alloc)?,
+            kept: KeptEvents::new(alloc)?,
             number: 0,
-            has_followers: false,
-            told: String::new(alloc),
+            streams: Streams::new(alloc)?,
             octets: 0,
         })
     }
@@ -76,45 +74,55 @@ impl<'a, R: Wait + Files> Events<'a, R> {
         }
     }
 
+    /// Opens the log anew, if there is one; answers whether that worked.
+    pub fn reopen_log(&mut self, rt: &R) -> Option<bool> {
+        match &mut self.log {
+            Some(log) => Some(log.reopen(rt)),
+            None => None,
+        }
+    }
+
     /// Begins a turn.
     pub fn begin_turn(&mut self, rt: &R) {
         self.octets = 0;
-        self.has_followers = match self.seats {
-            Some(seats) => seats.has_followers(rt),
-            None => false,
-        };
+        if let Some(seats) = self.seats {
+            self.streams.look(rt, seats);
+        }
     }
 
     /// Ends a turn and sends its events. `now` is in milliseconds of any clock that does not go back.
     pub fn end_turn(&mut self, rt: &R, now: u64) {
         if let Some(seats) = self.seats {
-            if !self.told.is_empty() {
-                seats.tell(rt, self.told.as_bytes());
-            }
+            self.streams.tell(rt, seats);
         }
-        self.told.clear();
         if let Some(log) = &mut self.log {
             log.flush(rt, now);
         }
     }
 
-    /// Sends a client the last events, at most `most`, and all events from now on.
-    pub fn follow(&mut self, rt: &R, asker: Asker, most: u64) -> Result<(), AllocError> {
+    /// Sends a client the last events, at most `most`, and all events from now on: those of a level and above with their levels, or
+    /// all as they are.
+    pub fn follow(
+        &mut self,
+        rt: &R,
+        asker: Asker,
+        most: u64,
+        least: Option<Level>,
+    ) -> Result<(), AllocError> {
         let Some(seats) = self.seats else {
             return Ok(());
         };
-        let mut text = String::new(self.alloc);
+        let mut text = Vec::new(self.alloc);
         let most = usize::try_from(most).unwrap_or(usize::MAX);
-        self.kept.push_last(&mut text, WORD, most)?;
-        if self.has_followers {
-            seats.tell(rt, self.told.as_bytes());
-        }
-        self.told.clear();
+        let level = least.unwrap_or(Level::Detail);
+        self.kept
+            .push_last(&mut text, WORD.as_bytes(), level, most, form_of(least))?;
+        self.streams.tell(rt, seats);
         if !text.is_empty() {
-            seats.send(rt, asker, text.as_bytes());
+            seats.send(rt, asker, text.as_slice());
         }
-        seats.follow(rt, asker);
-        self.has_followers = true;
+        seats.follow(rt, asker, stream_of(least));
+        self.streams.look(rt, seats);
         Ok(())
     }
 
@@ -128,48 +136,35 @@ impl<'a, R: Wait + Files> Events<'a, R> {
     }
 
     // Reports an event, unless memory for its line ran out.
-    fn add(&mut self, line: Result<String, AllocError>) {
+    fn add(&mut self, kind: EventKind<'_>, line: Result<String, AllocError>) {
         let Ok(line) = line else {
             return;
         };
+        let level = kind.level();
         self.octets = self.octets.saturating_add(line.len());
         if let Some(log) = &mut self.log {
-            log.push(line.as_str());
+            log.push_event(level, line.as_bytes());
         }
-        if self.has_followers {
-            self.tell(line.as_str());
-        }
-        let _kept_where_there_is_memory = self.kept.push(line);
-    }
-
-    // Adds an event for the clients that follow, as a whole or not at all.
-    fn tell(&mut self, line: &str) {
-        if self
-            .told
-            .try_reserve(WORD.len().saturating_add(line.len()))
-            .is_ok()
-        {
-            let _there_is_room = self.told.push_str(WORD);
-            let _there_is_room = self.told.push_str(line);
-        }
+        self.streams.add(level, line.as_bytes());
+        let _kept_where_there_is_memory = self.kept.push(level, line.as_bytes());
     }
 
     /// Reports that the server has started.
     pub fn start(&mut self, at: Moment, id: EntityId, version: &str) {
         let head = self.next_head(at);
         let line = start_line(self.alloc, head, id, version);
-        self.add(line);
+        self.add(EventKind::Start, line);
     }
 
     /// Reports that the server ends.
     pub fn end(&mut self, at: Moment) {
         let head = self.next_head(at);
         let line = end_line(self.alloc, head);
-        self.add(line);
+        self.add(EventKind::End, line);
     }
 
-    /// Reports a bundle's indications to the user of this name.
-    pub fn receive(&mut self, at: Moment, user: &str, bundle: &Bundle) {
+    /// Reports a bundle's indications to the user of this name. Those of a large bundle are written to the log in pieces.
+    pub fn receive(&mut self, rt: &R, at: Moment, user: &str, bundle: &Bundle) {
         for indication in bundle.inds.as_slice() {
             let event = IndicationEvent {
                 user,
@@ -178,7 +173,10 @@ impl<'a, R: Wait + Files> Events<'a, R> {
             };
             let head = self.next_head(at);
             let line = indication_line(self.alloc, head, &event);
-            self.add(line);
+            self.add(EventKind::Indication(indication), line);
+            if let Some(log) = &mut self.log {
+                log.relieve(rt);
+            }
         }
     }
 
@@ -186,63 +184,70 @@ impl<'a, R: Wait + Files> Events<'a, R> {
     pub fn put(&mut self, at: Moment, put: &PutEvent<'_>) {
         let head = self.next_head(at);
         let line = put_line(self.alloc, head, put);
-        self.add(line);
+        self.add(EventKind::Put, line);
     }
 
     /// Reports that a file of the outbox was not sent.
     pub fn fail(&mut self, at: Moment, unsent: &UnsentEvent<'_>) {
         let head = self.next_head(at);
         let line = unsent_line(self.alloc, head, unsent);
-        self.add(line);
+        self.add(EventKind::Unsent, line);
     }
 
     /// Reports that the link to a remote entity is held.
     pub fn hold(&mut self, at: Moment, id: EntityId) {
         let head = self.next_head(at);
         let line = hold_line(self.alloc, head, id);
-        self.add(line);
+        self.add(EventKind::Hold, line);
+    }
+
+    /// Reports that the link to a remote entity is held, since the time is over for which it was open.
+    pub fn hold_planned(&mut self, at: Moment, id: EntityId) {
+        let head = self.next_head(at);
+        let line = planned_hold_line(self.alloc, head, id);
+        self.add(EventKind::Hold, line);
     }
 
     /// Reports that the link to a remote entity is open again.
     pub fn release(&mut self, at: Moment, id: EntityId) {
         let head = self.next_head(at);
         let line = release_line(self.alloc, head, id);
-        self.add(line);
+        self.add(EventKind::Release, line);
     }
 
     /// Reports whether the store kept a received file, and its path below the store's folder.
     pub fn store(&mut self, at: Moment, key: TxnKey, is_kept: bool, place: Option<&str>) {
         let head = self.next_head(at);
         let line = stored_line(self.alloc, head, key, is_kept, place);
-        self.add(line);
+        self.add(EventKind::Stored(is_kept), line);
     }
 
     /// Reports the refusals of a kind since the last such event.
     pub fn refuse(&mut self, at: Moment, case: &RefusalCase) {
         let head = self.next_head(at);
         let line = refused_line(self.alloc, head, case);
-        self.add(line);
+        self.add(EventKind::Refused, line);
     }
 
-    /// Reports how many parked datagrams were dropped for want of room since the last such event.
+    /// Reports how many parked datagrams were dropped for want of room or memory since the last such event.
     pub fn unpark(&mut self, at: Moment, count: u64) {
         let head = self.next_head(at);
         let line = unparked_line(self.alloc, head, count);
-        self.add(line);
+        self.add(EventKind::Unparked, line);
+    }
+
+    /// Reports that a user's transaction was abandoned since its journal is full.
+    pub fn end_full(&mut self, at: Moment, user: &str, key: TxnKey) {
+        let head = self.next_head(at);
+        let line = journal_full_line(self.alloc, head, user, key);
+        self.add(EventKind::JournalFull, line);
     }
 
     /// Reports that transaction numbers were used up without a file.
     pub fn skip(&mut self, at: Moment, skipped: &SkippedEvent<'_>) {
         let head = self.next_head(at);
         let line = skipped_line(self.alloc, head, skipped);
-        self.add(line);
-    }
-
-    /// Reports that a worker stopped reading.
-    pub fn end_reads(&mut self, at: Moment) {
-        let head = self.next_head(at);
-        let line = reads_ended_line(self.alloc, head);
-        self.add(line);
+        self.add(EventKind::Skipped, line);
     }
 }
 
@@ -295,6 +300,12 @@ fn hold_line(alloc: Global, head: EventHead, id: EntityId) -> Result<String, All
     Ok(line)
 }
 
+fn planned_hold_line(alloc: Global, head: EventHead, id: EntityId) -> Result<String, AllocError> {
+    let mut line = String::new(alloc);
+    push_planned_hold_event(alloc, &mut line, head, id)?;
+    Ok(line)
+}
+
 fn release_line(alloc: Global, head: EventHead, id: EntityId) -> Result<String, AllocError> {
     let mut line = String::new(alloc);
     push_release_event(alloc, &mut line, head, id)?;
@@ -327,6 +338,17 @@ fn unparked_line(alloc: Global, head: EventHead, count: u64) -> Result<String, A
     Ok(line)
 }
 
+fn journal_full_line(
+    alloc: Global,
+    head: EventHead,
+    user: &str,
+    key: TxnKey,
+) -> Result<String, AllocError> {
+    let mut line = String::new(alloc);
+    push_journal_full_event(alloc, &mut line, head, user, key)?;
+    Ok(line)
+}
+
 fn skipped_line(
     alloc: Global,
     head: EventHead,
@@ -334,11 +356,5 @@ fn skipped_line(
 ) -> Result<String, AllocError> {
     let mut line = String::new(alloc);
     push_skipped_event(alloc, &mut line, head, skipped)?;
-    Ok(line)
-}
-
-fn reads_ended_line(alloc: Global, head: EventHead) -> Result<String, AllocError> {
-    let mut line = String::new(alloc);
-    push_reads_ended_event(alloc, &mut line, head)?;
     Ok(line)
 }

@@ -3,13 +3,12 @@
 
 mod event_log;
 mod events;
-mod kept;
 mod notes;
 mod refused;
 mod status;
+mod streams;
 
 pub use event_log::{EventLog, PENDING_OCTETS};
 pub use events::Events;
-pub use kept::{KEPT_LINES, KEPT_OCTETS, Kept};
 pub use notes::{LaneNote, LaneNotes};
 pub use status::{LaneHint, Shown, push_outbox, push_status};

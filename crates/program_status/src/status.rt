@@ -8,14 +8,15 @@ use entity_routing::Place;
 use lane_table::Glance;
 use program_desk::Reading;
 use program_lot::ParkedLane;
-use program_outbox::{Outgoing, Waiting};
+use program_outbox::{Outgoing, Waiting, Windows};
 use program_tallies::Tallies;
 use shared_entity::{Entity, EntityRefusal};
 use shared_lanes::Names;
 use station_lines::{
     Counters, EntityStatus, LogStatus, Moment, NoteStatus, Notice, ParkedStatus, QueuedStatus,
-    ReadingStatus, RemoteStatus, TransactionStatus, UserStatus, push_entity, push_log, push_note,
-    push_parked, push_queued, push_reading, push_refusal, push_remote, push_transaction, push_user,
+    ReadingStatus, RemoteStatus, StoringStatus, TransactionStatus, UserStatus, push_entity,
+    push_log, push_note, push_parked, push_queued, push_reading, push_refusal, push_remote,
+    push_storing, push_transaction, push_user,
 };
 use std::alloc::{AllocError, Global};
 use std::sync::Wait;
@@ -44,12 +45,18 @@ pub struct Shown<'a> {
     pub version: &'a str,
     pub started: Moment,
     pub now: Moment,
+    /// The same moment by the clock of `windows`, in milliseconds.
+    pub clock: u64,
     pub tallies: &'a Tallies,
     pub notes: &'a LaneNotes,
     /// The files that are to be sent.
     pub outgoing: &'a Outgoing,
+    /// The links that are open for a time.
+    pub windows: &'a Windows,
     /// The files that are being read.
     pub readings: &'a [Reading],
+    /// The received files that are being stored, or couldn't be stored so far.
+    pub storing: &'a [StoringStatus<'a>],
     /// The lanes for which datagrams wait or were dropped.
     pub parked: &'a [ParkedLane],
     /// The remote entities whose lanes don't fit the lanes here.
@@ -64,7 +71,7 @@ pub struct Shown<'a> {
 }
 
 /// Adds a line for the entity, for the log, for each user, for each lane that has run a transaction, for each file of
-/// the outbox, for each file that is being read, for each lane for which datagrams are parked, for each remote entity,
+/// the outbox, for each file that is being read or stored, for each lane for which datagrams are parked, for each remote entity,
 /// for each kind of refusal, and for each note on lanes. The lanes' locks are taken one at a time.
 pub fn push_status<N: Names, R: Wait + Copy>(
     rt: &R,
@@ -81,8 +88,9 @@ pub fn push_status<N: Names, R: Wait + Copy>(
     }
     push_outbox(alloc, text, entity.config(), shown.outgoing)?;
     push_readings(alloc, text, shown.readings)?;
+    push_stores(alloc, text, shown.storing)?;
     push_parked_lanes(alloc, text, entity.config(), shown.parked)?;
-    push_remotes(alloc, text, entity, shown.tallies)?;
+    push_remotes(alloc, text, entity, shown)?;
     push_refusals(rt, alloc, text, shown.tallies)?;
     push_notes(alloc, text, shown.hints)
 }
@@ -120,7 +128,7 @@ fn counters_of(shown: &Shown<'_>) -> Counters {
         octets_out: totals.octets_out,
         failed_sends: totals.failed_sends,
         failed_reads: totals.failed_reads,
-        ended_reads: totals.ended_reads,
+        ended_reads: 0,
         foreign_datagrams: totals.foreign_datagrams,
         decode_faults: totals.decode_faults,
         refused: shown.tallies.ledger.total(),
@@ -257,6 +265,17 @@ fn push_readings(alloc: Global, text: &mut String, readings: &[Reading]) -> Resu
     Ok(())
 }
 
+fn push_stores(
+    alloc: Global,
+    text: &mut String,
+    storing: &[StoringStatus<'_>],
+) -> Result<(), AllocError> {
+    for status in storing {
+        push_storing(alloc, text, status)?;
+    }
+    Ok(())
+}
+
 fn push_parked_lanes(
     alloc: Global,
     text: &mut String,
@@ -282,9 +301,9 @@ fn push_remotes<N: Names, R: Copy>(
     alloc: Global,
     text: &mut String,
     entity: &Entity<N, R>,
-    tallies: &Tallies,
+    shown: &Shown<'_>,
 ) -> Result<(), AllocError> {
-    let config = entity.config();
+    let (config, tallies) = (entity.config(), shown.tallies);
     for place in 0..config.remotes() {
         let Some(remote) = config.remote_at(place) else {
             break;
@@ -294,6 +313,7 @@ fn push_remotes<N: Names, R: Copy>(
             id: remote.id,
             address: config.address_of(remote.id),
             held_since: tallies.links.held_since(place).map(Moment),
+            open_until: open_until(shown, remote.id),
             datagrams_in: totals.datagrams_in,
             octets_in: totals.octets_in,
             datagrams_out: totals.datagrams_out,
@@ -303,6 +323,13 @@ fn push_remotes<N: Names, R: Copy>(
         push_remote(alloc, text, &status)?;
     }
     Ok(())
+}
+
+// Until when the link to a remote entity is open by the wall clock, where that is for a time.
+fn open_until(shown: &Shown<'_>, remote: EntityId) -> Option<Moment> {
+    let until = shown.windows.until(remote)?;
+    let left = until.saturating_sub(shown.clock);
+    Some(Moment(shown.now.0.saturating_add(left)))
 }
 
 fn push_refusals<R: Wait>(

@@ -5,11 +5,13 @@
 mod ledger;
 mod links;
 mod refusals;
+mod replies;
 mod tallies;
 mod traffic;
 
 pub use ledger::Ledger;
 pub use links::Links;
 pub use refusals::{RefusalCase, RefusalKind, SHOWN_OCTETS};
+pub use replies::Window;
 pub use tallies::Tallies;
 pub use traffic::{RemoteTotals, Totals, Traffic};

@@ -1,24 +1,29 @@
-//! Which links are held.
+//! Which links are held, and what may leave over each.
+use crate::replies::Replies;
 use std::alloc::{AllocError, Global};
 use std::sync::atomic::{AtomicU64, Ordering};
 
 // Stands for an open link in place of the moment since when it is held.
 const OPEN: u64 = 0;
 
-/// Since when the link to each remote entity is held. One thread changes it, and others read it.
+/// Since when the link to each remote entity is held, which one thread changes and others read; and how many replies left over
+/// it in this second.
 #[derive(Drop)]
 pub struct Links {
     since: Vec<AtomicU64>,
+    replies: Vec<Replies>,
 }
 
 impl Links {
     /// All links open, to this many remote entities.
     pub fn new(alloc: Global, remotes: usize) -> Result<Links, AllocError> {
         let mut since = Vec::with_capacity(alloc, remotes)?;
+        let mut replies = Vec::with_capacity(alloc, remotes)?;
         for _ in 0..remotes {
             since.push(AtomicU64::new(OPEN))?;
+            replies.push(Replies::new())?;
         }
-        Ok(Links { since })
+        Ok(Links { since, replies })
     }
 
     /// Holds the link to the remote entity at this place of the configuration from a moment on, in milliseconds since
@@ -50,5 +55,22 @@ impl Links {
     /// Whether the link to a remote entity is held, so that nothing is sent to it.
     pub fn is_held(&self, place: usize) -> bool {
         self.held_since(place).is_some()
+    }
+
+    /// Gives the remote entity at this place a limit in octets a second for replies.
+    pub fn limit_replies(&self, place: usize, octets: u64) {
+        if let Some(replies) = self.replies.get(place) {
+            replies.limit(octets);
+        }
+    }
+
+    /// Notes a reply of so many octets for the remote entity at this place, which is to leave at a moment of the runtime's
+    /// clock, in milliseconds; answers whether it may. In a second at most as many octets leave as the link's limit says, or a hundred
+    /// replies where it has none; the first one always leaves.
+    pub fn may_reply(&self, place: usize, octets: u64, now: u64) -> bool {
+        match self.replies.get(place) {
+            Some(replies) => replies.may_leave(octets, now),
+            None => false,
+        }
     }
 }

@@ -55,8 +55,6 @@ pub struct Totals {
     pub failed_reads: u64,
     pub foreign_datagrams: u64,
     pub decode_faults: u64,
-    /// How many threads stopped reading, because their socket failed too often.
-    pub ended_reads: u64,
 }
 
 /// One thread's counts of its datagrams. Only that thread increases them, so counting never waits.
@@ -67,7 +65,6 @@ pub struct Traffic {
     failed_reads: Counter,
     foreign_datagrams: Counter,
     decode_faults: Counter,
-    ended_reads: Counter,
     /// Sends to an entity without an address.
     unaddressed: Counter,
     remotes: Vec<RemoteTraffic>,
@@ -92,7 +89,6 @@ impl Traffic {
             failed_reads: Counter::new(),
             foreign_datagrams: Counter::new(),
             decode_faults: Counter::new(),
-            ended_reads: Counter::new(),
             unaddressed: Counter::new(),
             remotes: all,
         })
@@ -135,11 +131,6 @@ impl Traffic {
         self.failed_reads.add(1);
     }
 
-    /// Counts that the thread stopped reading.
-    pub fn note_end_of_reads(&self) {
-        self.ended_reads.add(1);
-    }
-
     /// Counts a datagram that was not a PDU.
     pub fn note_decode_fault(&self) {
         self.decode_faults.add(1);
@@ -154,7 +145,6 @@ impl Traffic {
             .foreign_datagrams
             .wrapping_add(self.foreign_datagrams.get());
         totals.decode_faults = totals.decode_faults.wrapping_add(self.decode_faults.get());
-        totals.ended_reads = totals.ended_reads.wrapping_add(self.ended_reads.get());
         totals.failed_sends = totals.failed_sends.wrapping_add(self.unaddressed.get());
         for remote in &self.remotes {
             totals.datagrams_out = totals

@@ -13,8 +13,9 @@ use Rattle.cfdp_types.specs.declared.names.FileStatus.TheVariants.{Unreported}
 use Rattle.indications.specs.declared.indication.Indication.{Indication}
 use Rattle.indications.specs.declared.indication.Indication.TheVariants as told
 use Rattle.indications.specs.declared.indication.Phase.TheVariants.{Closing}
-use Rattle.station_lines.specs.EventLines.{end_line, hold_line, indication_line, put_line, reads_ended_line, refused_line, release_line, skipped_line, start_line, stored_line, unparked_line, unsent_line}
+use Rattle.station_lines.specs.EventLines.{end_line, hold_line, indication_line, journal_full_line, put_line, reads_ended_line, refused_line, release_line, skipped_line, start_line, stored_line, unparked_line, unsent_line}
 use Rattle.station_lines.specs.Members.{text_member, flag_member, number_member, hex_member, octets_member, moment_member, object_member, hexes_member}
+use Rattle.station_lines.specs.Letters.{safe_text}
 use Rattle.station_lines.specs.Shared.{first_octets}
 use Rattle.station_lines.specs.declared.event.EventHead.{EventHead}
 use Rattle.station_lines.specs.declared.event.PutEvent.{PutEvent}
@@ -34,32 +35,32 @@ ref value = record { ref_ptr = (0, 0); now = value }
 
 a_start : start_line (event 1) (record { 0 = 2 }) (codes "0.1")
     ≡ codes "{\"at\":\"2026-11-26T12:00:00.000Z\",\"number\":1,\"kind\":\"start\",\"id\":2,\"version\":\"0.1\"}\n"
-unfolding digits padded_integral char_count encode_utf8 chars is_utf8 encode_with print_from escape_byte text_member flag_member number_member hex_member octets_member moment_member object_member hexes_member first_octets
+unfolding digits padded_integral char_count encode_utf8 chars is_utf8 encode_with print_from escape_byte text_member flag_member number_member hex_member octets_member moment_member object_member hexes_member first_octets safe_text
 a_start = refl
 
 an_end_of_reads : reads_ended_line (event 4)
     ≡ codes "{\"at\":\"2026-11-26T12:00:00.000Z\",\"number\":4,\"kind\":\"reads-ended\"}\n"
-unfolding digits padded_integral char_count encode_utf8 chars is_utf8 encode_with print_from escape_byte text_member flag_member number_member hex_member octets_member moment_member object_member hexes_member first_octets
+unfolding digits padded_integral char_count encode_utf8 chars is_utf8 encode_with print_from escape_byte text_member flag_member number_member hex_member octets_member moment_member object_member hexes_member first_octets safe_text
 an_end_of_reads = refl
 
 an_end : end_line (event 5)
     ≡ codes "{\"at\":\"2026-11-26T12:00:00.000Z\",\"number\":5,\"kind\":\"end\"}\n"
-unfolding digits padded_integral char_count encode_utf8 chars is_utf8 encode_with print_from escape_byte text_member flag_member number_member hex_member octets_member moment_member object_member hexes_member first_octets
+unfolding digits padded_integral char_count encode_utf8 chars is_utf8 encode_with print_from escape_byte text_member flag_member number_member hex_member octets_member moment_member object_member hexes_member first_octets safe_text
 an_end = refl
 
 a_kept_file : stored_line (event 2) key true None
     ≡ codes "{\"at\":\"2026-11-26T12:00:00.000Z\",\"number\":2,\"kind\":\"stored\",\"source\":1,\"seq\":41,\"status\":\"retained\"}\n"
-unfolding digits padded_integral char_count encode_utf8 chars is_utf8 encode_with print_from escape_byte text_member flag_member number_member hex_member octets_member moment_member object_member hexes_member first_octets
+unfolding digits padded_integral char_count encode_utf8 chars is_utf8 encode_with print_from escape_byte text_member flag_member number_member hex_member octets_member moment_member object_member hexes_member first_octets safe_text
 a_kept_file = refl
 
 a_file_that_is_not_kept : stored_line (event 3) key false None
     ≡ codes "{\"at\":\"2026-11-26T12:00:00.000Z\",\"number\":3,\"kind\":\"stored\",\"source\":1,\"seq\":41,\"status\":\"rejected\"}\n"
-unfolding digits padded_integral char_count encode_utf8 chars is_utf8 encode_with print_from escape_byte text_member flag_member number_member hex_member octets_member moment_member object_member hexes_member first_octets
+unfolding digits padded_integral char_count encode_utf8 chars is_utf8 encode_with print_from escape_byte text_member flag_member number_member hex_member octets_member moment_member object_member hexes_member first_octets safe_text
 a_file_that_is_not_kept = refl
 
 a_file_with_another_name : stored_line (event 4) key true (Some (codes "a/b.1"))
     ≡ codes "{\"at\":\"2026-11-26T12:00:00.000Z\",\"number\":4,\"kind\":\"stored\",\"source\":1,\"seq\":41,\"status\":\"retained\",\"as\":\"a/b.1\"}\n"
-unfolding digits padded_integral char_count encode_utf8 chars is_utf8 encode_with print_from escape_byte text_member flag_member number_member hex_member octets_member moment_member object_member hexes_member first_octets
+unfolding digits padded_integral char_count encode_utf8 chars is_utf8 encode_with print_from escape_byte text_member flag_member number_member hex_member octets_member moment_member object_member hexes_member first_octets safe_text
 a_file_with_another_name = refl
 
 -- ---- Puts, the outbox and holds
@@ -79,13 +80,13 @@ put = record {
 a_put : put_line (event 1) put
     ≡ codes "{\"at\":\"2026-11-26T12:00:00.000Z\",\"number\":1,\"kind\":\"put\",\"user\":\"ops\",\"source\":1,\"seq\":41,"
     ++ codes "\"peer\":2,\"class\":1,\"file\":\"a.bin\",\"to_hex\":\"c328\",\"size\":9}\n"
-unfolding digits padded_integral char_count encode_utf8 chars is_utf8 encode_with print_from escape_byte text_member flag_member number_member hex_member octets_member moment_member object_member hexes_member first_octets
+unfolding digits padded_integral char_count encode_utf8 chars is_utf8 encode_with print_from escape_byte text_member flag_member number_member hex_member octets_member moment_member object_member hexes_member first_octets safe_text
 a_put = refl
 
 a_put_that_waited : put_line (event 2) (record put { to = ref (codes "b.bin"); queued = Some 3 })
     ≡ codes "{\"at\":\"2026-11-26T12:00:00.000Z\",\"number\":2,\"kind\":\"put\",\"user\":\"ops\",\"source\":1,\"seq\":41,"
     ++ codes "\"peer\":2,\"class\":1,\"file\":\"a.bin\",\"to\":\"b.bin\",\"size\":9,\"queued\":3}\n"
-unfolding digits padded_integral char_count encode_utf8 chars is_utf8 encode_with print_from escape_byte text_member flag_member number_member hex_member octets_member moment_member object_member hexes_member first_octets
+unfolding digits padded_integral char_count encode_utf8 chars is_utf8 encode_with print_from escape_byte text_member flag_member number_member hex_member octets_member moment_member object_member hexes_member first_octets safe_text
 a_put_that_waited = refl
 
 an_unsent_file : unsent_line (event 1) (record {
@@ -97,25 +98,25 @@ an_unsent_file : unsent_line (event 1) (record {
 })
     ≡ codes "{\"at\":\"2026-11-26T12:00:00.000Z\",\"number\":1,\"kind\":\"unsent\",\"queued\":3,\"user\":\"ops\",\"destination\":7,"
     ++ codes "\"file_hex\":\"61ff\",\"why\":\"read fault\"}\n"
-unfolding digits padded_integral char_count encode_utf8 chars is_utf8 encode_with print_from escape_byte text_member flag_member number_member hex_member octets_member moment_member object_member hexes_member first_octets
+unfolding digits padded_integral char_count encode_utf8 chars is_utf8 encode_with print_from escape_byte text_member flag_member number_member hex_member octets_member moment_member object_member hexes_member first_octets safe_text
 an_unsent_file = refl
 
 a_hold : hold_line (event 2) (record { 0 = 7 })
     ≡ codes "{\"at\":\"2026-11-26T12:00:00.000Z\",\"number\":2,\"kind\":\"hold\",\"id\":7}\n"
-unfolding digits padded_integral char_count encode_utf8 chars is_utf8 encode_with print_from escape_byte text_member flag_member number_member hex_member octets_member moment_member object_member hexes_member first_octets
+unfolding digits padded_integral char_count encode_utf8 chars is_utf8 encode_with print_from escape_byte text_member flag_member number_member hex_member octets_member moment_member object_member hexes_member first_octets safe_text
 a_hold = refl
 
 a_release : release_line (event 3) (record { 0 = 18446744073709551615 })
     ≡ codes "{\"at\":\"2026-11-26T12:00:00.000Z\",\"number\":3,\"kind\":\"release\",\"id\":18446744073709551615,"
     ++ codes "\"id_text\":\"18446744073709551615\"}\n"
-unfolding digits padded_integral char_count encode_utf8 chars is_utf8 encode_with print_from escape_byte text_member flag_member number_member hex_member octets_member moment_member object_member hexes_member first_octets
+unfolding digits padded_integral char_count encode_utf8 chars is_utf8 encode_with print_from escape_byte text_member flag_member number_member hex_member octets_member moment_member object_member hexes_member first_octets safe_text
 a_release = refl
 
 -- ---- lanes that wait
 
 dropped_datagrams : unparked_line (event 3) 12
     ≡ codes "{\"at\":\"2026-11-26T12:00:00.000Z\",\"number\":3,\"kind\":\"unparked\",\"count\":12}\n"
-unfolding digits padded_integral char_count encode_utf8 chars is_utf8 encode_with print_from escape_byte text_member flag_member number_member hex_member octets_member moment_member object_member hexes_member first_octets
+unfolding digits padded_integral char_count encode_utf8 chars is_utf8 encode_with print_from escape_byte text_member flag_member number_member hex_member octets_member moment_member object_member hexes_member first_octets safe_text
 dropped_datagrams = refl
 
 skipped_numbers : skipped_line (event 4) (record {
@@ -126,8 +127,13 @@ skipped_numbers : skipped_line (event 4) (record {
 })
     ≡ codes "{\"at\":\"2026-11-26T12:00:00.000Z\",\"number\":4,\"kind\":\"skipped\",\"user\":\"ops\",\"destination\":7,\"count\":3,"
     ++ codes "\"next\":9007199254740993,\"next_text\":\"9007199254740993\"}\n"
-unfolding digits padded_integral char_count encode_utf8 chars is_utf8 encode_with print_from escape_byte text_member flag_member number_member hex_member octets_member moment_member object_member hexes_member first_octets
+unfolding digits padded_integral char_count encode_utf8 chars is_utf8 encode_with print_from escape_byte text_member flag_member number_member hex_member octets_member moment_member object_member hexes_member first_octets safe_text
 skipped_numbers = refl
+
+a_full_journal : journal_full_line (event 4) (codes "ops") (record { source = record { 0 = 7 }; seq = 3 })
+    ≡ codes "{\"at\":\"2026-11-26T12:00:00.000Z\",\"number\":4,\"kind\":\"journal-full\",\"user\":\"ops\",\"source\":7,\"seq\":3}\n"
+unfolding digits padded_integral char_count encode_utf8 chars is_utf8 encode_with print_from escape_byte text_member flag_member number_member hex_member octets_member moment_member object_member hexes_member first_octets safe_text
+a_full_journal = refl
 
 -- ---- a refusal
 
@@ -144,7 +150,7 @@ a_refused_datagram : refused_line (event 1) (record {
     ++ codes "abababababababababababababababababababababababababababababababab"
     ++ codes "abababababababababababababababababababababababababababababababab"
     ++ codes "\"}\n"
-unfolding digits padded_integral char_count encode_utf8 chars is_utf8 encode_with print_from escape_byte text_member flag_member number_member hex_member octets_member moment_member object_member hexes_member first_octets
+unfolding digits padded_integral char_count encode_utf8 chars is_utf8 encode_with print_from escape_byte text_member flag_member number_member hex_member octets_member moment_member object_member hexes_member first_octets safe_text
 a_refused_datagram = refl
 
 -- ---- indications
@@ -180,10 +186,10 @@ indications : map said (
     ∷ codes "\"Report\",\"phase\":\"closing\",\"progress\":8"
     ∷ codes "\"Fault\",\"condition\":6,\"progress\":9"
     ∷ codes "\"Abandoned\",\"condition\":6,\"progress\":0" ∷ [])
-unfolding digits padded_integral char_count encode_utf8 chars is_utf8 encode_with print_from escape_byte text_member flag_member number_member hex_member octets_member moment_member object_member hexes_member first_octets
+unfolding digits padded_integral char_count encode_utf8 chars is_utf8 encode_with print_from escape_byte text_member flag_member number_member hex_member octets_member moment_member object_member hexes_member first_octets safe_text
 indications = refl
 
 metadata : said (told.MetadataRecv (record { 0 = 1 }) 9 (codes "a.bin") (98 ∷ 0x5C ∷ 0x80 ∷ []) ((0 ∷ 0xFF ∷ []) ∷ [] ∷ []))
     ≡ named (codes "\"Metadata-Recv\",\"origin\":1,\"size\":9,\"file\":\"a.bin\",\"to_hex\":\"625c80\",\"messages\":[\"00ff\",\"\"]")
-unfolding digits padded_integral char_count encode_utf8 chars is_utf8 encode_with print_from escape_byte text_member flag_member number_member hex_member octets_member moment_member object_member hexes_member first_octets
+unfolding digits padded_integral char_count encode_utf8 chars is_utf8 encode_with print_from escape_byte text_member flag_member number_member hex_member octets_member moment_member object_member hexes_member first_octets safe_text
 metadata = refl

@@ -1,2 +1,3 @@
 pub mod StatusRows
 pub mod EventRows
+pub mod SeatRows

@@ -14,6 +14,7 @@ use Rattle.indications.specs.declared.side.Side.TheVariants.{Receiver}
 use Rattle.lane_table.specs.declared.glance.Glance.{Glance}
 use Rattle.lane_table.specs.declared.glance.GlancedFile.{GlancedFile}
 use Rattle.station_lines.specs.Members.{text_member, flag_member, number_member, hex_member, octets_member, moment_member, object_member, hexes_member, numbers_member}
+use Rattle.station_lines.specs.Letters.{safe_text}
 use Rattle.station_lines.specs.Shared.{first_octets}
 use Rattle.station_lines.specs.StatusLines.{entity_line, log_line, note_line, parked_line, queued_line, reading_line, refusal_line, remote_line, transaction_line, user_line}
 use Rattle.station_lines.specs.declared.members.RefusedCase.{RefusedCase}
@@ -63,17 +64,17 @@ the_entity : entity_line (record {
     ++ codes "\"counters\":{\"datagrams_in\":12,\"octets_in\":9000,\"datagrams_out\":3,\"octets_out\":90,"
     ++ codes "\"failed_sends\":5,\"failed_reads\":6,\"ended_reads\":14,\"foreign_datagrams\":7,\"decode_faults\":8,"
     ++ codes "\"refused\":9,\"stored\":10,\"failed_stores\":11,\"dropped_clients\":13}}\n"
-unfolding digits padded_integral char_count encode_utf8 chars is_utf8 encode_with print_from escape_byte text_member flag_member number_member hex_member octets_member moment_member object_member hexes_member first_octets
+unfolding digits padded_integral char_count encode_utf8 chars is_utf8 encode_with print_from escape_byte text_member flag_member number_member hex_member octets_member moment_member object_member hexes_member first_octets safe_text
 the_entity = refl
 
 a_log : log_line (record { failing = true; written = 17; lost = 2 })
     ≡ codes "{\"kind\":\"log\",\"failing\":true,\"written\":17,\"lost\":2}\n"
-unfolding digits padded_integral char_count encode_utf8 chars is_utf8 encode_with print_from escape_byte text_member flag_member number_member hex_member octets_member moment_member object_member hexes_member first_octets
+unfolding digits padded_integral char_count encode_utf8 chars is_utf8 encode_with print_from escape_byte text_member flag_member number_member hex_member octets_member moment_member object_member hexes_member first_octets safe_text
 a_log = refl
 
 a_user : user_line (record { name = ref (codes "o\"ps\\"); waiting = 3; capacity = 1024 })
     ≡ codes "{\"kind\":\"user\",\"name\":\"o\\\"ps\\\\\",\"waiting\":3,\"capacity\":1024}\n"
-unfolding digits padded_integral char_count encode_utf8 chars is_utf8 encode_with print_from escape_byte text_member flag_member number_member hex_member octets_member moment_member object_member hexes_member first_octets
+unfolding digits padded_integral char_count encode_utf8 chars is_utf8 encode_with print_from escape_byte text_member flag_member number_member hex_member octets_member moment_member object_member hexes_member first_octets safe_text
 a_user = refl
 
 -- ---- transactions
@@ -106,7 +107,7 @@ head =
 -- one whose file is not known
 a_transaction : transaction_line (record (transaction (glance None false)) { notice = Some LastNumbers })
     ≡ head ++ codes "storing\",\"octets\":3,\"events\":17,\"notice\":\"last-numbers\"}\n"
-unfolding digits padded_integral char_count encode_utf8 chars is_utf8 encode_with print_from escape_byte text_member flag_member number_member hex_member octets_member moment_member object_member hexes_member first_octets
+unfolding digits padded_integral char_count encode_utf8 chars is_utf8 encode_with print_from escape_byte text_member flag_member number_member hex_member octets_member moment_member object_member hexes_member first_octets safe_text
 a_transaction = refl
 
 -- a name with control characters, a quote and a letter beyond ASCII
@@ -115,16 +116,16 @@ a_finished_transaction : transaction_line (record (transaction (glance (file (97
   ending = Some (Finished 0 Complete Retained);
   notice = Some JournalFull;
 })
-    ≡ head ++ codes "ended\",\"file\":\"a\\n\\u0001\\\"" ++ (0x7F ∷ 0xC3 ∷ 0xA9 ∷ [])
+    ≡ head ++ codes "ended\",\"file\":\"a\\n\\u0001\\\"\\u007f" ++ (0xC3 ∷ 0xA9 ∷ [])
     ++ codes "\",\"to\":\"b.bin\",\"size\":9,\"octets\":3,\"events\":17,\"last\":\"2026-11-26T12:00:00.000Z\","
     ++ codes "\"condition\":0,\"delivery\":\"complete\",\"status\":\"retained\",\"notice\":\"journal-full\"}\n"
-unfolding digits padded_integral char_count encode_utf8 chars is_utf8 encode_with print_from escape_byte text_member flag_member number_member hex_member octets_member moment_member object_member hexes_member first_octets
+unfolding digits padded_integral char_count encode_utf8 chars is_utf8 encode_with print_from escape_byte text_member flag_member number_member hex_member octets_member moment_member object_member hexes_member first_octets safe_text
 a_finished_transaction = refl
 
 -- a name that is no text
 an_abandoned_transaction : transaction_line (record (transaction (glance (file (0xFF ∷ 0 ∷ [])) true)) { ending = Some (Abandoned 15) })
     ≡ head ++ codes "ended\",\"file_hex\":\"ff00\",\"to\":\"b.bin\",\"size\":9,\"octets\":3,\"events\":17,\"condition\":15}\n"
-unfolding digits padded_integral char_count encode_utf8 chars is_utf8 encode_with print_from escape_byte text_member flag_member number_member hex_member octets_member moment_member object_member hexes_member first_octets
+unfolding digits padded_integral char_count encode_utf8 chars is_utf8 encode_with print_from escape_byte text_member flag_member number_member hex_member octets_member moment_member object_member hexes_member first_octets safe_text
 an_abandoned_transaction = refl
 
 -- ---- the outbox
@@ -141,13 +142,13 @@ a_waiting_file : queued_line (record {
 })
     ≡ codes "{\"kind\":\"queued\",\"number\":3,\"user\":\"ops\",\"class\":1,\"destination\":7,\"file_hex\":\"ff00\",\"to\":\"a b\\\"\","
     ++ codes "\"since\":\"1970-01-01T23:59:59.999Z\"}\n"
-unfolding digits padded_integral char_count encode_utf8 chars is_utf8 encode_with print_from escape_byte text_member flag_member number_member hex_member octets_member moment_member object_member hexes_member first_octets
+unfolding digits padded_integral char_count encode_utf8 chars is_utf8 encode_with print_from escape_byte text_member flag_member number_member hex_member octets_member moment_member object_member hexes_member first_octets safe_text
 a_waiting_file = refl
 
 -- the last moment
 a_file_that_is_read : reading_line (record { file = ref (codes "c.bin"); since = record { 0 = 18446744073709551615 } })
     ≡ codes "{\"kind\":\"reading\",\"file\":\"c.bin\",\"since\":\"584556019-04-03T14:25:51.615Z\"}\n"
-unfolding digits padded_integral char_count encode_utf8 chars is_utf8 encode_with print_from escape_byte text_member flag_member number_member hex_member octets_member moment_member object_member hexes_member first_octets
+unfolding digits padded_integral char_count encode_utf8 chars is_utf8 encode_with print_from escape_byte text_member flag_member number_member hex_member octets_member moment_member object_member hexes_member first_octets safe_text
 a_file_that_is_read = refl
 
 -- ---- lanes for which datagrams wait
@@ -166,13 +167,13 @@ parked = record {
 a_parked_lane : parked_line parked
     ≡ codes "{\"kind\":\"parked\",\"user\":\"ops\",\"lane\":3,\"datagrams\":12,\"transactions\":2,\"octets\":17000,\"dropped\":0,"
     ++ codes "\"since\":\"2026-11-26T12:00:00.000Z\"}\n"
-unfolding digits padded_integral char_count encode_utf8 chars is_utf8 encode_with print_from escape_byte text_member flag_member number_member hex_member octets_member moment_member object_member hexes_member first_octets
+unfolding digits padded_integral char_count encode_utf8 chars is_utf8 encode_with print_from escape_byte text_member flag_member number_member hex_member octets_member moment_member object_member hexes_member first_octets safe_text
 a_parked_lane = refl
 
 -- nothing waits any more
 a_lane_that_dropped : parked_line (record parked { datagrams = 0; transactions = 0; octets = 0; dropped = 5; since = None })
     ≡ codes "{\"kind\":\"parked\",\"user\":\"ops\",\"lane\":3,\"datagrams\":0,\"transactions\":0,\"octets\":0,\"dropped\":5}\n"
-unfolding digits padded_integral char_count encode_utf8 chars is_utf8 encode_with print_from escape_byte text_member flag_member number_member hex_member octets_member moment_member object_member hexes_member first_octets
+unfolding digits padded_integral char_count encode_utf8 chars is_utf8 encode_with print_from escape_byte text_member flag_member number_member hex_member octets_member moment_member object_member hexes_member first_octets safe_text
 a_lane_that_dropped = refl
 
 -- ---- remote entities
@@ -182,6 +183,7 @@ remote = record {
   id = record { 0 = 1 };
   address = None;
   held_since = Some noon;
+  open_until = None;
   datagrams_in = 1;
   octets_in = 9007199254740992;
   datagrams_out = 2;
@@ -192,18 +194,19 @@ remote = record {
 a_held_remote : remote_line remote
     ≡ codes "{\"kind\":\"remote\",\"id\":1,\"held\":true,\"held_since\":\"2026-11-26T12:00:00.000Z\","
     ++ codes "\"datagrams_in\":1,\"octets_in\":9007199254740992,\"datagrams_out\":2,\"octets_out\":18,\"failed_sends\":3}\n"
-unfolding digits padded_integral char_count encode_utf8 chars is_utf8 encode_with print_from escape_byte text_member flag_member number_member hex_member octets_member moment_member object_member hexes_member first_octets
+unfolding digits padded_integral char_count encode_utf8 chars is_utf8 encode_with print_from escape_byte text_member flag_member number_member hex_member octets_member moment_member object_member hexes_member first_octets safe_text
 a_held_remote = refl
 
 a_remote : remote_line (record remote {
   id = record { 0 = 18446744073709551615 };
   address = Some (ref (codes "192.0.2.1:4556"));
   held_since = None;
+  open_until = None;
 })
     ≡ codes "{\"kind\":\"remote\",\"id\":18446744073709551615,\"id_text\":\"18446744073709551615\","
     ++ codes "\"address\":\"192.0.2.1:4556\",\"held\":false,\"datagrams_in\":1,\"octets_in\":9007199254740992,"
     ++ codes "\"datagrams_out\":2,\"octets_out\":18,\"failed_sends\":3}\n"
-unfolding digits padded_integral char_count encode_utf8 chars is_utf8 encode_with print_from escape_byte text_member flag_member number_member hex_member octets_member moment_member object_member hexes_member first_octets
+unfolding digits padded_integral char_count encode_utf8 chars is_utf8 encode_with print_from escape_byte text_member flag_member number_member hex_member octets_member moment_member object_member hexes_member first_octets safe_text
 a_remote = refl
 
 -- ---- refusals
@@ -213,7 +216,7 @@ case = record { number = 8; name = ref (codes "WrongState"); fault = None; count
 
 a_refused_command : refusal_line case noon
     ≡ codes "{\"kind\":\"refusal\",\"number\":8,\"name\":\"WrongState\",\"count\":1,\"last\":\"2026-11-26T12:00:00.000Z\"}\n"
-unfolding digits padded_integral char_count encode_utf8 chars is_utf8 encode_with print_from escape_byte text_member flag_member number_member hex_member octets_member moment_member object_member hexes_member first_octets
+unfolding digits padded_integral char_count encode_utf8 chars is_utf8 encode_with print_from escape_byte text_member flag_member number_member hex_member octets_member moment_member object_member hexes_member first_octets safe_text
 a_refused_command = refl
 
 a_refused_datagram : refusal_line (record {
@@ -225,19 +228,19 @@ a_refused_datagram : refusal_line (record {
 }) noon
     ≡ codes "{\"kind\":\"refusal\",\"number\":20,\"name\":\"DecodeFault\",\"fault\":3,\"count\":3,"
     ++ codes "\"last\":\"2026-11-26T12:00:00.000Z\",\"from\":\"192.0.2.1:4556\",\"octets\":\"24000a\"}\n"
-unfolding digits padded_integral char_count encode_utf8 chars is_utf8 encode_with print_from escape_byte text_member flag_member number_member hex_member octets_member moment_member object_member hexes_member first_octets
+unfolding digits padded_integral char_count encode_utf8 chars is_utf8 encode_with print_from escape_byte text_member flag_member number_member hex_member octets_member moment_member object_member hexes_member first_octets safe_text
 a_refused_datagram = refl
 
 -- ---- notes
 
 a_note : note_line (record { remote = record { 0 = 7 }; sending_lanes = 6; receiving_lanes = 8; better = ref (1 ∷ 2 ∷ 4 ∷ 8 ∷ []) })
     ≡ codes "{\"kind\":\"note\",\"remote\":7,\"sending_lanes\":6,\"receiving_lanes\":8,\"better\":[1,2,4,8]}\n"
-unfolding digits padded_integral char_count encode_utf8 chars is_utf8 encode_with print_from escape_byte text_member flag_member number_member hex_member octets_member moment_member object_member hexes_member numbers_member first_octets
+unfolding digits padded_integral char_count encode_utf8 chars is_utf8 encode_with print_from escape_byte text_member flag_member number_member hex_member octets_member moment_member object_member hexes_member numbers_member first_octets safe_text
 a_note = refl
 
 -- a long number, and nothing better
 a_note_without_advice : note_line (record { remote = record { 0 = 18446744073709551615 }; sending_lanes = 6; receiving_lanes = 8; better = ref [] })
     ≡ codes "{\"kind\":\"note\",\"remote\":18446744073709551615,\"remote_text\":\"18446744073709551615\","
     ++ codes "\"sending_lanes\":6,\"receiving_lanes\":8,\"better\":[]}\n"
-unfolding digits padded_integral char_count encode_utf8 chars is_utf8 encode_with print_from escape_byte text_member flag_member number_member hex_member octets_member moment_member object_member hexes_member numbers_member first_octets
+unfolding digits padded_integral char_count encode_utf8 chars is_utf8 encode_with print_from escape_byte text_member flag_member number_member hex_member octets_member moment_member object_member hexes_member numbers_member first_octets safe_text
 a_note_without_advice = refl

@@ -1,6 +1,6 @@
 use cfdp_types::{EntityId, TimerKind, TimerOp, TxnKey};
-use program_agenda::Agenda;
-use std::alloc::AllocError;
+use program_agenda::{Agenda, StoreQueue};
+use std::alloc::{AllocError, Global};
 use std::test::*;
 
 const ARM: TimerOp = TimerOp::Arm {
@@ -14,7 +14,7 @@ const ARM: TimerOp = TimerOp::Arm {
 };
 
 // A timer that has expired is put back, expires again, and rests while the link to the fourth remote entity is held.
-fn timer_comes(agenda: &mut Agenda<u32>) -> Result<bool, AllocError> {
+fn timer_comes(agenda: &mut Agenda) -> Result<bool, AllocError> {
     agenda.apply(ARM, 0)?;
     let Some(timer) = agenda.due(1_000) else {
         return Ok(false);
@@ -31,5 +31,29 @@ fn timer_comes(agenda: &mut Agenda<u32>) -> Result<bool, AllocError> {
 #[test]
 fn timers(rt: HostRuntime) -> Result<(), Fail> {
     assert!(rt; timer_comes(&mut Agenda::new(rt.alloc()))?);
+    Ok(())
+}
+
+// A file that couldn't be stored comes a second later, behind one that wasn't tried yet.
+fn is_put_off(alloc: Global) -> Result<bool, AllocError> {
+    let mut queue = StoreQueue::new(alloc, 2)?;
+    let is_added = queue.add(7u32).is_ok() && queue.next(100) == Some(7);
+    let is_put_off = queue.put_off(7, 100).is_ok() && queue.soonest() == 1_100;
+    let is_behind = queue.add(8).is_ok() && queue.soonest() == 0 && queue.next(2_000) == Some(8);
+    let is_tried = queue.tried().front() == Some(&7);
+    Ok(
+        is_added
+            && is_put_off
+            && is_behind
+            && is_tried
+            && queue.next(1_099).is_none()
+            && queue.next(1_100) == Some(7)
+            && queue.soonest() == u64::MAX,
+    )
+}
+
+#[test]
+fn stores(rt: HostRuntime) -> Result<(), Fail> {
+    assert!(rt; is_put_off(rt.alloc())?);
     Ok(())
 }

@@ -13,6 +13,10 @@ mod events;
 #[cfg(test)]
 mod numbers;
 #[cfg(test)]
+mod parking;
+#[cfg(test)]
+mod recorder;
+#[cfg(test)]
 mod seats;
 #[cfg(test)]
 mod tallies;

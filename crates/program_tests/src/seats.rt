@@ -1,4 +1,4 @@
-use program_seats::{Asker, Seats};
+use program_seats::{Asker, STREAMS, Seats};
 use std::alloc::Global;
 use std::sync::Wait;
 use std::test::*;
@@ -25,10 +25,10 @@ fn is_nobody<R: Wait>(rt: &R, alloc: Global, seats: &Seats, asker: Asker) -> boo
 
 // Nobody follows at a free seat, and nobody may sit down once the seats are closed.
 fn are_free<R: Wait + Clock>(rt: &R, alloc: Global, seats: &Seats) -> bool {
-    seats.follow(rt, NOBODY);
-    seats.tell(rt, b"event\n");
+    seats.follow(rt, NOBODY, 0);
+    seats.tell(rt, 0, b"event\n");
     let are_nobody = is_nobody(rt, alloc, seats, NOBODY) && is_nobody(rt, alloc, seats, BEYOND);
-    let is_open = !seats.has_followers(rt) && !seats.is_closed(rt);
+    let is_open = seats.followed(rt) == [false; STREAMS] && !seats.is_closed(rt);
     seats.close(rt);
     seats.finish(rt);
     are_nobody && is_open && seats.is_closed(rt)

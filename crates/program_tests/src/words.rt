@@ -103,6 +103,8 @@ fn has_options(words: &ServerWords<'_>) -> bool {
         && (words.workers, words.retry, words.park) == (16, Some(60), 9)
         && (words.control, words.log, words.numbers) == (Some("/run/c"), Some("l"), None)
         && words.known_sources
+        && words.strict_sources
+        && words.abandon_full
         && words.hold
         && words.tree
         && words.keep
@@ -148,7 +150,7 @@ fn puts_as_told(alloc: Global) -> Result<bool, AllocError> {
 
 fn serves_as_told(alloc: Global) -> Result<bool, AllocError> {
     let options =
-        "--rate 7=5 --rate 9 --rate=8=6 --hold --tree --keep --retry 60 --workers=16 --control=/run/c --log l --known-sources --park 9 --lanes 7=4 --lanes=8=none";
+        "--rate 7=5 --rate 9 --rate=8=6 --hold --tree --keep --retry 60 --workers=16 --control=/run/c --log l --known-sources --strict-sources --abandon-full --park 9 --lanes 7=4 --lanes=8=none";
     let words = words_of(alloc, SERVER, options)?;
     Ok(match server_words(alloc, words.as_slice()) {
         Ok(words) => {

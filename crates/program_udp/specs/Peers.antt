@@ -12,6 +12,10 @@ use Rattle.program_udp.specs.declared.addresses.PeerAddress.{PeerAddress}
 abbrev pub other_end_of : PduValue → EntityId
 other_end_of pdu = if is_toward_sender pdu.body then pdu.header.source else pdu.header.destination
 
+-- the entity that a PDU comes from, where it goes the way that it says
+abbrev pub near_end_of : PduValue → EntityId
+near_end_of pdu = if is_toward_sender pdu.body then pdu.header.destination else pdu.header.source
+
 -- the address of an entity in a configuration, as text
 abbrev pub address_text : ConfigValue → EntityId → Option (List ℕ)
 address_text config id = option_map (λ peer. peer.address) (find (has_id id) config.peers)
@@ -34,3 +38,8 @@ FirstAt (first ∷ rest) address place =
 -- the first of these entities with this ID
 abbrev pub peer_among : List PeerAddress → EntityId → Option PeerAddress
 peer_among peers id = find (λ peer. peer.id.0 == id.0) peers
+
+-- there is an entity, and it has this address
+abbrev pub IsAt : Option PeerAddress → SocketAddr → Type 0
+IsAt None address = ⊥
+IsAt (Some peer) address = peer.address ≡ address

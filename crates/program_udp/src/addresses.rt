@@ -1,7 +1,7 @@
 //! The addresses of remote entities, looked up once.
 ghost use Rattle.std.specs.Prelude.{◌≡◌, ◌↔◌, All, IfOk, IfSome, IsTrue};
 ghost use Rattle.config_reading.specs.Values.{ConfigValue};
-ghost use Rattle.program_udp.specs.Peers.{FirstAt, ListensAt, StandsAt, peer_among};
+ghost use Rattle.program_udp.specs.Peers.{FirstAt, IsAt, ListensAt, StandsAt, peer_among};
 
 use crate::peers::address_of;
 use cfdp_types::EntityId;
@@ -73,6 +73,16 @@ pub fn place_of_address(peers: &[PeerAddress], address: SocketAddr) -> Option<us
                 place_of_address(rest, address)
             }
         }
+    }
+}
+
+/// Whether the first entity with this ID has this address.
+pub fn is_at(peers: &[PeerAddress], id: EntityId, address: SocketAddr) -> bool
+    ensures { IsTrue result ↔ IsAt (peer_among peers.now id) address }
+{
+    match peer_among(peers, id) {
+        Some(peer) => listens_at(&peer, address),
+        None => false,
     }
 }
 

@@ -1,5 +1,5 @@
 ghost use Rattle.std.specs.Prelude.{◌≡◌, IfSome};
-ghost use Rattle.program_udp.specs.Peers.{other_end_of, ListensAt};
+ghost use Rattle.program_udp.specs.Peers.{near_end_of, other_end_of, ListensAt};
 
 use cfdp_types::EntityId;
 use entity_config::Config;
@@ -15,6 +15,18 @@ pub fn other_end_of(pdu: &Pdu) -> EntityId
         header.source
     } else {
         header.destination
+    }
+}
+
+/// The entity that a PDU comes from, if it goes the way that it says.
+pub fn near_end_of(pdu: &Pdu) -> EntityId
+    ensures { result ≡ near_end_of pdu.now }
+{
+    let header = pdu.header();
+    if pdu.is_toward_sender() {
+        header.destination
+    } else {
+        header.source
     }
 }
 

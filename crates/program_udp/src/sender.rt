@@ -1,5 +1,5 @@
-use crate::addresses::{PeerAddress, addresses_of, peer_among, place_of_address};
-use crate::peers::other_end_of;
+use crate::addresses::{PeerAddress, addresses_of, is_at, peer_among, place_of_address};
+use crate::peers::{near_end_of, other_end_of};
 use entity_config::Config;
 use lane_table::Done;
 use pdu_codec::encode;
@@ -48,8 +48,18 @@ impl<'a> PduSender<'a> {
         place_of_address(self.peers.as_slice(), address)
     }
 
+    /// Whether the entity that a PDU says that it comes from has this address.
+    pub fn comes_from(&self, pdu: &Pdu, address: SocketAddr) -> bool {
+        is_at(self.peers.as_slice(), near_end_of(pdu), address)
+    }
+
     /// Sends a PDU to the entity at the other end; answers how many octets were sent.
     pub fn send(&mut self, pdu: &Pdu) -> usize {
+        self.send_as(pdu, None)
+    }
+
+    // Sends a PDU. A reply, at a moment by the runtime's clock, may have to be left out, and then counts as not sent.
+    fn send_as(&mut self, pdu: &Pdu, reply_at: Option<u64>) -> usize {
         let Some(peer) = peer_among(self.peers.as_slice(), other_end_of(pdu)) else {
             self.traffic.note_unaddressed();
             return 0;
@@ -59,6 +69,14 @@ impl<'a> PduSender<'a> {
         }
         self.octets.clear();
         if encode(pdu, &mut self.octets).is_err() {
+            self.traffic.note_departure(peer.place, None);
+            return 0;
+        }
+        if let Some(now) = reply_at
+            && !self
+                .links
+                .may_reply(peer.place, self.octets.len() as u64, now)
+        {
             self.traffic.note_departure(peer.place, None);
             return 0;
         }
@@ -77,11 +95,20 @@ impl<'a> PduSender<'a> {
         octets
     }
 
-    /// Sends the PDU with which a refusal answers a PDU of an old transaction, if there is one.
-    pub fn send_echo(&mut self, refusal: &EntityRefusal) {
+    /// Sends the PDUs of a step that answers a Prompt, at a moment by the runtime's clock. A peer may ask for them at will, so what
+    /// `Links::may_reply` doesn't allow is left out.
+    pub fn send_prompted(&mut self, done: &Done, now: u64) {
+        for pdu in done.pdus.as_slice() {
+            self.send_as(pdu, Some(now));
+        }
+    }
+
+    /// Sends the PDU with which a refusal answers a PDU of an old transaction, if there is one, at a moment by the runtime's clock. It
+    /// is left out like an answer to a Prompt.
+    pub fn send_echo(&mut self, refusal: &EntityRefusal, now: u64) {
         if let EntityRefusal::Lane(refused) = refusal {
             if let Some(echo) = &refused.echo {
-                self.send(echo);
+                self.send_as(echo, Some(now));
             }
         }
     }

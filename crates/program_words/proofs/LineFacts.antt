@@ -8,7 +8,7 @@ use Rattle.clap.specs.Words.{App, HasMatchesOf, Row, Text, all_of, first_of, fou
 use Rattle.clap.proofs.OnLiterals.{clap_on_literals}
 use Rattle.clap.proofs.WalkLemmas.{first_value-rows, one_text-rows, raw_values-rows}
 use Rattle.program_words.specs.Lines.{Givings, IsFlag, PutSays, ServerSays, found_in, check_program, given_by, put_program, server_program}
-use Rattle.program_words.specs.Numbers.{all_lanes_of, class_of, first_number, limit_of, number_within, park_of, rates_of, seconds_of, workers_of}
+use Rattle.program_words.specs.Numbers.{all_lanes_of, class_of, first_number, level_of, limit_of, mode_of, most_of, number_within, park_of, rates_of, seconds_of, workers_of}
 use Rattle.program_words.specs.declared.putting.PutWords.{PutWords}
 use Rattle.program_words.specs.declared.serving.ServerWords.{ServerWords}
 
@@ -49,6 +49,13 @@ server_in_rows found words said = record {
   retry = ap seconds_of (sym (first_value-rows found (codes "retry"))) ∙ said.retry;
   park = ap park_of (sym (first_value-rows found (codes "park"))) ∙ said.park;
   lanes = ap all_lanes_of (sym (raw_values-rows found (codes "lanes"))) ∙ said.lanes;
+  record_at = sym (first_value-rows found (codes "record")) ∙ said.record_at;
+  record_all = flag_by found (codes "record-all") words.record_all said.record_all;
+  record_most = ap most_of (sym (first_value-rows found (codes "record-most"))) ∙ said.record_most;
+  strict_sources = flag_by found (codes "strict-sources") words.strict_sources said.strict_sources;
+  abandon_full = flag_by found (codes "abandon-full") words.abandon_full said.abandon_full;
+  log_level = ap level_of (sym (first_value-rows found (codes "log-level"))) ∙ said.log_level;
+  control_mode = ap mode_of (sym (first_value-rows found (codes "control-mode"))) ∙ said.control_mode;
 }
 
 put_in_rows : (found : Found) (words : PutWords) → PutSays (found_in found) words → PutSays (in_rows (rows_of found)) words

@@ -4,7 +4,7 @@ use Rattle.std.specs.Option.{option_map}
 use Rattle.clap.specs.Words.{App, Rule, Text, all_of, first_of, first_value, matched_of, matches_of, new_rule, one_of, one_text, raw_values}
 use Rattle.clap.specs.declared.parser.matches.Found.{Found}
 use Rattle.clap.specs.Simple.{new_shape}
-use Rattle.program_words.specs.Numbers.{all_lanes_of, class_of, first_number, limit_of, number_within, park_of, rates_of, seconds_of, workers_of}
+use Rattle.program_words.specs.Numbers.{all_lanes_of, class_of, first_number, level_of, limit_of, mode_of, most_of, number_within, park_of, rates_of, seconds_of, workers_of}
 use Rattle.program_words.specs.declared.putting.PutWords.{PutWords}
 use Rattle.program_words.specs.declared.serving.ServerWords.{ServerWords}
 use Rattle.clap.specs.declared.builder.action.ArgAction.TheVariants.{Append, Set, SetTrue}
@@ -44,7 +44,10 @@ server_program = program_of (codes "cfdp_server")
     ∷ valued (codes "workers") false ∷ repeated (codes "rate") ∷ flag (codes "follow")
     ∷ valued (codes "control") false ∷ valued (codes "log") false ∷ valued (codes "numbers") false
     ∷ flag (codes "known-sources") ∷ flag (codes "hold") ∷ flag (codes "tree") ∷ flag (codes "keep")
-    ∷ valued (codes "retry") false ∷ valued (codes "park") false ∷ repeated (codes "lanes") ∷ [])
+    ∷ valued (codes "retry") false ∷ valued (codes "park") false ∷ repeated (codes "lanes")
+    ∷ valued (codes "record") false ∷ flag (codes "record-all") ∷ valued (codes "record-most") false
+    ∷ flag (codes "strict-sources") ∷ flag (codes "abandon-full")
+    ∷ valued (codes "log-level") false ∷ valued (codes "control-mode") false ∷ [])
 
 -- the options of a check of the configuration
 abbrev pub check_program : App
@@ -96,6 +99,13 @@ pub record ServerSays (given : Givings) (words : ServerWords) : Type 0 where
   pub retry : seconds_of (given.first (codes "retry")) ≡ Some words.retry
   pub park : park_of (given.first (codes "park")) ≡ Some words.park
   pub lanes : all_lanes_of (given.all (codes "lanes")) ≡ map Some words.lanes.items
+  pub record_at : given.first (codes "record") ≡ option_map (λ path. path.now) words.record
+  pub record_all : IsFlag (given.one (codes "record-all")) words.record_all
+  pub record_most : most_of (given.first (codes "record-most")) ≡ Some words.record_most
+  pub strict_sources : IsFlag (given.one (codes "strict-sources")) words.strict_sources
+  pub abandon_full : IsFlag (given.one (codes "abandon-full")) words.abandon_full
+  pub log_level : level_of (given.first (codes "log-level")) ≡ Some words.log_level
+  pub control_mode : mode_of (given.first (codes "control-mode")) ≡ Some words.control_mode
 
 -- the put's words, as its command line gives them
 pub record PutSays (given : Givings) (words : PutWords) : Type 0 where

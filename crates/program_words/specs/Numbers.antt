@@ -5,6 +5,8 @@ use Rattle.std.specs.Str.{bytes_eq}
 use Rattle.cfdp_types.specs.declared.limits.TheConstants.{CONFIGURED_NUMBER, RECEIVING_LANES}
 use Rattle.cfdp_types.specs.declared.names.Class.{Class}
 use Rattle.cfdp_types.specs.declared.names.Class.TheVariants as class
+use Rattle.event_levels.specs.Levels.{level_named}
+use Rattle.event_levels.specs.declared.level.Level.{Level}
 use Rattle.line_words.specs.Words.{decimal_of}
 use Rattle.line_words.specs.Operands.{◌>>=◌}
 use Rattle.program_words.specs.declared.lanes.PeerLanes.{PeerLanes}
@@ -21,6 +23,22 @@ abbrev pub perhaps : (List ℕ → Option ℕ) → Option (List ℕ) → Option 
 perhaps read None = Some None
 perhaps read (Some word) = option_map Some (read word)
 
+-- the level that a word names, or none without a word
+abbrev pub level_of : Option (List ℕ) → Option (Option Level)
+level_of None = Some None
+level_of (Some word) = option_map Some (level_named word)
+
+-- the permissions that a word stands for
+abbrev pub mode_named : List ℕ → Option ℕ
+mode_named word =
+    if bytes_eq word (codes "0600") then Some 384
+    else if bytes_eq word (codes "0660") then Some 432
+    else if bytes_eq word (codes "0666") then Some 438
+    else None
+
+abbrev pub mode_of : Option (List ℕ) → Option (Option ℕ)
+mode_of word = perhaps mode_named word
+
 -- how many workers a word asks for; 4 without a word
 abbrev pub workers_of : Option (List ℕ) → Option ℕ
 workers_of None = Some 4
@@ -30,6 +48,11 @@ workers_of (Some word) = number_within 1 16 word
 abbrev pub park_of : Option (List ℕ) → Option ℕ
 park_of None = Some 64000000
 park_of (Some word) = number_within 0 1000000000000 word
+
+-- how many scripts are kept at most; 1,000 without a word
+abbrev pub most_of : Option (List ℕ) → Option ℕ
+most_of None = Some 1000
+most_of (Some word) = number_within 1 1000000 word
 
 -- a number of seconds, a day at most
 abbrev pub seconds_of : Option (List ℕ) → Option (Option ℕ)

@@ -1,7 +1,8 @@
 //! Explains to a person what is wrong with a command line.
 use crate::lanes::all_lanes_of;
 use crate::options::{
-    first_number, is_address, is_name, limit_of, number_within, park_of, seconds_of, workers_of,
+    first_number, is_address, is_name, level_of, limit_of, mode_of, most_of, number_within,
+    park_of, seconds_of, workers_of,
 };
 use crate::rates::rates_of;
 use crate::{checking, putting, serving};
@@ -93,6 +94,12 @@ fn wrong_for_server(alloc: Global, matches: &ArgMatches<'_>) -> Option<&'static 
     if park_of(matches.get_str("park")).is_none() {
         return Some("--park takes a number of octets up to 1000000000000");
     }
+    if most_of(matches.get_str("record-most")).is_none() {
+        return Some("--record-most takes a number from 1 to 1000000");
+    }
+    if matches.get_str("record") == Some("") {
+        return Some("--record takes the path of a folder");
+    }
     if all_lanes_of(alloc, matches.get_strs("lanes")).is_err() {
         return Some(
             "--lanes takes ID=NUMBER, with a number from 1 to 8, or ID=none, one for each entity",
@@ -100,6 +107,17 @@ fn wrong_for_server(alloc: Global, matches: &ArgMatches<'_>) -> Option<&'static 
     }
     if matches.get_str("control") == Some("") || matches.get_str("log") == Some("") {
         return Some("--control and --log take a path");
+    }
+    new_complaint(matches)
+}
+
+// What is wrong with what the log or the socket is to be, if anything.
+fn new_complaint(matches: &ArgMatches<'_>) -> Option<&'static str> {
+    if level_of(matches.get_str("log-level")).is_none() {
+        return Some("--log-level takes detail, info or warning");
+    }
+    if mode_of(matches.get_str("control-mode")).is_none() {
+        return Some("--control-mode takes 0600, 0660 or 0666");
     }
     numbers_complaint(matches)
 }

@@ -3,12 +3,13 @@ ghost use Rattle.std.specs.Prelude.{◌≡◌, false, true};
 ghost use Rattle.std.specs.Option.{option_map};
 ghost use Rattle.clap.specs.Words.{rule_of};
 ghost use Rattle.program_words.specs.Lines.{flag, repeated, valued};
-ghost use Rattle.program_words.specs.Numbers.{first_number, limit_of, number_within, park_of, seconds_of, workers_of};
+ghost use Rattle.program_words.specs.Numbers.{first_number, level_of, limit_of, mode_named, mode_of, most_of, number_within, park_of, seconds_of, workers_of};
 
 use crate::fault::WordsFault;
 use cfdp_types::limits::{CONFIGURED_NUMBER, NAME_OCTETS};
 use clap::error::ErrorKind;
 use clap::{Arg, ArgAction, Error};
+use event_levels::Level;
 use line_words::decimal;
 use std::alloc::Global;
 use std::net::SocketAddrV4;
@@ -135,6 +136,51 @@ pub(crate) fn park_of(word: Option<&str>) -> Option<u64>
     match word {
         None => Some(PARK_OCTETS),
         Some(word) => number_within(word, 0, MOST_PARK_OCTETS),
+    }
+}
+
+/// How many scripts are kept; 1,000 without a word.
+pub(crate) fn most_of(word: Option<&str>) -> Option<u64>
+    ensures { result ≡ most_of (option_map (λ word. word.now) word.entry) }
+{
+    match word {
+        None => Some(1_000),
+        Some(word) => number_within(word, 1, 1_000_000),
+    }
+}
+
+/// The level that a word names: `Some(None)` without a word, `None` where the word is no level.
+pub(crate) fn level_of(word: Option<&str>) -> Option<Option<Level>>
+    ensures { result ≡ level_of (option_map (λ word. word.now) word.entry) }
+{
+    match word {
+        None => Some(None),
+        Some(word) => Some(Some(Level::named(word.as_bytes())?)),
+    }
+}
+
+// The permissions that a word stands for: those of a socket for its owner, for its group, or for everyone.
+fn mode_named(word: &str) -> Option<u32>
+    ensures { result ≡ mode_named word.now }
+{
+    if word == "0600" {
+        Some(0o600)
+    } else if word == "0660" {
+        Some(0o660)
+    } else if word == "0666" {
+        Some(0o666)
+    } else {
+        None
+    }
+}
+
+/// The permissions that a word stands for, likewise.
+pub(crate) fn mode_of(word: Option<&str>) -> Option<Option<u32>>
+    ensures { result ≡ mode_of (option_map (λ word. word.now) word.entry) }
+{
+    match word {
+        None => Some(None),
+        Some(word) => Some(Some(mode_named(word)?)),
     }
 }
 

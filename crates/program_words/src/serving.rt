@@ -6,10 +6,12 @@ ghost use Rattle.program_words.specs.Numbers.{all_lanes_of, rates_of};
 use crate::fault::WordsFault;
 use crate::lanes::{PeerLanes, all_lanes_of};
 use crate::options::{
-    fault_of, flag, is_address, optional, park_of, repeated, required, seconds_of, workers_of,
+    fault_of, flag, is_address, level_of, mode_of, most_of, optional, park_of, repeated, required,
+    seconds_of, workers_of,
 };
 use crate::rates::{Rate, rates_of};
 use clap::{ArgMatches, Command};
+use event_levels::Level;
 use std::alloc::{AllocError, Global};
 
 /// What the server's command line asks for.
@@ -32,10 +34,18 @@ pub struct ServerWords<'a> {
     pub control: Option<&'a str>,
     /// The path of the file to which events are appended.
     pub log: Option<&'a str>,
+    /// The level from which on events are appended there, with their levels; all without it.
+    pub log_level: Option<Level>,
+    /// The permissions of the socket's file, where they aren't its owner's alone.
+    pub control_mode: Option<u32>,
     /// The path of the file that keeps where transaction numbers begin.
     pub numbers: Option<&'a str>,
     /// Whether datagrams from addresses that aren't in the configuration are dropped.
     pub known_sources: bool,
+    /// Whether PDUs that don't come from the address of their own entity are dropped, too.
+    pub strict_sources: bool,
+    /// Whether each transaction whose journal is full is abandoned, and not only those of the outbox.
+    pub abandon_full: bool,
     /// Whether nothing is sent to any remote entity until it is released.
     pub hold: bool,
     /// Whether slashes in a received file's name lead into folders.
@@ -49,13 +59,21 @@ pub struct ServerWords<'a> {
     /// How many receiving lanes remote entities have for this one, where it isn't as many as this one has for each of
     /// them; at most one number for each.
     pub lanes: Vec<PeerLanes>,
+    /// The folder where the scripts of transactions are kept.
+    pub record: Option<&'a str>,
+    /// Whether the script of each transaction is kept, and not only of those that failed.
+    pub record_all: bool,
+    /// How many scripts are kept at most: 1 to 1,000,000.
+    pub record_most: u64,
 }
 
 const HELP: &str = "Receives and sends files by CFDP over UDP, as one entity.
 
 Usage: cfdp_server --config FILE --bind ADDR --folder DIR [--workers N] [--rate [ID=]N]..
-       [--follow] [--control PATH] [--log FILE] [--numbers FILE] [--known-sources] [--hold]
-       [--tree] [--keep] [--retry N] [--park OCTETS] [--lanes ID=N]..
+       [--follow] [--control PATH] [--log FILE] [--numbers FILE] [--known-sources]
+       [--strict-sources] [--hold] [--tree] [--keep] [--retry N] [--park OCTETS] [--lanes ID=N]..
+       [--record DIR [--record-all] [--record-most N]] [--abandon-full]
+       [--log-level LEVEL] [--control-mode MODE]
 
   --config FILE   the configuration of the entity, in TOML
   --bind ADDR     where it listens: A.B.C.D:PORT, all in decimal
@@ -68,6 +86,7 @@ Usage: cfdp_server --config FILE --bind ADDR --folder DIR [--workers N] [--rate 
   --log FILE      appends events to this file, one JSON object a line
   --numbers FILE  keeps in this file where the numbers of the next run begin
   --known-sources drops datagrams from addresses that the configuration doesn't have
+  --strict-sources drops these, and PDUs from another address than their entity's
   --hold          sends nothing to any remote entity until `release`
   --tree          slashes in a received file's name lead into folders
   --keep          keeps an existing file; the new one gets `.1`, `.2` .. appended to its name
@@ -76,23 +95,34 @@ Usage: cfdp_server --config FILE --bind ADDR --folder DIR [--workers N] [--rate 
                   (default: 64000000; 0: none)
   --lanes ID=N    how many receiving lanes that entity has for this one, 1 to 8, or `none` if it takes any numbers
                   (default: as many as here)
+  --record DIR    keeps in this folder, which must exist, the script of each transaction that
+                  failed: SOURCE.SEQ.script
+  --record-all    keeps the script of each transaction
+  --record-most N keeps N scripts at most, 1 to 1000000 (default: 1000); the oldest ones go
+  --abandon-full  abandons each transaction whose journal is full: it could not end by itself
+  --log-level LEVEL  appends only events from this level on: detail, info or warning; each has its level then
+  --control-mode MODE  the permissions of the socket: 0600 (default), 0660 for its group, 0666 for everyone
   --check         with --config alone: reads FILE, prints `ok` or what is wrong with it, and ends
   --help          prints this, and ends
   --version       prints the version, and ends
 
 Commands, one a line, on standard input or over the socket:
   put USER LANE CLASS DEST SRC DST [closure]
-  send USER CLASS DEST SRC DST [closure]
+  send USER CLASS DEST SRC DST [closure] [urgent] [as NAME]
   outbox
   drop NUMBER
-  hold|release ID
+  hold|release ID|all
+  release ID SECONDS
+  rate [ID] N|off
   cancel|suspend|resume|report|abandon USER SOURCE SEQ
   take USER
   trace SOURCE SEQ
+  journal SOURCE SEQ
   status
+  reopen
   quit
 Only over the socket:
-  follow [N]
+  follow [N] [detail|info|warning]
 ";
 
 /// What `--help` of the server prints.
@@ -129,7 +159,14 @@ pub(crate) fn command<'a>(alloc: Global) -> Result<Command<'a>, AllocError>
         .arg(flag(alloc, "keep"))?
         .arg(optional(alloc, "retry"))?
         .arg(optional(alloc, "park"))?
-        .arg(repeated(alloc, "lanes"))?;
+        .arg(repeated(alloc, "lanes"))?
+        .arg(optional(alloc, "record"))?
+        .arg(flag(alloc, "record-all"))?
+        .arg(optional(alloc, "record-most"))?
+        .arg(flag(alloc, "strict-sources"))?
+        .arg(flag(alloc, "abandon-full"))?
+        .arg(optional(alloc, "log-level"))?
+        .arg(optional(alloc, "control-mode"))?;
     Ok(command)
 }
 
@@ -166,8 +203,15 @@ fn words_with<'a>(
     let keep = matches.get_flag("keep");
     let retry = seconds_of(matches.get_str("retry"))?;
     let park = park_of(matches.get_str("park"))?;
+    let record = matches.get_str("record");
+    let record_all = matches.get_flag("record-all");
+    let record_most = most_of(matches.get_str("record-most"))?;
+    let strict_sources = matches.get_flag("strict-sources");
+    let abandon_full = matches.get_flag("abandon-full");
+    let log_level = level_of(matches.get_str("log-level"))?;
+    let control_mode = mode_of(matches.get_str("control-mode"))?;
     let is_named = control != Some("") && log != Some("") && numbers != Some("");
-    if !is_address(bind) || folder.is_empty() || !is_named {
+    if !is_address(bind) || folder.is_empty() || !is_named || record == Some("") {
         return None;
     }
     Some(ServerWords {
@@ -179,14 +223,21 @@ fn words_with<'a>(
         follow,
         control,
         log,
+        log_level,
+        control_mode,
         numbers,
         known_sources,
+        strict_sources,
+        abandon_full,
         hold,
         tree,
         keep,
         retry,
         park,
         lanes,
+        record,
+        record_all,
+        record_most,
     })
 }
 

@@ -4,8 +4,10 @@ use Rattle.cfdp_types.specs.declared.key.TxnKey.{TxnKey}
 use Rattle.cfdp_types.specs.declared.names.Class.TheVariants.{One, Two}
 use Rattle.entity_config.specs.Reference.{reference_config}
 use Rattle.entity_routing.specs.declared.world_event.Request.TheVariants as requests
+use Rattle.event_levels.specs.declared.level.Level.TheVariants.{Detail, Info, Warning}
 use Rattle.server_lines.specs.declared.command.Command.TheVariants as command
-use Rattle.server_lines.specs.Commands.{command_of}
+use Rattle.server_lines.specs.declared.command.Tuning.TheVariants as tuning
+use Rattle.server_lines.specs.Commands.{command_of, options, options_of}
 
 -- the transaction of the rows
 abbrev key : TxnKey
@@ -52,6 +54,10 @@ bad_services : map (command_of reference_config) (codes "status now" ∷ codes "
     ≡ replicate 5 None
 bad_services = refl
 
+journals : map (command_of reference_config) (codes "journal 2 4" ∷ codes "journal 2" ∷ codes "journal 2 4 1" ∷ codes "journal x 4" ∷ [])
+    ≡ Some (command.Journal key) ∷ None ∷ None ∷ None ∷ []
+journals = refl
+
 -- names in quotes have any octets, and what stands without quotes means what it means in a line without them
 quoted : map (command_of reference_config) (codes "put \"alice\" 0 1 1 \"a b\" c\"d" ∷ codes "send bob 2 7 \"\\xff\\\"\" b closure" ∷ codes "\"quit\"" ∷ [])
     ≡ Some (command.Put (record {
@@ -70,6 +76,8 @@ quoted : map (command_of reference_config) (codes "put \"alice\" 0 1 1 \"a b\" c
       destination = record { 0 = 7 };
       source = 255 ∷ 34 ∷ [];
       destination_name = codes "b";
+      is_urgent = false;
+      source_name = None;
     }))
     ∷ Some command.Quit
     ∷ []
@@ -88,6 +96,8 @@ outbox : map (command_of reference_config) (codes "send alice 1 1 a b" ∷ codes
       destination = record { 0 = 1 };
       source = codes "a";
       destination_name = codes "b";
+      is_urgent = false;
+      source_name = None;
     }))
     ∷ Some command.Outbox
     ∷ Some (command.Drop 3)
@@ -97,9 +107,65 @@ outbox : map (command_of reference_config) (codes "send alice 1 1 a b" ∷ codes
 outbox = refl
 
 bad_outbox : map (command_of reference_config) (codes "send alice 0 1 1 a b" ∷ codes "send carol 1 1 a b" ∷ codes "send alice 1 1 a" ∷ codes "outbox 1" ∷ codes "drop"
-    ∷ codes "drop x" ∷ codes "drop 1 2" ∷ codes "hold" ∷ codes "hold alice" ∷ codes "release 7 7" ∷ [])
+    ∷ codes "drop x" ∷ codes "drop 1 2" ∷ codes "hold" ∷ codes "hold alice" ∷ codes "release 7 7 7" ∷ [])
     ≡ replicate 10 None
 bad_outbox = refl
+
+-- ---- what changes the server, or watches a part of it
+
+-- what a file is sent with: closure, a turn before others, another source name, each or none, in this order
+asked : map options_of ([] ∷ (codes "urgent" ∷ []) ∷ (codes "as" ∷ codes "n" ∷ []) ∷ (codes "closure" ∷ codes "urgent" ∷ codes "as" ∷ codes "n" ∷ [])
+    ∷ (codes "closure" ∷ codes "as" ∷ codes "as" ∷ []) ∷ (codes "urgent" ∷ codes "as" ∷ codes "n" ∷ []) ∷ (codes "closure" ∷ codes "urgent" ∷ []) ∷ [])
+    ≡ Some (options false false) ∷ Some (options false true) ∷ Some (record { closure = false; is_urgent = false; source_name = Some (codes "n") })
+    ∷ Some (record { closure = true; is_urgent = true; source_name = Some (codes "n") }) ∷ Some (record { closure = true; is_urgent = false; source_name = Some (codes "as") })
+    ∷ Some (record { closure = false; is_urgent = true; source_name = Some (codes "n") }) ∷ Some (options true true)
+    ∷ []
+asked = refl
+
+bad_asked : map options_of ((codes "urgent" ∷ codes "closure" ∷ []) ∷ (codes "urgent" ∷ codes "urgent" ∷ []) ∷ (codes "as" ∷ []) ∷ (codes "as" ∷ [] ∷ [])
+    ∷ (codes "as" ∷ codes "n" ∷ codes "urgent" ∷ []) ∷ (codes "closure" ∷ codes "closure" ∷ []) ∷ (codes "now" ∷ []) ∷ [])
+    ≡ replicate 7 None
+bad_asked = refl
+
+urgent : command_of reference_config (codes "send alice 2 7 a b closure urgent as n")
+    ≡ Some (command.Send (record {
+      user = 0;
+      class = Two;
+      closure = true;
+      destination = record { 0 = 7 };
+      source = codes "a";
+      destination_name = codes "b";
+      is_urgent = true;
+      source_name = Some (codes "n");
+    }))
+urgent = refl
+
+rates : map (command_of reference_config) (codes "rate 7 125000" ∷ codes "rate 7 off" ∷ codes "rate 1000000000" ∷ codes "rate off" ∷ [])
+    ≡ map (λ one. Some (command.Tune one))
+    (tuning.Rate (Some (record { 0 = 7 })) (Some 125000) ∷ tuning.Rate (Some (record { 0 = 7 })) None ∷ tuning.Rate None (Some 1000000000) ∷ tuning.Rate None None ∷ [])
+rates = refl
+
+bad_rates : map (command_of reference_config) (codes "rate" ∷ codes "rate 0" ∷ codes "rate 1000000001" ∷ codes "rate 7 0" ∷ codes "rate alice 5" ∷ codes "rate off off"
+    ∷ codes "rate 7 5 6" ∷ codes "rate 7 " ∷ [])
+    ≡ replicate 8 None
+bad_rates = refl
+
+links : map (command_of reference_config) (codes "hold all" ∷ codes "release all" ∷ codes "release 7 600" ∷ codes "release 7 86400" ∷ [])
+    ≡ map (λ one. Some (command.Tune one)) (tuning.HoldAll ∷ tuning.ReleaseAll ∷ tuning.ReleaseFor (record { 0 = 7 }) 600 ∷ tuning.ReleaseFor (record { 0 = 7 }) 86400 ∷ [])
+links = refl
+
+bad_links : map (command_of reference_config) (codes "hold all 7" ∷ codes "hold 7 600" ∷ codes "release all 600" ∷ codes "release 7 0" ∷ codes "release 7 86401"
+    ∷ codes "release 7 600 1" ∷ codes "release" ∷ [])
+    ≡ replicate 7 None
+bad_links = refl
+
+follows : map (command_of reference_config) (codes "follow warning" ∷ codes "follow 10 info" ∷ codes "follow 0 detail" ∷ codes "reopen" ∷ [])
+    ≡ map (λ one. Some (command.Tune one)) (tuning.FollowFrom 0 Warning ∷ tuning.FollowFrom 10 Info ∷ tuning.FollowFrom 0 Detail ∷ tuning.Reopen ∷ [])
+follows = refl
+
+bad_follows : map (command_of reference_config) (codes "follow 10 all" ∷ codes "follow info 10" ∷ codes "follow info info" ∷ codes "follow 10 info 1" ∷ codes "reopen now" ∷ [])
+    ≡ replicate 5 None
+bad_follows = refl
 
 bad_others : map (command_of reference_config) ([] ∷ codes "take" ∷ codes "take carol" ∷ codes "trace 2" ∷ codes "quit now" ∷ codes "quit " ∷ codes "cancel alice 2"
     ∷ codes "stop alice 2 4" ∷ codes " quit" ∷ [])

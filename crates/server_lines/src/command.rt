@@ -6,6 +6,7 @@ use crate::put::{put, send};
 use cfdp_types::{Class, EntityId, Octets, TxnKey};
 use entity_config::Config;
 use entity_routing::Request;
+use event_levels::Level;
 use quoted_words::{Words, has_quote, is_ascii, quoted_words};
 use std::alloc::{AllocError, Global};
 
@@ -32,10 +33,33 @@ pub struct SendCommand {
     /// Whether the receiver is asked to report at the end what became of the file; it matters in class 1 only.
     pub closure: bool,
     pub destination: EntityId,
-    /// The path of the file here, and its source file name: 1 to 255 octets, beyond ASCII only where it was quoted.
+    /// The path of the file here: 1 to 255 octets, beyond ASCII only where it was quoted. It is the source file name too,
+    /// where none is given.
     pub source: Octets,
     /// Its destination file name, of 1 to 255 octets likewise.
     pub destination_name: Octets,
+    /// Whether it goes before its user's files that aren't urgent.
+    pub is_urgent: bool,
+    /// Its source file name, of 1 to 255 octets likewise, where it is another than the path.
+    pub source_name: Option<Octets>,
+}
+
+/// What changes the server while it runs, or watches a part of it.
+#[derive(Clone, Copy, Debug, PartialEq, Eq)]
+pub enum Tuning {
+    /// At most so many octets a second leave for this remote entity, or for all of them together; `None` lifts the limit.
+    Rate(Option<EntityId>, Option<u64>),
+    /// Hold the links to all remote entities.
+    HoldAll,
+    /// Open the links to all remote entities again.
+    ReleaseAll,
+    /// Open the link to this entity for so many seconds, 1 to 86,400; then hold it again.
+    ReleaseFor(EntityId, u64),
+    /// Send events of this level and above to the client from now on, after the last ones of these that are kept, at most
+    /// this many.
+    FollowFrom(u64, Level),
+    /// Open the log anew.
+    Reopen,
 }
 
 /// What a line of commands asks for.
@@ -51,6 +75,8 @@ pub enum Command {
     Take(usize),
     /// Report how far a transaction is.
     Trace(TxnKey),
+    /// Print a transaction as a script.
+    Journal(TxnKey),
     /// Report the server's status.
     Status,
     /// Send events to the client from now on, after the last ones that are kept, at most this many.
@@ -63,6 +89,8 @@ pub enum Command {
     Hold(EntityId),
     /// Open the link to this entity again.
     Release(EntityId),
+    /// Change the server, or watch a part of it.
+    Tune(Tuning),
     /// End the server.
     Quit,
 }

@@ -3,8 +3,10 @@
 
 mod command;
 mod operands;
+mod options;
 mod other;
 mod put;
 mod sending;
+mod tuning;
 
-pub use command::{Command, PutCommand, SendCommand, command_of};
+pub use command::{Command, PutCommand, SendCommand, Tuning, command_of};

@@ -2,11 +2,9 @@
 ghost use Rattle.std.specs.Prelude.{◌≡◌};
 ghost use Rattle.std.specs.Option.{option_copied};
 ghost use Rattle.line_words.specs.Operands.{closure_of};
-ghost use Rattle.server_lines.specs.Commands.{file_name_of, remote_of};
+ghost use Rattle.server_lines.specs.Commands.{file_name_of};
 
-use cfdp_types::EntityId;
 use cfdp_types::limits::NAME_OCTETS;
-use line_words::number_of;
 use quoted_words::Words;
 
 /// A file name: neither empty nor too long.
@@ -32,12 +30,4 @@ pub(crate) fn closure_of(rest: Words<'_>) -> Option<bool>
         None if word == b"closure".as_slice() => Some(true),
         _ => None,
     }
-}
-
-/// A remote entity, if it is the only operand.
-pub(crate) fn remote_of(operands: Words<'_>) -> Option<EntityId>
-    ensures { result ≡ remote_of operands.entry }
-{
-    let id = number_of(operands.last()?)?;
-    Some(EntityId(id))
 }

@@ -1,9 +1,9 @@
 //! Lines that send no file.
 ghost use Rattle.std.specs.Prelude.{◌≡◌};
-ghost use Rattle.server_lines.specs.Commands.{other_by, outbox_by, outbox_of, drop_of, asked_of, asked_from, take_of, trace_of, status_of, follow_of, quit_of};
+ghost use Rattle.server_lines.specs.Commands.{other_by, outbox_by, outbox_of, drop_of, asked_of, asked_from, take_of, tuning_by, trace_of, journal_of, status_of, quit_of};
 
 use crate::command::Command;
-use crate::operands::remote_of;
+use crate::tuning::{follow, hold, rate, release, reopen};
 use entity_config::Config;
 use line_words::{key_from, number_of, request_for, user_of};
 use quoted_words::Words;
@@ -16,6 +16,8 @@ pub(crate) fn other(config: &Config, kind: &[u8], operands: Words<'_>) -> Option
         take(config, operands)
     } else if kind == b"trace".as_slice() {
         trace(operands)
+    } else if kind == b"journal".as_slice() {
+        journal(operands)
     } else if kind == b"status".as_slice() {
         status(operands)
     } else if kind == b"follow".as_slice() {
@@ -36,9 +38,22 @@ fn outbox_command(config: &Config, kind: &[u8], operands: Words<'_>) -> Option<C
     } else if kind == b"drop".as_slice() {
         drop_from(operands)
     } else if kind == b"hold".as_slice() {
-        Some(Command::Hold(remote_of(operands)?))
+        hold(operands)
     } else if kind == b"release".as_slice() {
-        Some(Command::Release(remote_of(operands)?))
+        release(operands)
+    } else {
+        tuning(config, kind, operands)
+    }
+}
+
+// Parses what changes the server, or else a user's request.
+fn tuning(config: &Config, kind: &[u8], operands: Words<'_>) -> Option<Command>
+    ensures { result ≡ tuning_by config.now kind.now operands.entry }
+{
+    if kind == b"rate".as_slice() {
+        rate(operands)
+    } else if kind == b"reopen".as_slice() {
+        reopen(operands)
     } else {
         asked(config, kind, operands)
     }
@@ -75,24 +90,19 @@ fn trace(operands: Words<'_>) -> Option<Command>
     Some(Command::Trace(key))
 }
 
+fn journal(operands: Words<'_>) -> Option<Command>
+    ensures { result ≡ journal_of operands.entry }
+{
+    let (source, operands) = operands.next()?;
+    let key = key_from(source, operands.last()?)?;
+    Some(Command::Journal(key))
+}
+
 fn status(operands: Words<'_>) -> Option<Command>
     ensures { result ≡ status_of operands.entry }
 {
     match operands.next() {
         None => Some(Command::Status),
-        Some(_) => None,
-    }
-}
-
-fn follow(operands: Words<'_>) -> Option<Command>
-    ensures { result ≡ follow_of operands.entry }
-{
-    let Some((count, operands)) = operands.next() else {
-        return Some(Command::Follow(0));
-    };
-    let count = number_of(count)?;
-    match operands.next() {
-        None => Some(Command::Follow(count)),
         Some(_) => None,
     }
 }

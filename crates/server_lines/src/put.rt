@@ -3,7 +3,7 @@ ghost use Rattle.std.specs.Prelude.{◌≡◌, IfOk};
 ghost use Rattle.server_lines.specs.Commands.{put_of, put_command, send_of, send_command};
 
 use crate::command::{Command, PutCommand, SendCommand};
-use crate::sending::{Sending, sending_of};
+use crate::sending::{Sending, Waiting, sending_of, waiting_of};
 use entity_config::Config;
 use line_words::{lane_of, user_of};
 use quoted_words::Words;
@@ -61,13 +61,18 @@ pub(crate) fn send(
     let Some(user) = user_of(config, user) else {
         return Ok(None);
     };
-    let sending = sending_of(alloc, operands)?;
-    Ok(sending.map(|sending| send_command(user, sending)))
+    let waiting = waiting_of(alloc, operands)?;
+    Ok(waiting.map(|waiting| send_command(user, waiting)))
 }
 
-fn send_command(user: usize, sending: Sending) -> Command
-    ensures { result ≡ send_command user sending }
+fn send_command(user: usize, waiting: Waiting) -> Command
+    ensures { result ≡ send_command user waiting }
 {
+    let Waiting {
+        sending,
+        is_urgent,
+        source_name,
+    } = waiting;
     Command::Send(SendCommand {
         user,
         class: sending.class,
@@ -75,5 +80,7 @@ fn send_command(user: usize, sending: Sending) -> Command
         destination: sending.destination,
         source: sending.source,
         destination_name: sending.destination_name,
+        is_urgent,
+        source_name,
     })
 }

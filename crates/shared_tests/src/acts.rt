@@ -18,6 +18,8 @@ pub(crate) enum Act {
     /// A user puts the file `abc` from a lane, for an entity.
     Put(Place, u8),
     Cancel(usize, u8, u8),
+    Suspend(usize, u8, u8),
+    Resume(usize, u8, u8),
     Report(usize, u8, u8),
     /// The Metadata and the EOF of an empty file in class 1.
     Metadata(u8, u8),
@@ -61,13 +63,18 @@ pub(crate) fn tell<N: Names, R: Wait + Copy>(
 ) -> Said {
     match act {
         Act::Put(place, to) => put(rt, alloc, entity, gate, place, to),
-        Act::Cancel(user, source, seq) if user < entity.users() => {
-            told(entity.request(rt, gate, user, Request::Cancel(key(source, seq))))
+        Act::Cancel(user, source, seq) => {
+            ask(rt, entity, gate, user, Request::Cancel(key(source, seq)))
         }
-        Act::Report(user, source, seq) if user < entity.users() => {
-            told(entity.request(rt, gate, user, Request::Report(key(source, seq))))
+        Act::Suspend(user, source, seq) => {
+            ask(rt, entity, gate, user, Request::Suspend(key(source, seq)))
         }
-        Act::Cancel(..) | Act::Report(..) => NOT_ASKED,
+        Act::Resume(user, source, seq) => {
+            ask(rt, entity, gate, user, Request::Resume(key(source, seq)))
+        }
+        Act::Report(user, source, seq) => {
+            ask(rt, entity, gate, user, Request::Report(key(source, seq)))
+        }
         Act::Metadata(source, seq) => deliver(rt, entity, gate, &metadata(source, seq)),
         Act::Eof(source, seq) => deliver(rt, entity, gate, &eof(source, seq)),
         Act::Deliver(octets) => deliver(rt, entity, gate, octets),
@@ -79,6 +86,20 @@ pub(crate) fn tell<N: Names, R: Wait + Copy>(
             told(entity.timer(rt, gate, key(source, seq), TimerKind::Inactivity, stamp))
         }
     }
+}
+
+// Asks for something but a Put, in a user's name.
+fn ask<N: Names, R: Wait + Copy>(
+    rt: &R,
+    entity: &Entity<N, R>,
+    gate: &Watch<R>,
+    user: usize,
+    request: Request,
+) -> Said {
+    if !entity.may_request(user, &request) {
+        return NOT_ASKED;
+    }
+    told(entity.request(rt, gate, user, request))
 }
 
 fn deliver<N: Names, R: Wait + Copy>(

@@ -455,3 +455,38 @@ fn a_store_that_fails(rt: HostRuntime) -> Result<(), Fail> {
     }
     Ok(())
 }
+
+// A transaction is suspended and resumed by its user, and by no other.
+const SUSPENDED: &[Step] = &[
+    Step::Tell(Act::Put(PUTS, 1)),
+    Step::Tell(Act::Suspend(1, LOCAL, 4)),
+    Step::Tell(Act::Suspend(0, LOCAL, 4)),
+    Step::Look(PUTS),
+    Step::Tell(Act::Pump(LOCAL, 4)),
+    Step::Tell(Act::Resume(0, LOCAL, 4)),
+    Step::Look(PUTS),
+    Step::Tell(Act::Pump(LOCAL, 4)),
+    Step::Take,
+];
+
+const RESUMED: &str = "step 4 0 0
+refused 24
+step 4 0 0
+suspended 4 1 0 3 2 0
+refused 8
+step 4 0 0
+active 4 1 0 3 3 0
+step 4 0 0
+Transaction 0 4
+notice 0 4
+notice 0 4
+store 0 0
+files 0 0 0
+";
+
+#[test]
+fn suspends_and_resumes(rt: HostRuntime) -> Result<(), Fail> {
+    let text = play(rt, 8, Run::Steps(0, SUSPENDED))?;
+    assert_eq!(rt; text.as_str(), RESUMED);
+    Ok(())
+}

@@ -55,9 +55,8 @@ fn fault_of_connect(error: &io::Error) -> StationFault {
         ErrorKind::NotFound | ErrorKind::ConnectionRefused | ErrorKind::WouldBlock => {
             StationFault::NoServer
         }
-        ErrorKind::PermissionDenied | ErrorKind::InvalidInput | ErrorKind::NotADirectory => {
-            StationFault::BadPath
-        }
+        ErrorKind::PermissionDenied => StationFault::Denied,
+        ErrorKind::InvalidInput | ErrorKind::NotADirectory => StationFault::BadPath,
         _ => fault_of(error),
     }
 }

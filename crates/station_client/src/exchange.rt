@@ -1,5 +1,5 @@
 //! The answer of one command, and the events that came with it.
-ghost use Rattle.std.specs.Prelude.{◌≡◌, ◌≤◌, [], length, OnOk, OnErr};
+ghost use Rattle.std.specs.Prelude.{◌≡◌, ◌≤◌, [], drop, length, option_map, slice_get, OnOk, OnErr};
 ghost use Rattle.station_client.specs.Exchanges.{with_line};
 
 use crate::fault::StationFault;
@@ -10,7 +10,7 @@ use std::marker::Model;
 use std::mem;
 
 /// The most octets of an answer.
-pub const ANSWER_OCTETS: usize = 32 * 1024 * 1024;
+pub const ANSWER_OCTETS: usize = 256 * 1024 * 1024;
 
 // How many octets the word `event` and its space have.
 const EVENT_WORD_OCTETS: usize = 6;
@@ -89,8 +89,11 @@ impl Exchange {
         mem::replace(&mut self.answer, Vec::new(alloc))
     }
 
-    /// Takes the oldest event.
-    pub fn take_event(&mut self) -> Option<Vec<u8>> {
+    /// Takes the oldest event, if there is one.
+    pub fn take_event(&mut self) -> Option<Vec<u8>>
+        ensures event { option_map (λ event. event.items) result ≡ slice_get self.old.events 0 }
+        ensures left { self.new ≡ record self.old { events = drop 1 self.old.events } }
+    {
         self.events.pop_front()
     }
 }

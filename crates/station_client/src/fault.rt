@@ -5,8 +5,10 @@ use std::alloc::AllocError;
 pub enum StationFault {
     /// Nobody listens at the path, or lets clients in.
     NoServer,
-    /// A socket can't have this path, or the path isn't ours to use.
+    /// A socket can't have this path.
     BadPath,
+    /// The path may not be opened by this user.
+    Denied,
     /// The station has no free seat.
     Busy,
     /// The station ended, or cut us off.
@@ -29,6 +31,7 @@ impl StationFault {
         match self {
             StationFault::NoServer => "no server answers at the control socket",
             StationFault::BadPath => "the control socket can't be used",
+            StationFault::Denied => "permission denied; its owner or group may open it",
             StationFault::Busy => "the server has no seat for another client",
             StationFault::Gone => "the server went away",
             StationFault::TimedOut => "the server didn't answer in time",

@@ -1,13 +1,14 @@
 -- Worked rows: moments, members and lines, as text.
-use Rattle.std.proofs.Common.{◌≡◌, ◌++◌, ◌∷◌, [], true, false, Some, map, codes, refl}
+use Rattle.std.proofs.Common.{◌≡◌, ◌++◌, ◌∷◌, [], true, false, Some, None, map, codes, refl}
 use Rattle.std.specs.Char.{encode_utf8}
 use Rattle.std.specs.Fmt.{digits, padded_integral, char_count}
 use Rattle.std.specs.Str.{chars, is_utf8}
 use Rattle.hex.specs.Hex.{encode_with}
 use Rattle.json.specs.Print.{print, print_from, escape_byte}
+use Rattle.station_lines.specs.Letters.{safe_text}
 use Rattle.station_lines.specs.Moments.{moment_text}
 use Rattle.station_lines.specs.Members.{number_member, octets_member, text_member, flag_member, hex_member, moment_member}
-use Rattle.station_lines.specs.StatusLines.{log_line}
+use Rattle.station_lines.specs.StatusLines.{log_line, storing_line, why_members}
 use Rattle.station_lines.specs.EventLines.{stored_line, end_line}
 
 -- ---- moments
@@ -45,20 +46,39 @@ names : map (λ octets. print (octets_member (codes "file") octets))
 unfolding digits print_from escape_byte encode_with encode_utf8 chars is_utf8 octets_member text_member hex_member
 names = refl
 
+-- what a terminal obeys, and what turns text round: DEL, U+0080, U+009F, U+202A, U+202E, U+2066, U+2069; the characters beside them stay
+unsafe : map safe_text ((126 ∷ 127 ∷ []) ∷ (0xC2 ∷ 0x80 ∷ 0xC2 ∷ 0x9F ∷ 0xC2 ∷ 0xA0 ∷ [])
+    ∷ (0xE2 ∷ 0x80 ∷ 0xA9 ∷ 0xE2 ∷ 0x80 ∷ 0xAA ∷ 0xE2 ∷ 0x80 ∷ 0xAE ∷ 0xE2 ∷ 0x80 ∷ 0xAF ∷ [])
+    ∷ (0xE2 ∷ 0x81 ∷ 0xA5 ∷ 0xE2 ∷ 0x81 ∷ 0xA6 ∷ 0xE2 ∷ 0x81 ∷ 0xA9 ∷ 0xE2 ∷ 0x81 ∷ 0xAA ∷ []) ∷ [])
+    ≡ codes "~\\u007f" ∷ (codes "\\u0080\\u009f" ++ (0xC2 ∷ 0xA0 ∷ []))
+    ∷ (0xE2 ∷ 0x80 ∷ 0xA9 ∷ [] ++ codes "\\u202a\\u202e" ++ (0xE2 ∷ 0x80 ∷ 0xAF ∷ []))
+    ∷ (0xE2 ∷ 0x81 ∷ 0xA5 ∷ [] ++ codes "\\u2066\\u2069" ++ (0xE2 ∷ 0x81 ∷ 0xAA ∷ [])) ∷ []
+unfolding safe_text chars encode_utf8
+unsafe = refl
+
 -- ---- lines
 
 logs : log_line (record { failing = false; written = 17; lost = 0 })
     ≡ codes "{\"kind\":\"log\",\"failing\":false,\"written\":17,\"lost\":0}\n"
-unfolding digits print_from escape_byte text_member flag_member number_member
+unfolding digits print_from escape_byte text_member flag_member number_member safe_text chars encode_utf8
 logs = refl
+
+storing : storing_line (record { source = record { 0 = 9 }; seq = 4; since = record { 0 = 0 }; why = None })
+    ≡ codes "{\"kind\":\"storing\",\"source\":9,\"seq\":4,\"since\":\"1970-01-01T00:00:00.000Z\"}\n"
+unfolding digits print_from escape_byte padded_integral char_count encode_utf8 moment_member text_member number_member safe_text chars
+storing = refl
+
+why : map print (why_members None ∷ why_members (Some (codes "no space is left")) ∷ []) ≡ [] ∷ codes "\"why\":\"no space is left\"" ∷ []
+unfolding print_from escape_byte text_member
+why = refl
 
 ends : end_line (record { at = record { 0 = 0 }; number = 5 })
     ≡ codes "{\"at\":\"1970-01-01T00:00:00.000Z\",\"number\":5,\"kind\":\"end\"}\n"
-unfolding digits print_from escape_byte padded_integral char_count encode_utf8 moment_member text_member number_member
+unfolding digits print_from escape_byte padded_integral char_count encode_utf8 moment_member text_member number_member safe_text chars
 ends = refl
 
 -- the store kept a file, under another name
 stores : stored_line (record { at = record { 0 = 0 }; number = 2 }) (record { source = record { 0 = 1 }; seq = 41 }) true (Some (codes "a.1"))
     ≡ codes "{\"at\":\"1970-01-01T00:00:00.000Z\",\"number\":2,\"kind\":\"stored\",\"source\":1,\"seq\":41,\"status\":\"retained\",\"as\":\"a.1\"}\n"
-unfolding digits print_from escape_byte padded_integral char_count encode_utf8 moment_member text_member number_member
+unfolding digits print_from escape_byte padded_integral char_count encode_utf8 moment_member text_member number_member safe_text chars
 stores = refl

@@ -1,5 +1,5 @@
 -- Meaning. The lines of events.
-use Rattle.std.specs.Prelude.{ℕ, Bool, if◌then◌else◌, List, [], ◌++◌, Option, Some, None, codes}
+use Rattle.std.specs.Prelude.{ℕ, Bool, true, if◌then◌else◌, List, [], ◌++◌, Option, Some, None, codes}
 use Rattle.cfdp_types.specs.declared.key.EntityId.{EntityId}
 use Rattle.cfdp_types.specs.declared.key.TxnKey.{TxnKey}
 use Rattle.cfdp_types.specs.declared.names.FileStatus.{FileStatus}
@@ -8,7 +8,7 @@ use Rattle.indications.specs.declared.indication.Indication.{Indication}
 use Rattle.indications.specs.declared.indication.Indication.TheVariants.{Transaction, EofSent, EofRecv, TransactionFinished, MetadataRecv, FileSegmentRecv, Suspended, Resumed, Report, Fault, Abandoned}
 use Rattle.answer_texts.specs.ToldTexts.{indication_name, phase_name, status_name}
 use Rattle.json.specs.Token.{Token}
-use Rattle.station_lines.specs.Members.{text_member, number_member, octets_member, moment_member, hexes_member, line_of}
+use Rattle.station_lines.specs.Members.{flag_member, text_member, number_member, octets_member, moment_member, hexes_member, line_of}
 use Rattle.station_lines.specs.Shared.{key_members, finished_members, case_members, datagram_members, class_number}
 use Rattle.station_lines.specs.declared.event.EventHead.{EventHead}
 use Rattle.station_lines.specs.declared.event.IndicationEvent.{IndicationEvent}
@@ -129,6 +129,11 @@ about_remote_line head kind id = line_of (head_members head kind ++ number_membe
 abbrev pub hold_line : EventHead → EntityId → List ℕ
 hold_line head id = about_remote_line head (codes "hold") id
 
+-- the line of a hold at the end of a pass
+abbrev pub planned_hold_line : EventHead → EntityId → List ℕ
+planned_hold_line head id =
+    line_of (head_members head (codes "hold") ++ (number_member (codes "id") id.0 ++ flag_member (codes "planned") true))
+
 -- the line of a hold's end
 abbrev pub release_line : EventHead → EntityId → List ℕ
 release_line head id = about_remote_line head (codes "release") id
@@ -148,6 +153,14 @@ skipped_members skipped =
 -- the line of transaction numbers that were skipped
 abbrev pub skipped_line : EventHead → SkippedEvent → List ℕ
 skipped_line head skipped = line_of (head_members head (codes "skipped") ++ skipped_members skipped)
+
+-- a user's transaction
+abbrev pub journal_full_members : List ℕ → TxnKey → List Token
+journal_full_members user key = text_member (codes "user") user ++ key_members key
+
+-- the line of a transaction that was abandoned since its journal is full
+abbrev pub journal_full_line : EventHead → List ℕ → TxnKey → List ℕ
+journal_full_line head user key = line_of (head_members head (codes "journal-full") ++ journal_full_members user key)
 
 -- ---- events that have no further members
 

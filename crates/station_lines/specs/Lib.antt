@@ -1,4 +1,5 @@
 pub mod Moments
+pub mod Letters
 pub mod Members
 pub mod Shared
 pub mod StatusLines

@@ -4,6 +4,7 @@ use Rattle.std.specs.Str.{is_utf8}
 use Rattle.hex.specs.Hex.{encode_lower}
 use Rattle.json.specs.Token.{Token, begin_object, end_object, begin_array, end_array, key, string, number, boolean}
 use Rattle.json.specs.Print.{print}
+use Rattle.station_lines.specs.Letters.{safe_text}
 use Rattle.station_lines.specs.Moments.{moment_text}
 use Rattle.station_lines.specs.declared.moment.Moment.{Moment}
 
@@ -63,4 +64,4 @@ object_member name members = key name ∷ begin_object ∷ (members ++ end_objec
 
 -- the line of an object with these members
 abbrev pub line_of : List Token → List ℕ
-line_of members = print (begin_object ∷ (members ++ end_object ∷ [])) ++ codes "\n"
+line_of members = safe_text (print (begin_object ∷ (members ++ end_object ∷ []))) ++ codes "\n"

@@ -23,6 +23,7 @@ use Rattle.station_lines.specs.declared.status.ParkedStatus.{ParkedStatus}
 use Rattle.station_lines.specs.declared.status.QueuedStatus.{QueuedStatus}
 use Rattle.station_lines.specs.declared.status.ReadingStatus.{ReadingStatus}
 use Rattle.station_lines.specs.declared.status.RemoteStatus.{RemoteStatus}
+use Rattle.station_lines.specs.declared.status.StoringStatus.{StoringStatus}
 use Rattle.station_lines.specs.declared.status.TransactionStatus.{TransactionStatus}
 use Rattle.station_lines.specs.declared.status.UserStatus.{UserStatus}
 
@@ -185,6 +186,23 @@ reading_members r =
 abbrev pub reading_line : ReadingStatus → List ℕ
 reading_line r = line_of (reading_members r)
 
+-- ---- received files that are to be stored
+
+-- which file it is, and since when it is to be stored
+abbrev pub storing_members : StoringStatus → List Token
+storing_members s =
+    text_member (codes "kind") (codes "storing") ++ (number_member (codes "source") s.source.0
+    ++ (number_member (codes "seq") s.seq ++ moment_member (codes "since") s.since))
+
+-- what hindered the last try, if there was one
+abbrev pub why_members : Option (List ℕ) → List Token
+why_members None = []
+why_members (Some why) = text_member (codes "why") why
+
+-- the line of a received file that is being stored, or couldn't be stored so far
+abbrev pub storing_line : StoringStatus → List ℕ
+storing_line s = line_of (storing_members s ++ why_members (option_copied s.why))
+
 -- ---- lanes for which datagrams wait
 
 -- which lane it is
@@ -226,6 +244,11 @@ abbrev pub held_members : Option Moment → List Token
 held_members None = flag_member (codes "held") false
 held_members (Some since) = flag_member (codes "held") true ++ moment_member (codes "held_since") since
 
+-- until when its link is open, where that is for a time
+abbrev pub open_members : Option Moment → List Token
+open_members None = []
+open_members (Some until) = moment_member (codes "open_until") until
+
 -- the counters of what is received from a remote entity and sent to it
 abbrev pub crossing_members : RemoteStatus → List Token
 crossing_members r =
@@ -235,8 +258,8 @@ crossing_members r =
 -- the line of a remote entity
 abbrev pub remote_line : RemoteStatus → List ℕ
 remote_line r =
-    line_of (remote_head r ++ (held_members r.held_since
-    ++ (crossing_members r ++ number_member (codes "failed_sends") r.failed_sends)))
+    line_of (remote_head r ++ (held_members r.held_since ++ (open_members r.open_until
+    ++ (crossing_members r ++ number_member (codes "failed_sends") r.failed_sends))))
 
 -- the line of a kind of refusal
 abbrev pub refusal_line : RefusedCase → Moment → List ℕ

@@ -1,7 +1,7 @@
 //! The lines of events. Followers get each after the word `event` and a space, which these functions don't write.
 ghost use Rattle.std.specs.Prelude.{◌≡◌, ◌++◌, OnErr, OnOk, string_bytes};
 ghost use Rattle.std.specs.Option.{option_copied};
-ghost use Rattle.station_lines.specs.EventLines.{head_members, start_line, indication_line, said_members, metadata_members, put_line, put_head, put_file, queued_members, unsent_line, unsent_members, place_members, stored_line, stored_status, refused_line, hold_line, release_line, about_remote_line, unparked_line, skipped_line, skipped_members, reads_ended_line, end_line, plain_line};
+ghost use Rattle.station_lines.specs.EventLines.{head_members, start_line, indication_line, said_members, metadata_members, put_line, put_head, put_file, queued_members, unsent_line, unsent_members, place_members, stored_line, stored_status, refused_line, hold_line, planned_hold_line, release_line, about_remote_line, unparked_line, skipped_line, skipped_members, journal_full_line, journal_full_members, reads_ended_line, end_line, plain_line};
 
 use crate::event::{EventHead, IndicationEvent, PutEvent, SkippedEvent, UnsentEvent};
 use crate::line::Line;
@@ -270,6 +270,23 @@ pub fn push_hold_event(
     push_about_remote(alloc, text, head, "hold", id)
 }
 
+/// Adds the line of a hold that was planned: the time is over for which the link to a remote entity was open.
+pub fn push_planned_hold_event(
+    alloc: Global,
+    text: &mut String,
+    head: EventHead,
+    id: EntityId,
+) -> Result<(), AllocError>
+    ensures added { OnOk result (string_bytes text.new ≡ string_bytes text.old ++ planned_hold_line head id) }
+    ensures kept { OnErr result (string_bytes text.new ≡ string_bytes text.old) }
+{
+    let mut line = Line::begin(alloc)?;
+    head_members(&mut line, head, "hold")?;
+    line.number("id", id.0)?;
+    line.flag("planned", true)?;
+    line.end(text)
+}
+
 /// Adds the line of a hold's end.
 pub fn push_release_event(
     alloc: Global,
@@ -300,7 +317,7 @@ fn push_about_remote(
     line.end(text)
 }
 
-/// Adds the line of parked datagrams that were dropped for want of room since the last such line.
+/// Adds the line of parked datagrams that were dropped for want of room or memory since the last such line.
 pub fn push_unparked_event(
     alloc: Global,
     text: &mut String,
@@ -340,6 +357,31 @@ fn skipped_members(line: &mut Line, skipped: &SkippedEvent<'_>) -> Result<(), Al
     line.number("destination", skipped.destination.0)?;
     line.number("count", skipped.count)?;
     line.number("next", skipped.next)
+}
+
+/// Adds the line of a user's transaction that was abandoned since its journal is full.
+pub fn push_journal_full_event(
+    alloc: Global,
+    text: &mut String,
+    head: EventHead,
+    user: &str,
+    key: TxnKey,
+) -> Result<(), AllocError>
+    ensures added { OnOk result (string_bytes text.new ≡ string_bytes text.old ++ journal_full_line head user.now key) }
+    ensures kept { OnErr result (string_bytes text.new ≡ string_bytes text.old) }
+{
+    let mut line = Line::begin(alloc)?;
+    head_members(&mut line, head, "journal-full")?;
+    journal_full_members(&mut line, user, key)?;
+    line.end(text)
+}
+
+// Whose transaction it was, and which one.
+fn journal_full_members(line: &mut Line, user: &str, key: TxnKey) -> Result<(), AllocError>
+    ensures { OnOk result (line.new ≡ line.old ++ journal_full_members user.now key) }
+{
+    line.text("user", user)?;
+    key_members(line, key)
 }
 
 /// Adds the line of a worker that stopped reading.

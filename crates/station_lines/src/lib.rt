@@ -5,6 +5,7 @@
 
 mod event;
 mod event_lines;
+mod letters;
 mod line;
 mod members;
 mod moment;
@@ -13,17 +14,18 @@ mod status_lines;
 
 pub use event::{EventHead, IndicationEvent, PutEvent, SkippedEvent, UnsentEvent};
 pub use event_lines::{
-    push_end_event, push_hold_event, push_indication_event, push_put_event, push_reads_ended_event,
-    push_refused_event, push_release_event, push_skipped_event, push_start_event,
-    push_stored_event, push_unparked_event, push_unsent_event,
+    push_end_event, push_hold_event, push_indication_event, push_journal_full_event,
+    push_planned_hold_event, push_put_event, push_reads_ended_event, push_refused_event,
+    push_release_event, push_skipped_event, push_start_event, push_stored_event,
+    push_unparked_event, push_unsent_event,
 };
 pub use members::{Datagram, RefusedCase, SHOWN_OCTETS};
 pub use moment::Moment;
 pub use status::{
     Counters, Ending, EntityStatus, LogStatus, NoteStatus, Notice, ParkedStatus, QueuedStatus,
-    ReadingStatus, RemoteStatus, TransactionStatus, UserStatus,
+    ReadingStatus, RemoteStatus, StoringStatus, TransactionStatus, UserStatus,
 };
 pub use status_lines::{
     push_entity, push_log, push_note, push_parked, push_queued, push_reading, push_refusal,
-    push_remote, push_transaction, push_user,
+    push_remote, push_storing, push_transaction, push_user,
 };

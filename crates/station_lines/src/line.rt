@@ -2,8 +2,10 @@
 ghost use Rattle.std.specs.Prelude.{◌≡◌, [], ◌∷◌, ◌++◌, IfOk, OnErr, OnOk, string_bytes, codes};
 ghost use Rattle.json.specs.Token.{begin_object, end_object, key};
 ghost use Rattle.json.specs.Print.{print};
+ghost use Rattle.station_lines.specs.Letters.{safe_text};
 ghost use Rattle.station_lines.specs.Members.{text_member, flag_member, number_member, octets_member, hex_member, moment_member, hexes_member, hex_strings, hex_string, numbers_member, number_token, number_tokens};
 
+use crate::letters::push_safe;
 use crate::moment::Moment;
 use cfdp_types::Octets;
 use json::Writer;
@@ -46,14 +48,16 @@ impl Line {
     // Adds the line to a text, with a line feed.
     pub(crate) fn end(self, text: &mut String) -> Result<(), AllocError>
         ensures added { OnOk result (string_bytes text.new
-            ≡ string_bytes text.old ++ (print (self ++ end_object ∷ []) ++ codes "\n")) }
+            ≡ string_bytes text.old ++ (safe_text (print (self ++ end_object ∷ [])) ++ codes "\n")) }
         ensures kept { OnErr result (string_bytes text.new ≡ string_bytes text.old) }
     {
-        let Line { mut writer, .. } = self;
+        let Line { alloc, mut writer } = self;
         writer.end_object()?;
-        let Ok(mut line) = String::from_utf8(writer.into_inner()) else {
+        let Ok(printed) = String::from_utf8(writer.into_inner()) else {
             unreachable!()
         };
+        let mut line = String::new(alloc);
+        push_safe(&mut line, printed.as_str())?;
         line.push_str("\n")?;
         text.push_str(line.as_str())
     }

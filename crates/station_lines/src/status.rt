@@ -38,7 +38,7 @@ pub struct Counters {
     pub failed_sends: u64,
     /// Reads from the socket that failed.
     pub failed_reads: u64,
-    /// Workers that stopped reading, because the socket failed a million times.
+    /// Workers that stopped reading; 0 since none does.
     pub ended_reads: u64,
     /// Datagrams from an address that isn't in the configuration.
     pub foreign_datagrams: u64,
@@ -142,6 +142,17 @@ pub struct ReadingStatus<'a> {
     pub since: Moment,
 }
 
+/// A received file that is being stored, or couldn't be stored so far.
+#[derive(Clone, Copy, Debug)]
+pub struct StoringStatus<'a> {
+    pub source: EntityId,
+    pub seq: u64,
+    /// Since when it is to be stored.
+    pub since: Moment,
+    /// What hindered the last try, in words, if it was tried.
+    pub why: Option<&'a str>,
+}
+
 /// A lane for which datagrams wait, or were dropped.
 #[derive(Clone, Copy, Debug)]
 pub struct ParkedStatus<'a> {
@@ -155,7 +166,7 @@ pub struct ParkedStatus<'a> {
     pub transactions: u64,
     /// How much of the room they take up.
     pub octets: u64,
-    /// How many datagrams were dropped for want of room, since the server's start.
+    /// How many datagrams were dropped for want of room or memory, since the server's start.
     pub dropped: u64,
     /// Since when the oldest waits, if one waits.
     pub since: Option<Moment>,
@@ -169,6 +180,8 @@ pub struct RemoteStatus<'a> {
     pub address: Option<&'a str>,
     /// Since when nothing is sent to it, if it is held.
     pub held_since: Option<Moment>,
+    /// Until when its link is open, if that is for a time.
+    pub open_until: Option<Moment>,
     /// Datagrams that came from its address.
     pub datagrams_in: u64,
     /// Their octets.

@@ -2,7 +2,7 @@
 ghost use Rattle.std.specs.Prelude.{◌≡◌, ◌++◌, OnErr, OnOk, string_bytes, codes};
 ghost use Rattle.std.specs.Option.{option_copied};
 ghost use Rattle.station_lines.specs.Members.{object_member};
-ghost use Rattle.station_lines.specs.StatusLines.{entity_line, entity_head, entity_state, counter_members, traffic_members, trouble_members, outcome_members, log_line, user_line, transaction_line, transaction_head, transaction_part, transaction_file, transaction_end, file_members, last_members, ending_members, end_members, notice_members, notice_name, role_name, state_name, queued_line, queued_head, queued_file, reading_line, reading_members, parked_line, parked_head, parked_amounts, since_members, remote_line, remote_head, held_members, crossing_members, address_members, refusal_line, note_line, note_members};
+ghost use Rattle.station_lines.specs.StatusLines.{entity_line, entity_head, entity_state, counter_members, traffic_members, trouble_members, outcome_members, log_line, user_line, transaction_line, transaction_head, transaction_part, transaction_file, transaction_end, file_members, last_members, ending_members, end_members, notice_members, notice_name, role_name, state_name, queued_line, queued_head, queued_file, reading_line, reading_members, storing_line, storing_members, why_members, parked_line, parked_head, parked_amounts, since_members, remote_line, remote_head, held_members, open_members, crossing_members, address_members, refusal_line, note_line, note_members};
 
 use crate::line::Line;
 use crate::members::{
@@ -11,7 +11,7 @@ use crate::members::{
 use crate::moment::Moment;
 use crate::status::{
     Counters, Ending, EntityStatus, LogStatus, NoteStatus, Notice, ParkedStatus, QueuedStatus,
-    ReadingStatus, RemoteStatus, TransactionStatus, UserStatus,
+    ReadingStatus, RemoteStatus, StoringStatus, TransactionStatus, UserStatus,
 };
 use answer_texts::phase_name;
 use indications::Side;
@@ -323,6 +323,40 @@ fn reading_members(line: &mut Line, reading: &ReadingStatus<'_>) -> Result<(), A
     line.moment("since", reading.since)
 }
 
+/// Adds the line of a received file that is being stored, or couldn't be stored so far.
+pub fn push_storing(
+    alloc: Global,
+    text: &mut String,
+    storing: &StoringStatus<'_>,
+) -> Result<(), AllocError>
+    ensures added { OnOk result (string_bytes text.new ≡ string_bytes text.old ++ storing_line storing.entry.now) }
+    ensures kept { OnErr result (string_bytes text.new ≡ string_bytes text.old) }
+{
+    let mut line = Line::begin(alloc)?;
+    storing_members(&mut line, storing)?;
+    why_members(&mut line, storing.why)?;
+    line.end(text)
+}
+
+fn storing_members(line: &mut Line, storing: &StoringStatus<'_>) -> Result<(), AllocError>
+    ensures { OnOk result (line.new ≡ line.old ++ storing_members storing.entry.now) }
+{
+    line.text("kind", "storing")?;
+    line.number("source", storing.source.0)?;
+    line.number("seq", storing.seq)?;
+    line.moment("since", storing.since)
+}
+
+// What hindered the last try, if there was one.
+fn why_members(line: &mut Line, why: Option<&str>) -> Result<(), AllocError>
+    ensures { OnOk result (line.new ≡ line.old ++ why_members (option_copied why.entry)) }
+{
+    match why {
+        Some(why) => line.text("why", why),
+        None => Ok(()),
+    }
+}
+
 /// Adds the line of a lane for which datagrams wait, or were dropped.
 pub fn push_parked(
     alloc: Global,
@@ -381,6 +415,7 @@ pub fn push_remote(
     let mut line = Line::begin(alloc)?;
     remote_head(&mut line, remote)?;
     held_members(&mut line, remote.held_since)?;
+    open_members(&mut line, remote.open_until)?;
     crossing_members(&mut line, remote)?;
     line.number("failed_sends", remote.failed_sends)?;
     line.end(text)
@@ -413,6 +448,15 @@ fn held_members(line: &mut Line, held_since: Option<Moment>) -> Result<(), Alloc
             line.flag("held", true)?;
             line.moment("held_since", since)
         }
+    }
+}
+
+fn open_members(line: &mut Line, open_until: Option<Moment>) -> Result<(), AllocError>
+    ensures { OnOk result (line.new ≡ line.old ++ open_members open_until) }
+{
+    match open_until {
+        None => Ok(()),
+        Some(until) => line.moment("open_until", until),
     }
 }
 

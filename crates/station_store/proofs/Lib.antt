@@ -1,2 +1,4 @@
-pub mod Cuts
 pub mod Rows
+pub mod Reaching
+pub mod Storing
+pub mod Deposits

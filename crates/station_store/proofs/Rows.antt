@@ -1,9 +1,11 @@
--- Worked rows: names as flight systems send them, the parts of their paths, and the paths of further copies.
-use Rattle.std.proofs.Common.{◌≡◌, true, false, [], ◌∷◌, map, Some, None, codes, refl}
-use Rattle.std.specs.Fmt.{digits}
-use Rattle.std.specs.List.{list_all, before_last, after_last}
+-- Worked rows: names as flight systems send them, and the parts of their paths.
+use Rattle.std.proofs.Common.{◌≡◌, true, false, [], ◌∷◌, map, length, Some, None, Ok, Err, codes, refl, arith}
+use Rattle.std.specs.List.{list_all}
 use Rattle.file_stores.specs.Names.{is_plain_name}
-use Rattle.station_store.specs.Paths.{tree_parts, relative, numbered, folder_at, is_slash}
+use Rattle.file_stores.specs.declared.filestore.StoreFault.TheVariants.{Failed}
+use Rattle.station_store.specs.declared.settings.Layout.TheVariants.{Tree}
+use Rattle.station_store.specs.Paths.{tree_parts, relative, IsTaken}
+use Rattle.station_store.specs.Stations.{kept_as, place_of}
 
 parts : map tree_parts (codes "log" ∷ codes "/log" ∷ codes "//ram/log.1" ∷ codes "a//b" ∷ codes "a/" ∷ codes "/" ∷ codes "" ∷ [])
     ≡ (codes "log" ∷ [])
@@ -24,19 +26,22 @@ are_bad : map (λ name. list_all is_plain_name (tree_parts name)) (codes "" ∷ 
     ≡ false ∷ false ∷ false ∷ false ∷ false ∷ false ∷ false ∷ false ∷ false ∷ []
 are_bad = refl
 
+-- eight folders and the file's own name are taken, nine folders are not
+depths : map (λ name. length (tree_parts name)) (codes "log" ∷ codes "/a/b/c/d/e/f/g/h/log" ∷ codes "a/b/c/d/e/f/g/h/i/log" ∷ []) ≡ 1 ∷ 9 ∷ 10 ∷ []
+depths = refl
+
+too_deep : ¬ (IsTaken Tree (codes "a/b/c/d/e/f/g/h/i/log"))
+too_deep is = omega (arith, is.few)
+
 paths : map relative (codes "log" ∷ codes "///ram/log" ∷ []) ≡ codes "log" ∷ codes "ram/log" ∷ []
 paths = refl
 
--- the folders on the way are made one by one, from the first on
-folders : map (folder_at (codes "a/b/c")) (0 ∷ 1 ∷ 2 ∷ 3 ∷ 4 ∷ []) ≡ None ∷ Some (codes "a") ∷ None ∷ Some (codes "a/b") ∷ None ∷ []
-folders = refl
+-- where a deposit and a try kept their files
+deposited : kept_as (Ok tt) (codes "log") ≡ Some (codes "log")
+deposited = refl
 
-last_folder : before_last is_slash (codes "in/a/b.txt") ≡ codes "in/a"
-last_folder = refl
+not_deposited : kept_as (Err Failed) (codes "log") ≡ None
+not_deposited = refl
 
-last_name : after_last is_slash (codes "in/a/b.txt") ≡ codes "b.txt"
-last_name = refl
-
-copies : map (numbered (codes "a/log.txt")) (0 ∷ 1 ∷ 12 ∷ 9999 ∷ []) ≡ codes "a/log.txt" ∷ codes "a/log.txt.1" ∷ codes "a/log.txt.12" ∷ codes "a/log.txt.9999" ∷ []
-unfolding digits
-copies = refl
+tried : map place_of (None ∷ Some (record { name = codes "log"; octets = []; place = None }) ∷ Some (record { name = codes "log"; octets = []; place = Some (codes "log.1") }) ∷ []) ≡ None ∷ None ∷ Some (codes "log.1") ∷ []
+tried = refl

@@ -1,59 +1,82 @@
 //! The folders on the path of a file.
-use crate::names::folder_at;
-use std::fs::OpenFile;
-use std::io::ErrorKind;
-use std::rt::Files;
-use std::{fs, io};
+ghost use Rattle.std.specs.Prelude.{◌≡◌, true, OnOk};
+ghost use Rattle.std.specs.Option.{option_copied};
+ghost use Rattle.disk.specs.Promise.{IsReached, Unchanged};
+ghost use Rattle.station_store.specs.Folders.{stands, stays};
+ghost use Rattle.whole_files.specs.Wholes.{folder_at};
 
-/// Creates the missing folders on the path of a file. An existing one must be a folder, not a link to one.
-pub fn make_folders<R: Files + AllocGlobal>(rt: &R, folder: &str, path: &str) -> io::Result<()> {
+use disk::{Disk, Fault};
+use whole_files::{folder_at, folder_of};
+
+/// Makes the missing folders on the path of a file. An existing one must be a folder, not a link to one. Flushed is the
+/// folder above one that was made, and above one that isn't on the path `known`, whose folders stay.
+pub fn reach<D: Disk>(disk: &mut D, known: &str, path: &str) -> Result<(), Fault>
+    requires { IsReached (D.done disk.old) known.now }
+    ensures same { Unchanged (D.done disk.old) (D.done disk.new) }
+    ensures ok { OnOk result (IsReached (D.done disk.new) path.now) }
+{
     for end in 0..path.len() {
-        if let Some(below) = folder_at(path, end) {
-            let place = format!(in rt.alloc(); "{folder}/{below}")?;
-            make_folder(rt, place.as_str())?;
+        if let Some(folder) = folder_at(path, end) {
+            let is_known = is_on(known, end, folder);
+            reach_folder(disk, folder, is_known)?;
         }
     }
     Ok(())
 }
 
-// Creates a folder, unless it exists.
-fn make_folder<R: Files>(rt: &R, place: &str) -> io::Result<()> {
-    match fs::create_dir(rt, place) {
-        Ok(()) => Ok(()),
-        Err(error) if error.kind() == ErrorKind::AlreadyExists => require_folder(rt, place),
-        Err(error) => Err(error),
+// Whether a folder is the one on a path that ends before the slash at `end`.
+fn is_on(path: &str, end: usize, folder: &str) -> bool
+    ensures { result ≡ true → folder_at path.now end ≡ Some folder.now }
+{
+    match folder_at(path, end) {
+        Some(other) => other == folder,
+        None => false,
     }
 }
 
-// An error unless there is a folder at this path.
-fn require_folder<R: Files>(rt: &R, place: &str) -> io::Result<()> {
-    if fs::symlink_metadata(rt, place)?.is_dir() {
-        Ok(())
-    } else {
-        Err(ErrorKind::NotADirectory.into())
+// Makes a folder that is missing, so that it stays. It is known whether it stays if it is there.
+fn reach_folder<D: Disk>(disk: &mut D, folder: &str, is_known: bool) -> Result<(), Fault>
+    requires { is_known ≡ true → stays (D.done disk.old) folder.now }
+    ensures same { Unchanged (D.done disk.old) (D.done disk.new) }
+    ensures ok { OnOk result (stays (D.done disk.new) folder.now) }
+{
+    let is_made = make_missing(disk, folder)?;
+    if is_known && !is_made {
+        return Ok(());
+    }
+    disk.flush_folder(folder_of(folder))
+}
+
+// Makes a folder, unless it is there; answers whether it was made.
+fn make_missing<D: Disk>(disk: &mut D, folder: &str) -> Result<bool, Fault>
+    ensures same { Unchanged (D.done disk.old) (D.done disk.new) }
+    ensures ok { OnOk result (stands (D.done disk.new) folder.now) }
+{
+    match disk.make_folder(folder) {
+        Ok(()) => Ok(true),
+        Err(Fault::Exists) => require_folder(disk, folder),
+        Err(fault) => Err(fault),
+    }
+}
+
+// An error unless there is a folder at this path, else false.
+fn require_folder<D: Disk>(disk: &mut D, folder: &str) -> Result<bool, Fault>
+    ensures same { Unchanged (D.done disk.old) (D.done disk.new) }
+    ensures ok { OnOk result (stands (D.done disk.new) folder.now) }
+{
+    match disk.is_folder(folder) {
+        Ok(true) => Ok(false),
+        Ok(false) => Err(Fault::Failed),
+        Err(fault) => Err(fault),
     }
 }
 
 /// An error if there is a folder where a file should go.
-pub fn refuse_folder<R: Files>(rt: &R, place: &str) -> io::Result<()> {
-    match fs::symlink_metadata(rt, place) {
-        Ok(found) if found.is_dir() => Err(ErrorKind::IsADirectory.into()),
+pub fn refuse_folder<D: Disk>(disk: &mut D, path: &str) -> Result<(), Fault>
+    ensures { Unchanged (D.done disk.old) (D.done disk.new) }
+{
+    match disk.is_folder(path) {
+        Ok(true) => Err(Fault::Failed),
         _ => Ok(()),
     }
-}
-
-/// Flushes the store's folder and each folder on the path of a file, so that the file is found after a power failure,
-/// even if another server has just created one of the folders.
-pub fn flush_folders<R: Files + AllocGlobal>(rt: &R, folder: &str, path: &str) -> io::Result<()> {
-    for end in 0..path.len() {
-        if let Some(below) = folder_at(path, end) {
-            let place = format!(in rt.alloc(); "{folder}/{below}")?;
-            flush_folder(rt, place.as_str())?;
-        }
-    }
-    flush_folder(rt, folder)
-}
-
-fn flush_folder<R: Files>(rt: &R, place: &str) -> io::Result<()> {
-    fs::File::open(rt, place)?.sync_all()
 }

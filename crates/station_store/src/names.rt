@@ -1,12 +1,14 @@
-//! The names of received files, their paths, and the paths of numbered copies.
-ghost use Rattle.std.specs.Prelude.{◌≡◌, ◌↔◌, ◌<◌, ◌≤◌, ◌==◌, ◌||◌, IsSome, IfOk, IfSome, true, length, string_bytes, slice_index};
-ghost use Rattle.std.specs.List.{list_any, list_all, prefix_len, slice_split, before_last, after_last};
-ghost use Rattle.std.specs.Option.{option_map, option_copied};
-ghost use Rattle.file_stores.specs.Names.{is_plain_name, part_for};
-ghost use Rattle.station_store.specs.Paths.{is_slash, relative, path_of, folder_at, numbered, IsTaken, IsTreeName};
+//! The names of received files, and their paths.
+ghost use Rattle.std.specs.Prelude.{◌≡◌, ◌↔◌, ◌≤◌, ◌==◌, ◌||◌, IsSome, IfSome, length};
+ghost use Rattle.std.specs.List.{list_any, list_all, prefix_len, slice_split};
+ghost use Rattle.disk.specs.Steps.{is_slash};
+ghost use Rattle.file_stores.specs.Names.{is_plain_name};
+ghost use Rattle.station_store.specs.Paths.{relative, path_of, IsTaken, IsTreeName};
 
 use crate::settings::Layout;
-use std::alloc::{AllocError, Global};
+
+// A file's own name, and eight folders above it.
+const MOST_PARTS: usize = 9;
 
 /// The path below the store's folder for a name, if the name is valid in the layout.
 pub fn path_of(layout: Layout, name: &[u8]) -> Option<&str>
@@ -36,7 +38,7 @@ fn tree_path(name: &[u8]) -> Option<&str>
     ensures path { IfSome result (λ path. path.now ≡ relative name.now) }
 {
     let path = relative(name);
-    if !has_plain_parts(path) {
+    if !has_plain_parts(path) || parts_of(path) > MOST_PARTS {
         return None;
     }
     str::from_utf8(path).ok()
@@ -65,6 +67,13 @@ fn has_plain_parts(path: &[u8]) -> bool
     path.split(|octet| *octet == b'/').all(is_plain)
 }
 
+// How many names a path has between its slashes.
+fn parts_of(path: &[u8]) -> usize
+    ensures { result ≡ length (slice_split is_slash path.now) }
+{
+    path.split(|octet| *octet == b'/').count()
+}
+
 // Whether the name stays in its folder.
 fn is_plain(name: &[u8]) -> bool
     ensures { result ≡ is_plain_name name.now }
@@ -77,65 +86,4 @@ fn has_separator(name: &[u8]) -> bool
     ensures { result ≡ list_any (λ octet. octet == 47 || octet == 0) name.now }
 {
     name.iter().any(|octet| *octet == b'/' || *octet == 0)
-}
-
-/// The folder on a file's path whose name ends before the slash at `end`, if there is a slash.
-pub fn folder_at(path: &str, end: usize) -> Option<&str>
-    ensures { option_copied result ≡ folder_at path.now end }
-{
-    if is_slash_at(path.as_bytes(), end) {
-        path.get(..end)
-    } else {
-        None
-    }
-}
-
-// Whether there is an octet at this place, and it is a slash.
-fn is_slash_at(octets: &[u8], at: usize) -> bool
-    ensures slash { result ≡ is_slash (slice_index octets.now at) }
-    ensures inside { result ≡ true → at < length octets.now }
-{
-    at < octets.len() && octets[at] == b'/'
-}
-
-/// The path of a copy: for copy 0 the path itself, otherwise the path with a dot and the number appended.
-pub fn numbered(alloc: Global, path: &str, copy: u64) -> Result<String, AllocError>
-    ensures { IfOk result (λ place. string_bytes place ≡ numbered path.now copy) }
-{
-    if copy == 0 {
-        Ok(String::from_str(alloc, path)?)
-    } else {
-        Ok(format!(in alloc; "{path}.{copy}")?)
-    }
-}
-
-/// The temporary name with a number, unless that is the file's own name.
-pub fn part_for(alloc: Global, name: &str, number: u64) -> Result<Option<String>, AllocError>
-    ensures { IfOk result (λ part. option_map string_bytes part ≡ part_for name.now number) }
-{
-    let part = format!(in alloc; ".part-{number}")?;
-    if part.as_str() == name {
-        return Ok(None);
-    }
-    Ok(Some(part))
-}
-
-/// The part of a path before its last slash.
-pub fn holder(path: &str) -> &str
-    ensures { result.now ≡ before_last is_slash path.now }
-{
-    match path.rsplit_once('/') {
-        Some((folder, _)) => folder,
-        None => "",
-    }
-}
-
-/// The part of a path after its last slash.
-pub fn own_name(path: &str) -> &str
-    ensures { result.now ≡ after_last is_slash path.now }
-{
-    match path.rsplit_once('/') {
-        Some((_, name)) => name,
-        None => path,
-    }
 }

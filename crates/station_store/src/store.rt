@@ -2,74 +2,82 @@ ghost use Rattle.std.specs.Prelude.{◌≡◌, [], None, Some, string_bytes};
 ghost use Rattle.std.specs.Option.{option_map};
 ghost use Rattle.station_store.specs.Stations.{ready_place, Prepares};
 
-use crate::keeping::{Target, keep, keep_at};
+use crate::keeping::keep_at;
 use crate::names::path_of;
 use crate::prepared::Prepared;
 use crate::settings::{Clash, Layout};
 use cfdp_types::Octets;
+use disk::{Disk, Fault, Hindrance};
 use file_stores::{Filestore, StoreFault};
+use std::alloc::Global;
 use std::marker::Model;
-use std::rt::Files;
 
-/// A store that keeps files in one folder, or in folders below it, and replaces or keeps existing files. A file is
-/// written to a temporary file next to its place, flushed, and named once it is complete, so that no incomplete file is
-/// seen under its name. Then its folder and those on its path are flushed; only after that it counts as kept.
+/// A store that keeps files in the folder of a disk, or in folders below it, and replaces or keeps existing files. A
+/// file is written to a part next to its place, flushed, and named once it is complete, so that no incomplete file is
+/// seen under its name. Then its folder is flushed; only after that it counts as kept.
 ///
-/// A file may be prepared before it is deposited, any number of times: a temporary fault then costs no deposit.
+/// A file may be prepared before it is deposited, any number of times: a fault that may pass then costs no deposit.
 #[derive(Drop)]
-pub struct StationStore<R: Files + AllocGlobal + Drop> {
-    rt: R,
-    folder: String,
+pub struct StationStore<D: Disk + Drop> {
+    disk: D,
+    alloc: Global,
     layout: Layout,
     clash: Clash,
+    next_part: u64,
     calls: u64,
     failures: u64,
     stored_as: String,
-    ready: Option<KeptFile>,
+    fault: Option<Fault>,
+    is_short: bool,
+    ready: Option<TriedFile>,
 }
 
-// A file that was kept before its deposit.
+// A file that was tried before its deposit, and where it was kept, if it can be kept.
 #[derive(Drop)]
-struct KeptFile {
+struct TriedFile {
     name: Octets,
-    size: usize,
-    place: String,
+    octets: Octets,
+    place: Option<String>,
 }
 
-impl Model for KeptFile {
+impl Model for TriedFile {
     ghost use Rattle.std.specs.Prelude.{string_bytes};
+    ghost use Rattle.std.specs.Option.{option_map};
     ghost use Rattle.station_store.specs.Stations.{ReadyFile};
 
     ghost Value = { ReadyFile };
 
-    ghost view = { λ s. record { name = s.name; size = s.size; place = string_bytes s.place } };
+    ghost view = { λ s. record { name = s.name; octets = s.octets; place = option_map string_bytes s.place } };
 }
 
-impl<R: Files + AllocGlobal + Drop> Model for StationStore<R> {
+impl<D: Disk + Drop> Model for StationStore<D> {
     ghost use Rattle.std.specs.Prelude.{◌≤◌, string_bytes};
+    ghost use Rattle.disk.specs.Promise.{IsReached};
     ghost use Rattle.station_store.specs.Stations.{StationValue, IsReadyFor};
 
     ghost Value = { StationValue };
 
-    ghost view = { λ s. record { layout = s.layout; clash = s.clash; calls = s.calls; failures = s.failures; stored_as = string_bytes s.stored_as; ready = s.ready } };
+    ghost view = { λ s. record { layout = s.layout; clash = s.clash; done = D.done s.disk; calls = s.calls; failures = s.failures; stored_as = string_bytes s.stored_as; fault = s.fault; ready = s.ready } };
 
-    ghost invariant = { λ s. (s.failures ≤ s.calls) × IsReadyFor s.layout s.clash s.ready };
+    ghost invariant = { λ s. (s.failures ≤ s.calls) × IsReached (D.done s.disk) (string_bytes s.stored_as) × IsReadyFor s.layout s.clash (D.done s.disk) s.ready };
 }
 
-impl<R: Files + AllocGlobal + Drop> StationStore<R> {
-    /// A store in a folder, which must exist when a file is deposited.
-    pub fn new(rt: R, folder: String, layout: Layout, clash: Clash) -> StationStore<R>
-        ensures { result ≡ record { layout = layout; clash = clash; calls = 0; failures = 0; stored_as = []; ready = None } }
+impl<D: Disk + Drop> StationStore<D> {
+    /// A store in the folder of a disk, which must exist when a file is deposited.
+    pub fn new(disk: D, alloc: Global, layout: Layout, clash: Clash) -> StationStore<D>
+        ensures { result ≡ record { layout = layout; clash = clash; done = D.done disk; calls = 0; failures = 0; stored_as = []; fault = None; ready = None } }
     {
-        let stored_as = String::new(rt.alloc());
         StationStore {
-            rt,
-            folder,
+            disk,
+            alloc,
             layout,
             clash,
+            next_part: 0,
             calls: 0,
             failures: 0,
-            stored_as,
+            stored_as: String::new(alloc),
+            fault: None,
+            is_short: false,
             ready: None,
         }
     }
@@ -81,41 +89,76 @@ impl<R: Files + AllocGlobal + Drop> StationStore<R> {
         self.stored_as.as_str()
     }
 
-    /// Tries to keep a file, without counting a deposit. After `Ready` the next deposit is answered at once, if it
-    /// has the same name and as many octets; a file that was ready before is forgotten, but stays in the folder. After
+    /// Why the file that was prepared or deposited last isn't kept; `None` if it is, or has a bad name.
+    pub fn fault(&self) -> Option<Fault>
+        ensures { result ≡ self.now.fault }
+    {
+        self.fault
+    }
+
+    /// What hindered the store last, if anything did. Where there was no memory to remember a file that is prepared, it says so;
+    /// else it is what hindered the disk.
+    pub fn hindrance(&self) -> Option<Hindrance> {
+        if self.is_short {
+            Some(Hindrance::NoMemory)
+        } else {
+            self.disk.hindrance()
+        }
+    }
+
+    /// Tries to keep a file, without counting a deposit. After `Ready` the next deposit is answered at once, if it has
+    /// the same name and the same octets; a file that was ready before is forgotten, but stays in the folder. After
     /// `Later` the file may be prepared again, and a deposit tries once more itself.
-    pub fn prepare(&mut self, name: &[u8], octets: &[u8]) -> Prepared
-        ensures tried { Prepares self.old name.now octets.now result self.new.ready }
-        ensures same { self.new ≡ record self.old { ready = self.new.ready } }
+    pub fn prepare(&mut self, name: &Octets, octets: &Octets) -> Prepared
+        ensures tried { Prepares self.old name.now octets.now result self.new }
+        ensures same { self.new ≡ record self.old { done = self.new.done; fault = self.new.fault; ready = self.new.ready } }
     {
         self.ready = None;
-        let Some(path) = path_of(self.layout, name) else {
+        self.fault = None;
+        self.is_short = false;
+        let Some(path) = path_of(self.layout, name.as_slice()) else {
             return Prepared::Ready;
         };
-        let Ok(kept_name) = Octets::from_slice(self.rt.alloc(), name) else {
+        let (Ok(tried_name), Ok(tried_octets)) = (name.copy(), octets.copy()) else {
+            self.is_short = true;
+            self.fault = Some(Fault::MayPass);
             return Prepared::Later;
         };
-        let target = Target {
-            folder: self.folder.as_str(),
-            layout: self.layout,
-            clash: self.clash,
-            first_part: self.calls,
-        };
-        match keep_at(&self.rt, target, path, octets) {
+        match keep_at(
+            &mut self.disk,
+            self.alloc,
+            self.clash,
+            self.stored_as.as_str(),
+            path,
+            &mut self.next_part,
+            octets.as_slice(),
+        ) {
             Ok(place) => {
-                self.ready = Some(KeptFile {
-                    name: kept_name,
-                    size: octets.len(),
-                    place,
+                self.ready = Some(TriedFile {
+                    name: tried_name,
+                    octets: tried_octets,
+                    place: Some(place),
                 });
                 Prepared::Ready
             }
-            Err(_) => Prepared::Later,
+            Err(Fault::MayPass) => {
+                self.fault = Some(Fault::MayPass);
+                Prepared::Later
+            }
+            Err(fault) => {
+                self.fault = Some(fault);
+                self.ready = Some(TriedFile {
+                    name: tried_name,
+                    octets: tried_octets,
+                    place: None,
+                });
+                Prepared::Ready
+            }
         }
     }
 }
 
-impl<R: Files + AllocGlobal + Drop> Filestore for StationStore<R> {
+impl<D: Disk + Drop> Filestore for StationStore<D> {
     ghost use Rattle.station_store.specs.Stations.{StationDeposits};
 
     ghost tried = { λ store. store.calls };
@@ -126,24 +169,41 @@ impl<R: Files + AllocGlobal + Drop> Filestore for StationStore<R> {
 
     fn deposit(&mut self, name: &[u8], octets: &[u8]) -> Result<(), StoreFault> {
         self.calls += 1;
-        let target = Target {
-            folder: self.folder.as_str(),
-            layout: self.layout,
-            clash: self.clash,
-            first_part: self.calls,
+        self.is_short = false;
+        match ready_place(self.ready.take(), name, octets) {
+            Some(Some(place)) => {
+                self.fault = None;
+                self.stored_as = place;
+                return Ok(());
+            }
+            Some(None) => {
+                self.failures += 1;
+                return Err(StoreFault::Failed);
+            }
+            None => {}
+        }
+        self.fault = None;
+        let Some(path) = path_of(self.layout, name) else {
+            self.failures += 1;
+            return Err(StoreFault::BadName);
         };
-        let outcome = match ready_place(self.ready.take(), name, octets.len()) {
-            Some(place) => Ok(place),
-            None => keep(&self.rt, target, name, octets),
-        };
-        match outcome {
+        match keep_at(
+            &mut self.disk,
+            self.alloc,
+            self.clash,
+            self.stored_as.as_str(),
+            path,
+            &mut self.next_part,
+            octets,
+        ) {
             Ok(place) => {
                 self.stored_as = place;
                 Ok(())
             }
             Err(fault) => {
                 self.failures += 1;
-                Err(fault)
+                self.fault = Some(fault);
+                Err(StoreFault::Failed)
             }
         }
     }
@@ -157,12 +217,12 @@ impl<R: Files + AllocGlobal + Drop> Filestore for StationStore<R> {
     }
 }
 
-// The path of the file that is ready, if it has this name and this size.
-fn ready_place(ready: Option<KeptFile>, name: &[u8], size: usize) -> Option<String>
-    ensures { option_map string_bytes result ≡ ready_place ready name.now size }
+// The path of the file that is ready, if it has this name and these octets: `None` within if it can't be kept.
+fn ready_place(ready: Option<TriedFile>, name: &[u8], octets: &[u8]) -> Option<Option<String>>
+    ensures { option_map (option_map string_bytes) result ≡ ready_place ready name.now octets.now }
 {
     let file = ready?;
-    if file.name.as_slice() == name && file.size == size {
+    if file.name.as_slice() == name && file.octets.as_slice() == octets {
         Some(file.place)
     } else {
         None

@@ -8,6 +8,9 @@ use cfdp_types::{TimerKind, TimerOp, TxnKey};
 use std::alloc::{AllocError, Global};
 use std::marker::Model;
 
+// How many places are reserved for each timer that may run.
+const PLACES_A_TIMER: usize = 4;
+
 /// The running timers, at most one of each kind for a transaction. Contracts see them as a list: a timer that is
 /// armed again keeps its place, and one that did not run goes to the end.
 #[derive(Drop)]
@@ -38,6 +41,14 @@ impl TimerList {
             slots: Slots::new(alloc),
             soonest: u64::MAX,
         }
+    }
+
+    /// Reserves memory, so that as many timers may run at once as given, and none of them finds no memory. For each of them it
+    /// has four places: those of timers that were removed are dropped once they are as many as the others.
+    pub fn reserve(&mut self, timers: usize) -> Result<(), AllocError>
+        ensures { self.new ≡ self.old }
+    {
+        self.slots.reserve(timers.saturating_mul(PLACES_A_TIMER))
     }
 
     /// Carries out a step's operation on the list; `now` is the time on the caller's clock in milliseconds. An

@@ -37,6 +37,13 @@ impl Slots {
         }
     }
 
+    /// Reserves memory for so many more places.
+    pub(crate) fn reserve(&mut self, places: usize) -> Result<(), AllocError>
+        ensures { self.new.entries.entries ≡ self.old.entries.entries }
+    {
+        self.entries.reserve(places)
+    }
+
     /// The value at a timer's place, if it has one.
     #[tactic(auto, using(crate::proofs::SlotLemmas::distinct_slots))]
     fn value_of(&self, key: TxnKey, kind: TimerKind) -> Option<Option<Run>>

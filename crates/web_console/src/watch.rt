@@ -3,6 +3,7 @@ ghost use Rattle.std.specs.Prelude.{◌≡◌, [], IfOk};
 ghost use Rattle.std.specs.Option.{option_copied};
 ghost use Rattle.web_console.specs.Shown.{IsSeen, IsShown, IsShownAway, IsShownHere};
 
+use crate::asked::Asked;
 use crate::events::Events;
 use crate::kept::{Kept, Lines};
 use station_client::{Station, StationFault};
@@ -17,20 +18,17 @@ use web_pages::{Found, Permit, Route, Source};
 // For how many milliseconds it rests before the station is asked for events again.
 const REST_MILLIS: u64 = 500;
 
-// How many milliseconds the station may take to let the console in and to answer.
-const ANSWER_MILLIS: u64 = 1000;
-
 // For how many milliseconds one waits for the answer that another one asks for.
 const OTHERS_MILLIS: u64 = 1500;
 
-// How many milliseconds it may take for a command.
-const COMMAND_MILLIS: u64 = 5000;
+// How many milliseconds the station may take to let in whoever follows its events, and to answer.
+const FOLLOW_MILLIS: u64 = 5000;
 
 // For how many milliseconds one waits for an event at once.
 const EVENT_MILLIS: u64 = 60_000;
 
 /// What the console knows of its station: it is asked one `status` at a time, and an answer is used again for half a second.
-/// No lock is held while the station is asked.
+/// No lock is held while the station is asked, and it is asked nothing but what `Asked` has.
 #[derive(Drop)]
 pub struct Watch<'a, R> {
     rt: &'a R,
@@ -64,10 +62,10 @@ impl<'a, R: Wait + Net + Clock> Watch<'a, R> {
 
     // Keeps events until the station goes.
     fn follow_once(&self) -> Result<(), StationFault> {
-        let patience = Duration::from_millis(COMMAND_MILLIS);
+        let patience = Duration::from_millis(FOLLOW_MILLIS);
         let mut station = Station::connect(self.rt, self.alloc, self.path, patience)?;
-        let status = station.ask(self.rt, b"status".as_slice(), patience)?;
-        let _ok = station.ask(self.rt, b"follow 1024".as_slice(), patience)?;
+        let status = station.ask(self.rt, Asked::Status.line(), patience)?;
+        let _ok = station.ask(self.rt, Asked::Events.line(), patience)?;
         self.begin_run(status.as_slice())?;
         for _ in self.rt.forever() {
             let limit = Duration::from_millis(EVENT_MILLIS);
@@ -103,10 +101,10 @@ impl<'a, R: Wait + Net + Clock> Watch<'a, R> {
         }
     }
 
-    // Asks the station one command.
-    fn ask(&self, line: &[u8], millis: u64) -> Result<Vec<u8>, StationFault> {
-        let limit = Duration::from_millis(millis);
-        Station::ask_once(self.rt, self.alloc, self.path, line, limit)
+    // Asks the station once.
+    fn ask(&self, asked: Asked<'_>) -> Result<Vec<u8>, StationFault> {
+        let limit = Duration::from_millis(asked.millis());
+        Station::ask_once(self.rt, self.alloc, self.path, asked.line(), limit)
     }
 
     // The lines of a status that is fresh enough. Who finds another one asking waits for what that one hears.
@@ -114,7 +112,7 @@ impl<'a, R: Wait + Net + Clock> Watch<'a, R> {
         if let Some(lines) = self.kept_status() {
             return lines;
         }
-        let lines = match self.ask(b"status".as_slice(), ANSWER_MILLIS) {
+        let lines = match self.ask(Asked::Status) {
             Ok(lines) => Arc::new(self.alloc, lines).ok(),
             Err(_) => None,
         };
@@ -228,7 +226,7 @@ impl<'a, R: Wait + Net + Clock> Source for Watch<'a, R> {
     }
 
     fn command(&self, permit: Permit<'_>, text: &mut Vec<u8>) -> Result<Found, AllocError> {
-        match self.ask(permit.line, COMMAND_MILLIS) {
+        match self.ask(Asked::Passed(permit)) {
             Ok(answer) => {
                 text.extend_from_slice(answer.as_slice())?;
                 Ok(Found::Here)

@@ -3,10 +3,11 @@ use Rattle.std.proofs.Common.{◌≡◌, ◌||◌, ℕ, Bool, true, false, List,
 use Rattle.std.specs.Fmt.{digits}
 use Rattle.json.specs.Json.{Json, boolean, member, no_members, number, object, string}
 use Rattle.std.specs.Str.{bytes_eq}
-use Rattle.web_lines.specs.declared.kind.Kind.TheVariants.{Entity, Log, Parked, Queued, Refusal, Remote, User}
+use Rattle.web_lines.specs.declared.kind.Kind.TheVariants.{Entity, Log, Parked, Queued, Recorder, Refusal, Remote, Storing, User}
 use Rattle.web_lines.specs.declared.state.State.TheVariants.{Active, Ended}
 use Rattle.web_lines.specs.Document.{document_text, named}
 use Rattle.web_lines.specs.Families.{all_heads, counter, gauge, told_rows}
+use Rattle.web_lines.specs.Hindered.{says_why}
 use Rattle.web_lines.specs.Labels.{labels_at}
 use Rattle.web_lines.specs.Numbers.{IsNumberAt, at_counter, at_known, at_member, at_truth}
 use Rattle.web_lines.specs.Metrics.{escaped, head_text, labels_text, sample_text, told_text}
@@ -26,7 +27,7 @@ names_differ : has_twice (map (λ head. head.name) all_heads) ≡ false
 unfolding told_rows
 names_differ = refl
 
-how_many : length all_heads ≡ 37
+how_many : length all_heads ≡ 42
 unfolding told_rows
 how_many = refl
 
@@ -46,12 +47,12 @@ two_labels = refl
 labels_are_escaped : escaped (codes "a\\b\"c\nd") ≡ codes "a\\\\b\\\"c\\nd"
 labels_are_escaped = refl
 
-names_of_kinds : map named (codes "entity" ∷ codes "queued" ∷ codes "parked" ∷ codes "entities" ∷ [])
-    ≡ Some Entity ∷ Some Queued ∷ Some Parked ∷ None ∷ []
+names_of_kinds : map named (codes "entity" ∷ codes "queued" ∷ codes "parked" ∷ codes "storing" ∷ codes "recorder" ∷ codes "entities" ∷ [])
+    ≡ Some Entity ∷ Some Queued ∷ Some Parked ∷ Some Storing ∷ Some Recorder ∷ None ∷ []
 names_of_kinds = refl
 
 no_lines : document_text []
-    ≡ codes "{\"entities\":[],\"logs\":[],\"users\":[],\"transactions\":[],\"remotes\":[],\"refusals\":[],\"outbox\":[],\"reading\":[],\"parked\":[]}\n"
+    ≡ codes "{\"entities\":[],\"logs\":[],\"users\":[],\"transactions\":[],\"remotes\":[],\"refusals\":[],\"outbox\":[],\"reading\":[],\"parked\":[],\"storing\":[],\"recorders\":[]}\n"
 unfolding document_text
 no_lines = refl
 
@@ -123,6 +124,12 @@ no_labels_no_line = refl
 zero_is_a_number : told_text (gauge (codes "a") (codes "b")) (Some []) (Some 0) ≡ codes "a 0\n"
 unfolding sample_text labels_text digits
 zero_is_a_number = refl
+
+hindered : says_why (Some (object (member (codes "why") (string (codes "no space is left")) no_members))) ≡ true
+hindered = refl
+
+unhindered : map says_why (Some waiting ∷ None ∷ []) ≡ false ∷ false ∷ []
+unhindered = refl
 
 states : map state_named (codes "active" ∷ codes "ended" ∷ codes "open" ∷ []) ≡ Some Active ∷ Some Ended ∷ None ∷ []
 states = refl

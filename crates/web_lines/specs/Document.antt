@@ -5,7 +5,7 @@ use Rattle.std.specs.Str.{bytes_eq}
 use Rattle.json.specs.Json.{Json, document}
 use Rattle.json.specs.Find.{get, as_str}
 use Rattle.web_lines.specs.declared.kind.Kind.{Kind}
-use Rattle.web_lines.specs.declared.kind.Kind.TheVariants.{Entity, Log, User, Transaction, Remote, Refusal, Queued, Reading, Parked}
+use Rattle.web_lines.specs.declared.kind.Kind.TheVariants.{Entity, Log, User, Transaction, Remote, Refusal, Queued, Reading, Parked, Storing, Recorder}
 use Rattle.web_lines.specs.declared.lines.Line.{Line}
 
 -- the kind of this name
@@ -19,7 +19,9 @@ named name =
     else (if bytes_eq name (codes "refusal") then Some Refusal
     else (if bytes_eq name (codes "queued") then Some Queued
     else (if bytes_eq name (codes "reading") then Some Reading
-    else (if bytes_eq name (codes "parked") then Some Parked else None))))))))
+    else (if bytes_eq name (codes "parked") then Some Parked
+    else (if bytes_eq name (codes "storing") then Some Storing
+    else (if bytes_eq name (codes "recorder") then Some Recorder else None))))))))))
 
 -- the text of a value's member `kind`
 abbrev pub kind_name : Json → Option (List ℕ)
@@ -65,6 +67,8 @@ place_of Refusal = 5
 place_of Queued = 6
 place_of Reading = 7
 place_of Parked = 8
+place_of Storing = 9
+place_of Recorder = 10
 
 -- a line is of a kind
 abbrev pub is_of_kind : Kind → Line → Bool
@@ -94,6 +98,8 @@ document_text lines =
     ++ codes "],\"outbox\":[" ++ list_text Queued lines
     ++ codes "],\"reading\":[" ++ list_text Reading lines
     ++ codes "],\"parked\":[" ++ list_text Parked lines
+    ++ codes "],\"storing\":[" ++ list_text Storing lines
+    ++ codes "],\"recorders\":[" ++ list_text Recorder lines
     ++ codes "]}\n"
 
 -- the document of a status

@@ -4,7 +4,7 @@ use Rattle.web_lines.specs.declared.families.Family.{Family}
 use Rattle.web_lines.specs.declared.told.Told.{Told}
 use Rattle.web_lines.specs.declared.families.Family.TheVariants.{Counter, Gauge}
 use Rattle.web_lines.specs.declared.kind.Kind.{Kind}
-use Rattle.web_lines.specs.declared.kind.Kind.TheVariants.{Entity, Log, Parked, Refusal, Remote, User}
+use Rattle.web_lines.specs.declared.kind.Kind.TheVariants.{Entity, Log, Parked, Recorder, Refusal, Remote, User}
 use Rattle.web_lines.specs.Numbers.{Spot, at_counter, at_known, at_member, at_truth, spot_of}
 
 -- what is said of a family above its numbers
@@ -112,7 +112,13 @@ told_rows =
     told_row (counter (codes "cfdp_remote_failed_sends_total") (codes "PDUs for a remote entity that were not sent."))
     Remote (at_member (codes "failed_sends")) ∷
     told_row (counter (codes "cfdp_refused_datagrams_total") (codes "Refusals by reason."))
-    Refusal (at_member (codes "count")) ∷ []
+    Refusal (at_member (codes "count")) ∷
+    told_row (counter (codes "cfdp_recordings_kept_total") (codes "Recordings that were written."))
+    Recorder (at_member (codes "kept")) ∷
+    told_row (counter (codes "cfdp_recordings_missed_total") (codes "Transactions that were not recorded because their journal was gone."))
+    Recorder (at_member (codes "missed")) ∷
+    told_row (counter (codes "cfdp_recordings_failed_total") (codes "Recordings that could not be made or written."))
+    Recorder (at_member (codes "failed")) ∷ []
 
 -- how many transactions are in each state
 abbrev pub states_head : Head
@@ -127,9 +133,17 @@ outbox_head = gauge (codes "cfdp_outbox_files") (codes "Files that wait in the o
 abbrev pub reading_head : Head
 reading_head = gauge (codes "cfdp_reading_files") (codes "Files that are being read for Puts.")
 
+-- how many received files are being stored, or couldn't be stored so far
+abbrev pub storing_head : Head
+storing_head = gauge (codes "cfdp_storing_files") (codes "Received files that are being stored, or could not be stored so far.")
+
+-- how many of them couldn't be stored so far
+abbrev pub hindered_head : Head
+hindered_head = gauge (codes "cfdp_hindered_files") (codes "Received files that could not be stored so far.")
+
 -- the families that count lines
 abbrev pub counted_heads : List Head
-counted_heads = states_head ∷ outbox_head ∷ reading_head ∷ []
+counted_heads = states_head ∷ outbox_head ∷ reading_head ∷ storing_head ∷ hindered_head ∷ []
 
 -- all of them
 abbrev pub all_heads : List Head

@@ -1,5 +1,6 @@
 pub mod Document
 pub mod Families
+pub mod Hindered
 pub mod Labels
 pub mod Metrics
 pub mod Numbers

@@ -5,8 +5,9 @@ use Rattle.web_lines.specs.declared.lines.Line.{Line}
 use Rattle.web_lines.specs.declared.state.State.{State}
 use Rattle.web_lines.specs.declared.state.State.TheVariants.{Active, Suspended, Storing, Closing, Ended}
 use Rattle.web_lines.specs.Document.{AreLinesOf, count_of_kind, place_of}
-use Rattle.web_lines.specs.declared.kind.Kind.TheVariants.{Queued, Reading}
-use Rattle.web_lines.specs.Families.{Head, Row, outbox_head, reading_head, states_head, told_rows, up_head}
+use Rattle.web_lines.specs.Hindered.{count_of_hindered}
+use Rattle.web_lines.specs.declared.kind.Kind.TheVariants as kinds
+use Rattle.web_lines.specs.Families.{Head, Row, hindered_head, outbox_head, reading_head, states_head, storing_head, told_rows, up_head}
 use Rattle.web_lines.specs.Labels.{SaidLabel, labels_at}
 use Rattle.web_lines.specs.Numbers.{IsNumberAt}
 use Rattle.web_lines.specs.States.{count_in_state, name_of_state, states_of}
@@ -49,11 +50,19 @@ up_text is_up = bare_text up_head is_up
 
 -- how many files wait in the outbox: the lines of that kind
 abbrev pub outbox_text : List Line → List ℕ
-outbox_text lines = bare_text outbox_head (count_of_kind Queued lines)
+outbox_text lines = bare_text outbox_head (count_of_kind kinds.Queued lines)
 
 -- how many files are being read: the lines of that kind
 abbrev pub reading_text : List Line → List ℕ
-reading_text lines = bare_text reading_head (count_of_kind Reading lines)
+reading_text lines = bare_text reading_head (count_of_kind kinds.Reading lines)
+
+-- how many received files are being stored, or couldn't be stored so far: the lines of that kind
+abbrev pub storing_text : List Line → List ℕ
+storing_text lines = bare_text storing_head (count_of_kind kinds.Storing lines)
+
+-- how many of them say what hindered the last try
+abbrev pub hindered_text : List Line → List ℕ
+hindered_text lines = bare_text hindered_head (count_of_hindered lines)
 
 -- how many transactions are in a state, by the states of all
 abbrev pub state_text : List State → State → List ℕ
@@ -63,9 +72,13 @@ state_text states state = sample_text states_head.name ((codes "state", name_of_
 abbrev pub states_text : List State → List ℕ
 states_text states = head_text states_head ++ flat_map (state_text states) (Active ∷ Suspended ∷ Storing ∷ Closing ∷ Ended ∷ [])
 
--- how many transactions are in each state, how many files wait and how many are being read
+-- how many files wait, how many are being read, how many are being stored, and how many couldn't be stored so far
+abbrev pub files_text : List Line → List ℕ
+files_text lines = outbox_text lines ++ reading_text lines ++ storing_text lines ++ hindered_text lines
+
+-- how many transactions are in each state, and the numbers of files
 abbrev pub counts_text : List Line → List ℕ
-counts_text lines = states_text (states_of lines) ++ outbox_text lines ++ reading_text lines
+counts_text lines = states_text (states_of lines) ++ files_text lines
 
 -- the line of a number with its labels, where there are both
 abbrev pub told_text : Head → Option (List SaidLabel) → Option ℕ → List ℕ

@@ -2,16 +2,18 @@
 ghost use Rattle.std.specs.Prelude.{◌≡◌, ◌++◌, OnOk, flat_map};
 ghost use Rattle.web_lines.specs.Document.{count_of_kind};
 ghost use Rattle.web_lines.specs.Families.{head_of, states_head};
-ghost use Rattle.web_lines.specs.Metrics.{bare_text, counts_text, head_text, outbox_text, reading_text, state_text, states_text};
+ghost use Rattle.web_lines.specs.Metrics.{bare_text, counts_text, files_text, head_text, hindered_text, outbox_text, reading_text, state_text, states_text, storing_text};
 
 use crate::families::{Family, push_head};
+use crate::hindered::count_hindered;
 use crate::kind::Kind;
 use crate::labels::{Label, Labels, push_sample};
 use crate::lines::Line;
 use crate::state::{STATES, State, count_of, states_of};
 use std::alloc::{AllocError, Global};
 
-/// Adds how many transactions are in each state, how many files wait, and how many are being read.
+/// Adds how many transactions are in each state, and how many files wait, are being read, are being stored, or couldn't be
+/// stored so far.
 pub(crate) fn push_counted(
     alloc: Global,
     text: &mut Vec<u8>,
@@ -21,8 +23,17 @@ pub(crate) fn push_counted(
 {
     let states = states_of(alloc, lines)?;
     push_states(text, states.as_slice())?;
+    push_files(alloc, text, lines)
+}
+
+// Adds how many files wait, how many are being read, how many are being stored, and how many couldn't be stored so far.
+fn push_files(alloc: Global, text: &mut Vec<u8>, lines: &[Line<'_>]) -> Result<(), AllocError>
+    ensures { OnOk result (text.new.items ≡ text.old.items ++ files_text lines.now) }
+{
     push_outbox(text, lines)?;
-    push_reading(text, lines)
+    push_reading(text, lines)?;
+    push_storing(text, lines)?;
+    push_hindered(alloc, text, lines)
 }
 
 // Adds how many transactions are in each state.
@@ -86,6 +97,29 @@ fn push_reading(text: &mut Vec<u8>, lines: &[Line<'_>]) -> Result<(), AllocError
 {
     let family = Family::Gauge("cfdp_reading_files", "Files that are being read for Puts.");
     push_bare(text, family, count_lines(lines, Kind::Reading))
+}
+
+// Adds how many received files are being stored, or couldn't be stored so far.
+fn push_storing(text: &mut Vec<u8>, lines: &[Line<'_>]) -> Result<(), AllocError>
+    ensures { OnOk result (text.new.items ≡ text.old.items ++ storing_text lines.now) }
+{
+    let family = Family::Gauge(
+        "cfdp_storing_files",
+        "Received files that are being stored, or could not be stored so far.",
+    );
+    push_bare(text, family, count_lines(lines, Kind::Storing))
+}
+
+// Adds how many received files couldn't be stored so far.
+fn push_hindered(alloc: Global, text: &mut Vec<u8>, lines: &[Line<'_>]) -> Result<(), AllocError>
+    ensures { OnOk result (text.new.items ≡ text.old.items ++ hindered_text lines.now) }
+{
+    let count = count_hindered(alloc, lines)?;
+    let family = Family::Gauge(
+        "cfdp_hindered_files",
+        "Received files that could not be stored so far.",
+    );
+    push_bare(text, family, count)
 }
 
 // Adds a family with one number, which has no labels.

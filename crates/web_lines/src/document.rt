@@ -8,8 +8,8 @@ use crate::text::push_text;
 use std::alloc::{AllocError, Global};
 
 /// One document of the lines: an object with the members `entities`, `logs`, `users`, `transactions`, `remotes`, `refusals`,
-/// `outbox`, `reading` and `parked`, each the list of the lines of its kind, in order and as they came. A line that is no JSON object
-/// of one of these kinds is left out.
+/// `outbox`, `reading`, `parked`, `storing` and `recorders`, each the list of the lines of its kind, in order and as they came. A
+/// line that is no JSON object of one of these kinds is left out.
 pub fn to_document(alloc: Global, text: &str) -> Result<Vec<u8>, AllocError>
     ensures { IfOk result (λ document. IsDocument text.now document.items) }
 {
@@ -34,6 +34,8 @@ fn push_lists(document: &mut Vec<u8>, lines: &[Line<'_>]) -> Result<(), AllocErr
     push_list(document, "],\"outbox\":[", lines, Kind::Queued)?;
     push_list(document, "],\"reading\":[", lines, Kind::Reading)?;
     push_list(document, "],\"parked\":[", lines, Kind::Parked)?;
+    push_list(document, "],\"storing\":[", lines, Kind::Storing)?;
+    push_list(document, "],\"recorders\":[", lines, Kind::Recorder)?;
     push_text(document, "]}\n")
 }
 

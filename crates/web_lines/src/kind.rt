@@ -20,6 +20,10 @@ pub enum Kind {
     Reading,
     /// A lane for which datagrams wait, or were dropped.
     Parked,
+    /// A received file that is being stored, or couldn't be stored so far.
+    Storing,
+    /// The recordings of transactions.
+    Recorder,
 }
 
 impl Kind {
@@ -37,6 +41,8 @@ impl Kind {
             "queued" => Some(Kind::Queued),
             "reading" => Some(Kind::Reading),
             "parked" => Some(Kind::Parked),
+            "storing" => Some(Kind::Storing),
+            "recorder" => Some(Kind::Recorder),
             _ => None,
         }
     }
@@ -55,6 +61,8 @@ impl Kind {
             Kind::Queued => 6,
             Kind::Reading => 7,
             Kind::Parked => 8,
+            Kind::Storing => 9,
+            Kind::Recorder => 10,
         }
     }
 

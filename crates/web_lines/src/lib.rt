@@ -4,6 +4,7 @@
 mod counted;
 mod document;
 mod families;
+mod hindered;
 mod kind;
 mod labels;
 mod lines;

@@ -2,7 +2,7 @@
 use crate::families::Family;
 use crate::families::Family::{Counter, Gauge};
 use crate::kind::Kind;
-use crate::kind::Kind::{Entity, Log, Parked, Refusal, Remote, User};
+use crate::kind::Kind::{Entity, Log, Parked, Recorder, Refusal, Remote, User};
 use crate::place::Place;
 use crate::place::Place::{Counted, Known, Member, Truth};
 
@@ -11,7 +11,7 @@ use crate::place::Place::{Counted, Known, Member, Truth};
 pub(crate) struct Told(pub(crate) Family, pub(crate) Kind, pub(crate) Place);
 
 /// The families whose numbers stand in lines.
-pub(crate) const TOLD: [Told; 33] = [
+pub(crate) const TOLD: [Told; 36] = [
     Told(
         Gauge(
             "cfdp_entity_info",
@@ -239,5 +239,29 @@ pub(crate) const TOLD: [Told; 33] = [
         Counter("cfdp_refused_datagrams_total", "Refusals by reason."),
         Refusal,
         Member("count"),
+    ),
+    Told(
+        Counter(
+            "cfdp_recordings_kept_total",
+            "Recordings that were written.",
+        ),
+        Recorder,
+        Member("kept"),
+    ),
+    Told(
+        Counter(
+            "cfdp_recordings_missed_total",
+            "Transactions that were not recorded because their journal was gone.",
+        ),
+        Recorder,
+        Member("missed"),
+    ),
+    Told(
+        Counter(
+            "cfdp_recordings_failed_total",
+            "Recordings that could not be made or written.",
+        ),
+        Recorder,
+        Member("failed"),
     ),
 ];

@@ -18,11 +18,12 @@ IsOfOutbox word = (word ≡ codes "send") ⊎ (word ≡ codes "drop")
 -- the word of a command on a transaction
 abbrev pub IsOfTransaction : List ℕ → Type 0
 IsOfTransaction word =
-    (word ≡ codes "cancel") ⊎ ((word ≡ codes "report") ⊎ ((word ≡ codes "suspend") ⊎ (word ≡ codes "resume")))
+    (word ≡ codes "cancel") ⊎ ((word ≡ codes "report") ⊎ ((word ≡ codes "suspend") ⊎ ((word ≡ codes "resume")
+    ⊎ ((word ≡ codes "journal") ⊎ (word ≡ codes "abandon")))))
 
 -- the word of a command on a remote entity
 abbrev pub IsOfRemote : List ℕ → Type 0
-IsOfRemote word = (word ≡ codes "hold") ⊎ (word ≡ codes "release")
+IsOfRemote word = (word ≡ codes "hold") ⊎ ((word ≡ codes "release") ⊎ (word ≡ codes "rate"))
 
 -- a command that is passed on: in one line without octets below 32, on the outbox, a transaction or a remote entity
 abbrev pub IsCommand : List ℕ → Type 0

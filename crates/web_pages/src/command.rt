@@ -58,10 +58,14 @@ fn is_of_transaction(word: &[u8]) -> bool
         || is_same(word, b"report".as_slice())
         || is_same(word, b"suspend".as_slice())
         || is_same(word, b"resume".as_slice())
+        || is_same(word, b"journal".as_slice())
+        || is_same(word, b"abandon".as_slice())
 }
 
 fn is_of_remote(word: &[u8]) -> bool
     ensures { IsTrue result ↔ IsOfRemote word.now }
 {
-    is_same(word, b"hold".as_slice()) || is_same(word, b"release".as_slice())
+    is_same(word, b"hold".as_slice())
+        || is_same(word, b"release".as_slice())
+        || is_same(word, b"rate".as_slice())
 }

@@ -1,2 +1,3 @@
 pub mod PartSteps
+pub mod Links
 pub mod Wholes

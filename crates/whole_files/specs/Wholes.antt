@@ -1,9 +1,6 @@
--- Meaning. The folders on a path, the paths of copies, and what is known of a part.
-use Rattle.std.specs.Prelude.{◌≡◌, ◌≢◌, ◌≤◌, ◌==◌, ℕ, List, ◌++◌, slice_index, take, codes, decimal, Option, Some, None, if◌then◌else◌}
-use Rattle.disk.specs.Steps.{Step, is_slash}
-use Rattle.disk.specs.Crash.{Content}
-use Rattle.disk.specs.Promise.{Changes, Is, NothingNew}
-use Rattle.disk.specs.Parts.{IsOpen}
+-- Meaning. The folders on a path, the paths of copies, and the path of a part.
+use Rattle.std.specs.Prelude.{◌≡◌, ◌≤◌, ◌==◌, ℕ, List, ◌++◌, length, slice_index, take, codes, decimal, Option, Some, None, if◌then◌else◌}
+use Rattle.disk.specs.Steps.{folder_of, is_slash}
 
 -- the folder on a file's path whose name ends before the slash at a place, if there is a slash
 abbrev pub folder_at : List ℕ → ℕ → Option (List ℕ)
@@ -19,8 +16,12 @@ pub record IsCopyOf (path place : List ℕ) : Type 0 where
   pub few : copy ≤ 9999
   pub numbered_path : place ≡ numbered path copy
 
--- a part other than the path is the open file, with this content, and no other path changed
-pub record IsPartFor (path part : List ℕ) (content : Content) (before now : List Step) : Type 0 where
-  pub apart : path ≢ part
-  pub opened : IsOpen part content now
-  pub changes : Changes (Is part) NothingNew before now
+-- the path of a part in a folder; the empty path is the disk's own folder
+abbrev pub part_path : List ℕ → ℕ → List ℕ
+part_path folder number = if length folder == 0 then codes ".part-" ++ decimal number else folder ++ codes "/.part-" ++ decimal number
+
+-- a part for a file at a path: it is in the file's folder, and has neither the path nor that of a copy
+pub record IsPartOf (path part : List ℕ) : Type 0 where
+  pub number : ℕ
+  pub beside : part ≡ part_path (folder_of path) number
+  pub apart : ¬ (IsCopyOf path part)

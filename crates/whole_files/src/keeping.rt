@@ -1,18 +1,21 @@
 //! A file is kept beside those that are there, under the first of its names that is free.
-ghost use Rattle.std.specs.Prelude.{◌≡◌, ◌≢◌, ◌⊎◌, IfOk, OnOk, string_bytes};
+ghost use Rattle.std.specs.Prelude.{◌≡◌, ◌∷◌, None, Some, IfOk, OnErr, OnOk, string_bytes};
 ghost use Rattle.disk.specs.Crash.Content.{flushed};
 ghost use Rattle.disk.specs.Promise.{Changes, HoldsAfterCut, Is, IsReached, NoPath, WholeOrGone};
-ghost use Rattle.disk.specs.Parts.{IsNamed, IsOpen, Stores};
-ghost use Rattle.whole_files.specs.PartSteps.{GaveUp, MadeNone, WentAway};
-ghost use Rattle.whole_files.specs.Wholes.{IsCopyOf};
+ghost use Rattle.disk.specs.Parts.{IsNamed, IsOpen};
+ghost use Rattle.disk.specs.Steps.{folder_of};
+ghost use Rattle.disk.specs.Steps.Call.{flush_folder};
+ghost use Rattle.disk.specs.Steps.Step.{did};
+ghost use Rattle.whole_files.specs.Links.{Ends, Keeps, LinkedFirst, LinkedNone, TakenBack};
+ghost use Rattle.whole_files.specs.Wholes.{IsCopyOf, IsPartOf};
 
 use crate::parts::write_part;
 use crate::paths::{folder_of, numbered};
 use disk::{Disk, Fault};
 use std::alloc::Global;
 
-// The greatest number that is appended to a path.
-const MOST_COPIES: u64 = 9_999;
+// How many paths are tried: the file's own, and those with a number up to 9,999 appended.
+const COPIES: u64 = 10_000;
 
 /// Keeps octets over a new part, under a path or, where there is a file, under the first numbered copy of it that is
 /// free, and returns where. Parts are numbered from `next` on, and `next` is the number behind the last that was tried.
@@ -24,8 +27,8 @@ pub fn keep_file<D: Disk>(
     octets: &[u8],
 ) -> Result<String, Fault>
     requires { IsReached (D.done disk.old) path.now }
-    ensures stores { Stores (WholeOrGone (IsCopyOf path.now) octets.now) (D.done disk.old) (D.done disk.new) }
-    ensures part { MadeNone (D.done disk.old) (D.done disk.new) ⊎ GaveUp (D.done disk.old) (D.done disk.new) }
+    ensures kept { IfOk result (λ place. Keeps path.now octets.now (Some (string_bytes place)) (D.done disk.old) (D.done disk.new)) }
+    ensures not_kept { OnErr result (Keeps path.now octets.now None (D.done disk.old) (D.done disk.new)) }
     ensures copy { IfOk result (λ place. IsCopyOf path.now (string_bytes place)) }
     ensures ok { IfOk result (λ place. HoldsAfterCut (D.done disk.new) (string_bytes place) octets.now) }
 {
@@ -43,8 +46,10 @@ fn link_part<D: Disk>(
 ) -> Result<String, Fault>
     requires reached { IsReached (D.done disk.old) path.now }
     requires filled { IsOpen part.now (flushed _octets.now) (D.done disk.old) }
+    requires is_part { IsPartOf path.now part.now }
     ensures changes { Changes (Is part.now) (WholeOrGone (IsCopyOf path.now) _octets.now) (D.done disk.old) (D.done disk.new) }
-    ensures away { WentAway part.now (D.done disk.old) (D.done disk.new) }
+    ensures kept { IfOk result (λ place. Ends part.now path.now (Some (string_bytes place)) (D.done disk.old) (D.done disk.new)) }
+    ensures not_kept { OnErr result (Ends part.now path.now None (D.done disk.old) (D.done disk.new)) }
     ensures copy { IfOk result (λ place. IsCopyOf path.now (string_bytes place)) }
     ensures ok { IfOk result (λ place. HoldsAfterCut (D.done disk.new) (string_bytes place) _octets.now) }
 {
@@ -65,17 +70,14 @@ fn link_first<D: Disk>(
 ) -> Result<String, Fault>
     requires { IsOpen part.now (flushed _octets.now) (D.done disk.old) }
     ensures changes { Changes (Is part.now) (WholeOrGone (IsCopyOf path.now) _octets.now) (D.done disk.old) (D.done disk.new) }
-    ensures copy { IfOk result (λ place. IsCopyOf path.now (string_bytes place)) }
-    ensures apart { IfOk result (λ place. string_bytes place ≢ part.now) }
+    ensures first { IfOk result (λ place. LinkedFirst part.now path.now (string_bytes place) (D.done disk.old) (D.done disk.new)) }
+    ensures none { OnErr result (LinkedNone part.now path.now (D.done disk.old) (D.done disk.new)) }
     ensures named { IfOk result (λ place. IsNamed (string_bytes place) _octets.now (D.done disk.new)) }
 {
-    for copy in 0..=MOST_COPIES {
+    for copy in 0..COPIES {
         let Ok(place) = numbered(alloc, path, copy) else {
             return Err(Fault::MayPass);
         };
-        if place.as_str() == part {
-            continue;
-        }
         match disk.link(part, place.as_str()) {
             Ok(()) => return Ok(place),
             Err(Fault::Exists) => {}
@@ -92,6 +94,8 @@ fn settle<D: Disk>(disk: &mut D, place: &str, _path: &str, _octets: &[u8]) -> Re
     requires named { IsNamed place.now _octets.now (D.done disk.old) }
     ensures changes { Changes NoPath (WholeOrGone (IsCopyOf _path.now) _octets.now) (D.done disk.old) (D.done disk.new) }
     ensures ok { OnOk result (HoldsAfterCut (D.done disk.new) place.now _octets.now) }
+    ensures settled { OnOk result (D.done disk.new ≡ did (flush_folder (folder_of place.now)) ∷ D.done disk.old) }
+    ensures back { OnErr result (TakenBack place.now (D.done disk.old) (D.done disk.new)) }
 {
     let flushed = disk.flush_folder(folder_of(place));
     if flushed.is_err() {

@@ -2,13 +2,13 @@
 ghost use Rattle.std.specs.Prelude.{◌≡◌, ◌⊎◌, [], OnOk, IfOk, OnErr, string_bytes};
 ghost use Rattle.disk.specs.Crash.Content.{written, flushed};
 ghost use Rattle.disk.specs.Promise.{Changes, Is, NothingNew};
-ghost use Rattle.disk.specs.Parts.{IsOpen, OneChanged};
+ghost use Rattle.disk.specs.Parts.{IsOpen};
 ghost use Rattle.whole_files.specs.PartSteps.{Began, GivenUp, MadeNew, MadeNone, TakesAway};
-ghost use Rattle.whole_files.specs.Wholes.{IsPartFor};
+ghost use Rattle.whole_files.specs.Wholes.{part_path};
 
 use crate::paths::folder_of;
 use disk::{Disk, Fault};
-use std::alloc::Global;
+use std::alloc::{AllocError, Global};
 
 // How many names are tried for a part.
 const PART_NAMES: u64 = 1_000_000;
@@ -22,13 +22,14 @@ pub fn new_part<D: Disk>(
     path: &str,
     next: &mut u64,
 ) -> Result<String, Fault>
-    ensures ok { IfOk result (λ part. IsPartFor path.now (string_bytes part) (written []) (D.done disk.old) (D.done disk.new)) }
-    ensures made { IfOk result (λ part. MadeNew (string_bytes part) (D.done disk.old) (D.done disk.new)) }
-    ensures err { OnErr result (OneChanged (D.done disk.old) (D.done disk.new)) }
-    ensures none { OnErr result (MadeNone (D.done disk.old) (D.done disk.new)) }
+    ensures opened { IfOk result (λ part. IsOpen (string_bytes part) (written []) (D.done disk.new)) }
+    ensures made { IfOk result (λ part. MadeNew path.now (string_bytes part) (D.done disk.old) (D.done disk.new)) }
+    ensures none { OnErr result (MadeNone path.now (D.done disk.old) (D.done disk.new)) }
 {
     for _ in 0..PART_NAMES {
-        let part = part_path(alloc, folder_of(path), *next)?;
+        let Ok(part) = part_path(alloc, folder_of(path), *next) else {
+            return Err(Fault::MayPass);
+        };
         *next = next.wrapping_add(1);
         if part.as_str() == path {
             continue;
@@ -43,13 +44,14 @@ pub fn new_part<D: Disk>(
 }
 
 // The path of a part in a folder.
-fn part_path(alloc: Global, folder: &str, number: u64) -> Result<String, Fault> {
-    let made = if folder.is_empty() {
-        format!(in alloc; ".part-{number}")
+fn part_path(alloc: Global, folder: &str, number: u64) -> Result<String, AllocError>
+    ensures { IfOk result (λ part. string_bytes part ≡ part_path folder.now number) }
+{
+    if folder.is_empty() {
+        Ok(format!(in alloc; ".part-{number}")?)
     } else {
-        format!(in alloc; "{folder}/.part-{number}")
-    };
-    made.map_err(|_| Fault::MayPass)
+        Ok(format!(in alloc; "{folder}/.part-{number}")?)
+    }
 }
 
 /// Writes octets to the open file and flushes it. Where that fails, the part is removed.
@@ -85,10 +87,9 @@ pub fn write_part<D: Disk>(
     next: &mut u64,
     octets: &[u8],
 ) -> Result<String, Fault>
-    ensures ok { IfOk result (λ part. IsPartFor path.now (string_bytes part) (flushed octets.now) (D.done disk.old) (D.done disk.new)) }
-    ensures made { IfOk result (λ part. Began (string_bytes part) (D.done disk.old) (D.done disk.new)) }
-    ensures err { OnErr result (OneChanged (D.done disk.old) (D.done disk.new)) }
-    ensures none { OnErr result (MadeNone (D.done disk.old) (D.done disk.new) ⊎ GivenUp (D.done disk.old) (D.done disk.new)) }
+    ensures opened { IfOk result (λ part. IsOpen (string_bytes part) (flushed octets.now) (D.done disk.new)) }
+    ensures began { IfOk result (λ part. Began path.now (string_bytes part) NothingNew (D.done disk.old) (D.done disk.new)) }
+    ensures none { OnErr result (MadeNone path.now (D.done disk.old) (D.done disk.new) ⊎ GivenUp path.now (D.done disk.old) (D.done disk.new)) }
 {
     let part = new_part(disk, alloc, path, next)?;
     fill_part(disk, part.as_str(), octets)?;

@@ -1,9 +1,9 @@
 //! A file is stored over a part: it is found as a whole, or what was there before.
-ghost use Rattle.std.specs.Prelude.{◌≡◌, ◌≢◌, ◌⊎◌, [], OnOk};
+ghost use Rattle.std.specs.Prelude.{◌≡◌, ◌≢◌, [], OnOk};
 ghost use Rattle.disk.specs.Crash.Content.{written, flushed};
 ghost use Rattle.disk.specs.Promise.{Changes, HoldsAfterCut, Is, IsReached, NothingNew, Whole};
-ghost use Rattle.disk.specs.Parts.{IsOpen, Stores};
-ghost use Rattle.whole_files.specs.PartSteps.{MadeNone, NoneLeft, OverNew};
+ghost use Rattle.disk.specs.Parts.{IsKept, IsOpen};
+ghost use Rattle.whole_files.specs.PartSteps.{NoneLeft, Replaces};
 
 use crate::parts::{fill_part, write_part};
 use crate::paths::folder_of;
@@ -20,8 +20,7 @@ pub fn replace_file<D: Disk>(
     octets: &[u8],
 ) -> Result<(), Fault>
     requires { IsReached (D.done disk.old) path.now }
-    ensures stores { Stores (Whole path.now octets.now) (D.done disk.old) (D.done disk.new) }
-    ensures part { MadeNone (D.done disk.old) (D.done disk.new) ⊎ OverNew path.now (D.done disk.old) (D.done disk.new) }
+    ensures stores { Replaces path.now octets.now (D.done disk.old) (D.done disk.new) }
     ensures ok { OnOk result (HoldsAfterCut (D.done disk.new) path.now octets.now) }
 {
     let part = write_part(disk, alloc, path, next, octets)?;
@@ -29,7 +28,7 @@ pub fn replace_file<D: Disk>(
 }
 
 /// Stores octets under a path, over the part that is named, in place of the file there. A part that an earlier try left
-/// is removed first.
+/// is removed first. The file is the open one from then on.
 pub fn replace_beside<D: Disk>(
     disk: &mut D,
     part: &str,
@@ -40,6 +39,7 @@ pub fn replace_beside<D: Disk>(
     requires reached { IsReached (D.done disk.old) path.now }
     ensures changes { Changes (Is part.now) (Whole path.now octets.now) (D.done disk.old) (D.done disk.new) }
     ensures ok { OnOk result (HoldsAfterCut (D.done disk.new) path.now octets.now) }
+    ensures open { OnOk result (IsKept part.now path.now (flushed octets.now) (D.done disk.new)) }
 {
     renew(disk, part)?;
     fill_part(disk, part, octets)?;
@@ -70,6 +70,7 @@ pub fn put_part<D: Disk>(disk: &mut D, part: &str, path: &str, _octets: &[u8]) -
     ensures changes { Changes (Is part.now) (Whole path.now _octets.now) (D.done disk.old) (D.done disk.new) }
     ensures none_left { NoneLeft part.now path.now (D.done disk.new) }
     ensures ok { OnOk result (HoldsAfterCut (D.done disk.new) path.now _octets.now) }
+    ensures open { OnOk result (IsKept part.now path.now (flushed _octets.now) (D.done disk.new)) }
 {
     let named = disk.rename(part, path);
     if named.is_err() {

@@ -39,4 +39,18 @@ returns c =
     let park_is : rule_of c.optional-6.result ≡ valued (codes "park") false = search rules in
     let with_park = c.in_ok-arg-15.ensures.shape c.optional-6.ensures.local ∙ ap₂ with_rule with_retry park_is in
     let lanes_is : rule_of c.repeated-2.result ≡ repeated (codes "lanes") = search rules in
-    c.in_ok-command.ensures.shape c.repeated-2.ensures.local ∙ ap₂ with_rule with_park lanes_is
+    let with_lanes = c.in_ok-arg-16.ensures.shape c.repeated-2.ensures.local ∙ ap₂ with_rule with_park lanes_is in
+    let record_is : rule_of c.optional-7.result ≡ valued (codes "record") false = search rules in
+    let with_record = c.in_ok-arg-17.ensures.shape c.optional-7.ensures.local ∙ ap₂ with_rule with_lanes record_is in
+    let all_is : rule_of c.flag-6.result ≡ flag (codes "record-all") = search rules in
+    let with_all = c.in_ok-arg-18.ensures.shape c.flag-6.ensures.local ∙ ap₂ with_rule with_record all_is in
+    let most_is : rule_of c.optional-8.result ≡ valued (codes "record-most") false = search rules in
+    let with_most = c.in_ok-arg-19.ensures.shape c.optional-8.ensures.local ∙ ap₂ with_rule with_all most_is in
+    let strict_is : rule_of c.flag-7.result ≡ flag (codes "strict-sources") = search rules in
+    let with_strict = c.in_ok-arg-20.ensures.shape c.flag-7.ensures.local ∙ ap₂ with_rule with_most strict_is in
+    let full_is : rule_of c.flag-8.result ≡ flag (codes "abandon-full") = search rules in
+    let with_full = c.in_ok-arg-21.ensures.shape c.flag-8.ensures.local ∙ ap₂ with_rule with_strict full_is in
+    let level_is : rule_of c.optional-9.result ≡ valued (codes "log-level") false = search rules in
+    let with_level = c.in_ok-arg-22.ensures.shape c.optional-9.ensures.local ∙ ap₂ with_rule with_full level_is in
+    let mode_is : rule_of c.optional-10.result ≡ valued (codes "control-mode") false = search rules in
+    c.in_ok-command.ensures.shape c.optional-10.ensures.local ∙ ap₂ with_rule with_level mode_is

@@ -2,7 +2,7 @@ use Rattle.std.proofs.Common.{rules, tests}
 use Rattle.std.proofs.lemmas.Iterator.Search.{all_from_yields_List}
 use Rattle.std.proofs.lemmas.Iterator.Splits.{YieldsList-from_slice_split}
 use Rattle.file_stores.specs.Names.{is_plain_name}
-use Rattle.station_store.specs.Paths.{is_slash}
+use Rattle.disk.specs.Steps.{is_slash}
 use Rattle.station_store.proofs.names.has_plain_parts.Goals as goal
 
 pub returns : goal.returns

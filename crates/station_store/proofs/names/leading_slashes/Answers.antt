@@ -1,10 +1,9 @@
-use Rattle.std.proofs.Common.{length, ◌∙◌, rules, tests}
-use Rattle.std.specs.List.{prefix_len}
+use Rattle.std.proofs.Common.{◌∙◌, rules, tests}
 use Rattle.std.proofs.lemmas.Iterator.{YieldsList-from_slice}
 use Rattle.std.proofs.lemmas.Iterator.Search.{YieldsList-from_take_while}
 use Rattle.std.proofs.lemmas.Iterator.Consumers.{count_from_yields_List}
 use Rattle.std.proofs.lemmas.List.Folds.{length-prefix_len}
-use Rattle.station_store.specs.Paths.{is_slash}
+use Rattle.disk.specs.Steps.{is_slash}
 use Rattle.station_store.proofs.names.leading_slashes.Goals as goal
 
 pub returns-clause-count : goal.returns-clause-count

@@ -1,19 +1,23 @@
-use Rattle.std.proofs.Common.{inr}
-use Rattle.disk.proofs.Moments.{then}
-use Rattle.disk.proofs.Reach.{reached_later}
-use Rattle.whole_files.proofs.Chains.{to_any}
-use Rattle.whole_files.proofs.Copies.{gave_up}
+use Rattle.std.proofs.Common.{sym, subst, string_bytes}
+use Rattle.whole_files.specs.Wholes.{IsPartOf}
+use Rattle.whole_files.proofs.PartFacts.{began_later, still_reached}
+use Rattle.whole_files.proofs.Chains.{on_err}
+use Rattle.whole_files.proofs.Copies.{and_kept, and_not_kept, given_up_beside}
 use Rattle.whole_files.proofs.keeping.keep_file.Goals as goal
 
-pub returns-in_err-part-clause-stores : goal.returns-in_err-part-clause-stores
-returns-in_err-part-clause-stores g c = let one = c.in_err-part.ensures.err in record { part = one.part; changes = to_any _ _ _ _ one.changes }
+pub returns-in_err-part-clause-not_kept : goal.returns-in_err-part-clause-not_kept
+returns-in_err-part-clause-not_kept g c = on_err _ _ (given_up_beside c.args.path.now c.args.octets.now _ _ c.in_err-part.ensures.none)
 
 pub link_part-requires-clause-reached : goal.link_part-requires-clause-reached
-link_part-requires-clause-reached g c = reached_later _ _ _ _ c.in_ok-part.ensures.ok.changes _ c.requires
+link_part-requires-clause-reached g c = still_reached _ _ _ (began_later _ _ _ _ _ c.in_ok-part.ensures.began) c.requires
 
-pub returns-clause-stores : goal.returns-clause-stores
-returns-clause-stores g c =
-    record { part = _; changes = then _ _ _ _ _ (to_any _ _ _ _ c.in_ok-part.ensures.ok.changes) (rw c.as_str.ensures.value at c.link_part.ensures.changes) }
+pub link_part-requires-clause-is_part : goal.link_part-requires-clause-is_part
+link_part-requires-clause-is_part g c = subst (IsPartOf c.args.path.now) (sym c.as_str.ensures.value) c.in_ok-part.ensures.began.is_new.is_part
 
-pub returns-clause-part : goal.returns-clause-part
-returns-clause-part g c = inr (gave_up _ _ _ _ c.in_ok-part.ensures.made (rw c.as_str.ensures.value at c.link_part.ensures.away))
+pub returns-clause-kept : goal.returns-clause-kept
+returns-clause-kept g c =
+    and_kept _ _ _ _ _ _ c.in_ok-part.ensures.began (rw c.as_str.ensures.value at c.link_part.ensures.changes) string_bytes c.link_part.result (rw c.as_str.ensures.value at c.link_part.ensures.kept)
+
+pub returns-clause-not_kept : goal.returns-clause-not_kept
+returns-clause-not_kept g c =
+    and_not_kept _ _ _ _ _ _ c.in_ok-part.ensures.began (rw c.as_str.ensures.value at c.link_part.ensures.changes) c.link_part.result (rw c.as_str.ensures.value at c.link_part.ensures.not_kept)

@@ -1,0 +1,186 @@
+//! The folder that is watched, and its folders for files that have ended.
+use ctl_watch::{Sight, is_left_alone, is_same, kept_name, why_name};
+use std::alloc::{AllocError, Global};
+use std::fs::{Metadata, OpenOptions};
+use std::io::{ErrorKind, Write};
+use std::rt::Files;
+use std::time::UNIX_EPOCH;
+use std::{fs, io};
+
+/// Where files go that arrived, and those that didn't: folders in the folder.
+pub(crate) const SENT: &str = "sent";
+
+pub(crate) const FAILED: &str = "failed";
+
+// How many names are tried for a file that has ended.
+const NAMES: u64 = 10_000;
+
+/// A plain file in the folder, whose name doesn't begin with a dot.
+#[derive(Drop)]
+pub(crate) struct Found {
+    pub(crate) name: String,
+    pub(crate) size: u64,
+    pub(crate) modified: u64,
+}
+
+/// What is in the folder.
+#[derive(Drop)]
+pub(crate) struct Listing {
+    pub(crate) files: Vec<Found>,
+    /// Whether a name isn't UTF-8.
+    pub(crate) has_odd: bool,
+}
+
+/// Lists the folder.
+pub(crate) fn list<R: Files + AllocGlobal + Copy + Drop>(
+    rt: &R,
+    alloc: Global,
+    folder: &str,
+) -> io::Result<Listing> {
+    let mut listing = Listing {
+        files: Vec::new(alloc),
+        has_odd: false,
+    };
+    for entry in fs::read_dir(rt, folder)? {
+        match entry {
+            Ok(entry) => {
+                if let Ok(metadata) = entry.metadata() {
+                    add(alloc, &mut listing, entry.file_name(), &metadata)?;
+                }
+            }
+            Err(error) if error.kind() == ErrorKind::InvalidFilename => listing.has_odd = true,
+            Err(error) => return Err(error),
+        }
+    }
+    Ok(listing)
+}
+
+// Adds a file, if it is a plain one that isn't left alone.
+fn add(
+    alloc: Global,
+    listing: &mut Listing,
+    name: &str,
+    metadata: &Metadata,
+) -> Result<(), AllocError> {
+    if is_left_alone(name) || !metadata.is_file() {
+        return Ok(());
+    }
+    let found = Found {
+        name: String::from_str(alloc, name)?,
+        size: metadata.len(),
+        modified: written_at(metadata),
+    };
+    match listing.files.push(found) {
+        Ok(()) => Ok(()),
+        Err(_) => Err(AllocError),
+    }
+}
+
+// When a file was written, in nanoseconds since 1970.
+fn written_at(metadata: &Metadata) -> u64 {
+    match metadata.modified() {
+        Ok(time) => match time.duration_since(UNIX_EPOCH) {
+            Ok(since) => u64::try_from(since.as_nanos()).unwrap_or(u64::MAX),
+            Err(_) => 0,
+        },
+        Err(_) => 0,
+    }
+}
+
+/// Whether a file of the folder is still as it was seen.
+pub(crate) fn is_unchanged<R: Files>(
+    rt: &R,
+    alloc: Global,
+    folder: &str,
+    name: &str,
+    sight: Sight,
+) -> Result<bool, AllocError> {
+    let path = format!(in alloc; "{folder}/{name}")?;
+    Ok(is_as_seen(rt, path.as_str(), sight) == Some(true))
+}
+
+// Whether a file is as it was seen; nothing if there is none.
+fn is_as_seen<R: Files>(rt: &R, path: &str, sight: Sight) -> Option<bool> {
+    match fs::symlink_metadata(rt, path) {
+        Ok(metadata) => Some(is_same(sight, metadata.len(), written_at(&metadata))),
+        Err(_) => None,
+    }
+}
+
+/// Whether the folder `sent` has a file with this name, size and time.
+pub(crate) fn was_sent<R: Files>(
+    rt: &R,
+    alloc: Global,
+    folder: &str,
+    name: &str,
+    sight: Sight,
+) -> Result<bool, AllocError> {
+    for number in 1..=NAMES {
+        let name = kept_name(alloc, name, number)?;
+        let path = format!(in alloc; "{folder}/{SENT}/{name}")?;
+        match is_as_seen(rt, path.as_str(), sight) {
+            Some(false) => {}
+            Some(true) => return Ok(true),
+            None => break,
+        }
+    }
+    Ok(false)
+}
+
+/// Makes the folders for files that have ended, if they aren't there.
+pub(crate) fn make_folders<R: Files>(rt: &R, alloc: Global, folder: &str) -> io::Result<()> {
+    for name in [SENT, FAILED] {
+        let path = format!(in alloc; "{folder}/{name}")?;
+        match fs::create_dir(rt, path.as_str()) {
+            Err(error) if error.kind() != ErrorKind::AlreadyExists => return Err(error),
+            _ => {}
+        }
+    }
+    Ok(())
+}
+
+/// Moves a file of the folder into one of those folders, under the first of its names that is free. If there is a reason, a file
+/// beside it has this text.
+pub(crate) fn keep_file<R: Files>(
+    rt: &R,
+    alloc: Global,
+    folder: &str,
+    name: &str,
+    into: &str,
+    reason: Option<&str>,
+) -> io::Result<()> {
+    make_folders(rt, alloc, folder)?;
+    let into = format!(in alloc; "{folder}/{into}")?;
+    let path = free_path(rt, alloc, into.as_str(), name)?;
+    if let Some(text) = reason {
+        write_new(rt, why_name(alloc, path.as_str())?.as_str(), text)?;
+    }
+    let old = format!(in alloc; "{folder}/{name}")?;
+    fs::rename(rt, old.as_str(), path.as_str())
+}
+
+// A path in a folder, by the first of a file's names for which neither that path nor the one of its reason is taken.
+fn free_path<R: Files>(rt: &R, alloc: Global, folder: &str, name: &str) -> io::Result<String> {
+    for number in 1..=NAMES {
+        let name = kept_name(alloc, name, number)?;
+        let path = format!(in alloc; "{folder}/{name}")?;
+        let reason = why_name(alloc, path.as_str())?;
+        if is_free(rt, path.as_str()) && is_free(rt, reason.as_str()) {
+            return Ok(path);
+        }
+    }
+    Err(ErrorKind::AlreadyExists.into())
+}
+
+fn is_free<R: Files>(rt: &R, path: &str) -> bool {
+    match fs::symlink_metadata(rt, path) {
+        Ok(_) => false,
+        Err(error) => error.kind() == ErrorKind::NotFound,
+    }
+}
+
+fn write_new<R: Files>(rt: &R, path: &str, text: &str) -> io::Result<()> {
+    let mut options = OpenOptions::new();
+    let mut file = options.write(true).create_new(true).open(rt, path)?;
+    file.write_all(text.as_bytes())
+}

@@ -1,5 +1,0 @@
-pub mod TextFacts
-pub mod TextRows
-pub mod RoundFacts
-pub mod RoundRows
-pub mod HistoryRows

@@ -1,4 +1,0 @@
-pub mod Rounds
-pub mod Texts
-pub mod Files
-pub mod RoundLaws

@@ -1,4 +1,0 @@
-pub mod Rows
-pub mod Reaching
-pub mod Storing
-pub mod Deposits

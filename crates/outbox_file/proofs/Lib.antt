@@ -1,0 +1,5 @@
+pub mod TextFacts
+pub mod ReadFacts
+pub mod LoopFacts
+pub mod FileFacts
+pub mod Rows

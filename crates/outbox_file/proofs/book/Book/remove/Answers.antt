@@ -1,0 +1,9 @@
+use Rattle.std.proofs.Common.{rules}
+use Rattle.std.proofs.lemmas.Fn.{filter_same}
+use Rattle.outbox_file.proofs.book.Book.remove.Goals as goal
+
+pub returns-clause-entries : goal.returns-clause-entries
+returns-clause-entries c = filter_same _ _ _ (λ x b f' k. search rules) _ _ c.retain.ensures.filtered
+
+pub returns-clause-begun : goal.returns-clause-begun
+returns-clause-begun c = filter_same _ _ _ (λ x b f' k. search rules) _ _ c.retain-2.ensures.filtered

@@ -1,0 +1,333 @@
+//! The file on a disk.
+ghost use Rattle.std.specs.Prelude.{◌≡◌, true, IfOk, OnOk, string_bytes};
+ghost use Rattle.std.specs.List.{list_any};
+ghost use Rattle.disk.specs.Crash.Content.{flushed};
+ghost use Rattle.disk.specs.Parts.{IsKept};
+ghost use Rattle.disk.specs.Promise.{Changes, Is, Whole};
+ghost use Rattle.disk.specs.Steps.{is_slash};
+ghost use Rattle.outbox_file.specs.Books.{after, value};
+ghost use Rattle.outbox_file.specs.Files.{IsPlainBook, IsStored, Notes, NotesLine, Opens, Reads, beside, queued_entry};
+ghost use Rattle.outbox_file.specs.Texts.{IsPlain, is_line, line_text};
+ghost use Rattle.outbox_file.specs.declared.lines.Line.TheVariants as line;
+
+use crate::book::{Book, Entry};
+use crate::lines::{Line, push_line};
+use crate::reading::{book_in, book_text};
+use cfdp_types::Octets;
+use disk::{Disk, Fault};
+use std::alloc::Global;
+use std::marker::Model;
+use whole_files::replace_beside;
+
+// How many times as long as it was when it was written as a whole a file may grow.
+const GROWTH: usize = 10;
+
+// A file that is shorter counts as this long.
+const LEAST_OCTETS: usize = 4_096;
+
+/// Why nothing is noted.
+#[derive(Clone, Copy, Debug, PartialEq, Eq)]
+pub enum StoredOutboxFault {
+    /// The file can't be read, or has a line that says nothing.
+    Unreadable,
+    /// The file can't be written.
+    Unwritable,
+    /// The words aren't a line, since they have a line feed.
+    NoLine,
+    /// No number is left.
+    Over,
+    NoMemory,
+}
+
+/// A file with what waits in an outbox, and what is under way from there. Each line is on the disk when the call that
+/// notes it returns. The disk's open file is this one, so the disk is for it alone.
+#[derive(Drop)]
+pub struct StoredOutbox<D: Disk + Drop> {
+    disk: D,
+    alloc: Global,
+    path: String,
+    book: Book,
+    // whether what stands on the disk is known: the last line could be written
+    is_sound: bool,
+    size: Size,
+}
+
+// The octets of the file, and how many it may have before it is written as a whole again.
+#[derive(Clone, Copy)]
+struct Size {
+    octets: usize,
+    most: usize,
+}
+
+impl Size {
+    // The size of a file that was written as a whole.
+    fn of_whole(octets: usize) -> Size {
+        Size {
+            octets,
+            most: octets.max(LEAST_OCTETS).saturating_mul(GROWTH),
+        }
+    }
+
+    // The size with more octets.
+    fn with(self, more: usize) -> Size {
+        Size {
+            octets: self.octets.saturating_add(more),
+            most: self.most,
+        }
+    }
+
+    fn is_small(self) -> bool {
+        self.octets <= self.most
+    }
+}
+
+impl<D: Disk + Drop> Model for StoredOutbox<D> {
+    ghost use Rattle.std.specs.Prelude.{◌≡◌, true, string_bytes};
+    ghost use Rattle.outbox_file.specs.Books.{value};
+    ghost use Rattle.outbox_file.specs.Files.{FileValue, IsPlainBook, IsStored};
+
+    ghost Value = { FileValue };
+
+    ghost view = { λ f. record { done = D.done f.disk; path = string_bytes f.path; book = value f.book; is_sound = f.is_sound } };
+
+    ghost invariant = { λ f. IsPlainBook (value f.book) × (f.is_sound ≡ true → IsStored (string_bytes f.path) (value f.book) (D.done f.disk)) };
+}
+
+impl<D: Disk + Drop> StoredOutbox<D> {
+    /// Opens the file of this name in the disk's own folder: reads it, and writes what it says again as a whole, so that
+    /// an error shows before anything is queued. Where there is no file, nothing was queued yet. What stands behind the
+    /// last line feed is passed over: a cut of power tore that line. A file with a line that says nothing is left as it
+    /// is. A name with a slash can't be written.
+    pub fn open(disk: D, alloc: Global, path: String) -> Result<StoredOutbox<D>, StoredOutboxFault>
+        ensures { IfOk result (λ file. Opens (string_bytes path) (D.done disk) file) }
+    {
+        let mut disk = disk;
+        let book = read_book(&mut disk, alloc, path.as_str())?;
+        let Ok(text) = book_text(alloc, &book) else {
+            return Err(StoredOutboxFault::NoMemory);
+        };
+        write_whole(&mut disk, alloc, path.as_str(), text.as_slice())?;
+        Ok(StoredOutbox {
+            disk,
+            alloc,
+            path,
+            book,
+            is_sound: true,
+            size: Size::of_whole(text.len()),
+        })
+    }
+
+    /// The files that were queued and neither ended nor were dropped, in that order.
+    pub fn entries(&self) -> &[Entry]
+        ensures { result.now ≡ self.now.book.entries }
+    {
+        self.book.entries.as_slice()
+    }
+
+    /// The numbers of the files that began.
+    pub fn begun(&self) -> &[u64]
+        ensures { result.now ≡ self.now.book.begun }
+    {
+        self.book.begun.as_slice()
+    }
+
+    /// The number that the next file gets.
+    pub fn next(&self) -> u64
+        ensures { result ≡ self.now.book.next }
+    {
+        self.book.next
+    }
+
+    /// Notes that a file waits since a moment, by the words of its command; answers its number.
+    pub fn queued(&mut self, since: u64, words: &[u8]) -> Result<u64, StoredOutboxFault>
+        ensures number { IfOk result (λ number. number ≡ self.old.book.next) }
+        ensures notes { NotesLine (line.Queued (queued_entry self.old.book.next since words.now)) self.old result self.new }
+    {
+        let number = self.book.next;
+        if number == u64::MAX {
+            return Err(StoredOutboxFault::Over);
+        }
+        if !is_line(words) {
+            return Err(StoredOutboxFault::NoLine);
+        }
+        let Ok(words) = Octets::from_slice(self.alloc, words) else {
+            return Err(StoredOutboxFault::NoMemory);
+        };
+        self.note(Line::Queued(Entry {
+            number,
+            since,
+            words,
+        }))?;
+        Ok(number)
+    }
+
+    /// Notes that the file with a number is under way.
+    pub fn began(&mut self, number: u64) -> Result<(), StoredOutboxFault>
+        ensures { NotesLine (line.Began number) self.old result self.new }
+    {
+        self.note(Line::Began(number))
+    }
+
+    /// Notes that the transaction of the file with a number ended.
+    pub fn ended(&mut self, number: u64) -> Result<(), StoredOutboxFault>
+        ensures { NotesLine (line.Ended number) self.old result self.new }
+    {
+        self.note(Line::Ended(number))
+    }
+
+    /// Notes that the file with a number was given up, or taken out.
+    pub fn dropped(&mut self, number: u64) -> Result<(), StoredOutboxFault>
+        ensures { NotesLine (line.Dropped number) self.old result self.new }
+    {
+        self.note(Line::Dropped(number))
+    }
+
+    // Notes a line: behind the others, or, where the file has grown or isn't known, with all of them anew.
+    fn note(&mut self, line: Line) -> Result<(), StoredOutboxFault>
+        requires { IsPlain line }
+        ensures { NotesLine line self.old result self.new }
+    {
+        if self.book.reserve().is_err() {
+            return Err(StoredOutboxFault::NoMemory);
+        }
+        let mut text = Vec::new(self.alloc);
+        if push_line(self.alloc, &mut text, &line).is_err() {
+            return Err(StoredOutboxFault::NoMemory);
+        }
+        let grown = self.size.with(text.len());
+        let appends = self.is_sound && grown.is_small();
+        self.is_sound = false;
+        self.size = put_line(
+            &mut self.disk,
+            self.alloc,
+            self.path.as_str(),
+            &self.book,
+            &line,
+            text.as_slice(),
+            appends,
+            grown,
+        )?;
+        self.book.note(line);
+        self.is_sound = true;
+        Ok(())
+    }
+}
+
+// Whether words have no line feed.
+fn is_line(words: &[u8]) -> bool
+    ensures { result ≡ is_line words.now }
+{
+    words.iter().all(|octet| *octet != b'\n')
+}
+
+// What the file says, nothing yet where there is none.
+fn read_book<D: Disk>(disk: &mut D, alloc: Global, path: &str) -> Result<Book, StoredOutboxFault>
+    ensures { IfOk result (λ book. Reads path.now (value book) (D.done disk.old) (D.done disk.new)) }
+{
+    match disk.read(path) {
+        Ok(Some(text)) => match book_in(alloc, text.as_slice()) {
+            Ok(Some(book)) => Ok(book),
+            Ok(None) => Err(StoredOutboxFault::Unreadable),
+            Err(_) => Err(StoredOutboxFault::NoMemory),
+        },
+        Ok(None) => Ok(Book::new(alloc)),
+        Err(_) => Err(StoredOutboxFault::Unreadable),
+    }
+}
+
+// Writes a line with this text, behind the others, or with all of them anew. Answers the size of the file.
+fn put_line<D: Disk>(
+    disk: &mut D,
+    alloc: Global,
+    path: &str,
+    book: &Book,
+    line: &Line,
+    text: &[u8],
+    appends: bool,
+    grown: Size,
+) -> Result<Size, StoredOutboxFault>
+    requires all_plain { IsPlainBook (value book.now) }
+    requires plain { IsPlain line.now }
+    requires is_text { text.now ≡ line_text line.now }
+    requires stored { appends ≡ true → IsStored path.now (value book.now) (D.done disk.old) }
+    ensures stored { OnOk result (IsStored path.now (after line.now (value book.now)) (D.done disk.new)) }
+    ensures notes { Notes path.now (value book.now) (after line.now (value book.now)) (D.done disk.old) (D.done disk.new) }
+{
+    if appends {
+        return match append_line(disk, path, book, line, text) {
+            Ok(()) => Ok(grown),
+            Err(_) => Err(StoredOutboxFault::Unwritable),
+        };
+    }
+    let octets = rewrite(disk, alloc, path, book, line, text)?;
+    Ok(Size::of_whole(octets))
+}
+
+// Writes a line behind the others.
+fn append_line<D: Disk>(
+    disk: &mut D,
+    _path: &str,
+    _book: &Book,
+    _line: &Line,
+    text: &[u8],
+) -> Result<(), Fault>
+    requires stored { IsStored _path.now (value _book.now) (D.done disk.old) }
+    requires plain { IsPlain _line.now }
+    requires is_text { text.now ≡ line_text _line.now }
+    ensures stored { OnOk result (IsStored _path.now (after _line.now (value _book.now)) (D.done disk.new)) }
+    ensures notes { Notes _path.now (value _book.now) (after _line.now (value _book.now)) (D.done disk.old) (D.done disk.new) }
+{
+    disk.append(text)?;
+    disk.flush()
+}
+
+// Writes the whole file anew: what a book says, and one line more, which has this text. Answers its octets.
+fn rewrite<D: Disk>(
+    disk: &mut D,
+    alloc: Global,
+    path: &str,
+    book: &Book,
+    _line: &Line,
+    text: &[u8],
+) -> Result<usize, StoredOutboxFault>
+    requires all_plain { IsPlainBook (value book.now) }
+    requires plain { IsPlain _line.now }
+    requires is_text { text.now ≡ line_text _line.now }
+    ensures stored { OnOk result (IsStored path.now (after _line.now (value book.now)) (D.done disk.new)) }
+    ensures notes { Notes path.now (value book.now) (after _line.now (value book.now)) (D.done disk.old) (D.done disk.new) }
+{
+    let Ok(mut whole) = book_text(alloc, book) else {
+        return Err(StoredOutboxFault::NoMemory);
+    };
+    if whole.extend_from_slice(text).is_err() {
+        return Err(StoredOutboxFault::NoMemory);
+    }
+    write_whole(disk, alloc, path, whole.as_slice())?;
+    Ok(whole.len())
+}
+
+// Stores a text as the whole file, which is open from then on. Without memory nothing is asked of the disk.
+fn write_whole<D: Disk>(
+    disk: &mut D,
+    alloc: Global,
+    path: &str,
+    text: &[u8],
+) -> Result<(), StoredOutboxFault>
+    ensures changes { Changes (Is (beside path.now)) (Whole path.now text.now) (D.done disk.old) (D.done disk.new) }
+    ensures open { OnOk result (IsKept (beside path.now) path.now (flushed text.now) (D.done disk.new)) }
+{
+    if has_slash(path) {
+        return Err(StoredOutboxFault::Unwritable);
+    }
+    let Ok(beside) = format!(in alloc; "{path}.new") else {
+        return Err(StoredOutboxFault::NoMemory);
+    };
+    replace_beside(disk, beside.as_str(), path, text).map_err(|_| StoredOutboxFault::Unwritable)
+}
+
+// Whether a path leads into a folder below.
+fn has_slash(path: &str) -> bool
+    ensures { result ≡ list_any is_slash path.now }
+{
+    path.as_bytes().iter().any(|octet| *octet == b'/')
+}

@@ -1,0 +1,10 @@
+//! Received files are stored by a thread of its own, so that a slow disk holds nothing else up.
+#![tactic(auto)]
+
+mod depot;
+mod station_files;
+mod storer;
+
+pub use depot::{Depot, DepotReport, Stored, StoredNote, Storing};
+pub use station_files::StationFiles;
+pub use storer::{Storer, StorerTurn, run_storer};

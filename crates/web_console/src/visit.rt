@@ -1,0 +1,119 @@
+//! One visit over HTTP.
+use crate::watch::Watch;
+use http_server::{Config, Connection};
+use std::alloc::Global;
+use std::hash::RandomState;
+use std::io;
+use std::io::ErrorKind;
+use std::net::{Net, TcpStream};
+use std::os::fd::AsRawFd;
+use std::sync::Wait;
+use std::time::{Clock, Duration};
+use web_pages::{Console, Settings};
+
+// How many seconds a visitor may take to send a request, and to take an answer.
+const PATIENCE_SECS: u64 = 10;
+
+// The most octets of a request's body: those of a command's line.
+const BODY_OCTETS: usize = 131_072;
+
+// How often octets are moved for one visit before others have their turn.
+const STEPS: usize = 64;
+
+/// A visitor's connection. Reading from it and writing to it wait for nothing.
+#[derive(Drop)]
+pub(crate) struct Visit {
+    stream: TcpStream,
+    connection: Connection,
+    /// When the console's patience ends, on the system's own clock.
+    until: Duration,
+    /// Whether an answer is to be taken; else a request is to come.
+    is_writing: bool,
+}
+
+impl Visit {
+    /// A visit that begins.
+    pub(crate) fn new<R: Clock>(
+        rt: &R,
+        alloc: Global,
+        keys: RandomState,
+        stream: TcpStream,
+    ) -> io::Result<Visit> {
+        stream.set_nodelay(true)?;
+        stream.set_nonblocking(true)?;
+        let config = Config {
+            max_body_len: BODY_OCTETS,
+            ..Config::default()
+        };
+        Ok(Visit {
+            stream,
+            connection: Connection::new(alloc, keys, config),
+            until: patience_from(rt)?,
+            is_writing: false,
+        })
+    }
+
+    /// The descriptor of its connection.
+    pub(crate) fn descriptor(&self) -> i32 {
+        self.stream.as_raw_fd()
+    }
+
+    /// Whether an answer is to be taken; else a request is to come.
+    pub(crate) fn is_writing(&self) -> bool {
+        self.is_writing
+    }
+
+    /// When the console's patience ends.
+    pub(crate) fn until(&self) -> Duration {
+        self.until
+    }
+
+    /// Goes on as far as there are octets to read and room to write; false once the visit is over.
+    pub(crate) fn go_on<R: Wait + Clock + Net>(
+        &mut self,
+        rt: &R,
+        alloc: Global,
+        settings: &Settings,
+        watch: &Watch<'_, R>,
+    ) -> io::Result<bool> {
+        let mut console = Console::new(alloc, settings, watch);
+        for _ in 0..STEPS {
+            self.connection.advance(&mut console);
+            if self.connection.is_done() {
+                return Ok(false);
+            }
+            if self.connection.wants_write() != self.is_writing {
+                self.is_writing = !self.is_writing;
+                self.until = patience_from(rt)?;
+            }
+            match self.move_octets() {
+                Ok(()) => {}
+                Err(error) if error.kind() == ErrorKind::WouldBlock => return Ok(true),
+                Err(error) => return Err(error),
+            }
+        }
+        Ok(true)
+    }
+
+    // Writes what is pending, or reads.
+    fn move_octets(&mut self) -> io::Result<()> {
+        if self.is_writing {
+            let mut writer = &self.stream;
+            if self.connection.write_to(&mut writer)? == 0 {
+                return Err(ErrorKind::WriteZero.into());
+            }
+        } else {
+            let mut reader = &self.stream;
+            self.connection.read_from(&mut reader)?;
+        }
+        Ok(())
+    }
+}
+
+// The moment at which the console's patience ends that begins now.
+fn patience_from<R: Clock>(rt: &R) -> io::Result<Duration> {
+    Ok(
+        rt.monotonic()?
+            .saturating_add(Duration::from_secs(PATIENCE_SECS)),
+    )
+}

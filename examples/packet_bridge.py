@@ -1,0 +1,81 @@
+#!/usr/bin/env python3
+"""Carries PDUs between a server of this repository, which has one PDU in a UDP datagram, and a peer that has them in space packets.
+
+    packet_bridge.py --station 127.0.0.1:4556 --listen 127.0.0.1:4600 --peer 192.0.2.20:1235 --packets 0.0.0.0:1234 \\
+        --head 1fe7c00000000000 --strip 16 --apid 2020
+
+A datagram from the server leaves for the peer behind the octets of --head, a packet's header: its sequence count and its length are
+filled in. A packet from the peer loses the first octets that --strip says, and goes to the server. It runs until it is ended.
+"""
+import argparse
+import select
+import socket
+
+PRIMARY = 6
+LONGEST = 65_542
+
+
+def address(text):
+    host, _, port = text.rpartition(":")
+    return host, int(port)
+
+
+def head(text):
+    octets = bytes.fromhex(text)
+    if len(octets) < PRIMARY:
+        raise ValueError("a packet's header has six octets at least")
+    return octets
+
+
+def words():
+    reader = argparse.ArgumentParser(description=__doc__.partition("\n")[0])
+    reader.add_argument("--station", type=address, required=True, metavar="ADDR", help="where the server listens (its --bind)")
+    reader.add_argument("--listen", type=address, required=True, metavar="ADDR", help="the server's `address` for the peer: this program")
+    reader.add_argument("--peer", type=address, required=True, metavar="ADDR", help="where packets for the peer go")
+    reader.add_argument("--packets", type=address, required=True, metavar="ADDR", help="where packets of the peer arrive: this program")
+    reader.add_argument("--head", type=head, required=True, metavar="HEX", help="the header that each PDU gets")
+    reader.add_argument("--strip", type=int, required=True, metavar="N", help="how many octets are in front of a PDU in a packet")
+    reader.add_argument("--apid", type=int, metavar="N", help="takes packets with this APID alone")
+    return reader.parse_args()
+
+
+def packet(header, count, pdu):
+    """A PDU behind a header, with the packet's sequence count and length."""
+    flags = int.from_bytes(header[2:4], "big") & 0xC000
+    length = len(header) - PRIMARY + len(pdu) - 1
+    return header[:2] + (flags | count % 16_384).to_bytes(2, "big") + length.to_bytes(2, "big") + header[PRIMARY:] + pdu
+
+
+def pdu_of(octets, strip, apid):
+    """The PDU in a packet; nothing where the packet is another one, or is cut."""
+    if len(octets) <= max(strip, PRIMARY) or len(octets) != PRIMARY + int.from_bytes(octets[4:6], "big") + 1:
+        return b""
+    if apid is not None and int.from_bytes(octets[:2], "big") & 0x7FF != apid:
+        return b""
+    return octets[strip:]
+
+
+def main():
+    given = words()
+    plain, packed = (socket.socket(socket.AF_INET, socket.SOCK_DGRAM) for _ in range(2))
+    for one, place in ((plain, given.listen), (packed, given.packets)):
+        one.setsockopt(socket.SOL_SOCKET, socket.SO_RCVBUF, 4_000_000)
+        one.bind(place)
+    count = 0
+    while True:
+        for one in select.select([plain, packed], [], [])[0]:
+            octets = one.recv(LONGEST)
+            if one is plain:
+                packed.sendto(packet(given.head, count, octets), given.peer)
+                count += 1
+            else:
+                pdu = pdu_of(octets, given.strip, given.apid)
+                if pdu:
+                    plain.sendto(pdu, given.station)
+
+
+if __name__ == "__main__":
+    try:
+        main()
+    except KeyboardInterrupt:
+        pass

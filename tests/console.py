@@ -1,0 +1,181 @@
+#!/usr/bin/env python3
+"""The console over a running server with traffic: what it shows is what the station says, and its commands reach it.
+
+usage: tests/console.py CFDP_WEB SERVER
+
+Two servers and the console on loopback, in a folder of their own; it ends within a minute.
+"""
+import http.client
+import json
+import os
+import pathlib
+import subprocess
+import sys
+import tempfile
+import time
+
+from support import Station, Wrong, free_port, until, want
+
+WEB, SERVER = (os.path.abspath(word) for word in sys.argv[1:3])
+TOKEN = "a-token-of-the-test"
+
+
+class Console:
+    """A running console, and requests to it."""
+
+    def __init__(self, control):
+        pathlib.Path("token").write_text(TOKEN + "\n")
+        self.port = free_port()
+        words = [WEB, "--control", control, "--listen", f"127.0.0.1:{self.port}", "--commands", "--token-file", "token"]
+        self.run = subprocess.Popen(words, stdout=subprocess.PIPE, stderr=subprocess.PIPE)
+        until(lambda: self.ask("GET", "/healthz")[0] == 200, "the console")
+
+    def ask(self, method, target, body=None, **headers):
+        connection = http.client.HTTPConnection("127.0.0.1", self.port, timeout=15)
+        try:
+            connection.request(method, target, body, headers)
+            answer = connection.getresponse()
+            return answer.status, answer.read()
+        except OSError:
+            return None, b""
+        finally:
+            connection.close()
+
+    def document(self):
+        status, body = self.ask("GET", "/status.json")
+        want(status, 200)
+        return json.loads(body)
+
+    def command(self, line):
+        """What the station answers to a command."""
+        status, body = self.ask("POST", "/command", line, **{"X-Console-Token": TOKEN})
+        want((line, status), (line, 200))
+        return body.decode().splitlines()
+
+    def events(self):
+        """The events that the console has kept."""
+        status, body = self.ask("GET", "/events")
+        want(status, 200)
+        return [json.loads(line[6:]) for line in body.decode().splitlines() if line.startswith("data: ")]
+
+    def close(self):
+        self.run.kill()
+        self.run.wait()
+        self.run.stdout.close()
+        self.run.stderr.close()
+
+
+KINDS = {"entities": "entity", "logs": "log", "users": "user", "transactions": "transaction", "remotes": "remote",
+         "refusals": "refusal", "outbox": "queued", "reading": "reading", "parked": "parked", "storing": "storing",
+         "recorders": "recorder"}
+
+
+def check_status(console, client):
+    """The document has the lines of the status, once nothing moves."""
+    names = [name for name in KINDS if name not in ("entities", "reading")]
+
+    def is_alike():
+        lines = client.status()
+        document = console.document()
+        return {name: document[name] for name in names} == {name: [line for line in lines if line["kind"] == KINDS[name]] for name in names} and \
+            set(document["entities"][0]) == set(lines[0])
+
+    until(is_alike, "a document with the lines of the status")
+
+
+# What the page reads of each kind of line, besides what it shows as it is.
+READ = {"entities": {"id", "started", "now", "counters", "version"}, "logs": {"failing", "lost"}, "users": {"name", "waiting", "capacity"},
+        "transactions": {"source", "seq", "user", "role", "peer", "class", "state", "file", "to", "size", "octets", "events", "last"},
+        "remotes": {"id", "address", "held", "datagrams_in", "octets_in", "datagrams_out", "octets_out", "failed_sends"}}
+COUNTERS = {"datagrams_in", "octets_in", "datagrams_out", "octets_out", "refused", "stored", "failed_stores"}
+
+
+def check_members(console):
+    """A running station's lines have the members that the page reads."""
+    document = console.document()
+    missing = [(name, member) for name, members in READ.items() for line in document[name] for member in members - set(line)]
+    want((missing, COUNTERS - set(document["entities"][0]["counters"])), ([], set()))
+
+
+def seen(console, seq):
+    """The line of a transaction."""
+    return next((line for line in console.document()["transactions"] if line["seq"] == seq), {})
+
+
+def give_up(console, two, file):
+    """Several files go to a peer that has gone: one is suspended, goes on, and is abandoned; another one is cancelled. What the page
+    takes as signs of life moves while nothing is indicated."""
+    two.close()
+    for name in ("c", "d"):
+        want(console.command(f"send alice 2 2 {file} {name}")[0].split()[0], "queued")
+    until(lambda: {"c", "d"} <= {line.get("to") for line in console.document()["transactions"] if line["state"] == "active"}, "two transactions")
+    first, other = (next(line for line in console.document()["transactions"] if line.get("to") == name) for name in ("c", "d"))
+    until(lambda: seen(console, first["seq"])["events"] > first["events"], "timers that count", 20)
+    names = [f"alice {line['source']} {line['seq']}" for line in (first, other)]
+    want(console.command(f"suspend {names[0]}"), ["ok"])
+    until(lambda: seen(console, first["seq"])["state"] == "suspended", "a transaction at rest")
+    want(console.command(f"resume {names[0]}"), ["ok"])
+    until(lambda: seen(console, first["seq"])["state"] == "active", "a transaction that goes on")
+    want((console.command(f"abandon {names[0]}"), console.command(f"cancel {names[1]}")), (["ok"], ["ok"]))
+    until(lambda: "condition" in seen(console, first["seq"]) and "delivery" not in seen(console, first["seq"]), "an abandoned transaction")
+    until(lambda: "Abandoned" in {event.get("name") for event in console.events() if event.get("seq") == first["seq"]}, "its event")
+
+
+def work(console, one, two):
+    client = one.client()
+    pathlib.Path("file").write_bytes(bytes(range(256)) * 40)
+    file = os.path.abspath("file")
+    want((console.command("hold all"), console.command("rate 2 5000000")), (["ok"], ["ok"]))
+    want(console.command(f"send alice 2 2 {file} a"), ["queued 1"])
+    want(console.command(f"send alice 2 2 {file} b"), ["queued 2"])
+    until(lambda: [line["to"] for line in console.document()["outbox"]] == ["a", "b"], "the outbox")
+    check_status(console, client)
+    want(console.document()["remotes"][0]["held"], True)
+    want(console.command("drop 2"), ["ok"])
+    want(console.command("release 2 600"), ["ok"])
+    until(lambda: "open_until" in console.document()["remotes"][0], "the end of the window")
+    until(lambda: any(line.get("status") == "retained" for line in console.document()["transactions"]), "the end of a file")
+    want((two.received() / "a").read_bytes(), pathlib.Path("file").read_bytes())
+    check_status(console, client)
+    [ended] = [line for line in console.document()["transactions"] if line.get("status") == "retained"]
+    until(lambda: {"put", "hold", "release", "unsent"} <= {event["kind"] for event in console.events()}, "the events")
+    finished = [event for event in console.events() if event.get("name") == "Transaction-Finished"]
+    want([(event["seq"], event["delivery"]) for event in finished], [(ended["seq"], "complete")])
+    script = console.command(f"journal 1 {ended['seq']}")
+    want((script[0].startswith("# "), any(line.startswith("put ") for line in script)), (True, True))
+    want(console.ask("POST", "/command", "nonsense", **{"X-Console-Token": TOKEN})[0], 400)
+    want(console.ask("POST", "/command", "hold 2", **{"X-Console-Token": "another"})[0], 403)
+    metrics = console.ask("GET", "/metrics")[1].decode()
+    want([line for line in ("cfdp_up 1", 'cfdp_remote_held{remote="2"} 0', 'cfdp_transactions{state="ended"} 1') if line not in metrics], [])
+    check_members(console)
+    give_up(console, two, file)
+    want((client.ask("quit"), one.run.wait(15)), (["ok"], 0))
+    until(lambda: console.ask("GET", "/healthz")[0] == 503, "the console to miss the station")
+
+
+def main():
+    ports = [free_port(), free_port()]
+    with tempfile.TemporaryDirectory() as home:
+        os.chdir(home)
+        # files to a peer that has gone stay under way for a minute
+        one = Station(SERVER, 1, ports[0], 2, ports[1], ("--log", "log"), limit=200)
+        two = Station(SERVER, 2, ports[1], 1, ports[0])
+        console = None
+        try:
+            one.client().close()
+            two.client().close()
+            console = Console(one.path)
+            work(console, one, two)
+        finally:
+            if console:
+                console.close()
+            one.close()
+            two.close()
+            os.chdir("/")
+    print("the console shows a running station, and commands it")
+
+
+try:
+    main()
+except Wrong as why:
+    sys.exit(f"console: {why}")
