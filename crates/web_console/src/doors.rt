@@ -39,7 +39,8 @@ pub(crate) fn keep_doors<R: Wait + Clock + Net<Listener = TcpListener, Stream = 
     }
 }
 
-// Waits once, and does what is to be done then.
+// Ends visits whose time is over, waits once, and does what is to be done then. They end first: octets that come are a reason to
+// go on only within the time.
 fn look_once<R: Wait + Clock + Net<Listener = TcpListener, Stream = TcpStream>>(
     rt: &R,
     alloc: Global,
@@ -48,13 +49,13 @@ fn look_once<R: Wait + Clock + Net<Listener = TcpListener, Stream = TcpStream>>(
     lobby: &Lobby,
     visits: &mut Vec<Visit>,
 ) -> io::Result<()> {
+    close_late(rt, visits)?;
     let mut waiting = waiting_for(alloc, listener, lobby, visits.as_slice())?;
     if poll(waiting.as_mut_slice(), LOOK_MILLIS) < 0 {
         thread::sleep(rt, Duration::from_millis(REST_MILLIS));
         return Ok(());
     }
     hand_over(rt, lobby, visits, waiting.as_slice())?;
-    close_late(rt, visits)?;
     for visit in lobby.take_back(rt) {
         add(visits, visit)?;
     }
