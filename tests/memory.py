@@ -1,7 +1,8 @@
 #!/usr/bin/env python3
 """The answers of calls when memory runs out: each allocation of a run is refused in turn, and each answer is that there
 was no memory, or the one with ample memory; after the former, the same call gives the ample answer, and so does every
-call after it. Then the answers to a million datagrams with pseudo-random changes.
+call after it. Then the answers to a million datagrams: half of them are good ones with pseudo-random changes, half are made
+field by field. A reader of its own (tests/pdus.py) says which fault each of them has.
 
 usage: tests/memory.py CALLS SCRIPTS
 
@@ -18,6 +19,7 @@ import sys
 import tempfile
 import time
 
+import pdus
 from support import Wrong, library
 
 # How many datagrams there are, and how many of them an entity receives before it is replaced by a new one.
@@ -104,9 +106,8 @@ GOOD = [bytes.fromhex(octets) for octets in """24000a000105020700000000030161016
 29002100020401080000000000000000000000000000000300000000000000010000000000000002""".split()]
 # Octets at the ends of ranges.
 EDGES = [0x00, 0x01, 0x7F, 0x80, 0xFF]
-# The faults of reading that have to come up; the last three are told by the data field alone.
+# The faults of reading that have to come up.
 FAULTS = {1, 2, 3, 5, 6, 7, 8}
-OF_DATA = {6, 7, 8}
 # The refusals of datagrams that have to come up: no or an old transaction, a busy lane, octets that are not a PDU, and
 # no destination. Then those that may.
 REFUSALS = {1, 2, 3, 20, 21, 22, 23}
@@ -285,44 +286,33 @@ def change(lots, octets):
         octets[1:3] = (len(octets) - 7).to_bytes(2, "big")
 
 
-def fault_of(octets):
-    """The fault of reading that the length and the fixed header tell, or None."""
-    if len(octets) < 4:
-        return 1
-    header = 4 + 2 * (1 + (octets[3] >> 4 & 7)) + 1 + (octets[3] & 7)
-    if len(octets) < header:
-        return 1
-    if octets[0] >> 5 != 1:
-        return 2
-    if octets[0] >> 1 & 1:
-        return 3
-    return 5 if len(octets) != header + int.from_bytes(octets[1:3], "big") else None
+def changed(lots):
+    """A good datagram with up to three changes."""
+    octets = bytearray(lots.choice(GOOD))
+    for _ in range(lots.randrange(4)):
+        change(lots, octets)
+    return octets
 
 
 def check_answer(octets, answer):
     """Compares the answer to a datagram with what it may be; gives what it was."""
-    fault = fault_of(octets)
+    fault = pdus.fault_of(octets)
     words = answer.split()
     number = 0 if answer == "ok" else int(words[1])
     told = int(words[3]) if number == 20 else None
-    if fault is None:
-        may = number in REFUSALS | RARE_REFUSALS | {0} if told is None else told in OF_DATA
-    else:
-        may = told == fault
-    if not may:
+    if told != fault or number not in REFUSALS | RARE_REFUSALS | {0}:
         raise Wrong(f"{octets.hex()} is answered {answer}")
     return number, told
 
 
 def deliver(program, seed):
-    """Delivers changed datagrams to an entity that has sent a file in class 2, and keeps files that it receives; gives the
-    answers that came."""
+    """Delivers datagrams to an entity that has sent a file in class 2, and keeps files that it receives; gives the answers that
+    came. With an even seed they are good ones that are changed, with an odd one they are made field by field."""
     lots = random.Random(seed)
+    maker = pdus.Maker(lots)
     script, events = ["put alice 0 2 1 a b 616263", "pump 2 4", "pump 2 4", "pump 2 4"], [None] * 4
     for turn in range(TURNS):
-        octets = bytearray(lots.choice(GOOD))
-        for _ in range(lots.randrange(4)):
-            change(lots, octets)
+        octets = maker.pdu() if seed % 2 else changed(lots)
         if octets:
             script.append(f"pdu {octets.hex()}")
             events.append(octets)
@@ -331,24 +321,27 @@ def deliver(program, seed):
     done = play([program], script="\n".join(script) + "\n")
     answers = [line for line in done.stdout.splitlines() if line == "ok" or line.startswith("refused ")]
     if done.returncode != 0 or done.stderr or len(answers) != len(events):
-        raise Wrong(f"changed datagrams, seed {seed}: status {done.returncode}, {done.stdout[-300:]}{done.stderr}")
+        raise Wrong(f"datagrams, seed {seed}: status {done.returncode}, {done.stdout[-300:]}{done.stderr}")
     return {check_answer(octets, answer) for octets, answer in zip(events, answers) if octets is not None}
 
 
-def check_changed(program):
-    """Delivers changed datagrams."""
+def check_datagrams(program):
+    """Delivers datagrams. Each fault and each refusal has to come up among either kind."""
     began = time.monotonic()
-    seen = set()
+    seen = [set(), set()]
     with concurrent.futures.ProcessPoolExecutor(AT_ONCE) as pool:
         worlds = DATAGRAMS // TURNS
-        for came in pool.map(deliver, [program] * worlds, range(worlds), chunksize=20):
-            seen |= came
-    numbers, faults = {number for number, _ in seen}, {told for _, told in seen}
-    lacking = sorted((REFUSALS | {0}) - numbers), sorted(FAULTS - faults)
-    if lacking != ([], []):
-        raise Wrong(f"changed datagrams: the refusals {lacking[0]} and the faults {lacking[1]} never came")
+        answers = pool.map(deliver, [program] * worlds, range(worlds), chunksize=20)
+        for seed, came in enumerate(answers):
+            seen[seed % 2] |= came
+    for kind, came in zip(("changed", "made"), seen):
+        numbers, faults = {number for number, _ in came}, {told for _, told in came}
+        lacking = sorted((REFUSALS | {0}) - numbers), sorted(FAULTS - faults)
+        if lacking != ([], []):
+            raise Wrong(f"{kind} datagrams: the refusals {lacking[0]} and the faults {lacking[1]} never came")
     print(
-        f"{DATAGRAMS} changed datagrams come: each answer may be, and each kind came ({time.monotonic() - began:.0f} s)"
+        f"{DATAGRAMS} datagrams come, half of them changed, half made field by field: each answer is the one of the fault"
+        f" that it has, and each kind came ({time.monotonic() - began:.0f} s)"
     )
 
 
@@ -363,7 +356,7 @@ def main():
         with tempfile.TemporaryDirectory() as folder:
             check_calls(calls, pathlib.Path(folder))
             check_scripts(scripts, pathlib.Path(folder))
-        check_changed(scripts)
+        check_datagrams(scripts)
     except (Wrong, subprocess.TimeoutExpired) as wrong:
         sys.exit(f"tests/memory.py: {wrong}")
 
