@@ -1,4 +1,5 @@
-"""Counts the instructions that a File Data PDU costs a running server and a put, which vary little from run to run.
+"""Counts the instructions that a File Data PDU costs a running server and a put, which vary little from run to run, and the page
+faults that a datagram costs a server.
 
 usage: datagrams.py SERVER PUT
 
@@ -30,6 +31,11 @@ RATE = 1_000_000
 # The bars, in instructions a PDU.
 SERVER_BAR = 7_000
 PUT_BAR = 5_000
+
+# The PDUs of a transfer of 16 MiB whose page faults are counted, and how many of them a PDU may take.
+TRANSFER = 11_983
+TRANSFER_RATE = 8_000_000
+FAULTS_BAR = 0.6
 
 
 def counting(out):
@@ -93,6 +99,22 @@ def put_cost(server, put, parts):
     return counted("out")
 
 
+def faults_of(server, put):
+    """The page faults of a server for each PDU of a transfer, those aside that the disk had to serve."""
+    at_server, at_put = programs.free_ports(2)
+    configs = programs.configure("ground.toml", at_put), programs.configure("spacecraft.toml", at_server)
+    pathlib.Path("image").write_bytes(random.Random(7).randbytes(TRANSFER * PART))
+    with programs.serving(server, configs[0], at_server, words=["--follow"], told=subprocess.DEVNULL) as running:
+        running.tell("trace 2 1")
+        time.sleep(0.3)
+        before = programs.minor_faults(running.process.pid)
+        words = ["--bind", f"127.0.0.1:{at_put}", "--user", "alice", "--remote", "2", "--class", "2", "--rate", str(TRANSFER_RATE)]
+        done = subprocess.run([put, "--config", configs[1], *words, "image", "image.received"], stdout=subprocess.DEVNULL, timeout=300)
+        if done.returncode:
+            sys.exit("the put failed")
+        return (programs.minor_faults(running.process.pid) - before) / TRANSFER
+
+
 def tell(name, few, many, bar):
     each = (many - few) / (MANY - FEW)
     print(f"{name}: {FEW:,} PDUs {few:,} instructions, {MANY:,} {many:,}: {each:,.0f} a PDU", flush=True)
@@ -100,11 +122,14 @@ def tell(name, few, many, bar):
 
 
 def main():
-    if not bars.has_tool("valgrind", "what a PDU costs is not counted"):
-        return
     server, put = map(os.path.realpath, sys.argv[1:3])
     with tempfile.TemporaryDirectory() as folder:
         os.chdir(folder)
+        faults = faults_of(server, put)
+        bars.show_bar(f"{faults:.2f} page faults a PDU of a transfer of 16 MiB, at most {FAULTS_BAR}", faults <= FAULTS_BAR)
+        if not bars.has_tool("valgrind", "what a PDU costs is not counted"):
+            os.chdir("/")
+            bars.end()
         tell("a server that receives, with one worker", *[server_cost(server, parts) for parts in (FEW, MANY)], SERVER_BAR)
         tell("a put", *[put_cost(server, put, parts) for parts in (FEW, MANY)], PUT_BAR)
         os.chdir("/")

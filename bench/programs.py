@@ -86,6 +86,11 @@ def processor_seconds(pid):
     return (int(fields[11]) + int(fields[12])) / os.sysconf("SC_CLK_TCK")
 
 
+def minor_faults(pid):
+    """How many page faults a process has had for which nothing was read from a disk."""
+    return int(pathlib.Path(f"/proc/{pid}/stat").read_text().rpartition(")")[2].split()[7])
+
+
 class Server:
     """A server that answers commands. What it prints goes into a file where its user follows, and else comes here."""
 

@@ -126,7 +126,7 @@ file names that a folder store takes; stores in memory and in a folder; faults: 
 where a store with folders puts a file, what it has ready, and the effect of a deposit: station_store/Paths Stations
 what lies behind a lane's lock, and a step of it: shared_lanes/Held
 what `Entity` may answer; what it is opened with: shared_entity/Answering Opening
-workers: what waits, faults, which answers a carrier accepts; deposits: entity_workers/Messages Faults Carrying Depositing
+workers: faults, which answers a carrier accepts; deposits: entity_workers/Faults Carrying Depositing
 words of a line, and operands that scripts and commands share: line_words/Words Operands Places
 words of a line with quotes: quoted_words/Quoted
 printed lines: indications; answers and refusals: answer_texts/ToldTexts AnswerTexts

@@ -109,8 +109,14 @@ unfolding digits
 reports = refl
 
 -- with two messages, one of them without octets
-metadata : indication_text (told.MetadataRecv (record { 0 = 18446744073709551615 }) 4194304 (0x61 ∷ []) (0x62 ∷ 0x5A
-    ∷ []) ((0x00 ∷ 0xAB ∷ []) ∷ [] ∷ []))
+metadata : indication_text (told.MetadataRecv (record {
+  source = record { 0 = 18446744073709551615 };
+  size = 4194304;
+  source_name = 0x61 ∷ [];
+  destination_name = 0x62 ∷ 0x5A
+      ∷ [];
+  messages = (0x00 ∷ 0xAB ∷ []) ∷ [] ∷ [];
+}))
     ≡ codes "Metadata-Recv 18446744073709551615 4194304 61 625a 00ab -"
 unfolding digits encode_with
 metadata = refl

@@ -39,7 +39,7 @@ indication_name Transaction = codes "Transaction"
 indication_name EofSent = codes "EOF-Sent"
 indication_name EofRecv = codes "EOF-Recv"
 indication_name (TransactionFinished condition delivery status) = codes "Transaction-Finished"
-indication_name (MetadataRecv source size source_name destination_name messages) = codes "Metadata-Recv"
+indication_name (MetadataRecv metadata) = codes "Metadata-Recv"
 indication_name (FileSegmentRecv offset octets) = codes "File-Segment-Recv"
 indication_name (SuspendedIndication condition) = codes "Suspended"
 indication_name (Resumed progress) = codes "Resumed"
@@ -88,8 +88,8 @@ operands_text EofSent = []
 operands_text EofRecv = []
 operands_text (TransactionFinished condition delivery status) =
     finished_text condition delivery status
-operands_text (MetadataRecv source size source_name destination_name messages) =
-    metadata_text source size source_name destination_name ++ messages_text messages
+operands_text (MetadataRecv metadata) =
+    metadata_text metadata.source metadata.size metadata.source_name metadata.destination_name ++ messages_text metadata.messages
 operands_text (FileSegmentRecv offset octets) = segment_text offset octets
 operands_text (SuspendedIndication condition) = operand condition
 operands_text (Resumed progress) = operand progress

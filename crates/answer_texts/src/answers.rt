@@ -89,6 +89,6 @@ pub fn push_refused(alloc: Global, text: &mut String, refused: &Refused) -> Resu
     push_refusal(text, refused.why.number(), refused.why.name())?;
     match &refused.echo {
         None => Ok(()),
-        Some(pdu) => push_pdu(alloc, text, "echo", pdu),
+        Some(echo) => push_pdu(alloc, text, "echo", &echo.pdu()),
     }
 }

@@ -14,7 +14,7 @@ pub fn indication_name(said: &Indication) -> &'static str
         Indication::EofSent => "EOF-Sent",
         Indication::EofRecv => "EOF-Recv",
         Indication::TransactionFinished { .. } => "Transaction-Finished",
-        Indication::MetadataRecv { .. } => "Metadata-Recv",
+        Indication::MetadataRecv(_) => "Metadata-Recv",
         Indication::FileSegmentRecv { .. } => "File-Segment-Recv",
         Indication::Suspended { .. } => "Suspended",
         Indication::Resumed { .. } => "Resumed",

@@ -4,7 +4,7 @@ ghost use Rattle.answer_texts.specs.ToldTexts.{bundle_text, line_head, indicatio
 
 use crate::names::{delivery_name, indication_name, phase_name, status_name};
 use cfdp_types::{Condition, Delivery, EntityId, FileStatus, Messages, Octets};
-use indications::{Bundle, Indication, Phase};
+use indications::{Bundle, Indication, Phase, ReceivedMetadata};
 use std::alloc::{AllocError, Global};
 
 /// Appends a line for each indication of a bundle for the user with this name.
@@ -56,16 +56,7 @@ fn push_operands(alloc: Global, text: &mut String, said: &Indication) -> Result<
             delivery,
             status,
         } => push_finished(text, *condition, *delivery, *status),
-        Indication::MetadataRecv {
-            source,
-            size,
-            source_name,
-            destination_name,
-            messages,
-        } => {
-            push_metadata(alloc, text, *source, *size, source_name, destination_name)?;
-            push_messages(alloc, text, messages)
-        }
+        Indication::MetadataRecv(metadata) => push_received(alloc, text, metadata.get()),
         Indication::FileSegmentRecv { offset, length } => push_segment(text, *offset, *length),
         Indication::Suspended { condition } => push_value(text, u64::from(condition.code())),
         Indication::Resumed { progress } => push_value(text, u64::from(*progress)),
@@ -79,6 +70,26 @@ fn push_operands(alloc: Global, text: &mut String, said: &Indication) -> Result<
             progress,
         } => { push_fault(text, *condition, *progress) }
     }
+}
+
+// Appends what a Metadata-Recv tells.
+fn push_received(
+    alloc: Global,
+    text: &mut String,
+    metadata: &ReceivedMetadata,
+) -> Result<(), AllocError>
+    ensures { OnOk result (string_bytes text.new ≡ string_bytes text.old ++ (metadata_text metadata.now.source
+        metadata.now.size metadata.now.source_name metadata.now.destination_name ++ messages_text metadata.now.messages)) }
+{
+    let ReceivedMetadata {
+        source,
+        size,
+        source_name,
+        destination_name,
+        messages,
+    } = metadata;
+    push_metadata(alloc, text, *source, *size, source_name, destination_name)?;
+    push_messages(alloc, text, messages)
 }
 
 fn push_finished(

@@ -10,7 +10,8 @@ mod queues;
 
 use cores::receptions::{Coming, Order};
 use cores::sendings::Parts;
-use cores::{receptions, sendings, timers};
+use cores::sizes::Sized;
+use cores::{far_octets, receptions, sendings, sizes, timers};
 use entities::deliveries;
 use entities::deliveries::Size;
 use fault::Fault;
@@ -26,6 +27,10 @@ use std::thread::Threads;
 enum Scenario {
     /// A core receives a file.
     Receives(Coming),
+    /// Cores receive an octet each, and their senders cancel.
+    ReceivesFar,
+    /// The size of a type.
+    Sizes(Sized),
     /// A core sends a file.
     SendsOnce,
     /// A core sends a file again.
@@ -42,7 +47,8 @@ enum Scenario {
     Blast,
 }
 
-/// A scenario and its numbers: the size of the file that a core receives or sends, or of the timers' list; or the
+/// A scenario and its numbers: the size of the file that a core receives or sends, or of the timers' list; or the offset
+/// of an octet, and how many cores receive one; or the
 /// capacity of a queue in bundles, and how many bundles each lane puts in; or how many threads deliver, and how many
 /// files each; or how many datagrams are sent, and how many octets each has.
 #[derive(Clone, Copy)]
@@ -106,7 +112,7 @@ fn read_words(rt: &HostRuntime) -> Result<Option<Wanted>, Fault> {
 }
 
 // The scenarios by their names.
-const NAMES: [(&str, Scenario); 15] = [
+const NAMES: [(&str, Scenario); 21] = [
     ("eof-last", Scenario::Receives(Coming::EofLast)),
     (
         "eof-first-rising",
@@ -125,6 +131,12 @@ const NAMES: [(&str, Scenario); 15] = [
         Scenario::Receives(Coming::SingleOctets),
     ),
     ("prompts", Scenario::Receives(Coming::Prompts)),
+    ("far-octets", Scenario::ReceivesFar),
+    ("size-of-event", Scenario::Sizes(Sized::Event)),
+    ("size-of-pdu", Scenario::Sizes(Sized::Pdu)),
+    ("size-of-indication", Scenario::Sizes(Sized::Indication)),
+    ("size-of-refused", Scenario::Sizes(Sized::Refused)),
+    ("size-of-plan", Scenario::Sizes(Sized::Plan)),
     ("file-sent", Scenario::SendsOnce),
     ("naks", Scenario::Sends(Parts::Segments)),
     ("naks-of-octets", Scenario::Sends(Parts::Octets)),
@@ -157,6 +169,8 @@ fn run<R: Threads + Wait + Net + AllocGlobal + Copy + Send + Sync>(
     } = wanted;
     match scenario {
         Scenario::Receives(coming) => receptions::receive(rt.alloc(), coming, first),
+        Scenario::ReceivesFar => far_octets::receive(rt.alloc(), first, second),
+        Scenario::Sizes(sized) => Ok(sizes::size_in_octets(sized)),
         Scenario::SendsOnce => sendings::file(rt.alloc(), first),
         Scenario::Sends(parts) => sendings::naks(rt.alloc(), parts, first),
         Scenario::Times => timers::turns(rt.alloc(), first),

@@ -34,7 +34,7 @@ abbrev step : Done
 step = record { key = key; pdus = []; timers = Arm key timer.Nak 3 1000 ∷ Disarm key timer.Inactivity 3 ∷ []; deposit = Some deposit }
 
 abbrev metadata : Indication
-metadata = told.MetadataRecv (record { 0 = 1 }) 12 (97 ∷ []) (98 ∷ 99 ∷ []) ((100 ∷ []) ∷ [])
+metadata = told.MetadataRecv (record { source = record { 0 = 1 }; size = 12; source_name = 97 ∷ []; destination_name = 98 ∷ 99 ∷ []; messages = (100 ∷ []) ∷ [] })
 
 abbrev bundle : Bundle
 bundle = record { user = 4; lane = 2; key = key; inds = told.EofRecv ∷ metadata ∷ [] }

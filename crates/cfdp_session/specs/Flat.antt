@@ -110,8 +110,8 @@ flat_indication told.EofSent = bare 2
 flat_indication told.EofRecv = bare 3
 flat_indication (told.TransactionFinished condition delivery status) =
     record (bare 4) { condition = condition; delivery = delivery_code delivery; status = status_code status }
-flat_indication (told.MetadataRecv source size source_name destination_name messages) =
-    record (bare 5) { source = source.0; size = size; parts = length messages + 2 }
+flat_indication (told.MetadataRecv metadata) =
+    record (bare 5) { source = metadata.source.0; size = metadata.size; parts = length metadata.messages + 2 }
 flat_indication (told.FileSegmentRecv offset size) = record (bare 6) { offset = offset; length = size }
 flat_indication (told.Suspended condition) = record (bare 7) { condition = condition }
 flat_indication (told.Resumed progress) = record (bare 8) { progress = progress }

@@ -43,7 +43,7 @@ indications_of None = []
 
 -- the texts of an indication: both file names, then the messages
 abbrev pub parts_of : Indication → List (List ℕ)
-parts_of (told.MetadataRecv source size source_name destination_name messages) = source_name ∷ destination_name ∷ messages
+parts_of (told.MetadataRecv metadata) = metadata.source_name ∷ metadata.destination_name ∷ metadata.messages
 parts_of _ = []
 
 -- the texts of the indication at a place

@@ -144,17 +144,15 @@ impl FlatIndication {
                 status: status_code(*status),
                 ..FlatIndication::bare(4)
             },
-            Indication::MetadataRecv {
-                source,
-                size,
-                messages,
-                ..
-            } => FlatIndication {
-                source: source.0,
-                size: *size,
-                parts: messages.as_slice().len() + 2,
-                ..FlatIndication::bare(5)
-            },
+            Indication::MetadataRecv(metadata) => {
+                let metadata = metadata.get();
+                FlatIndication {
+                    source: metadata.source.0,
+                    size: metadata.size,
+                    parts: metadata.messages.as_slice().len() + 2,
+                    ..FlatIndication::bare(5)
+                }
+            }
             Indication::FileSegmentRecv { offset, length } => FlatIndication {
                 offset: *offset,
                 length: *length,

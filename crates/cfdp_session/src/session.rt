@@ -7,7 +7,7 @@ use cfdp_types::limits::{MESSAGE_OCTETS, MESSAGES};
 use cfdp_types::{Image, Messages, Octets, PutFault, PutRequest, TxnKey};
 use entity_config::{ConfigFault, read_config};
 use indications::{Bundle, Indication};
-use lane_table::Done;
+use lane_table::{Done, Echo};
 use pdu_codec::{Pdu, encode};
 use std::alloc::{AllocError, Global};
 use std::{mem, str};
@@ -129,7 +129,19 @@ impl Session {
         FlatDone::of(&self.last)
     }
 
-    /// The octets of a PDU that the last event left to send, if it left so many.
+    /// The octets of an echo, if there is one.
+    fn echoed(alloc: Global, echo: &Option<Echo>) -> Result<Option<Vec<u8>>, AllocError>
+        ensures { IfOk result (λ octets. option_map (λ o. o.items) octets ≡ option_map spelling.written echo.now) }
+    {
+        let Some(echo) = echo else {
+            return Ok(None);
+        };
+        let mut octets = Vec::new(alloc);
+        encode(&echo.pdu(), &mut octets)?;
+        Ok(Some(octets))
+    }
+
+    // The octets of a PDU that the last event left to send, if it left so many.
     pub fn pdu(&self, alloc: Global, index: usize) -> Result<Option<Vec<u8>>, AllocError>
         ensures { IfOk result (λ octets. option_map (λ o. o.items) octets
             ≡ option_map spelling.written (slice_get (pdus_of self.now.last) index)) }
@@ -137,7 +149,7 @@ impl Session {
         match &self.last {
             Some(Ok(done)) => encoded(alloc, done.pdus.as_slice().get(index)),
             Some(Err(EntityRefusal::Lane(refused))) if index == 0 => {
-                encoded(alloc, refused.echo.as_ref())
+                echoed(alloc, &refused.echo)
             }
             _ => Ok(None),
         }
@@ -205,14 +217,16 @@ impl Session {
         ensures { option_copied result ≡ slice_get (parts_at (slice_get (indications_of self.now.front) index)) part }
     {
         match self.told(index) {
-            Some(
-                Indication::MetadataRecv {
-                    source_name,
-                    destination_name,
+            Some(Indication::MetadataRecv(metadata)) => {
+                let metadata = metadata.get();
+                let messages = metadata.messages.as_slice();
+                text_at(
+                    &metadata.source_name,
+                    &metadata.destination_name,
                     messages,
-                    ..
-                },
-            ) => text_at(source_name, destination_name, messages.as_slice(), part),
+                    part,
+                )
+            }
             _ => None,
         }
     }
@@ -282,6 +296,18 @@ fn text_at<'a>(
             None => None,
         },
     }
+}
+
+// The octets of an echo, if there is one.
+fn echoed(alloc: Global, echo: &Option<Echo>) -> Result<Option<Vec<u8>>, AllocError>
+    ensures { IfOk result (λ octets. option_map (λ o. o.items) octets ≡ option_map spelling.written echo.now) }
+{
+    let Some(echo) = echo else {
+        return Ok(None);
+    };
+    let mut octets = Vec::new(alloc);
+    encode(&echo.pdu(), &mut octets)?;
+    Ok(Some(octets))
 }
 
 // The octets of a PDU, if there is one.

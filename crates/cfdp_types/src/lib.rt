@@ -1,6 +1,7 @@
 //! The types and limits of the CCSDS File Delivery Protocol that all layers share.
 #![tactic(auto)]
 
+mod boxed;
 mod checksum_type;
 mod condition;
 mod fault_table;
@@ -14,6 +15,7 @@ mod params;
 mod put_request;
 mod timer_op;
 
+pub use boxed::Boxed;
 pub use checksum_type::ChecksumType;
 pub use condition::Condition;
 pub use fault_table::{FaultTable, HandlerNotAllowed, Handlers};

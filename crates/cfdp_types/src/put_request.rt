@@ -43,10 +43,9 @@ impl From<AllocError> for PutFault {
     }
 }
 
-/// A local user's request to send a file (CCSDS 727.0-B-5, 3.4.1). Contracts see the parts, which keep the
-/// limits of names and messages.
+// The parts of a request.
 #[derive(Debug, Drop)]
-pub struct PutRequest {
+struct PutParts {
     destination: EntityId,
     class: Class,
     closure: bool,
@@ -56,29 +55,36 @@ pub struct PutRequest {
     file: Octets,
 }
 
+/// A local user's request to send a file (CCSDS 727.0-B-5, 3.4.1). Contracts see the parts, which keep the
+/// limits of names and messages. They have memory of their own, so that events stay small.
+#[derive(Debug, Drop)]
+pub struct PutRequest {
+    parts: Box<PutParts>,
+}
+
 impl Model for PutRequest {
     ghost use Rattle.cfdp_types.specs.Put.{PutValue, IsPut};
 
     ghost Value = { PutValue };
 
     ghost view = { λ p. record {
-      destination = p.destination;
-      class = p.class;
-      closure = p.closure;
-      source_name = p.source_name;
-      destination_name = p.destination_name;
-      messages = p.messages;
-      file = p.file;
+      destination = p.parts.value.destination;
+      class = p.parts.value.class;
+      closure = p.parts.value.closure;
+      source_name = p.parts.value.source_name;
+      destination_name = p.parts.value.destination_name;
+      messages = p.parts.value.messages;
+      file = p.parts.value.file;
     } };
 
     ghost invariant = { λ p. IsPut (record {
-      destination = p.destination;
-      class = p.class;
-      closure = p.closure;
-      source_name = p.source_name;
-      destination_name = p.destination_name;
-      messages = p.messages;
-      file = p.file;
+      destination = p.parts.value.destination;
+      class = p.parts.value.class;
+      closure = p.parts.value.closure;
+      source_name = p.parts.value.source_name;
+      destination_name = p.parts.value.destination_name;
+      messages = p.parts.value.messages;
+      file = p.parts.value.file;
     }) };
 }
 
@@ -148,7 +154,7 @@ impl PutRequest {
           file = file.now;
         }) }
     {
-        Ok(PutRequest {
+        let parts = PutParts {
             destination,
             class,
             closure: false,
@@ -156,6 +162,9 @@ impl PutRequest {
             destination_name: Octets::from_slice(alloc, destination_name)?,
             messages: Messages::from_slices(alloc, messages)?,
             file: Octets::from_slice(alloc, file)?,
+        };
+        Ok(PutRequest {
+            parts: Box::new(alloc, parts)?,
         })
     }
 
@@ -163,14 +172,17 @@ impl PutRequest {
     pub fn copy(&self) -> Result<PutRequest, AllocError>
         ensures { IfOk result (λ copy. copy ≡ self.now) }
     {
+        let parts = PutParts {
+            destination: self.parts.destination,
+            class: self.parts.class,
+            closure: self.parts.closure,
+            source_name: self.parts.source_name.copy()?,
+            destination_name: self.parts.destination_name.copy()?,
+            messages: self.parts.messages.copy()?,
+            file: self.parts.file.copy()?,
+        };
         Ok(PutRequest {
-            destination: self.destination,
-            class: self.class,
-            closure: self.closure,
-            source_name: self.source_name.copy()?,
-            destination_name: self.destination_name.copy()?,
-            messages: self.messages.copy()?,
-            file: self.file.copy()?,
+            parts: Box::new(*Box::allocator(&self.parts), parts)?,
         })
     }
 
@@ -179,51 +191,39 @@ impl PutRequest {
     pub fn with_closure(self, closure: bool) -> PutRequest
         ensures { result ≡ record self { closure = closure } }
     {
-        PutRequest {
-            destination: self.destination,
-            class: self.class,
-            closure,
-            source_name: self.source_name,
-            destination_name: self.destination_name,
-            messages: self.messages,
-            file: self.file,
-        }
+        let PutRequest { mut parts } = self;
+        parts.closure = closure;
+        PutRequest { parts }
     }
 
     /// This request with another file, whose octets are shared, not copied.
     pub fn with_file(self, file: Octets) -> PutRequest
         ensures { result ≡ record self { file = file } }
     {
-        PutRequest {
-            destination: self.destination,
-            class: self.class,
-            closure: self.closure,
-            source_name: self.source_name,
-            destination_name: self.destination_name,
-            messages: self.messages,
-            file,
-        }
+        let PutRequest { mut parts } = self;
+        parts.file = file;
+        PutRequest { parts }
     }
 
     /// The receiving entity's ID.
     pub fn destination(&self) -> EntityId
         ensures { result ≡ self.now.destination }
     {
-        self.destination
+        self.parts.destination
     }
 
     /// The service class that the user requests.
     pub fn class(&self) -> Class
         ensures { result ≡ self.now.class }
     {
-        self.class
+        self.parts.class
     }
 
     /// Whether the receiver is asked for a Finished PDU in class 1.
     pub fn closure(&self) -> bool
         ensures { result ≡ self.now.closure }
     {
-        self.closure
+        self.parts.closure
     }
 
     /// The file's name at the sender.
@@ -231,7 +231,7 @@ impl PutRequest {
         ensures name { result.now ≡ self.now.source_name }
         ensures range { IsName result.now }
     {
-        &self.source_name
+        &self.parts.source_name
     }
 
     /// The file's name at the receiver.
@@ -239,7 +239,7 @@ impl PutRequest {
         ensures name { result.now ≡ self.now.destination_name }
         ensures range { IsName result.now }
     {
-        &self.destination_name
+        &self.parts.destination_name
     }
 
     /// The messages to the receiving user, in order.
@@ -247,14 +247,14 @@ impl PutRequest {
         ensures messages { result.now ≡ self.now.messages }
         ensures range { AreMessages result.now }
     {
-        &self.messages
+        &self.parts.messages
     }
 
     /// The file's content.
     pub fn file(&self) -> &Octets
         ensures { result.now ≡ self.now.file }
     {
-        &self.file
+        &self.parts.file
     }
 }
 

@@ -6,12 +6,12 @@ ghost use Rattle.config_reading.specs.Values.{is_config};
 ghost use Rattle.config_reading.specs.Walk.{config_in, config_of};
 ghost use Rattle.toml.specs.View.{table_view};
 
-mod entity;
+pub(crate) mod entity;
 pub(crate) mod handlers;
 mod numbers;
 mod params;
-mod remotes;
-mod tables;
+pub(crate) mod remotes;
+pub(crate) mod tables;
 mod texts;
 pub(crate) mod users;
 

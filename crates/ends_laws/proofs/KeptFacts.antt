@@ -29,7 +29,7 @@ use Rattle.txn_events.specs.declared.event.What.TheVariants as what
 use Rattle.txn_events.specs.declared.refusal.Refusal.TheVariants as refusal
 use Rattle.receiver_table.specs.Reception.{Reception, Entry, State, initial, step, state_of, is_suspended, is_closing, finished_in, finished_among}
 use Rattle.receiver_table.specs.Refusals.{refusal_at, is_stale_store}
-use Rattle.receiver_table.specs.Answers.{Response, nothing, tells, ◌and_then◌, response_to, with_event, handler_of, asks_closure, finish_response, cancel_response, fault_response, status_of, is_unsupported, is_beyond, is_whole, agrees, waits_for_rest, looks_at_eof, examines, acknowledges, on_eof, ends_as_finished, on_body, is_below, on_nak_timer, on_check_timer, on_timer, on_resume, pdu_to_sender, ack_of, nak_of, requests_of, scope_of, last_end, if_there, if_so, bodies_of}
+use Rattle.receiver_table.specs.Answers.{metadata_recv, Response, nothing, tells, ◌and_then◌, response_to, with_event, handler_of, asks_closure, finish_response, cancel_response, fault_response, status_of, is_unsupported, is_beyond, is_whole, agrees, waits_for_rest, looks_at_eof, examines, acknowledges, on_eof, ends_as_finished, on_body, is_below, on_nak_timer, on_check_timer, on_timer, on_resume, pdu_to_sender, ack_of, nak_of, requests_of, scope_of, last_end, if_there, if_so, bodies_of}
 use Rattle.receiver_laws.specs.LegalReceptions.{IsLegal}
 use Rattle.receiver_laws.proofs.ReceptionDeposits.{deposits_good}
 use Rattle.ends_laws.specs.ReceiverLaws.{HasKept, IsSaidByReceiver, SaysWhatIsKept}
@@ -106,7 +106,7 @@ eof_denies reception front now e =
 
 body_denies : (reception : Reception) (front now : State) (b : Body) → DeniesIn (on_body reception front now b)
 body_denies reception front now (body.Metadata m) =
-    denies_both (if is_some front.metadata then nothing else tells (told.MetadataRecv reception.key.source m.size m.source_name m.destination_name m.messages ∷ []))
+    denies_both (if is_some front.metadata then nothing else tells (metadata_recv reception.key.source m ∷ []))
     (examines reception now) (denies_if (is_some front.metadata) _ _ tt tt) (examine_denies reception now)
 body_denies reception front now (body.FileData d) = examine_denies reception now
 body_denies reception front now (body.Eof e) = eof_denies reception front now e

@@ -84,7 +84,7 @@ in_parts_schedule = record {
 }
 
 pub in_parts_told : receiver.issued (receiver_log after_in_parts)
-    ≡ told.MetadataRecv (record { 0 = 2 }) 3 (97 ∷ []) (98 ∷ []) [] ∷ told.FileSegmentRecv 2 1 ∷ told.EofRecv ∷ told.Fault 7 3 ∷ told.FileSegmentRecv 0 2 ∷ []
+    ≡ told.MetadataRecv (record { source = record { 0 = 2 }; size = 3; source_name = 97 ∷ []; destination_name = 98 ∷ []; messages = [] }) ∷ told.FileSegmentRecv 2 1 ∷ told.EofRecv ∷ told.Fault 7 3 ∷ told.FileSegmentRecv 0 2 ∷ []
 unfolding sender.initial sender.step sender.state_of receiver.initial receiver.step receiver.state_of runs_of runs_from
 in_parts_told = refl
 
@@ -157,7 +157,7 @@ unfolding sender.initial sender.step sender.state_of receiver.initial receiver.s
 cancelled_is_told = refl
 
 pub cancelled_ends : receiver.issued (receiver_log (after cancelled))
-    ≡ told.MetadataRecv (record { 0 = 2 }) 3 (97 ∷ []) (98 ∷ []) [] ∷ told.FileSegmentRecv 0 3 ∷ told.TransactionFinished 15 Incomplete Discarded ∷ []
+    ≡ told.MetadataRecv (record { source = record { 0 = 2 }; size = 3; source_name = 97 ∷ []; destination_name = 98 ∷ []; messages = [] }) ∷ told.FileSegmentRecv 0 3 ∷ told.TransactionFinished 15 Incomplete Discarded ∷ []
 unfolding sender.initial sender.step sender.state_of receiver.initial receiver.step receiver.state_of runs_of runs_from
 cancelled_ends = refl
 

@@ -181,7 +181,7 @@ unfolding sender.initial sender.step sender.state_of receiver.initial receiver.s
 sender_told = refl
 
 pub receiver_told : receiver.issued (receiver_log (after whole))
-    ≡ told.EofRecv ∷ told.MetadataRecv (record { 0 = 2 }) 3 (97 ∷ []) (98 ∷ []) [] ∷ told.FileSegmentRecv 0 3 ∷ told.TransactionFinished 0 Complete Retained ∷ []
+    ≡ told.EofRecv ∷ told.MetadataRecv (record { source = record { 0 = 2 }; size = 3; source_name = 97 ∷ []; destination_name = 98 ∷ []; messages = [] }) ∷ told.FileSegmentRecv 0 3 ∷ told.TransactionFinished 0 Complete Retained ∷ []
 unfolding sender.initial sender.step sender.state_of receiver.initial receiver.step receiver.state_of runs_of runs_from
 receiver_told = refl
 

@@ -1,2 +1,1 @@
 pub mod StoreRows
-pub mod MessageRows

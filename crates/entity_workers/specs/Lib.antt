@@ -1,4 +1,3 @@
 pub mod Faults
-pub mod Messages
 pub mod Carrying
 pub mod Depositing

@@ -1,12 +1,11 @@
 //! The intake: datagrams are decoded, and wait for the workers.
-ghost use Rattle.std.specs.Prelude.{◌≡◌, ◌<◌, Err, IfErr, IsErr, IsOk};
-ghost use Rattle.pdu_reading.specs.Reading.{reading, IsUnlessMemory};
+ghost use Rattle.std.specs.Prelude.{◌<◌, IfErr, IsErr};
+ghost use Rattle.pdu_reading.specs.Reading.{reading};
 ghost use Rattle.entity_workers.specs.Faults.{IsNotTaken};
 
 use crate::fault::IntakeFault;
-use crate::message::Message;
 use crossbeam_channel::{Receiver, SendError, Sender, bounded};
-use pdu_codec::{DecodeFault, decode};
+use pdu_codec::{DecodeFault, Pdu, decode};
 use std::alloc::{AllocError, Global};
 use std::sync::Wait;
 
@@ -16,14 +15,14 @@ pub struct Intake;
 /// The sending end of an intake, for datagrams.
 #[derive(Drop)]
 pub struct IntakeSend {
-    to: Sender<Message>,
+    to: Sender<Pdu>,
     alloc: Global,
 }
 
 /// The receiving end of an intake, for workers.
 #[derive(Drop)]
 pub struct IntakeEnd {
-    from: Receiver<Message>,
+    from: Receiver<Pdu>,
 }
 
 impl Intake {
@@ -43,12 +42,12 @@ impl IntakeSend {
         ensures why { IfErr result (IsNotTaken (reading octets.now)) }
         ensures unread { IsErr (reading octets.now) → IsErr result }
     {
-        let message = match message_of(self.alloc, octets) {
-            Ok(message) => message,
+        let pdu = match decode(self.alloc, octets) {
+            Ok(pdu) => pdu,
             Err(DecodeFault::NoMemory) => return Err(IntakeFault::NoMemory),
             Err(fault) => return Err(IntakeFault::Decode(fault)),
         };
-        match self.to.send(rt, message) {
+        match self.to.send(rt, pdu) {
             Ok(()) => Ok(()),
             Err(SendError::OutOfMemory(_)) => Err(IntakeFault::NoMemory),
             Err(SendError::Disconnected(_)) => Err(IntakeFault::Closed),
@@ -56,17 +55,9 @@ impl IntakeSend {
     }
 }
 
-/// Decodes a datagram into a message for the workers.
-pub fn message_of(alloc: Global, octets: &[u8]) -> Result<Message, DecodeFault>
-    ensures exact { IsUnlessMemory result (reading octets.now) }
-    ensures memory { result ≡ Err DecodeFault.NoMemory → IsOk (reading octets.now) }
-{
-    Ok(Message::new(decode(alloc, octets)?))
-}
-
 impl IntakeEnd {
-    /// The next message, waiting for one. None once no sender is left and no message is waiting.
-    pub fn receive<R: Wait>(&self, rt: &R) -> Option<Message> {
+    /// The next PDU, waiting for one. None once no sender is left and no PDU is waiting.
+    pub fn receive<R: Wait>(&self, rt: &R) -> Option<Pdu> {
         self.from.recv(rt).ok()
     }
 }

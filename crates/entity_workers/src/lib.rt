@@ -6,7 +6,6 @@ mod carrier;
 mod deposit;
 mod fault;
 mod intake;
-mod message;
 mod source;
 mod workers;
 
@@ -14,7 +13,6 @@ pub use carrier::Carrier;
 pub use deposit::{DepositRest, deposit_one, finish};
 pub use fault::{IntakeFault, WorkersFault};
 pub use file_stores::{Filestore, FolderStore, MemoryStore, StoreFault, StoredFile};
-pub use intake::{Intake, IntakeEnd, IntakeSend, message_of};
-pub use message::Message;
+pub use intake::{Intake, IntakeEnd, IntakeSend};
 pub use source::Source;
 pub use workers::{run_workers, run_workers_from};

@@ -1,22 +1,22 @@
 use crate::carrier::Carrier;
 use crate::intake::IntakeEnd;
-use crate::message::Message;
+use pdu_codec::Pdu;
 use std::sync::Wait;
 
-/// Where workers get their datagrams: one source for all of them.
+/// Where workers get PDUs from datagrams: one source for all of them.
 pub trait Source<R, A, C: Carrier<A>> {
     ghost use Rattle.std.specs.Prelude.{Result};
     ghost use Rattle.entity_parts.specs.declared.refusal.EntityRefusal.{EntityRefusal};
 
-    /// Waits for the next datagram, for the worker with this carrier; None once no more can come. The carrier still
+    /// Waits for the PDU of the next datagram, for the worker with this carrier; None once no more can come. The carrier still
     /// accepts all answers that it accepted before.
-    fn next(&self, rt: &R, carrier: &mut C) -> Option<Message>
+    fn next(&self, rt: &R, carrier: &mut C) -> Option<Pdu>
         ensures { (other : Result A EntityRefusal) → C.accepts carrier.old other → C.accepts carrier.new other };
 }
 
-/// Takes the messages of the intake, and leaves the carrier alone.
+/// Takes the PDUs of the intake, and leaves the carrier alone.
 impl<R: Wait, A, C: Carrier<A>> Source<R, A, C> for IntakeEnd {
-    fn next(&self, rt: &R, _carrier: &mut C) -> Option<Message> {
+    fn next(&self, rt: &R, _carrier: &mut C) -> Option<Pdu> {
         self.receive(rt)
     }
 }

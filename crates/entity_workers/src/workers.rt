@@ -1,11 +1,15 @@
 //! Workers, each in its own thread, which bring datagrams to the lanes of an entity.
-ghost use Rattle.std.specs.Prelude.{◌≡◌, All, IfOk, vec_len};
+ghost use Rattle.std.specs.Prelude.{◌≡◌, All, IfOk, Ok, vec_len};
+ghost use Rattle.pdu_reading.specs.Reading.{reading};
+ghost use Rattle.pdu_values.specs.Spelling.{written};
 ghost use Rattle.entity_workers.specs.Carrying.{AcceptsAnswers};
 
 use crate::carrier::Carrier;
 use crate::fault::WorkersFault;
 use crate::intake::IntakeEnd;
 use crate::source::Source;
+use pdu_codec::Pdu;
+use pdu_codec::laws::round_trip;
 use shared_entity::Entity;
 use shared_lanes::{Gate, Names, Point};
 use std::alloc::Global;
@@ -90,6 +94,16 @@ pub fn run_workers_from<
     )
 }
 
+// The PDU itself; the contract adds that some octets are read as it.
+fn spelled(pdu: Pdu) -> Pdu
+    ensures same { result ≡ pdu }
+    ensures read { reading (written pdu) ≡ Ok pdu }
+{
+    let _fitting = pdu.parts();
+    round_trip();
+    pdu
+}
+
 // Brings datagrams to their lanes until no more can come, and returns the carrier.
 fn work<N: Names, R: Wait + Copy, G: Gate<N, R>, C: Carrier<G::Answer>, S: Source<R, G::Answer, C>>(
     rt: &R,
@@ -101,11 +115,11 @@ fn work<N: Names, R: Wait + Copy, G: Gate<N, R>, C: Carrier<G::Answer>, S: Sourc
     requires { AcceptsAnswers N.queue (G.gives gate.now) entity.now (C.accepts carrier) }
 {
     for _ in rt.forever() {
-        let Some(message) = source.next(rt, &mut carrier) else {
+        let Some(pdu) = source.next(rt, &mut carrier) else {
             break;
         };
         gate.at(Point::Taken);
-        carrier.carry(entity.deliver_pdu(rt, gate, message.into_pdu()));
+        carrier.carry(entity.deliver_pdu(rt, gate, spelled(pdu)));
     }
     carrier
 }

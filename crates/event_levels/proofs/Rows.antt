@@ -23,7 +23,7 @@ no_names : map level_named (codes "Info" ∷ codes "" ∷ codes "warnings" ∷ c
 no_names = refl
 
 indications : map level_of_indication
-    (told.Transaction ∷ told.EofSent ∷ told.EofRecv ∷ told.MetadataRecv (record { 0 = 1 }) 3 [] [] [] ∷ told.FileSegmentRecv 0 3 ∷ told.Resumed 3
+    (told.Transaction ∷ told.EofSent ∷ told.EofRecv ∷ told.MetadataRecv (record { source = record { 0 = 1 }; size = 3; source_name = []; destination_name = []; messages = [] }) ∷ told.FileSegmentRecv 0 3 ∷ told.Resumed 3
     ∷ told.Fault 7 3 ∷ told.Abandoned 8 3 ∷ told.Suspended 14 ∷ told.Suspended 8 ∷ [])
     ≡ Info ∷ Info ∷ Info ∷ Info ∷ Detail ∷ Info ∷ Warning ∷ Warning ∷ Info ∷ Warning ∷ []
 indications = refl

@@ -83,7 +83,7 @@ fn level_of_indication(indication: &Indication) -> Level
         Indication::Transaction
         | Indication::EofSent
         | Indication::EofRecv
-        | Indication::MetadataRecv { .. }
+        | Indication::MetadataRecv(_)
         | Indication::Resumed { .. }
         | Indication::Report { .. } => Level::Info,
     }

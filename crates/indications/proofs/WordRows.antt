@@ -19,7 +19,7 @@ use Rattle.indications.specs.Words.{tells_of, IsNew, IsBegun, IsWord, IsBegunOf,
 
 kinds : (condition : Condition) (delivery : Delivery) (status : FileStatus) (phase : Phase) (n length : ℕ) (name : List ℕ) (messages : List (List ℕ)) → map kind_of (
     told.Transaction ∷ told.EofSent ∷ told.EofRecv ∷ told.TransactionFinished condition delivery status
-    ∷ told.MetadataRecv (record { 0 = n }) n name name messages ∷ told.FileSegmentRecv n length
+    ∷ told.MetadataRecv (record { source = record { 0 = n }; size = n; source_name = name; destination_name = name; messages = messages }) ∷ told.FileSegmentRecv n length
     ∷ told.Suspended condition ∷ told.Resumed n ∷ told.Report phase n ∷ told.Fault condition n ∷ told.Abandoned condition n ∷ [])
     ≡ kind.Opening ∷ kind.EofSent ∷ kind.EofRecv ∷ kind.End delivery
     ∷ kind.Metadata ∷ kind.Segment n length
@@ -29,7 +29,7 @@ kinds condition delivery status phase n length name messages = refl
 -- ---- a receiver
 
 abbrev metadata : Indication
-metadata = told.MetadataRecv (record { 0 = 1 }) 3 (97 ∷ []) (98 ∷ []) []
+metadata = told.MetadataRecv (record { source = record { 0 = 1 }; size = 3; source_name = 97 ∷ []; destination_name = 98 ∷ []; messages = [] })
 
 abbrev finished : Indication
 finished = told.TransactionFinished 0 Complete Retained

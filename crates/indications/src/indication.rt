@@ -4,7 +4,7 @@ ghost use Rattle.indications.specs.Kinds.{kind_of};
 ghost use Rattle.indications.specs.Words.{is_end};
 
 use crate::kind::IndicationKind;
-use cfdp_types::{Condition, Delivery, EntityId, FileStatus, Messages, Octets};
+use cfdp_types::{Boxed, Condition, Delivery, EntityId, FileStatus, Messages, Octets};
 use std::alloc::{AllocError, Global};
 use std::marker::Model;
 
@@ -20,6 +20,17 @@ pub enum Phase {
     Closing,
 }
 
+/// What a Metadata-Recv tells.
+#[derive(Clone, Debug, Drop, PartialEq, Eq)]
+pub struct ReceivedMetadata {
+    pub source: EntityId,
+    /// Octets in the file.
+    pub size: u64,
+    pub source_name: Octets,
+    pub destination_name: Octets,
+    pub messages: Messages,
+}
+
 /// An indication of a transaction to a local user (CCSDS 727.0-B-5, 3.4).
 #[derive(Clone, Debug, Drop, PartialEq, Eq)]
 pub enum Indication {
@@ -31,13 +42,7 @@ pub enum Indication {
         delivery: Delivery,
         status: FileStatus,
     },
-    MetadataRecv {
-        source: EntityId,
-        size: u64,
-        source_name: Octets,
-        destination_name: Octets,
-        messages: Messages,
-    },
+    MetadataRecv(Boxed<ReceivedMetadata>),
     FileSegmentRecv {
         offset: u32,
         length: u32,
@@ -86,7 +91,7 @@ impl Indication {
             Indication::EofSent => IndicationKind::EofSent,
             Indication::EofRecv => IndicationKind::EofRecv,
             Indication::TransactionFinished { delivery, .. } => IndicationKind::End(*delivery),
-            Indication::MetadataRecv { .. } => IndicationKind::Metadata,
+            Indication::MetadataRecv(_) => IndicationKind::Metadata,
             Indication::FileSegmentRecv { offset, length } => IndicationKind::Segment {
                 offset: *offset,
                 length: *length,

@@ -8,7 +8,7 @@ mod outlet;
 mod side;
 
 pub use bundle::Bundle;
-pub use indication::{Indication, Indications, Phase};
+pub use indication::{Indication, Indications, Phase, ReceivedMetadata};
 pub use kind::IndicationKind;
 pub use outlet::Outlet;
 pub use side::Side;

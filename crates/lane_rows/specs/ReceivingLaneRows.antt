@@ -94,7 +94,7 @@ metadata_opens = refl
 pub metadata_opens_key : key_of (after fresh (metadata One 5 ∷ [])) ≡ Some (key 5)
 metadata_opens_key = refl
 
-pub metadata_told : (answer_of (after fresh (metadata One 5 ∷ []))).inds ≡ told.MetadataRecv (record { 0 = 1 }) 3 (97 ∷ []) (98 ∷ []) [] ∷ []
+pub metadata_told : (answer_of (after fresh (metadata One 5 ∷ []))).inds ≡ told.MetadataRecv (record { source = record { 0 = 1 }; size = 3; source_name = 97 ∷ []; destination_name = 98 ∷ []; messages = [] }) ∷ []
 unfolding initial step state_of runs_of runs_from
 metadata_told = refl
 
@@ -206,7 +206,7 @@ abbrev pub cancelled : List Event
 cancelled = metadata One 5 ∷ on 5 what.Cancel ∷ []
 
 pub cancelled_told : issued_by (after fresh cancelled)
-    ≡ told.MetadataRecv (record { 0 = 1 }) 3 (97 ∷ []) (98 ∷ []) [] ∷ told.TransactionFinished 15 Incomplete Discarded ∷ []
+    ≡ told.MetadataRecv (record { source = record { 0 = 1 }; size = 3; source_name = 97 ∷ []; destination_name = 98 ∷ []; messages = [] }) ∷ told.TransactionFinished 15 Incomplete Discarded ∷ []
 unfolding initial step state_of runs_of runs_from
 cancelled_told = refl
 
@@ -265,7 +265,7 @@ unfolding initial step state_of runs_of runs_from
 whole_taken = refl
 
 pub whole_told : issued_by (after fresh whole)
-    ≡ told.MetadataRecv (record { 0 = 1 }) 3 (97 ∷ []) (98 ∷ []) [] ∷ told.FileSegmentRecv 0 3 ∷ told.EofRecv ∷ told.TransactionFinished 0 Complete Retained ∷ []
+    ≡ told.MetadataRecv (record { source = record { 0 = 1 }; size = 3; source_name = 97 ∷ []; destination_name = 98 ∷ []; messages = [] }) ∷ told.FileSegmentRecv 0 3 ∷ told.EofRecv ∷ told.TransactionFinished 0 Complete Retained ∷ []
 unfolding initial step state_of runs_of runs_from
 whole_told = refl
 

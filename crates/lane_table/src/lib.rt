@@ -3,12 +3,14 @@
 #![tactic(auto)]
 
 mod done;
+mod echo;
 mod glance;
 mod lane_side;
 pub mod laws;
 mod refused;
 
 pub use done::Done;
+pub use echo::Echo;
 pub use glance::{Glance, GlancedFile};
 pub use lane_side::{LaneSide, Numbers};
 pub use refused::Refused;

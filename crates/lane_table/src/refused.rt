@@ -1,4 +1,4 @@
-use pdu_values::Pdu;
+use crate::echo::Echo;
 use txn_events::Refusal;
 
 /// Why a lane refuses an event, which then changes nothing.
@@ -6,5 +6,5 @@ use txn_events::Refusal;
 pub struct Refused {
     pub why: Refusal,
     /// The PDU to send back to a PDU of an old transaction, if it gets one.
-    pub echo: Option<Pdu>,
+    pub echo: Option<Echo>,
 }

@@ -58,6 +58,7 @@ fn field_size(width: u8, entity_octets: u8, body: &Body) -> usize
         Body::Finished(finished) => 2 + location_size(entity_octets, finished.location),
         Body::Ack(_) => 3,
         Body::Metadata(metadata) => {
+            let metadata = metadata.get();
             4 + wide
                 + metadata.source_name.as_slice().len()
                 + metadata.destination_name.as_slice().len()
@@ -292,7 +293,7 @@ fn put_field(out: &mut Vec<u8>, width: u8, entity_octets: u8, body: &Body)
         }
         Body::Metadata(metadata) => {
             put_octet(out, 7);
-            put_metadata(out, width, metadata);
+            put_metadata(out, width, metadata.get());
         }
         Body::Nak(nak) => {
             put_octet(out, 8);

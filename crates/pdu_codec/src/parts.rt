@@ -8,7 +8,7 @@ ghost use Rattle.pdu_values.specs.Requests.{size_octets};
 
 use crate::fields::{lv_at, number_at, octet_at, octets_at, size_octets, word_at};
 use crate::options::{are_options, are_requests, location_at, messages_at, requests_at};
-use cfdp_types::{ChecksumType, Condition, Delivery, EntityId, FileStatus, Octets};
+use cfdp_types::{Boxed, ChecksumType, Condition, Delivery, EntityId, FileStatus, Octets};
 use pdu_values::{
     Ack, Acknowledged, Body, Eof, FileData, Finished, KeepAlive, Metadata, Nak, Prompt,
     TransactionStatus,
@@ -271,14 +271,15 @@ fn transaction_status_of(bits: u8) -> TransactionStatus
 fn metadata_of_parts(alloc: Global, parts: MetadataParts<'_>) -> Result<Body, AllocError>
     ensures { IfOk result (λ body. body ≡ body_of_parts (borrowed.Metadata parts.entry)) }
 {
-    Ok(Body::Metadata(Metadata {
+    let metadata = Metadata {
         closure: parts.flags / 64 % 2 == 1,
         checksum_type: ChecksumType::new(parts.flags % 16),
         size: parts.size,
         source_name: Octets::from_slice(alloc, parts.source_name)?,
         destination_name: Octets::from_slice(alloc, parts.destination_name)?,
         messages: messages_at(alloc, parts.options)?,
-    }))
+    };
+    Ok(Body::Metadata(Boxed::new(alloc, metadata)?))
 }
 
 /// The body, with lists copied out of the datagram.

@@ -7,7 +7,7 @@ const REQUEST: SegmentRequest = SegmentRequest { start: 4, end: 9 };
 fn copied(alloc: Global) -> Result<SegmentRequests, AllocError> {
     let mut requests = SegmentRequests::with_capacity(alloc, 1)?;
     requests.push(REQUEST)?;
-    requests.copy(alloc)
+    requests.clone()
 }
 
 #[test]

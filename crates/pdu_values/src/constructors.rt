@@ -4,6 +4,7 @@
 use crate::bodies::{Ack, Eof, FileData, Finished, KeepAlive, Metadata, Nak};
 use crate::pdu::{Body, Header, Pdu};
 use crate::sizes::{has_location, word};
+use cfdp_types::Boxed;
 
 impl Pdu {
     ghost use Rattle.std.specs.Prelude.{◌≡◌, ◌≤◌, ◌<◌, ◌^◌, length};
@@ -43,7 +44,7 @@ impl Pdu {
     }
 
     /// A Metadata PDU.
-    pub fn metadata(header: Header, metadata: Metadata) -> Pdu
+    pub fn metadata(header: Header, metadata: Boxed<Metadata>) -> Pdu
         requires header { HeaderFits header }
         requires size { metadata.size < 2 ^ 32 }
         requires source_name { IsName metadata.source_name }
@@ -51,7 +52,8 @@ impl Pdu {
         requires messages { AreMessages metadata.messages }
         ensures { result ≡ record { header = header; body = body.Metadata metadata } }
     {
-        let _number = metadata.checksum_type.number();
+        let content = metadata.get();
+        let _number = content.checksum_type.number();
         Pdu::new(header, Body::Metadata(metadata))
     }
 

@@ -1,7 +1,7 @@
 ghost use Rattle.std.specs.Prelude.{◌≡◌, IfOk};
 
 use crate::bodies::{Ack, Acknowledged, Eof, FileData, Finished, KeepAlive, Metadata, Nak, Prompt};
-use cfdp_types::{Class, EntityId};
+use cfdp_types::{Boxed, Class, EntityId};
 use std::alloc::AllocError;
 use std::marker::Model;
 
@@ -36,7 +36,7 @@ pub enum Body {
     Eof(Eof),
     Finished(Finished),
     Ack(Ack),
-    Metadata(Metadata),
+    Metadata(Boxed<Metadata>),
     Nak(Nak),
     Prompt(Prompt),
     KeepAlive(KeepAlive),
@@ -107,13 +107,6 @@ impl Pdu {
             Body::Ack(ack) => matches!(ack.of, Acknowledged::Eof),
             Body::Eof(_) | Body::Metadata(_) | Body::Prompt(_) | Body::FileData(_) => false,
         }
-    }
-
-    /// Takes the PDU apart into header and body.
-    pub fn into_parts(self) -> (Header, Body)
-        ensures { result ≡ (self.header, self.body) }
-    {
-        (self.header, self.body)
     }
 }
 

@@ -72,15 +72,6 @@ impl SegmentRequests {
         self.items.push(sized(request))?;
         Ok(())
     }
-
-    /// A copy of the list.
-    pub fn copy(&self, alloc: Global) -> Result<SegmentRequests, AllocError>
-        ensures { IfOk result (λ copy. copy ≡ self.now) }
-    {
-        Ok(SegmentRequests {
-            items: Vec::from_slice(alloc, self.items.as_slice())?,
-        })
-    }
 }
 
 // The request itself; the contract adds that its offsets fit eight octets.

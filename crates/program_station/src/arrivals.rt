@@ -2,8 +2,9 @@ ghost use Rattle.std.specs.Prelude.{◌≡◌, None, false};
 ghost use Rattle.program_station.specs.Hearing.{is_heard};
 
 use crate::forwarder::Forwarder;
-use entity_workers::{Message, Source, message_of};
+use entity_workers::Source;
 use lane_table::{Done, Refused};
+use pdu_codec::{Pdu, decode};
 use pdu_reading::DecodeFault;
 use program_desk::Desk;
 use program_tallies::RefusalKind;
@@ -63,14 +64,14 @@ impl<'a> Arrivals<'a> {
         }
     }
 
-    // The message for a worker, from the first `count` octets that were read. A datagram that is not taken, is not a
+    // The PDU for a worker, from the first `count` octets that were read. A datagram that is not taken, is not a
     // PDU, comes from another address than that of its own entity where that is wanted, or for which memory runs out even where parked ones gave way, is counted and dropped.
-    fn message<R: Wait + Clock>(
+    fn pdu<R: Wait + Clock>(
         &self,
         forwarder: &Forwarder<'_, R>,
         count: usize,
         is_known: bool,
-    ) -> Option<Message>
+    ) -> Option<Pdu>
         ensures unheard { is_heard self.now.sources is_known ≡ false → result ≡ None }
     {
         if !is_heard(self.sources, is_known) {
@@ -78,19 +79,18 @@ impl<'a> Arrivals<'a> {
             return None;
         }
         let octets = forwarder.datagram.get(..count)?;
-        let mut read = message_of(self.alloc, octets);
+        let mut read = decode(self.alloc, octets);
         if let Err(DecodeFault::NoMemory) = read
             && forwarder.gives_way()
         {
-            read = message_of(self.alloc, octets);
+            read = decode(self.alloc, octets);
         }
         match read {
-            Ok(message)
-                if self.sources == Sources::OwnAlone && !forwarder.comes_from_its_own(&message) => {
+            Ok(pdu) if self.sources == Sources::OwnAlone && !forwarder.comes_from_its_own(&pdu) => {
                 forwarder.note_refusal(RefusalKind::ForeignSource);
                 None
             }
-            Ok(message) => Some(message),
+            Ok(pdu) => Some(pdu),
             Err(fault) => {
                 forwarder.note_decode_fault(fault);
                 None
@@ -103,14 +103,14 @@ impl<'a, 'b, R: Wait + Clock> Source<R, Result<Done, Refused>, Forwarder<'a, R>>
     /// Takes a parked datagram that may be handed in, or else waits for a datagram that is taken and is a PDU; one that has
     /// to wait behind parked ones is parked. After a failed read it pauses, the longer the more have failed in a row. `None` once
     /// the desk is closed, which is checked after each read and once a second. A worker that finds the desk closed wakes the next.
-    fn next(&self, rt: &R, forwarder: &mut Forwarder<'a, R>) -> Option<Message> {
+    fn next(&self, rt: &R, forwarder: &mut Forwarder<'a, R>) -> Option<Pdu> {
         let mut pause = SHORT_PAUSE_MS;
         for _ in rt.forever() {
             if !self.desk.is_closed()
-                && let Some(message) = forwarder.next_parked()
+                && let Some(pdu) = forwarder.next_parked()
             {
-                forwarder.note_message(&message);
-                return Some(message);
+                forwarder.note_pdu(&pdu);
+                return Some(pdu);
             }
             match self.socket.recv_from(forwarder.datagram.as_mut_slice()) {
                 Ok((count, from)) => {
@@ -119,10 +119,10 @@ impl<'a, 'b, R: Wait + Clock> Source<R, Result<Done, Refused>, Forwarder<'a, R>>
                         break;
                     }
                     let is_known = forwarder.note_arrival(count, from);
-                    if let Some(message) = self.message(forwarder, count, is_known) {
-                        forwarder.note_message(&message);
+                    if let Some(pdu) = self.pdu(forwarder, count, is_known) {
+                        forwarder.note_pdu(&pdu);
                         if !forwarder.parks_behind(count) {
-                            return Some(message);
+                            return Some(pdu);
                         }
                     }
                 }

@@ -4,10 +4,10 @@ use crate::parked::{Crowd, WorkersLot};
 use cfdp_types::EntityId;
 use entity_config::Config;
 use entity_routing::RouteRefusal;
-use entity_workers::{Carrier, Message, WorkersFault, run_workers_from};
+use entity_workers::{Carrier, WorkersFault, run_workers_from};
 use lane_table::{Done, Refused};
 use pdu_reading::DecodeFault;
-use pdu_values::Body;
+use pdu_values::{Body, Pdu};
 use program_desk::{Desk, Step, Urgency, moment, wall_moment};
 use program_lot::{Lot, lacks_memory};
 use program_tallies::{Ledger, RefusalKind, Tallies, Traffic};
@@ -66,9 +66,9 @@ impl<'a, R: Wait + Clock> Forwarder<'a, R> {
     }
 
     /// Whether the datagram that was read comes from the address of the entity that its PDU says it comes from.
-    pub(crate) fn comes_from_its_own(&self, message: &Message) -> bool {
+    pub(crate) fn comes_from_its_own(&self, pdu: &Pdu) -> bool {
         match self.last {
-            Some((_, from)) => self.sender.comes_from(message.pdu(), from),
+            Some((_, from)) => self.sender.comes_from(pdu, from),
             None => false,
         }
     }
@@ -85,9 +85,9 @@ impl<'a, R: Wait + Clock> Forwarder<'a, R> {
 
     /// Takes a parked datagram that may be handed in at once, if there is one. The main thread may have looked while one was out
     /// for which memory ran out, so it looks again.
-    pub(crate) fn next_parked(&mut self) -> Option<Message> {
-        match self.lot.next_message(self.rt) {
-            Ok(message) => message,
+    pub(crate) fn next_parked(&mut self) -> Option<Pdu> {
+        match self.lot.next_pdu(self.rt) {
+            Ok(pdu) => pdu,
             Err(AllocError) => {
                 self.desk.wake(self.rt);
                 None
@@ -159,8 +159,8 @@ impl<'a, R: Wait + Clock> Forwarder<'a, R> {
     }
 
     /// Notes which PDU is handed over next.
-    pub(crate) fn note_message(&mut self, message: &Message) {
-        self.is_prompted = matches!(message.pdu().body(), Body::Prompt(_));
+    pub(crate) fn note_pdu(&mut self, pdu: &Pdu) {
+        self.is_prompted = matches!(pdu.body(), Body::Prompt(_));
     }
 
     // Sends the PDUs of a step. Those that answer a Prompt may have to be left out.

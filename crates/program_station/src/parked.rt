@@ -1,7 +1,7 @@
 //! What a worker does with parked datagrams.
 use entity_config::Config;
 use entity_routing::place_of_key;
-use entity_workers::{Message, message_of};
+use pdu_codec::{Pdu, decode};
 use program_desk::{Step, moment, wall_moment};
 use program_lot::{Handed, Lot, ParkEnd, address_of, may_wait};
 use shared_entity::EntityRefusal;
@@ -68,12 +68,9 @@ impl<'a> WorkersLot<'a> {
         }
     }
 
-    /// Takes a datagram to be handed in, of a lane that was heard of. Where memory for its message runs out, it stays, and waits some
+    /// Takes a datagram to be handed in, of a lane that was heard of. Where memory for its PDU runs out, it stays, and waits some
     /// milliseconds.
-    pub(crate) fn next_message<R: Wait + Clock>(
-        &mut self,
-        rt: &R,
-    ) -> Result<Option<Message>, AllocError> {
+    pub(crate) fn next_pdu<R: Wait + Clock>(&mut self, rt: &R) -> Result<Option<Pdu>, AllocError> {
         let Some(lot) = self.lot else {
             return Ok(None);
         };
@@ -83,10 +80,10 @@ impl<'a> WorkersLot<'a> {
         let Some(handed) = lot.lend(rt, 0) else {
             return Ok(None);
         };
-        match message_of(self.alloc, handed.octets.as_slice()) {
-            Ok(message) => {
+        match decode(self.alloc, handed.octets.as_slice()) {
+            Ok(pdu) => {
                 self.handed = Some(handed);
-                Ok(Some(message))
+                Ok(Some(pdu))
             }
             Err(_) => {
                 lot.settle(rt, handed, false, moment(rt));

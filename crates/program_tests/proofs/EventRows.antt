@@ -189,7 +189,7 @@ indications : map said (
 unfolding digits padded_integral char_count encode_utf8 chars is_utf8 encode_with print_from escape_byte text_member flag_member number_member hex_member octets_member moment_member object_member hexes_member first_octets safe_text
 indications = refl
 
-metadata : said (told.MetadataRecv (record { 0 = 1 }) 9 (codes "a.bin") (98 ∷ 0x5C ∷ 0x80 ∷ []) ((0 ∷ 0xFF ∷ []) ∷ [] ∷ []))
+metadata : said (told.MetadataRecv (record { source = record { 0 = 1 }; size = 9; source_name = codes "a.bin"; destination_name = 98 ∷ 0x5C ∷ 0x80 ∷ []; messages = (0 ∷ 0xFF ∷ []) ∷ [] ∷ [] }))
     ≡ named (codes "\"Metadata-Recv\",\"origin\":1,\"size\":9,\"file\":\"a.bin\",\"to_hex\":\"625c80\",\"messages\":[\"00ff\",\"\"]")
 unfolding digits padded_integral char_count encode_utf8 chars is_utf8 encode_with print_from escape_byte text_member flag_member number_member hex_member octets_member moment_member object_member hexes_member first_octets safe_text
 metadata = refl

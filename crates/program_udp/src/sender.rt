@@ -108,7 +108,7 @@ impl<'a> PduSender<'a> {
     pub fn send_echo(&mut self, refusal: &EntityRefusal, now: u64) {
         if let EntityRefusal::Lane(refused) = refusal {
             if let Some(echo) = &refused.echo {
-                self.send_as(echo, Some(now));
+                self.send_as(&echo.pdu(), Some(now));
             }
         }
     }

@@ -1,9 +1,9 @@
 -- What changes bring.
-use Rattle.std.proofs.Common.{◌≡◌, ℕ, ◌+◌, ◌-◌, ◌<◌, ◌≤◌, max, Bool, true, false, not, ◌&&◌, ◌||◌, length, Option, Some, None, eqb, refl, sym, ap, ◌∙◌, arith, inl, inr, rules, Ok}
+use Rattle.std.proofs.Common.{◌≡◌, ℕ, ◌+◌, ◌-◌, ◌<◌, ◌≤◌, max, Bool, true, false, not, ◌&&◌, length, Option, Some, None, eqb, refl, sym, ap, ◌∙◌, arith, inl, inr, rules, Ok}
 use Rattle.std.proofs.Math.Path.{fun_ext}
-use Rattle.std.proofs.lemmas.Bool.{cases_Bool, cases_lt, le-leb, lt-leb, lt-ltb, le-ltb, eqb-true}
-use Rattle.std.proofs.lemmas.Option.{slice_get-get_or, slice_get_past}
-use Rattle.std.specs.Prelude.{vec_len, is_some}
+use Rattle.std.proofs.lemmas.Bool.{cases_Bool, cases_lt, le-leb, lt-leb, eqb-true}
+use Rattle.std.proofs.lemmas.Option.{slice_get_past}
+use Rattle.std.specs.Prelude.{is_some}
 use Rattle.std.specs.List.{All}
 use Rattle.cfdp_types.specs.Steps.{older_or}
 use Rattle.gap_list.specs.Covered.{covered}
@@ -22,7 +22,7 @@ use Rattle.receiver_table.specs.Answers.{answer_at}
 use Rattle.receiver_parts.specs.ControlBlock.{state_from, IsSmall}
 use Rattle.receiver_core.specs.declared.plan.Plan.{Plan}
 use Rattle.receiver_parts.specs.declared.control.ControlBlock.{ControlBlock}
-use Rattle.receiver_parts.specs.ReceivedFile.{received_of, with_segment, end_of, IsSegmentOf}
+use Rattle.receiver_parts.specs.ReceivedFile.{received_of, room_of, with_segment, end_of, IsSegmentOf}
 use Rattle.receiver_parts.specs.Offsets.{IsInside}
 use Rattle.receiver_parts.specs.Steps.{IsWithEvent}
 use Rattle.receiver_parts.specs.FileChange.{received_after, covered_after, word_after, FitsFile, HasRoom, IsReady, runs_in, segment_of, metadata_after}
@@ -32,7 +32,8 @@ use Rattle.receiver_parts.specs.declared.received_file.NewSegment.{NewSegment}
 use Rattle.receiver_parts.specs.declared.file_change.FileChange.{FileChange}
 use Rattle.receiver_parts.specs.declared.file_change.FileChange.TheVariants as change
 use Rattle.receiver_core.specs.declared.receiver.ReceiverCore.{ReceiverCore}
-use Rattle.receiver_parts.proofs.ReceivedFileLemmas.{there}
+use Rattle.receiver_parts.proofs.LayLemmas.{came_with}
+use Rattle.receiver_parts.proofs.SumLemmas.{none_is}
 
 older_none : {A : Type 0} (o : Option A) → o ≡ older_or o None
 older_none None = refl
@@ -40,7 +41,7 @@ older_none (Some x) = refl
 
 -- the offsets of octets that came are those that are covered
 pub covers : (core : ReceiverCore) (i : ℕ) → covered core.file.gaps i ≡ is_received (shown core) i
-covers core i = sym (there core.file.octets.items (covered core.file.gaps) i core.file.inside)
+covers core i = sym (core.file.came i)
 
 runs_are : (core : ReceiverCore) (file_data : FileData) (segment : NewSegment) → segment.file_data ≡ file_data → IsSegmentOf core.file segment
     → segment.runs.items ≡ added_runs (shown core) (Some file_data)
@@ -69,32 +70,11 @@ runs_filled core b c is = rw is.runs (filled_runs (shown core) _)
 
 -- ---- what came, with a change
 
-some_or : (a b : Option ℕ) → is_some (older_or a b) ≡ (is_some a || is_some b)
-some_or None b = refl
-some_or (Some x) b = refl
-
--- an octet of a segment stands at each of its offsets
-octet_there : (d : FileData) (i : ℕ) → is_some (octet_at (Some d) i) ≡ is_within d.offset (d.offset + length d.octets) i
-octet_there d i =
-    elim (cases_lt i d.offset) [
-      | inl before ↦ rw (lt-leb d.offset i before) refl
-      | inr from ↦
-          elim (cases_lt i (d.offset + length d.octets)) [
-            | inl below ↦
-                rw (le-leb d.offset i from, lt-ltb i (d.offset + length d.octets) below, slice_get-get_or d.octets (i - d.offset) 0 (omega (arith, from, below))) refl
-            | inr past ↦
-                rw (le-leb d.offset i from, le-ltb i (d.offset + length d.octets) past, slice_get_past d.octets (i - d.offset) (omega (arith, from, past))) refl
-          ]
-    ]
-
 -- the offsets of octets that came are those that are covered, after a change
 pub came_after : (file : ReceivedFile) (c : FileChange) (i : ℕ) → is_some (received_after file c i) ≡ covered_after file c i
-came_after file change.Nothing i = ap is_some (sym (older_none (received_of file i))) ∙ there file.octets.items (covered file.gaps) i file.inside
-came_after file (change.Metadata m) i = ap is_some (sym (older_none (received_of file i))) ∙ there file.octets.items (covered file.gaps) i file.inside
-came_after file (change.NewSegment segment) i =
-    some_or (received_of file i) (octet_at (Some segment.file_data) i)
-    ∙ ap (λ b. b || is_some (octet_at (Some segment.file_data) i)) (there file.octets.items (covered file.gaps) i file.inside)
-    ∙ ap (λ b. covered file.gaps i || b) (octet_there segment.file_data i)
+came_after file change.Nothing i = ap is_some (sym (older_none (received_of file i))) ∙ file.came i
+came_after file (change.Metadata m) i = ap is_some (sym (older_none (received_of file i))) ∙ file.came i
+came_after file (change.NewSegment segment) i = came_with (received_of file) (covered file.gaps) segment.file_data i (file.came i)
 
 -- the checksum after a change is that of what came
 summed_after : (file : ReceivedFile) (c : FileChange) → FitsFile file c → IsSumOf (received_after file c) (word_after file c)
@@ -126,8 +106,8 @@ outside limit set i inside past =
 past_progress : (core : ReceiverCore) (d : Option FileData) (i : ℕ) → max core.control.progress (extent_of d) ≤ i
     → older_or (received_of core.file i) (octet_at d i) ≡ None
 past_progress core d i past =
-    let none : covered core.file.gaps i ≡ false = outside core.control.progress (covered core.file.gaps) i core.reached (omega (arith, past)) in
-    rw none (octet_past d i (omega (arith, past)))
+    let out : covered core.file.gaps i ≡ false = outside core.control.progress (covered core.file.gaps) i core.reached (omega (arith, past)) in
+    rw (none_is (received_of core.file i) (core.file.came i ∙ out)) (octet_past d i (omega (arith, past)))
 
 -- what a look goes by
 pub ready : (core : ReceiverCore) (event : What) (more : Bool) (now : ControlBlock) (c : FileChange) → IsWithEvent core.control event more now
@@ -145,14 +125,14 @@ some_not_none o some none = let no : false ≡ true = sym (ap is_some none) ∙ 
 
 -- what came lies below the progress, once a plan is carried out
 pub reached_after : (old : ReceiverCore) (plan : Plan) (event : What) (file : ReceivedFile) → IsPlanOf old plan event
-    → ((i : ℕ) → received_of file i ≡ received_after old.file plan.change i) → IsInside plan.next.progress (covered file.gaps)
+    → ((i : ℕ) → received_of file i ≡ received_after old.file plan.step.value.change i) → IsInside plan.step.value.next.progress (covered file.gaps)
 unfolding step
 reached_after old plan event file planned received i came =
     let d : Option FileData = file_data_of (body_of_event event) in
-    let there_is : is_some (received_of file i) ≡ true = there file.octets.items (covered file.gaps) i file.inside ∙ came in
-    let progress : plan.next.progress ≡ max old.control.progress (extent_of d) = ap (λ (s : State). s.progress) planned.answered.follows in
-    let octets : received_after old.file plan.change i ≡ older_or (received_of old.file i) (octet_at d i) = ap (λ (s : State). s.received i) planned.answered.follows in
-    elim (cases_lt i plan.next.progress) [
+    let there_is : is_some (received_of file i) ≡ true = file.came i ∙ came in
+    let progress : plan.step.value.next.progress ≡ max old.control.progress (extent_of d) = ap (λ (s : State). s.progress) planned.answered.follows in
+    let octets : received_after old.file plan.step.value.change i ≡ older_or (received_of old.file i) (octet_at d i) = ap (λ (s : State). s.received i) planned.answered.follows in
+    elim (cases_lt i plan.step.value.next.progress) [
       | inl below ↦ below
       | inr past ↦ absurd (some_not_none (received_of file i) there_is (received i ∙ octets ∙ past_progress old d i (rw progress at past)))
     ]
@@ -185,7 +165,7 @@ fits_still old new change.Nothing same received fits = tt
 fits_still old new (change.Metadata m) same received fits = tt
 fits_still old new (change.NewSegment segment) same received fits = segment_still old new segment same received fits
 
-room_still : (old new : ReceivedFile) (c : FileChange) → vec_len old.octets ≤ vec_len new.octets → old.gaps.room ≤ new.gaps.room → HasRoom old c → HasRoom new c
+room_still : (old new : ReceivedFile) (c : FileChange) → room_of old ≤ room_of new → old.gaps.room ≤ new.gaps.room → HasRoom old c → HasRoom new c
 room_still old new change.Nothing longer more room = tt
 room_still old new (change.Metadata m) longer more room = tt
 room_still old new (change.NewSegment segment) longer more room = (omega (arith, longer, room.0), omega (arith, more, room.1))
@@ -210,22 +190,22 @@ plan_still old new plan event same is =
     record {
       answered = record {
         accepted = ap (λ r. answer_at r (shown new) event) same.reception ∙ ap (λ s. answer_at (reception_of old) s event) shows ∙ is.answered.accepted;
-        follows = ap (λ m. state_with old (metadata_after m plan.change) (received_after new.file plan.change) plan.next) same.metadata
-            ∙ ap (λ r. state_with old (metadata_after old.metadata plan.change) r plan.next) (fun_ext (λ i. ap (λ o. older_or o (octet_at (segment_of plan.change) i)) (same.received i)))
+        follows = ap (λ m. state_with old (metadata_after m plan.step.value.change) (received_after new.file plan.step.value.change) plan.step.value.next) same.metadata
+            ∙ ap (λ r. state_with old (metadata_after old.metadata plan.step.value.change) r plan.step.value.next) (fun_ext (λ i. ap (λ o. older_or o (octet_at (segment_of plan.step.value.change) i)) (same.received i)))
             ∙ is.answered.follows
             ∙ ap (λ s. step s (record { event = event; answer = plan_answer plan })) (sym shows);
       };
-      fits = fits_still old.file new.file plan.change same.gaps same.received is.fits;
-      room = room_still old.file new.file plan.change same.longer same.room is.room;
+      fits = fits_still old.file new.file plan.step.value.change same.gaps same.received is.fits;
+      room = room_still old.file new.file plan.step.value.change same.pieces same.room is.room;
       sound = λ runs. is.sound (ap (λ (s : ControlBlock). s.ended) (sym same.control) ∙ runs);
     }
 
 -- what stands after a plan is carried out
-pub committed : (old : ReceiverCore) (plan : Plan) (event : What) (metadata : Option Metadata) (received : ℕ → Option ℕ) → metadata ≡ metadata_after old.metadata plan.change
-    → ((i : ℕ) → received i ≡ received_after old.file plan.change i) → IsPlanOf old plan event
-    → state_from plan.next metadata received ≡ step (shown old) (record { event = event; answer = plan_answer plan })
+pub committed : (old : ReceiverCore) (plan : Plan) (event : What) (metadata : Option Metadata) (received : ℕ → Option ℕ) → metadata ≡ metadata_after old.metadata plan.step.value.change
+    → ((i : ℕ) → received i ≡ received_after old.file plan.step.value.change i) → IsPlanOf old plan event
+    → state_from plan.step.value.next metadata received ≡ step (shown old) (record { event = event; answer = plan_answer plan })
 committed old plan event metadata received m r planned =
-    ap (λ x. state_from plan.next x received) m ∙ ap (λ x. state_from plan.next (metadata_after old.metadata plan.change) x) (fun_ext r) ∙ planned.answered.follows
+    ap (λ x. state_from plan.step.value.next x received) m ∙ ap (λ x. state_from plan.step.value.next (metadata_after old.metadata plan.step.value.change) x) (fun_ext r) ∙ planned.answered.follows
 
 -- what a plan is answered in the core with more room is answered in the core before
 pub accepted_before : (old new : ReceiverCore) (plan : Plan) (event : What) → IsSame old new → IsPlanOf new plan event

@@ -146,10 +146,10 @@ finished_is : (reception : Reception) (state : State) (ended : Bool) (response :
 finished_is reception state ended response = among reception response.ack response.nak response.keep_alive response.finished ended (nak_of state) state.progress (nak_not_finished state)
 
 effects_are : (core : ReceiverCore) (event : What) (now : ControlBlock) (response : response_type.Response) (c : FileChange) (plan : Plan) → HoldsResponse core event now response c plan
-    → effect_of (response_value response) (step (shown core) (record { event = event; answer = without_timers (reception_of core) (shown core) (now_state core now c) (response_value response) })) event ≡ effect_by plan.next event response
+    → effect_of (response_value response) (step (shown core) (record { event = event; answer = without_timers (reception_of core) (shown core) (now_state core now c) (response_value response) })) event ≡ effect_by plan.step.value.next event response
 unfolding step
 effects_are core event now response c plan planned =
-    fun_ext (λ kind. effect_same (response_value response) (step (shown core) (record { event = event; answer = without_timers (reception_of core) (shown core) (now_state core now c) (response_value response) })) (bare plan.next) event kind
+    fun_ext (λ kind. effect_same (response_value response) (step (shown core) (record { event = event; answer = without_timers (reception_of core) (shown core) (now_state core now c) (response_value response) })) (bare plan.step.value.next) event kind
     (sym planned.next.ended) (sym planned.next.waiting) (sym planned.next.paused)
     (ap (λ f. newer_or f core.control.finished) (finished_is (reception_of core) (now_state core now c) (list_any is_end response.inds) (response_value response)) ∙ sym planned.next.finished))
 
@@ -172,14 +172,14 @@ accepted_is core event now response c plan is_now is planned =
 
 pub follows : (core : ReceiverCore) (event : What) (now : ControlBlock) (response : response_type.Response) (c : FileChange) (plan : Plan)
     → IsWithEvent core.control event (adds c) now → IsChange core (body_of_event event) c → HoldsResponse core event now response c plan
-    → state_from plan.next (metadata_after core.metadata plan.change) (received_after core.file plan.change) ≡ step (shown core) (record { event = event; answer = plan_answer plan })
+    → state_from plan.step.value.next (metadata_after core.metadata plan.step.value.change) (received_after core.file plan.step.value.change) ≡ step (shown core) (record { event = event; answer = plan_answer plan })
 unfolding step
 follows core event now response c plan is change planned =
     let next = planned.next in
     let inds : response.inds ≡ plan.answer.inds = sym planned.inds in
     let finished : response.finished ≡ finished_among plan.answer.pdus =
     sym (ap finished_among planned.pdus ∙ finished_is (reception_of core) (now_state core now c) (list_any is_end response.inds) (response_value response)) in
-    same_state (state_from plan.next (metadata_after core.metadata plan.change) (received_after core.file plan.change)) _
+    same_state (state_from plan.step.value.next (metadata_after core.metadata plan.step.value.change) (received_after core.file plan.step.value.change)) _
     (next.entries ∙ is.entries)
     (λ i. ap (λ x. received_after core.file x i) planned.change_is ∙ ap (λ d. older_or (received_of core.file i) (octet_at d i)) change.file_data)
     (next.progress ∙ is.progress)
@@ -189,7 +189,7 @@ follows core event now response c plan is change planned =
     (next.waiting ∙ ap (λ d. waiting_after core.control.waiting event d) (sym planned.deposit))
     (next.finished ∙ ap (λ f. newer_or f core.control.finished) finished)
     (rw inds at next.paused)
-    (armed_follows core.key (timer_length core.params.timers) core.control.entries (effect_by plan.next event response) (stamp_of core.control.armed) (stamp_of plan.next.armed) plan.answer.timers planned.armed planned.timers)
+    (armed_follows core.key (timer_length core.params.timers) core.control.entries (effect_by plan.step.value.next event response) (stamp_of core.control.armed) (stamp_of plan.step.value.next.armed) plan.answer.timers planned.armed planned.timers)
     (λ kind. rw inds at (next.tries kind) ∙ tries_same (shown core) event plan.answer.inds plan.answer.pdus plan.answer.timers plan.answer.deposit (adds c) kind change.more)
     (rw inds at next.ended)
 
@@ -289,13 +289,13 @@ small_now core event more now taken is =
 
 pub sound_after : (core : ReceiverCore) (event : What) (now : ControlBlock) (response : response_type.Response) (c : FileChange) (plan : Plan) → refusal_at (reception_of core) (shown core) event ≡ None
     → IsWithEvent core.control event (adds c) now → IsResponse response (response_to (reception_of core) (shown core) (now_state core now c) event) → HoldsResponse core event now response c plan
-    → core.control.ended ≡ false → IsSound plan.next
+    → core.control.ended ≡ false → IsSound plan.step.value.next
 unfolding Leaves
 sound_after core event now response c plan taken seen_is is planned runs =
     let next = planned.next in
     let old : AreFew core.control.entries core.control.tries = core.sound.few in
     let more : core.control.entries + 1 ≤ JOURNAL_ENTRIES = core.sound.goes_on runs in
-    let entries : plan.next.entries ≡ core.control.entries + 1 = next.entries ∙ seen_is.entries in
+    let entries : plan.step.value.next.entries ≡ core.control.entries + 1 = next.entries ∙ seen_is.entries in
     record {
       small = rw next.eof (small_now core event (adds c) now taken seen_is);
       few = record {

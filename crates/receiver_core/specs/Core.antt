@@ -1,5 +1,5 @@
 -- Of the code. How the code keeps a reception, and what its plans are.
-use Rattle.std.specs.Prelude.{◌≡◌, ℕ, ◌≤◌, Bool, true, false, List, [], Option, vec_len}
+use Rattle.std.specs.Prelude.{◌≡◌, ℕ, ◌≤◌, Bool, true, false, List, [], Option}
 use Rattle.cfdp_types.specs.declared.params.ParamsParts.{ParamsParts}
 use Rattle.cfdp_types.specs.Steps.{older_or}
 use Rattle.cfdp_types.specs.declared.key.TxnKey.{TxnKey}
@@ -13,7 +13,7 @@ use Rattle.receiver_table.specs.Reception.{Reception, State, Entry, step, state_
 use Rattle.receiver_table.specs.Answers.{answer_at}
 use Rattle.receiver_laws.specs.LegalReceptions.{BodyOpens}
 use Rattle.receiver_parts.specs.ControlBlock.{state_from, IsSound}
-use Rattle.receiver_parts.specs.ReceivedFile.{received_of}
+use Rattle.receiver_parts.specs.ReceivedFile.{received_of, room_of}
 use Rattle.txn_events.specs.declared.answer.Answer.{Answer}
 pub use Rattle.txn_events.specs.Logs.{IsWhy}
 use Rattle.txn_events.specs.Logs.{StandsAt, IsAnswered}
@@ -66,14 +66,14 @@ pub record IsChange (core : ReceiverCore) (b : Option Body) (c : FileChange) : T
   pub runs : runs_in c ≡ added_runs (shown core) (file_data_of b)
   pub more : adds c ≡ brings_more (shown core) b
 
--- the cores differ at most in their room, and in octets at offsets that were not received
+-- the cores differ at most in their room
 pub record IsSame (old : ReceiverCore) (new : ReceiverCore) : Type 0 where
   pub reception : reception_of new ≡ reception_of old
   pub control : new.control ≡ old.control
   pub metadata : new.metadata ≡ old.metadata
   pub received : (i : ℕ) → received_of new.file i ≡ received_of old.file i
   pub gaps : (i : ℕ) → covered new.file.gaps i ≡ covered old.file.gaps i
-  pub longer : vec_len old.file.octets ≤ vec_len new.file.octets
+  pub pieces : room_of old.file ≤ room_of new.file
   pub room : old.file.gaps.room ≤ new.file.gaps.room
 
 -- ---- plans
@@ -81,10 +81,10 @@ pub record IsSame (old : ReceiverCore) (new : ReceiverCore) : Type 0 where
 -- in the core's present state the event gets the plan's answer, and the plan holds the state that follows
 pub record IsPlanOf (core : ReceiverCore) (plan : Plan) (event : What) : Type 0 where
   pub answered : IsAnswered (answer_at (reception_of core) (shown core)) (step (shown core)) event (plan_answer plan)
-      (state_from plan.next (metadata_after core.metadata plan.change) (received_after core.file plan.change))
-  pub fits : FitsFile core.file plan.change
-  pub room : HasRoom core.file plan.change
-  pub sound : core.control.ended ≡ false → IsSound plan.next
+      (state_from plan.step.value.next (metadata_after core.metadata plan.step.value.change) (received_after core.file plan.step.value.change))
+  pub fits : FitsFile core.file plan.step.value.change
+  pub room : HasRoom core.file plan.step.value.change
+  pub sound : core.control.ended ≡ false → IsSound plan.step.value.next
 
 -- a PDU opened the reception with this key, which is new, and the PDU is planned as its first event
 pub record IsOpenedBy (key : TxnKey) (params : ParamsParts) (pdu : PduValue) (core : ReceiverCore) (plan : Plan) : Type 0 where

@@ -34,8 +34,8 @@ pub record HoldsResponse (core : ReceiverCore) (event : What) (now : ControlBloc
   pub pdus : plan.answer.pdus
       ≡ map (pdu_to_sender (reception_of core)) (bodies_of (now_state core now c) (list_any is_end response.inds) (response_value response))
   pub timers : plan.answer.timers
-      ≡ operations core.key (timer_length core.params.timers) core.control.entries (effect_by plan.next event response) (stamp_of core.control.armed)
+      ≡ operations core.key (timer_length core.params.timers) core.control.entries (effect_by plan.step.value.next event response) (stamp_of core.control.armed)
   pub deposit : plan.answer.deposit ≡ deposit_of core response
-  pub change_is : plan.change ≡ c
-  pub next : IsNext core.control now event response (deposit_of core response) (adds c) plan.next
-  pub armed : (kind : TimerKind) → stamp_of plan.next.armed kind ≡ stamp_by core.control.entries (effect_by plan.next event response kind) (stamp_of core.control.armed kind)
+  pub change_is : plan.step.value.change ≡ c
+  pub next : IsNext core.control now event response (deposit_of core response) (adds c) plan.step.value.next
+  pub armed : (kind : TimerKind) → stamp_of plan.step.value.next.armed kind ≡ stamp_by core.control.entries (effect_by plan.step.value.next event response kind) (stamp_of core.control.armed kind)

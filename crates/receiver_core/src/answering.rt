@@ -3,9 +3,9 @@ ghost use Rattle.std.specs.Prelude.{◌≡◌, ◌<◌, IfOk, All, map};
 ghost use Rattle.receiver_table.specs.Answers.{segment_told};
 
 use crate::receiver::ReceiverCore;
-use cfdp_types::{ChecksumType, Class, Condition, Delivery, FileStatus, TimerKind};
+use cfdp_types::{Boxed, ChecksumType, Class, Condition, Delivery, FileStatus, TimerKind};
 use gap_list::Run;
-use indications::{Indication, Indications};
+use indications::{Indication, Indications, ReceivedMetadata};
 use pdu_values::{Body, Eof, Metadata, Prompt};
 use receiver_parts::control::ControlBlock;
 use receiver_parts::examine::look;
@@ -49,36 +49,41 @@ impl ReceiverCore {
     fn examine(
         &self,
         inds: Indications,
-        now: &ControlBlock,
+        current: &ControlBlock,
         change: &FileChange,
     ) -> Result<Response, AllocError>
-        requires { IsReady self.now.file now.now change.now }
+        requires { IsReady self.now.file current.now change.now }
         ensures response { IfOk result (λ response. IsResponse response
-            (tells inds and_then table.examines (reception_of self.now) (now_state self.now now.now change.now))) }
+            (tells inds and_then table.examines (reception_of self.now) (now_state self.now current.now change.now))) }
         ensures plain { IfOk result (λ response. response.resumes ≡ false) }
     {
-        if now.is_suspended() {
+        if current.is_suspended() {
             return Ok(Response::of(inds));
         }
-        let finding = look(self.checksum_type_after(change), now, &self.file, change);
-        self.answers_finding(inds, now, finding)
+        let finding = look(
+            self.checksum_type_after(change),
+            current,
+            &self.file,
+            change,
+        );
+        self.answers_finding(inds, current, finding)
     }
 
     // The indication of Metadata, if it is the first.
     fn metadata_told(&self, metadata: &Metadata) -> Result<Indications, AllocError>
-        ensures { IfOk result (λ inds. inds ≡ (if is_some self.now.metadata then [] else told.MetadataRecv
-            self.now.key.source metadata.now.size metadata.now.source_name metadata.now.destination_name
-            metadata.now.messages ∷ [])) }
+        ensures { IfOk result (λ inds. inds ≡ (if is_some self.now.metadata then []
+            else table.metadata_recv self.now.key.source metadata.now ∷ [])) }
     {
         let mut inds = Indications::new(self.alloc);
         if self.metadata.is_none() {
-            inds.push(Indication::MetadataRecv {
+            let received = ReceivedMetadata {
                 source: self.key.source,
                 size: metadata.size,
                 source_name: metadata.source_name.copy()?,
                 destination_name: metadata.destination_name.copy()?,
                 messages: metadata.messages.copy()?,
-            })?;
+            };
+            inds.push(Indication::MetadataRecv(Boxed::new(self.alloc, received)?))?;
         }
         Ok(inds)
     }
@@ -86,15 +91,15 @@ impl ReceiverCore {
     fn on_metadata(
         &self,
         metadata: &Metadata,
-        now: &ControlBlock,
+        current: &ControlBlock,
         change: &FileChange,
     ) -> Result<Response, AllocError>
-        requires { IsReady self.now.file now.now change.now }
+        requires { IsReady self.now.file current.now change.now }
         ensures { IfOk result (λ response. IsResponse response (table.on_metadata (reception_of self.now)
-            (shown self.now) (now_state self.now now.now change.now) metadata.now)) }
+            (shown self.now) (now_state self.now current.now change.now) metadata.now)) }
     {
         let inds = self.metadata_told(metadata)?;
-        self.examine(inds, now, change)
+        self.examine(inds, current, change)
     }
 
     // The indications of the new octets in a change.
@@ -109,14 +114,18 @@ impl ReceiverCore {
     }
 
     // Indicates each run of new octets, and examines the file.
-    fn on_file_data(&self, now: &ControlBlock, change: &FileChange) -> Result<Response, AllocError>
-        requires ready { IsReady self.now.file now.now change.now }
+    fn on_file_data(
+        &self,
+        current: &ControlBlock,
+        change: &FileChange,
+    ) -> Result<Response, AllocError>
+        requires ready { IsReady self.now.file current.now change.now }
         requires filled { All (λ run. run.start < run.end) (runs_in change.now) }
         ensures { IfOk result (λ response. IsResponse response (tells (map segment_told (runs_in change.now)) and_then
-            table.examines (reception_of self.now) (now_state self.now now.now change.now))) }
+            table.examines (reception_of self.now) (now_state self.now current.now change.now))) }
     {
         let inds = self.part_told(change)?;
-        self.examine(inds, now, change)
+        self.examine(inds, current, change)
     }
 
     // Class 2 acknowledges an EOF.
@@ -141,15 +150,19 @@ impl ReceiverCore {
     }
 
     // Answers an EOF without an error, outside the closing phase.
-    fn on_good_eof(&self, now: &ControlBlock, change: &FileChange) -> Result<Response, AllocError>
-        requires { IsReady self.now.file now.now change.now }
+    fn on_good_eof(
+        &self,
+        current: &ControlBlock,
+        change: &FileChange,
+    ) -> Result<Response, AllocError>
+        requires { IsReady self.now.file current.now change.now }
         ensures { IfOk result (λ response. IsResponse response (tells
             (if is_some self.now.control.eof then [] else told.EofRecv ∷ []) and_then table.acknowledges
             (reception_of self.now) condition.no_error and_then table.examines (reception_of self.now)
-            (now_state self.now now.now change.now))) }
+            (now_state self.now current.now change.now))) }
     {
         let inds = self.eof_told()?;
-        let mut response = self.examine(inds, now, change)?;
+        let mut response = self.examine(inds, current, change)?;
         if self.header.class == Class::Two {
             response.ack = Some(Condition::NO_ERROR);
         }
@@ -174,32 +187,32 @@ impl ReceiverCore {
     fn on_eof(
         &self,
         eof: Eof,
-        now: &ControlBlock,
+        current: &ControlBlock,
         change: &FileChange,
     ) -> Result<Response, AllocError>
-        requires { IsReady self.now.file now.now change.now }
+        requires { IsReady self.now.file current.now change.now }
         ensures { IfOk result (λ response. IsResponse response
-            (table.on_eof (reception_of self.now) (shown self.now) (now_state self.now now.now change.now) eof)) }
+            (table.on_eof (reception_of self.now) (shown self.now) (now_state self.now current.now change.now) eof)) }
     {
         if self.control.is_closing() {
             let mut response = Response::of(Indications::new(self.alloc));
             self.acknowledges(&mut response, eof.condition);
             Ok(response)
         } else if eof.condition == Condition::NO_ERROR {
-            self.on_good_eof(now, change)
+            self.on_good_eof(current, change)
         } else {
             self.on_bad_eof(eof.condition)
         }
     }
 
     // Answers a Prompt: a NAK, unless the reception is suspended, or a Keep Alive.
-    fn on_prompt(&self, prompt: Prompt, now: &ControlBlock) -> Response
+    fn on_prompt(&self, prompt: Prompt, current: &ControlBlock) -> Response
         ensures { (m : Option Metadata) (octets : ℕ → Option ℕ) → IsResponse result
-            (table.on_prompt (state_from now.now m octets) prompt) }
+            (table.on_prompt (state_from current.now m octets) prompt) }
     {
         let mut response = Response::of(Indications::new(self.alloc));
         match prompt {
-            Prompt::Nak => response.nak = !now.is_suspended(),
+            Prompt::Nak => response.nak = !current.is_suspended(),
             Prompt::KeepAlive => response.keep_alive = true,
         }
         response
@@ -225,20 +238,20 @@ impl ReceiverCore {
     fn on_body(
         &self,
         body: &Body,
-        now: &ControlBlock,
+        current: &ControlBlock,
         change: &FileChange,
     ) -> Result<Response, AllocError>
-        requires ready { IsReady self.now.file now.now change.now }
+        requires ready { IsReady self.now.file current.now change.now }
         requires filled { All (λ run. run.start < run.end) (runs_in change.now) }
         requires runs { runs_in change.now ≡ added_runs (shown self.now) (file_data_of (Some body.now)) }
         ensures { IfOk result (λ response. IsResponse response (table.on_body (reception_of self.now) (shown self.now)
-            (now_state self.now now.now change.now) body.now)) }
+            (now_state self.now current.now change.now) body.now)) }
     {
         match body {
-            Body::Metadata(metadata) => self.on_metadata(metadata, now, change),
-            Body::FileData(_) => self.on_file_data(now, change),
-            Body::Eof(eof) => self.on_eof(*eof, now, change),
-            Body::Prompt(prompt) => Ok(self.on_prompt(*prompt, now)),
+            Body::Metadata(metadata) => self.on_metadata(metadata.get(), current, change),
+            Body::FileData(_) => self.on_file_data(current, change),
+            Body::Eof(eof) => self.on_eof(*eof, current, change),
+            Body::Prompt(prompt) => Ok(self.on_prompt(*prompt, current)),
             Body::Ack(_) => self.ends_as_finished(),
             Body::Finished(_) | Body::Nak(_) | Body::KeepAlive(_) => {
                 Ok(Response::of(Indications::new(self.alloc)))
@@ -247,9 +260,9 @@ impl ReceiverCore {
     }
 
     // Nak expired: another NAK, and at the limit a fault.
-    fn on_nak_timer(&self, now: &ControlBlock) -> Result<Response, AllocError>
+    fn on_nak_timer(&self, current: &ControlBlock) -> Result<Response, AllocError>
         ensures { (m : Option Metadata) (octets : ℕ → Option ℕ) → IfOk result (λ response. IsResponse response
-            (table.on_nak_timer (reception_of self.now) (shown self.now) (state_from now.now m octets))) }
+            (table.on_nak_timer (reception_of self.now) (shown self.now) (state_from current.now m octets))) }
     {
         let inds = Indications::new(self.alloc);
         if self.control.tries.nak + 1 < u32::from(self.params.limits().nak) {
@@ -258,14 +271,14 @@ impl ReceiverCore {
             response.arms = Some(TimerKind::Nak);
             Ok(response)
         } else {
-            self.fault_response(inds, now, Some(TimerKind::Nak), Condition::NAK_LIMIT)
+            self.fault_response(inds, current, Some(TimerKind::Nak), Condition::NAK_LIMIT)
         }
     }
 
     // Check expired: nothing is sent, and at the limit a fault.
-    fn on_check_timer(&self, now: &ControlBlock) -> Result<Response, AllocError>
+    fn on_check_timer(&self, current: &ControlBlock) -> Result<Response, AllocError>
         ensures { (m : Option Metadata) (octets : ℕ → Option ℕ) → IfOk result (λ response. IsResponse response
-            (table.on_check_timer (reception_of self.now) (shown self.now) (state_from now.now m octets))) }
+            (table.on_check_timer (reception_of self.now) (shown self.now) (state_from current.now m octets))) }
     {
         let inds = Indications::new(self.alloc);
         if self.control.tries.check + 1 < u32::from(self.params.limits().check) {
@@ -273,7 +286,12 @@ impl ReceiverCore {
             response.arms = Some(TimerKind::Check);
             Ok(response)
         } else {
-            self.fault_response(inds, now, Some(TimerKind::Check), Condition::CHECK_LIMIT)
+            self.fault_response(
+                inds,
+                current,
+                Some(TimerKind::Check),
+                Condition::CHECK_LIMIT,
+            )
         }
     }
 
@@ -292,17 +310,17 @@ impl ReceiverCore {
         }
     }
 
-    fn on_timer(&self, kind: TimerKind, now: &ControlBlock) -> Result<Response, AllocError>
+    fn on_timer(&self, kind: TimerKind, current: &ControlBlock) -> Result<Response, AllocError>
         ensures { (m : Option Metadata) (octets : ℕ → Option ℕ) → IfOk result (λ response. IsResponse response
-            (table.on_timer (reception_of self.now) (shown self.now) (state_from now.now m octets) kind)) }
+            (table.on_timer (reception_of self.now) (shown self.now) (state_from current.now m octets) kind)) }
     {
         match kind {
-            TimerKind::Nak => self.on_nak_timer(now),
-            TimerKind::Check => self.on_check_timer(now),
+            TimerKind::Nak => self.on_nak_timer(current),
+            TimerKind::Check => self.on_check_timer(current),
             TimerKind::Ack => self.on_ack_timer(),
             TimerKind::Inactivity => self.fault_response(
                 Indications::new(self.alloc),
-                now,
+                current,
                 Some(TimerKind::Inactivity),
                 Condition::INACTIVITY,
             ),
@@ -310,37 +328,37 @@ impl ReceiverCore {
     }
 
     // The file store keeps the file, or rejects it.
-    fn on_stored(&self, now: &ControlBlock, kept: bool) -> Result<Response, AllocError>
+    fn on_stored(&self, current: &ControlBlock, kept: bool) -> Result<Response, AllocError>
         ensures { (m : Option Metadata) (octets : ℕ → Option ℕ) → IfOk result (λ response. IsResponse response
-            (table.on_stored (reception_of self.now) (state_from now.now m octets) kept)) }
+            (table.on_stored (reception_of self.now) (state_from current.now m octets) kept)) }
     {
         let inds = Indications::new(self.alloc);
         if kept {
             self.finish_response(
                 inds,
-                now,
+                current,
                 Condition::NO_ERROR,
                 Delivery::Complete,
                 FileStatus::Retained,
             )
         } else {
-            self.fault_response(inds, now, None, Condition::FILESTORE_REJECTION)
+            self.fault_response(inds, current, None, Condition::FILESTORE_REJECTION)
         }
     }
 
     // The reception is resumed, and examines what it received meanwhile.
-    fn on_resume(&self, now: &ControlBlock, change: &FileChange) -> Result<Response, AllocError>
-        requires { IsReady self.now.file now.now change.now }
+    fn on_resume(&self, current: &ControlBlock, change: &FileChange) -> Result<Response, AllocError>
+        requires { IsReady self.now.file current.now change.now }
         ensures { IfOk result (λ response. IsResponse response
-            (table.on_resume (reception_of self.now) (now_state self.now now.now change.now))) }
+            (table.on_resume (reception_of self.now) (now_state self.now current.now change.now))) }
     {
         let mut inds = Indications::new(self.alloc);
         inds.push(Indication::Resumed {
-            progress: now.progress,
+            progress: current.progress,
         })?;
         let active = ControlBlock {
             paused: false,
-            ..*now
+            ..*current
         };
         let mut response = self.examine(inds, &active, change)?;
         response.resumes = true;
@@ -351,25 +369,25 @@ impl ReceiverCore {
     fn on_request(
         &self,
         event: &What,
-        now: &ControlBlock,
+        current: &ControlBlock,
         change: &FileChange,
     ) -> Result<Response, AllocError>
-        requires { IsReady self.now.file now.now change.now }
+        requires { IsReady self.now.file current.now change.now }
         ensures { is_request event.now ≡ true → IfOk result (λ response. IsResponse response (table.response_to
-            (reception_of self.now) (shown self.now) (now_state self.now now.now change.now) event.now)) }
+            (reception_of self.now) (shown self.now) (now_state self.now current.now change.now) event.now)) }
     {
-        let progress = now.progress;
+        let progress = current.progress;
         let inds = Indications::new(self.alloc);
         match event {
-            What::Stored(_, kept) => self.on_stored(now, *kept),
-            What::Cancel => self.cancel_response(inds, now, Condition::CANCEL_REQUEST),
+            What::Stored(_, kept) => self.on_stored(current, *kept),
+            What::Cancel => self.cancel_response(inds, current, Condition::CANCEL_REQUEST),
             What::Suspend => {
                 let condition = Condition::SUSPEND_REQUEST;
                 Response::telling_more(inds, Indication::Suspended { condition })
             }
-            What::Resume => self.on_resume(now, change),
+            What::Resume => self.on_resume(current, change),
             What::Report => {
-                let phase = now.phase();
+                let phase = current.phase();
                 Response::telling_more(inds, Indication::Report { phase, progress })
             }
             What::Abandon => {
@@ -384,24 +402,24 @@ impl ReceiverCore {
         }
     }
 
-    /// The response to an event, which brings `change`, in the present state; `now` is the control block with the
+    /// The response to an event, which brings `change`, in the present state; `current` is the control block with the
     /// event.
     pub(crate) fn response_to(
         &self,
         event: &What,
-        now: &ControlBlock,
+        current: &ControlBlock,
         change: &FileChange,
     ) -> Result<Response, AllocError>
-        requires ready { IsReady self.now.file now.now change.now }
+        requires ready { IsReady self.now.file current.now change.now }
         requires filled { All (λ run. run.start < run.end) (runs_in change.now) }
         requires runs { runs_in change.now ≡ added_runs (shown self.now) (file_data_of (body_of_event event.now)) }
         ensures { IfOk result (λ response. IsResponse response (table.response_to (reception_of self.now)
-            (shown self.now) (now_state self.now now.now change.now) event.now)) }
+            (shown self.now) (now_state self.now current.now change.now) event.now)) }
     {
         match event {
-            What::Pdu(pdu) => self.on_body(pdu.body(), now, change),
-            What::Timer(kind, _) => self.on_timer(*kind, now),
-            _ => self.on_request(event, now, change),
+            What::Pdu(pdu) => self.on_body(pdu.body(), current, change),
+            What::Timer(kind, _) => self.on_timer(*kind, current),
+            _ => self.on_request(event, current, change),
         }
     }
 }

@@ -72,12 +72,12 @@ impl ReceiverCore {
     }
 
     // The NAK for what is missing of the file.
-    fn nak(&self, now: &ControlBlock, change: &FileChange) -> Result<Pdu, AllocError>
-        requires { IsSmall now.now }
+    fn nak(&self, current: &ControlBlock, change: &FileChange) -> Result<Pdu, AllocError>
+        requires { IsSmall current.now }
         ensures { IfOk result
-            (λ pdu. pdu ≡ pdu_to_sender (reception_of self.now) (nak_of (now_state self.now now.now change.now))) }
+            (λ pdu. pdu ≡ pdu_to_sender (reception_of self.now) (nak_of (now_state self.now current.now change.now))) }
     {
-        let scope = now.scope();
+        let scope = current.scope();
         // One run more than a NAK may hold shows that some are left out.
         let runs = self.file.missing_after(change, scope, NAK_REQUESTS + 1)?;
         let nak = nak(
@@ -103,15 +103,15 @@ impl ReceiverCore {
         &self,
         pdus: &mut Pdus,
         response: &Response,
-        now: &ControlBlock,
+        current: &ControlBlock,
         change: &FileChange,
     ) -> Result<(), AllocError>
-        requires { IsSmall now.now }
+        requires { IsSmall current.now }
         ensures { OnOk result (pdus.new ≡ pdus.old ++ map (pdu_to_sender (reception_of self.now))
-            (if_so response.now.nak (nak_of (now_state self.now now.now change.now)))) }
+            (if_so response.now.nak (nak_of (now_state self.now current.now change.now)))) }
     {
         if response.nak {
-            pdus.push(self.nak(now, change)?)
+            pdus.push(self.nak(current, change)?)
         } else {
             Ok(())
         }
@@ -143,23 +143,23 @@ impl ReceiverCore {
         }
     }
 
-    /// The PDUs to send for a response; `now` is the control block with the event, and `ended` gives the transaction
+    /// The PDUs to send for a response; `current` is the control block with the event, and `ended` gives the transaction
     /// status in an ACK.
     pub(crate) fn pdus_of(
         &self,
         response: &Response,
-        now: &ControlBlock,
+        current: &ControlBlock,
         change: &FileChange,
         ended: bool,
     ) -> Result<Pdus, AllocError>
-        requires { IsSmall now.now }
+        requires { IsSmall current.now }
         ensures { IfOk result (λ pdus. pdus ≡ map (pdu_to_sender (reception_of self.now))
-            (bodies_of (now_state self.now now.now change.now) ended (response_value response.now))) }
+            (bodies_of (now_state self.now current.now change.now) ended (response_value response.now))) }
     {
         let mut pdus = Pdus::new(self.alloc);
         self.put_ack(&mut pdus, response, ended)?;
-        self.put_nak(&mut pdus, response, now, change)?;
-        self.put_keep_alive(&mut pdus, response, now.progress)?;
+        self.put_nak(&mut pdus, response, current, change)?;
+        self.put_keep_alive(&mut pdus, response, current.progress)?;
         self.put_finished(&mut pdus, response)?;
         Ok(pdus)
     }

@@ -2,12 +2,18 @@ use receiver_parts::control::ControlBlock;
 use receiver_parts::file_change::FileChange;
 use txn_events::Answer;
 
-/// An event that is accepted, with its answer and all the memory that it needs. A plan can be carried out in the
-/// state that it was made in.
+/// What carrying out a plan changes.
 #[derive(Drop)]
-pub struct Plan {
+pub(crate) struct Step {
     pub(crate) next: ControlBlock,
     pub(crate) change: FileChange,
+}
+
+/// An event that is accepted, with its answer and all the memory that it needs. A plan can be carried out in the
+/// state that it was made in. It is passed on often, so what it changes is boxed.
+#[derive(Drop)]
+pub struct Plan {
+    pub(crate) step: Box<Step>,
     pub(crate) answer: Answer,
 }
 

@@ -1,5 +1,5 @@
 //! Planning an event.
-use crate::plan::Plan;
+use crate::plan::{Plan, Step};
 use crate::receiver::ReceiverCore;
 use cfdp_types::Deposit;
 use pdu_values::{Body, FileData, Metadata};
@@ -51,7 +51,7 @@ impl ReceiverCore {
         ensures { IfOk result (λ change. IsChange self.now (Some body.now) change) }
     {
         match body {
-            Body::Metadata(metadata) => self.change_by_metadata(metadata),
+            Body::Metadata(metadata) => self.change_by_metadata(metadata.get()),
             Body::FileData(file_data) => self.change_by_file_data(file_data),
             _ => Ok(FileChange::Nothing),
         }
@@ -77,7 +77,7 @@ impl ReceiverCore {
     {
         match change {
             FileChange::Nothing | FileChange::Metadata(_) => Ok(()),
-            FileChange::NewSegment(segment) => self.file.make_room(segment.end),
+            FileChange::NewSegment(segment) => self.file.make_room(segment.pieces.len()),
         }
     }
 
@@ -95,27 +95,34 @@ impl ReceiverCore {
         }
     }
 
-    // The plan of an event with its response and its change; `now` is the control block with the event.
+    // The plan of an event with its response and its change; `current` is the control block with the event.
     fn plan_response(
         &self,
         event: &What,
-        now: ControlBlock,
+        current: ControlBlock,
         response: Response,
         change: FileChange,
     ) -> Result<Plan, AllocError>
-        requires { IsSmall now }
-        ensures { IfOk result (λ plan. HoldsResponse self.now event.now now response change plan) }
+        requires { IsSmall current }
+        ensures { IfOk result (λ plan. HoldsResponse self.now event.now current response change plan) }
     {
         let deposit = self.deposit_of(&response);
-        let next = next(&self.control, now, event, &response, deposit, change.adds());
+        let next = next(
+            &self.control,
+            current,
+            event,
+            &response,
+            deposit,
+            change.adds(),
+        );
         let changes = changes(&next, event, &response);
-        let pdus = self.pdus_of(&response, &now, &change, response.inds.has_end())?;
+        let pdus = self.pdus_of(&response, &current, &change, response.inds.has_end())?;
         let context = TimerContext::new(self.key, &self.params, self.control.entries);
         let timers = operations(self.alloc, &context, changes, &self.control.armed)?;
         let armed = self.control.armed.after(changes, self.control.entries);
+        let next = ControlBlock { armed, ..next };
         Ok(Plan {
-            next: ControlBlock { armed, ..next },
-            change,
+            step: Box::new(self.alloc, Step { next, change })?,
             answer: Answer {
                 inds: response.inds,
                 pdus,
@@ -132,9 +139,9 @@ impl ReceiverCore {
         requires room { HasRoom self.now.file change }
         ensures { IfOk result (λ plan. IsPlanOf self.now plan event.now) }
     {
-        let now = with_event(&self.control, event, change.adds());
-        let response = self.response_to(event, &now, &change)?;
-        self.plan_response(event, now, response, change)
+        let current = with_event(&self.control, event, change.adds());
+        let response = self.response_to(event, &current, &change)?;
+        self.plan_response(event, current, response, change)
     }
 
     // Plans an event in the present state.

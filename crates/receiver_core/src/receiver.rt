@@ -4,7 +4,7 @@ ghost use Rattle.pdu_values.specs.Spelling.{HeaderFits};
 ghost use Rattle.receiver_parts.specs.ControlBlock.{IsSound};
 ghost use Rattle.receiver_parts.specs.Offsets.{IsInside};
 
-use crate::plan::Plan;
+use crate::plan::{Plan, Step};
 use cfdp_types::{Params, TxnKey};
 use pdu_values::{Header, Metadata};
 use receiver_parts::control::ControlBlock;
@@ -50,11 +50,8 @@ impl ReceiverCore {
         ensures stands { (event : What) (log : List Entry) → IsPlanOf self.old plan event → StandsAfter self.old log
             → StandsAfter self.new (record { event = event; answer = plan_answer plan } ∷ log) }
     {
-        let Plan {
-            next,
-            change,
-            answer,
-        } = plan;
+        let Plan { step, answer } = plan;
+        let Step { next, change } = Box::into_inner(step);
         change.apply(&mut self.file, &mut self.metadata);
         self.control = next;
         answer

@@ -37,14 +37,14 @@ impl ReceiverCore {
     pub(crate) fn finish_response(
         &self,
         inds: Indications,
-        now: &ControlBlock,
+        current: &ControlBlock,
         condition: Condition,
         delivery: Delivery,
         status: FileStatus,
     ) -> Result<Response, AllocError>
         ensures response { (m : Option Metadata) (octets : ℕ → Option ℕ) → IfOk result
             (λ response. IsResponse response (tells inds and_then table.finish_response (reception_of self.now)
-            (state_from now.now m octets) condition delivery status)) }
+            (state_from current.now m octets) condition delivery status)) }
         ensures plain { IfOk result (λ response. response.resumes ≡ false) }
     {
         let mut response = Response::of(inds);
@@ -61,7 +61,7 @@ impl ReceiverCore {
                     delivery,
                     status,
                 })?;
-                if now.asks_closure() {
+                if current.asks_closure() {
                     response.finished = Some(finished);
                 }
             }
@@ -77,17 +77,17 @@ impl ReceiverCore {
     pub(crate) fn cancel_response(
         &self,
         inds: Indications,
-        now: &ControlBlock,
+        current: &ControlBlock,
         condition: Condition,
     ) -> Result<Response, AllocError>
         ensures response { (m : Option Metadata) (octets : ℕ → Option ℕ) → IfOk result
             (λ response. IsResponse response (tells inds and_then table.cancel_response (reception_of self.now)
-            (state_from now.now m octets) condition)) }
+            (state_from current.now m octets) condition)) }
         ensures plain { IfOk result (λ response. response.resumes ≡ false) }
     {
         self.finish_response(
             inds,
-            now,
+            current,
             condition,
             Delivery::Incomplete,
             status_of(condition),
@@ -107,18 +107,18 @@ impl ReceiverCore {
     pub(crate) fn fault_response(
         &self,
         inds: Indications,
-        now: &ControlBlock,
+        current: &ControlBlock,
         arms: Option<TimerKind>,
         condition: Condition,
     ) -> Result<Response, AllocError>
         ensures response { (m : Option Metadata) (octets : ℕ → Option ℕ) → IfOk result
             (λ response. IsResponse response (tells inds and_then table.fault_response (reception_of self.now)
-            (state_from now.now m octets) (option_to_list arms) condition)) }
+            (state_from current.now m octets) (option_to_list arms) condition)) }
         ensures plain { IfOk result (λ response. response.resumes ≡ false) }
     {
-        let progress = now.progress;
+        let progress = current.progress;
         match self.handler_of(condition) {
-            Handler::Cancel => self.cancel_response(inds, now, condition),
+            Handler::Cancel => self.cancel_response(inds, current, condition),
             Handler::Suspend => Response::telling_more(inds, Indication::Suspended { condition }),
             Handler::Ignore => {
                 let told = Indication::Fault {
@@ -140,20 +140,20 @@ impl ReceiverCore {
     }
 
     // Waits for the rest of the file, with the timer of the class.
-    fn waits_for_rest(&self, inds: Indications, now: &ControlBlock) -> Response
+    fn waits_for_rest(&self, inds: Indications, current: &ControlBlock) -> Response
         ensures response { (m : Option Metadata) (octets : ℕ → Option ℕ) → IsResponse result
-            (tells inds and_then table.waits_for_rest (reception_of self.now) (state_from now.now m octets)) }
+            (tells inds and_then table.waits_for_rest (reception_of self.now) (state_from current.now m octets)) }
         ensures plain { result.resumes ≡ false }
     {
         let mut response = Response::of(inds);
         match self.header.class {
             Class::One => {
-                if now.armed.check.is_none() {
+                if current.armed.check.is_none() {
                     response.arms = Some(TimerKind::Check);
                 }
             }
             Class::Two => {
-                if now.armed.nak.is_none() {
+                if current.armed.nak.is_none() {
                     response.nak = true;
                     response.arms = Some(TimerKind::Nak);
                 }
@@ -166,23 +166,23 @@ impl ReceiverCore {
     pub(crate) fn answers_finding(
         &self,
         inds: Indications,
-        now: &ControlBlock,
+        current: &ControlBlock,
         finding: Finding,
     ) -> Result<Response, AllocError>
         ensures response { (m : Option Metadata) (octets : ℕ → Option ℕ) → IfOk result
             (λ response. IsResponse response
-            (tells inds and_then found_response (reception_of self.now) (state_from now.now m octets) finding)) }
+            (tells inds and_then found_response (reception_of self.now) (state_from current.now m octets) finding)) }
         ensures plain { IfOk result (λ response. response.resumes ≡ false) }
     {
         match finding {
             Finding::Nothing => Ok(Response::of(inds)),
-            Finding::Faulty(condition) => self.fault_response(inds, now, None, condition),
+            Finding::Faulty(condition) => self.fault_response(inds, current, None, condition),
             Finding::Whole => {
                 let mut response = Response::of(inds);
                 response.deposit = true;
                 Ok(response)
             }
-            Finding::Waits => Ok(self.waits_for_rest(inds, now)),
+            Finding::Waits => Ok(self.waits_for_rest(inds, current)),
         }
     }
 }

@@ -3,6 +3,7 @@ pub mod ReceptionFacts
 pub mod ReceptionLate
 pub mod ReceptionTelling
 pub mod ReceptionEvents
+pub mod ReceptionSilent
 pub mod ReceptionLegal
 pub mod ReceptionDeposits
 pub mod ReceptionClosure

@@ -5,7 +5,7 @@ use Rattle.std.specs.List.{list_any}
 use Rattle.std.proofs.lemmas.Bool.{cond_both, ltb-false, not-false, true≢false}
 use Rattle.std.proofs.Math.Bool.{or-false}
 use Rattle.cfdp_types.specs.Condition as condition
-use Rattle.cfdp_types.specs.Steps.{is_kind, is_stamp, older_or, newer_or}
+use Rattle.cfdp_types.specs.Steps.{is_kind, newer_or}
 use Rattle.cfdp_types.specs.declared.limits.TheConstants.{FILE_OCTETS}
 use Rattle.cfdp_types.specs.declared.names.Class.{Class}
 use Rattle.cfdp_types.specs.declared.names.Class.TheVariants.{One, Two}
@@ -28,109 +28,14 @@ use Rattle.txn_events.specs.declared.refusal.Refusal.TheVariants as refusal
 use Rattle.txn_events.specs.Events.{is_two, is_of_other_class, is_stale_timer, needs_room, body_of_event}
 use Rattle.indications.specs.declared.indication.Indication.{Indication}
 use Rattle.indications.specs.declared.indication.Indication.TheVariants as told
-use Rattle.indications.specs.Words.{is_end, MayFinish, IsFilled}
-use Rattle.receiver_table.specs.Reception.{Reception, State, step, is_closing, is_storing, is_suspended, waiting_after, metadata_of, eof_of, file_data_of, octet_at}
+use Rattle.indications.specs.Words.{MayFinish, IsFilled}
+use Rattle.receiver_table.specs.Reception.{Reception, State, step, is_closing, is_storing, is_suspended, waiting_after, metadata_of, eof_of, file_data_of}
 use Rattle.receiver_table.specs.Refusals.{refusal_at, is_stale_store, waits_for_store, is_pdu_misplaced, is_misplaced, is_body_too_large, is_too_large, is_full}
-use Rattle.receiver_table.specs.Answers.{Response, nothing, tells, with_event, asks_closure, finish_response, fault_response, cancel_response, examines, acknowledges, on_eof, on_prompt, ends_as_finished, on_body, is_below, on_timer, on_stored, response_to, ◌and_then◌}
-use Rattle.cfdp_types.proofs.StepLemmas.{older_or-none}
-use Rattle.receiver_laws.proofs.ReceptionFacts.{Fits, Goes, RowGoes, GoodWith, IsGoodFile, BringsNothing, Still, still_goes, Announces, LateRow, open_goes, good_kept, finish_kept, is_complete, reached_then}
+use Rattle.receiver_table.specs.Answers.{nothing, tells, with_event, asks_closure, finish_response, fault_response, cancel_response, examines, acknowledges, on_eof, on_prompt, ends_as_finished, on_body, is_below, on_timer, on_stored, response_to, ◌and_then◌}
+use Rattle.receiver_laws.proofs.ReceptionFacts.{Fits, Goes, RowGoes, GoodWith, IsGoodFile, BringsNothing, Still, still_goes, Announces, open_goes, good_kept, finish_kept, is_complete, reached_then}
 use Rattle.receiver_laws.proofs.ReceptionLate.{late_one, plain_suspended, incomplete_late, fault_late, examined_late}
 use Rattle.receiver_laws.proofs.ReceptionTelling.{metadata_goes, data_goes, eof_goes}
-
--- ---- responses without indications, and with one that ends nothing
-
-silent_still : (front : State) (before : List Indication) → Still front before [] None
-silent_still front before = record {
-  follows = tt;
-  no_metadata = refl;
-  no_eof = refl;
-  no_octets = λ i. refl;
-  same_finished = refl;
-  same_paused = refl;
-  completes = λ e. absurd cc;
-}
-
-silent_goes : (front : State) (event : What) (before : List Indication) → Fits front before → BringsNothing front event
-    → RowGoes front event before [] None false
-silent_goes front event before was brings = still_goes front event before [] None was brings (silent_still front before)
-
-incomplete_still : (front : State) (before : List Indication) (code : ℕ) (status : FileStatus) → list_any is_end before ≡ false
-    → Still front before (told.TransactionFinished code Incomplete status ∷ []) None
-incomplete_still front before code status runs = record {
-  follows = (runs, tt, tt);
-  no_metadata = refl;
-  no_eof = refl;
-  no_octets = λ i. refl;
-  same_finished = refl;
-  same_paused = refl;
-  completes = λ e. absurd cc;
-}
-
--- ---- events without a PDU
-
-bodiless_brings : (front : State) (event : What) → body_of_event event ≡ None
-    → (is_some (waiting_after front.waiting event None) ≡ true → is_some front.waiting ≡ true) → BringsNothing front event
-bodiless_brings front event none waits = record {
-  no_metadata = ap metadata_of none;
-  no_eof = λ opened. ap eof_of none;
-  no_data = ap file_data_of none;
-  waits = waits;
-}
-
-bodiless_announced : (front : State) (event : What) (before : List Indication) → Fits front before → front.ended ≡ false
-    → front.finished ≡ None
-    → body_of_event event ≡ None → Announces front event before []
-bodiless_announced front event before was runs opened none = record {
-  follows = tt;
-  metadata_told = was.metadata_told ∙ ap is_some (sym (older_or-none front.metadata) ∙ ap (λ b. older_or front.metadata (metadata_of b)) (sym none));
-  eof_told = was.eof_told opened ∙ ap is_some (sym (older_or-none front.eof) ∙ ap (λ b. older_or front.eof (eof_of b)) (sym none));
-  octets_told = λ i. was.octets_told i
-      ∙ ap is_some (sym (older_or-none (front.received i)) ∙ ap (λ b. older_or (front.received i) (octet_at (file_data_of b) i)) (sym none));
-  runs = was.ended ∙ runs;
-}
-
--- a response that tells nothing of the file answers them
-bodiless_goes : (front : State) (event : What) (before : List Indication) (response : Response) → Fits front before → front.ended ≡ false
-    → front.finished ≡ None
-    → is_some (waiting_after front.waiting event None) ≡ false → body_of_event event ≡ None → LateRow (GoodWith front event) before response
-    → Goes front event before response
-bodiless_goes front event before response was runs opened idle none late =
-    open_goes front event before [] response was runs opened idle (bodiless_announced front event before was runs opened none) late
-
--- ---- phases
-
-opened_is : (finished : Option Finished) (ended : Bool) → ended ≡ false → (is_some finished && not ended) ≡ false → finished ≡ None
-opened_is None ended lives e = refl
-opened_is (Some f) true lives e = absurd cc
-opened_is (Some f) false lives e = absurd cc
-
-suspended_is : (paused : Bool) (finished : Option Finished) (ended : Bool) → ((paused && not (is_some finished)) && not ended) ≡ true
-    → (paused ≡ true) × (finished ≡ None)
-suspended_is true None ended e = (refl, refl)
-suspended_is true (Some f) ended e = absurd cc
-suspended_is false finished ended e = absurd cc
-
--- a timer that is not Ack runs neither suspended nor in the closing phase
-runs_only : (front : State) (before : List Indication) (kind : TimerKind) → Fits front before → is_kind Ack kind ≡ false
-    → is_some (front.armed kind) ≡ true
-    → (paused finished : Bool) → front.paused ≡ paused → is_some front.finished ≡ finished → (paused ≡ false) × (finished ≡ false)
-runs_only front before kind was apart armed false false p q = (refl, refl)
-runs_only front before kind was apart armed true finished p q =
-    absurd (true≢false (sym armed ∙ ap is_some (was.idles kind apart (ap (λ b. b || is_some front.finished) p))))
-runs_only front before kind was apart armed false true p q =
-    absurd (true≢false (sym armed ∙ ap is_some (was.idles kind apart (ap (λ b. b || is_some front.finished) p ∙ q))))
-
-none_is : {A : Type 0} (o : Option A) → is_some o ≡ false → o ≡ None
-none_is None e = refl
-none_is (Some x) e = absurd cc
-
-stamped : (o : Option ℕ) (stamp : ℕ) → not (is_stamp o stamp) ≡ false → is_some o ≡ true
-stamped None stamp e = absurd cc
-stamped (Some n) stamp e = refl
-
-not_stored : (o : Bool) → (o && true) ≡ false → o ≡ false
-not_stored true e = absurd cc
-not_stored false e = refl
+use Rattle.receiver_laws.proofs.ReceptionSilent.{silent_goes, incomplete_still, bodiless_brings, bodiless_announced, bodiless_goes, opened_is, suspended_is, runs_only, none_is, stamped, not_stored}
 
 -- ---- the end that a Finished PDU said
 

@@ -25,7 +25,7 @@ use Rattle.indications.specs.Words.{is_end, is_metadata, is_eof, is_paused, tell
 use Rattle.indications.specs.Words.{paused_after}
 use Rattle.indications.proofs.WordLemmas.{told_onto, list_any-told_onto}
 use Rattle.receiver_table.specs.Reception.{Reception, State, step, octet_at, file_data_of, is_received, added_runs}
-use Rattle.receiver_table.specs.Answers.{nothing, tells, segment_told, with_event, examines, on_metadata, on_file_data, acknowledges, ◌and_then◌}
+use Rattle.receiver_table.specs.Answers.{metadata_recv, nothing, tells, segment_told, with_event, examines, on_metadata, on_file_data, acknowledges, ◌and_then◌}
 use Rattle.cfdp_types.proofs.StepLemmas.{older_or-none}
 use Rattle.indications.proofs.WordLemmas.{is_paused-told_onto}
 use Rattle.receiver_laws.proofs.ReceptionFacts.{Fits, Announces, Goes, GoodWith, LateRow, open_goes, reached_then, octet_there, unsaid}
@@ -159,7 +159,7 @@ metadata_new : (reception : Reception) (front : State) (header : Header) (m : Me
     → front.ended ≡ false
     → front.finished ≡ None → is_some front.metadata ≡ false
     → Announces front (what.Pdu (record { header = header; body = body.Metadata m })) before
-    (told.MetadataRecv reception.key.source m.size m.source_name m.destination_name m.messages ∷ [])
+    (metadata_recv reception.key.source m ∷ [])
 metadata_new reception front header m before was runs opened new = record {
   follows = (was.ended ∙ runs, was.metadata_told ∙ new, tt);
   metadata_told = comes front.metadata m;
@@ -213,7 +213,7 @@ pub metadata_goes : (reception : Reception) (front : State) (header : Header) (m
 metadata_goes reception front header m before was runs opened idle =
     let event = what.Pdu (record { header = header; body = body.Metadata m }) in
     let look = examines reception (with_event front event) in
-    let x = told.MetadataRecv reception.key.source m.size m.source_name m.destination_name m.messages in
+    let x = metadata_recv reception.key.source m in
     cond_both (is_some front.metadata) nothing (tells (x ∷ [])) (λ first. Goes front event before (first and_then look))
     (λ known.
     open_goes front event before [] look was runs opened idle (metadata_known front header m before was runs opened known)

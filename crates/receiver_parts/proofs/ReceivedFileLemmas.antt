@@ -1,93 +1,69 @@
--- Laws of the octets of a file as they are kept.
-use Rattle.std.proofs.Common.{◌≡◌, ℕ, zero, suc, ◌+◌, ◌-◌, ◌<◌, ◌≤◌, Bool, true, false, ◌||◌, if◌then◌else◌, List, length, get_or, take, drop, ◌++◌, Some, refl, sym, ap, ◌∙◌, arith, inl, inr, length-append, length-drop, length-take-le, drop-cons, add-one}
-use Rattle.std.proofs.lemmas.Bool.{cases_lt, cases_Bool, lt-ltb, le-ltb, le-leb, lt-leb}
-use Rattle.std.proofs.lemmas.List.{get_or_append_left, get_or-append_right, get_or-take, get_or-drop}
+-- Laws of octets that are put at their offsets.
+use Rattle.std.proofs.Common.{◌≡◌, ℕ, ◌+◌, ◌-◌, ◌<◌, ◌≤◌, if◌then◌else◌, List, [], ◌∷◌, length, get_or, take, ◌++◌, Option, Some, None, refl, sym, ap, ◌∙◌, arith, inl, inr}
+use Rattle.std.proofs.lemmas.Bool.{cases_lt, lt-ltb, le-ltb, le-leb, lt-leb}
+use Rattle.std.proofs.lemmas.List.{take_more, get_or_append_left, get_or-append_right}
 use Rattle.std.proofs.lemmas.Option.{slice_get-get_or, slice_get_past, unwrap_or-slice_get}
-use Rattle.std.specs.Prelude.{slice_get, is_some}
+use Rattle.std.specs.Prelude.{slice_get, unwrap_or}
+use Rattle.cfdp_types.specs.Steps.{newer_or}
 use Rattle.gap_list.specs.Runs.{is_within}
-use Rattle.receiver_table.specs.Answers.{octets_from}
-use Rattle.receiver_parts.specs.Offsets.{IsInside, octets_in}
+use Rattle.modular_sum.specs.Pieces.{octet_from}
+use Rattle.modular_sum.proofs.PieceLemmas.{octet_from_before, octet_from_after}
+use Rattle.receiver_parts.specs.Offsets.{octet_in}
+use Rattle.receiver_parts.specs.declared.pieces.Piece.{Piece}
+use Rattle.receiver_parts.proofs.LayLemmas.{octet_in-append}
 
 pub same_get : (xs ys : List ℕ) (i j : ℕ) → i < length xs → j < length ys → get_or xs i 0 ≡ get_or ys j 0 → slice_get xs i ≡ slice_get ys j
 same_get xs ys i j first second e = slice_get-get_or xs i 0 first ∙ ap Some e ∙ sym (slice_get-get_or ys j 0 second)
 
-put_lengths : (xs src : List ℕ) (a b : ℕ) → a ≤ b → b ≤ length xs → length src ≡ b - a
-    → (length (take a xs) ≡ a) × (length (drop (b - a) (drop a xs)) ≡ length xs - b) × (length (take a xs ++ (src ++ drop (b - a) (drop a xs))) ≡ length xs)
-put_lengths xs src a b ordered room count =
-    let front : length (take a xs) ≡ a = length-take-le a xs (omega (arith, ordered, room)) in
-    let back : length (drop (b - a) (drop a xs)) ≡ length xs - b = omega (arith, length-drop (b - a) (drop a xs), length-drop a xs, ordered, room) in
-    (front, back, omega (arith, length-append (take a xs) (src ++ drop (b - a) (drop a xs)), length-append src (drop (b - a) (drop a xs)), front, back, count, ordered, room))
+-- there is 0 past the end
+past_is : (xs : List ℕ) (i : ℕ) → length xs ≤ i → get_or xs i 0 ≡ 0
+past_is xs i past = sym (unwrap_or-slice_get xs i 0) ∙ ap (λ o. unwrap_or o 0) (slice_get_past xs i past)
 
--- octets put in the place of others
-pub put_is : (xs src octets : List ℕ) (a b offset i : ℕ) → offset ≤ a → a ≤ b → b ≤ length xs → b ≤ offset + length octets
-    → src ≡ take (b - a) (drop (a - offset) octets)
-    → slice_get (take a xs ++ (src ++ drop (b - a) (drop a xs))) i ≡ (if is_within a b i then slice_get octets (i - offset) else slice_get xs i)
-put_is xs src octets a b offset i begins ordered room ends is =
-    let count : length src ≡ b - a = ap length is ∙ length-take-le (b - a) (drop (a - offset) octets) (omega (arith, length-drop (a - offset) octets, begins, ordered, ends)) in
-    let back : List ℕ = drop (b - a) (drop a xs) in
-    let new : List ℕ = take a xs ++ (src ++ back) in
-    let lengths = put_lengths xs src a b ordered room count in
-    elim (cases_lt i a) [
-      | inl before ↦
-          rw (lt-leb a i before)
-          (same_get new xs i i (omega (arith, lengths.2, before, ordered, room)) (omega (arith, before, ordered, room))
-          (get_or_append_left (take a xs) (src ++ back) 0 i (omega (arith, lengths.0, before)) ∙ get_or-take a xs i 0 before))
+-- an octet of a list whose first stands at an offset
+octet_inside : (start : ℕ) (part : List ℕ) (i x : ℕ) → start ≤ i → i < start + length part → unwrap_or (octet_from start part i) x ≡ get_or part (i - start) 0
+octet_inside start part i x from below =
+    rw (le-leb start i from, slice_get-get_or part (i - start) 0 (omega (arith, from, below))) refl
+
+-- octets that are appended
+pub appended_is : (xs part : List ℕ) (start i : ℕ) → length xs ≡ start → get_or (xs ++ part) i 0 ≡ unwrap_or (octet_from start part i) (get_or xs i 0)
+appended_is xs part start i count =
+    elim (cases_lt i start) [
+      | inl before ↦ rw (octet_from_before start part i before) (get_or_append_left xs part 0 i (omega (arith, count, before)))
       | inr from ↦
-          elim (cases_lt i b) [
-            | inl below ↦
-                rw (le-leb a i from, lt-ltb i b below)
-                (same_get new octets i (i - offset) (omega (arith, lengths.2, below, room)) (omega (arith, below, ends, begins, from))
-                (get_or-append_right (take a xs) (src ++ back) a i 0 lengths.0 from
-                ∙ get_or_append_left src back 0 (i - a) (omega (arith, count, below, from))
-                ∙ ap (λ l. get_or l (i - a) 0) is
-                ∙ get_or-take (b - a) (drop (a - offset) octets) (i - a) 0 (omega (arith, below, from))
-                ∙ get_or-drop (a - offset) octets (i - a) 0
-                ∙ ap (λ n. get_or octets n 0) (omega (arith, begins, from))))
+          get_or-append_right xs part start i 0 count from
+          ∙ (elim (cases_lt i (start + length part)) [
+            | inl below ↦ sym (octet_inside start part i (get_or xs i 0) from below)
             | inr past ↦
-                rw (le-leb a i from, le-ltb i b past)
-                (elim (cases_lt i (length xs)) [
-                  | inl inside ↦
-                      same_get new xs i i (omega (arith, lengths.2, inside)) inside
-                      (get_or-append_right (take a xs) (src ++ back) a i 0 lengths.0 from
-                      ∙ get_or-append_right src back (b - a) (i - a) 0 count (omega (arith, past, ordered))
-                      ∙ get_or-drop (b - a) (drop a xs) (i - a - (b - a)) 0
-                      ∙ get_or-drop a xs (b - a + (i - a - (b - a))) 0
-                      ∙ ap (λ n. get_or xs n 0) (omega (arith, past, ordered, from)))
-                  | inr beyond ↦ slice_get_past new i (omega (arith, lengths.2, beyond)) ∙ sym (slice_get_past xs i beyond)
-                ])
+                rw (octet_from_after start part i past)
+                (past_is part (i - start) (omega (arith, from, past)) ∙ sym (past_is xs i (omega (arith, count, from))))
+          ])
+    ]
+
+-- octets that are written over others
+pub overwritten_is : (xs new part : List ℕ) (start i : ℕ)
+    → slice_get new i ≡ (if is_within start (start + length part) i then slice_get part (i - start) else slice_get xs i)
+    → get_or new i 0 ≡ unwrap_or (octet_from start part i) (get_or xs i 0)
+overwritten_is xs new part start i is =
+    sym (unwrap_or-slice_get new i 0) ∙ ap (λ o. unwrap_or o 0) is
+    ∙ (elim (cases_lt i start) [
+      | inl before ↦ rw (octet_from_before start part i before, lt-leb start i before) (unwrap_or-slice_get xs i 0)
+      | inr from ↦
+          elim (cases_lt i (start + length part)) [
+            | inl below ↦
+                rw (le-leb start i from, lt-ltb i (start + length part) below, slice_get-get_or part (i - start) 0 (omega (arith, from, below))) refl
+            | inr past ↦ rw (octet_from_after start part i past, le-leb start i from, le-ltb i (start + length part) past) (unwrap_or-slice_get xs i 0)
           ]
-    ]
+    ])
 
--- one run more
-pub put_more : {A : Type 0} (any within : Bool) (new old x z : A) → new ≡ (if within then x else old) → old ≡ (if any then x else z)
-    → new ≡ (if any || within then x else z)
-put_more true true new old x z e f = e
-put_more true false new old x z e f = e ∙ f
-put_more false true new old x z e f = e
-put_more false false new old x z e f = e ∙ f
+newer_unwrapped : (new old : Option ℕ) → unwrap_or new (unwrap_or old 0) ≡ unwrap_or (newer_or new old) 0
+newer_unwrapped None old = refl
+newer_unwrapped (Some x) old = refl
 
--- an octet is there where its offset came
-pub there : (octets : List ℕ) (set : ℕ → Bool) (i : ℕ) → IsInside (length octets) set → is_some (octets_in octets set i) ≡ set i
-there octets set i inside =
-    elim (cases_Bool (set i)) [
-      | inl came ↦ rw (came, slice_get-get_or octets i 0 (inside i came)) refl
-      | inr none ↦ rw none refl
-    ]
-
--- the octets of offsets that all came are those that are kept
-pub octets_are : (octets : List ℕ) (set : ℕ → Bool) (k n : ℕ) → ((i : ℕ) → k ≤ i → i < k + n → set i ≡ true) → k + n ≤ length octets
-    → octets_from (octets_in octets set) k n ≡ take n (drop k octets)
-octets_are octets set k zero all fits = refl
-octets_are octets set k (suc n) all fits =
-    let lt : k < length octets = omega (arith, fits) in
-    let rest = octets_are octets set (k + 1) n (λ i from below. all i (omega (arith, from)) (omega (arith, below))) (omega (arith, fits)) in
-    rw (all k (omega arith) (omega arith), unwrap_or-slice_get octets k 0, rest, add-one, drop-cons octets k 0 lt) refl
-
--- octets behind those that are kept change nothing of what came
-pub longer_same : (octets longer : List ℕ) (set : ℕ → Bool) (i : ℕ) → IsInside (length octets) set → ((i : ℕ) → i < length octets → slice_get longer i ≡ slice_get octets i)
-    → octets_in longer set i ≡ octets_in octets set i
-longer_same octets longer set i inside same =
-    elim (cases_Bool (set i)) [
-      | inl came ↦ rw came (same i (inside i came))
-      | inr none ↦ rw none refl
-    ]
+-- one piece more
+pub put_more : (pieces : List Piece) (k : ℕ) (piece : Piece) (i new old : ℕ) → k < length pieces → get_or pieces k piece ≡ piece
+    → new ≡ unwrap_or (octet_from piece.offset piece.octets i) old → old ≡ unwrap_or (octet_in (take k pieces) i) 0 → new ≡ unwrap_or (octet_in (take (k + 1) pieces) i) 0
+put_more pieces k piece i new old within here is before =
+    is ∙ ap (λ n. unwrap_or (octet_from piece.offset piece.octets i) n) before
+    ∙ newer_unwrapped (octet_from piece.offset piece.octets i) (octet_in (take k pieces) i)
+    ∙ ap (λ o. unwrap_or o 0) (sym (octet_in-append (take k pieces) (piece ∷ []) i))
+    ∙ ap (λ ps. unwrap_or (octet_in ps i) 0) (sym (take_more pieces k piece within ∙ ap (λ p. take k pieces ++ p ∷ []) here))

@@ -7,7 +7,7 @@ use Rattle.modular_sum.specs.Pieces.{IsSumOf}
 use Rattle.pdu_values.specs.declared.bodies.Metadata.{Metadata}
 use Rattle.pdu_values.specs.declared.bodies.FileData.{FileData}
 use Rattle.receiver_parts.specs.ControlBlock.{IsSmall}
-use Rattle.receiver_parts.specs.ReceivedFile.{received_of, with_segment, end_of, IsSegmentOf}
+use Rattle.receiver_parts.specs.ReceivedFile.{received_of, room_of, with_segment, end_of, IsSegmentOf}
 use Rattle.receiver_parts.specs.declared.received_file.ReceivedFile.{ReceivedFile}
 use Rattle.receiver_parts.specs.declared.control.ControlBlock.{ControlBlock}
 use Rattle.receiver_parts.specs.declared.file_change.FileChange as change_type
@@ -44,7 +44,7 @@ FitsFile file _ = Unit {0}
 
 -- there is room for what a change adds
 abbrev pub HasRoom : ReceivedFile → change_type.FileChange → Type 0
-HasRoom file (change.NewSegment segment) = (end_of segment ≤ vec_len file.octets) × (0 < file.gaps.room)
+HasRoom file (change.NewSegment segment) = (vec_len segment.pieces ≤ room_of file) × (0 < file.gaps.room)
 HasRoom file _ = Unit {0}
 
 -- the new runs in a change

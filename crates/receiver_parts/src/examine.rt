@@ -26,21 +26,21 @@ pub enum Finding {
 /// and its checksum. The type is None before the Metadata is received.
 pub fn look(
     checksum_type: Option<ChecksumType>,
-    now: &ControlBlock,
+    current: &ControlBlock,
     file: &ReceivedFile,
     change: &FileChange,
 ) -> Finding
-    requires { IsSmall now.now }
-    ensures { result ≡ finding_of checksum_type now.now.eof now.now.progress (covered_after file.now change.now)
+    requires { IsSmall current.now }
+    ensures { result ≡ finding_of checksum_type current.now.eof current.now.progress (covered_after file.now change.now)
         (word_after file.now change.now) }
 {
     if is_unsupported(checksum_type) {
         return Finding::Faulty(Condition::UNSUPPORTED_CHECKSUM_TYPE);
     }
-    let Some(eof) = now.eof else {
+    let Some(eof) = current.eof else {
         return Finding::Nothing;
     };
-    if eof.size < u64::from(now.progress) {
+    if eof.size < u64::from(current.progress) {
         return Finding::Faulty(Condition::FILE_SIZE_ERROR);
     }
     if checksum_type.is_none() || !file.is_full_after(change, eof.size as u32) {

@@ -7,6 +7,7 @@ pub mod examine;
 pub mod file_after;
 pub mod file_change;
 pub mod nak;
+pub mod pieces;
 pub mod received_file;
 pub mod response;
 pub mod steps;

@@ -1,10 +1,10 @@
 //! The received octets of a file.
-ghost use Rattle.std.specs.Prelude.{◌≡◌, ℕ, ◌+◌, ◌-◌, ◌<◌, ◌≤◌, if◌then◌else◌, All, IfOk, OnOk, length, slice_get, slice_index, vec_len, map, take, drop};
+ghost use Rattle.std.specs.Prelude.{◌≡◌, ℕ, ◌+◌, IfOk, is_some, length, map};
 ghost use Rattle.gap_list.specs.Covered.{covered};
-ghost use Rattle.gap_list.specs.Runs.{in_runs, is_within};
-ghost use Rattle.modular_sum.specs.Pieces.{IsSumOf, sum_after};
-ghost use Rattle.receiver_parts.specs.Offsets.{IsInside, octets_in, piece_of};
+ghost use Rattle.modular_sum.specs.Pieces.{IsSumOf};
+ghost use Rattle.receiver_parts.specs.Offsets.{octet_in, part_of};
 
+use crate::pieces::{Piece, append, parts_of, put_pieces, resize, sum_with_runs};
 use gap_list::{Gaps, Run};
 use modular_sum::Running;
 use pdu_values::FileData;
@@ -13,14 +13,14 @@ use std::alloc::{AllocError, Global};
 /// The received octets of a file, of each offset the one received first.
 #[derive(Drop)]
 pub struct ReceivedFile {
-    /// The octets by offset; at an offset that was not received, any octet.
-    pub octets: Vec<u8>,
+    /// The octets, in the order in which they came. No two pieces share an offset.
+    pub pieces: Vec<Piece>,
     /// Which offsets were received.
     pub gaps: Gaps,
     /// The checksum of the received octets, each at its offset.
     pub sum: Running,
-    ghost inside: { IsInside (length octets.items) (covered gaps) },
-    ghost summed: { IsSumOf (octets_in octets.items (covered gaps)) sum },
+    ghost came: { (i : ℕ) → is_some (octet_in pieces.items i) ≡ covered gaps i },
+    ghost summed: { IsSumOf (octet_in pieces.items) sum },
 }
 
 /// A segment of a file, and what it adds to the octets received before.
@@ -33,21 +33,23 @@ pub struct NewSegment {
     pub end: u32,
     /// The offsets of the segment that were not received before.
     pub runs: Vec<Run>,
+    /// The octets at these offsets.
+    pub pieces: Vec<Piece>,
     /// The checksum once the octets at these offsets are added.
     pub sum: Running,
     ghost starts: { start ≡ file_data.offset },
     ghost ends: { end ≡ file_data.offset + length file_data.octets },
+    ghost parts: { pieces.items ≡ map (part_of file_data.offset file_data.octets) runs.items },
 }
 
 impl ReceivedFile {
-    ghost use Rattle.std.specs.Prelude.{◌≡◌, ℕ, ◌+◌, ◌<◌, ◌≤◌, IfOk, OnOk, IsTrue, false, None, Some, length, slice_index, vec_len};
-    ghost use Rattle.gap_list.specs.Runs.{in_runs, new_runs, with_range};
+    ghost use Rattle.std.specs.Prelude.{◌≡◌, ℕ, ◌+◌, ◌<◌, ◌≤◌, IfOk, OnOk, false, None, Some, length, vec_len, map};
+    ghost use Rattle.gap_list.specs.Runs.{new_runs};
     ghost use Rattle.receiver_table.specs.Answers.{octets_from};
-    ghost use Rattle.cfdp_types.specs.declared.limits.TheConstants.{FILE_OCTETS};
     ghost use Rattle.gap_list.specs.Covered.{covered};
     ghost use Rattle.modular_sum.specs.Pieces.{IsSumOf};
-    ghost use Rattle.receiver_parts.specs.Offsets.{octets_in};
-    ghost use Rattle.receiver_parts.specs.ReceivedFile.{received_of, with_segment, end_of, IsSegmentOf};
+    ghost use Rattle.receiver_parts.specs.Offsets.{part_of};
+    ghost use Rattle.receiver_parts.specs.ReceivedFile.{received_of, with_segment, room_of, IsSegmentOf};
 
     /// A file of which nothing was received.
     pub fn new(alloc: Global) -> ReceivedFile
@@ -55,7 +57,7 @@ impl ReceivedFile {
         ensures gaps { (i : ℕ) → covered result.gaps i ≡ false }
     {
         ReceivedFile {
-            octets: Vec::new(alloc),
+            pieces: Vec::new(alloc),
             gaps: Gaps::new(alloc),
             sum: Running::new(),
         }
@@ -71,6 +73,22 @@ impl ReceivedFile {
         sum_with_runs(self.sum, runs, start, file_data.octets.as_slice())
     }
 
+    // The pieces of a segment at these runs, which are those not received before.
+    fn parts_at(
+        &self,
+        file_data: &FileData,
+        start: u32,
+        runs: &[Run],
+    ) -> Result<Vec<Piece>, AllocError>
+        requires starts { start ≡ file_data.now.offset }
+        requires runs { runs.now ≡ new_runs (covered self.now.gaps) file_data.now.offset
+            (file_data.now.offset + length file_data.now.octets) }
+        ensures { IfOk result
+            (λ pieces. pieces.items ≡ map (part_of file_data.now.offset file_data.now.octets) runs.now) }
+    {
+        parts_of(*self.pieces.allocator(), &file_data.octets, start, runs)
+    }
+
     /// What a segment adds to the file. `end` is one more than its last offset.
     pub fn segment(&self, file_data: &FileData, end: u32) -> Result<NewSegment, AllocError>
         requires { end ≡ file_data.now.offset + length file_data.now.octets }
@@ -79,6 +97,7 @@ impl ReceivedFile {
     {
         let start = file_data.offset as u32;
         let runs = self.gaps.new_within(start, end)?;
+        let pieces = self.parts_at(file_data, start, runs.as_slice())?;
         let sum = self.sum_with(file_data, start, runs.as_slice());
         let file_data = copy_of(file_data)?;
         Ok(NewSegment {
@@ -86,113 +105,64 @@ impl ReceivedFile {
             start,
             end,
             runs,
+            pieces,
             sum,
         })
-    }
-
-    // A vector of `size` octets: those that are kept, then zeros.
-    fn lengthened(&self, size: u32) -> Result<Vec<u8>, AllocError>
-        ensures items { IfOk result (λ octets. (i : ℕ) → i < size → i < vec_len self.now.octets
-            → slice_index octets.items i ≡ slice_index self.now.octets.items i) }
-        ensures len { IfOk result (λ octets. vec_len octets ≡ size) }
-    {
-        let mut octets = Vec::with_capacity(*self.octets.allocator(), size as usize)?;
-        let kept = self.octets.len().min(size as usize);
-        octets.extend_from_slice(&self.octets.as_slice()[..kept])?;
-        octets.resize(size as usize, 0)?;
-        Ok(octets)
-    }
-
-    // The octets below a size, with 0 for those that are missing.
-    fn filled_up(&self, size: u32) -> Result<Vec<u8>, AllocError>
-        ensures { IfOk result (λ octets. octets.items ≡ octets_from (received_of self.now) 0 size) }
-    {
-        let missing = self.gaps.missing(size)?;
-        let mut octets = self.lengthened(size)?;
-        blank(&mut octets, missing.as_slice());
-        Ok(octets)
-    }
-
-    // The octets below a size, none of which is missing.
-    fn front(&self, size: u32) -> &[u8]
-        requires { (i : ℕ) → i < size → IsTrue (covered self.now.gaps i) }
-        ensures { result.now ≡ octets_from (received_of self.now) 0 size }
-    {
-        &self.octets.as_slice()[..size as usize]
     }
 
     /// The octets below a size, with 0 for those that are missing.
     pub fn below(&self, size: u32) -> Result<Vec<u8>, AllocError>
         ensures { IfOk result (λ octets. octets.items ≡ octets_from (received_of self.now) 0 size) }
     {
-        if self.gaps.is_full(size) {
-            Vec::from_slice(*self.octets.allocator(), self.front(size))
-        } else {
-            self.filled_up(size)
-        }
+        let mut octets = Vec::with_capacity(*self.pieces.allocator(), size as usize)?;
+        put_pieces(&mut octets, self.pieces.as_slice())?;
+        resize(&mut octets, size as usize)?;
+        Ok(octets)
     }
 
-    // Makes room for the octets below `end`.
-    fn lengthen(&mut self, end: u32) -> Result<(), AllocError>
+    // Makes room for so many more pieces.
+    fn reserve_pieces(&mut self, count: usize) -> Result<(), AllocError>
         ensures received { (i : ℕ) → received_of self.new i ≡ received_of self.old i }
         ensures gaps { self.new.gaps ≡ self.old.gaps }
-        ensures longer { vec_len self.old.octets ≤ vec_len self.new.octets }
-        ensures octets { OnOk result (end ≤ vec_len self.new.octets) }
+        ensures kept { room_of self.old ≤ room_of self.new }
+        ensures pieces { OnOk result (count ≤ room_of self.new) }
     {
-        lengthen(&mut self.octets, end as usize)
+        self.pieces.reserve(count)
     }
 
     // Makes room for one more run of offsets.
     fn reserve_run(&mut self) -> Result<(), AllocError>
         ensures received { (i : ℕ) → received_of self.new i ≡ received_of self.old i }
         ensures gaps { (i : ℕ) → covered self.new.gaps i ≡ covered self.old.gaps i }
-        ensures octets { self.new.octets ≡ self.old.octets }
+        ensures pieces { room_of self.new ≡ room_of self.old }
         ensures kept { self.old.gaps.room ≤ self.new.gaps.room }
         ensures run { OnOk result (0 < self.new.gaps.room) }
     {
         self.gaps.reserve(1)
     }
 
-    /// Makes room for the octets below `end`, and for one more run of offsets.
-    pub fn make_room(&mut self, end: u32) -> Result<(), AllocError>
+    /// Makes room for so many more pieces, and for one more run of offsets.
+    pub fn make_room(&mut self, count: usize) -> Result<(), AllocError>
         ensures received { (i : ℕ) → received_of self.new i ≡ received_of self.old i }
         ensures gaps { (i : ℕ) → covered self.new.gaps i ≡ covered self.old.gaps i }
-        ensures longer { vec_len self.old.octets ≤ vec_len self.new.octets }
+        ensures longer { room_of self.old ≤ room_of self.new }
         ensures kept { self.old.gaps.room ≤ self.new.gaps.room }
-        ensures octets { OnOk result (end ≤ vec_len self.new.octets) }
+        ensures pieces { OnOk result (count ≤ room_of self.new) }
         ensures run { OnOk result (0 < self.new.gaps.room) }
     {
-        self.lengthen(end)?;
+        self.reserve_pieces(count)?;
         self.reserve_run()
-    }
-
-    // Writes the octets of a segment at the offsets that were not received before.
-    fn lay(&mut self, segment: &NewSegment)
-        requires segment { IsSegmentOf self.old segment.now }
-        requires room { end_of segment.now ≤ vec_len self.old.octets }
-        ensures laid { (i : ℕ) → octets_in self.new.octets.items
-            (with_range (covered self.old.gaps) segment.now.file_data.offset (end_of segment.now)) i
-            ≡ with_segment (received_of self.old) (Some segment.now.file_data) i }
-        ensures gaps { self.new.gaps ≡ self.old.gaps }
-        ensures len { vec_len self.new.octets ≡ vec_len self.old.octets }
-    {
-        put(
-            &mut self.octets,
-            segment.runs.as_slice(),
-            segment.start,
-            segment.file_data.octets.as_slice(),
-        );
     }
 
     /// Adds a segment to the file, without allocating.
     pub fn take(&mut self, segment: NewSegment)
         requires segment { IsSegmentOf self.old segment }
-        requires octets { end_of segment ≤ vec_len self.old.octets }
+        requires pieces { vec_len segment.pieces ≤ room_of self.old }
         requires run { 0 < self.old.gaps.room }
         ensures received { (i : ℕ) → received_of self.new i
             ≡ with_segment (received_of self.old) (Some segment.file_data) i }
     {
-        self.lay(&segment);
+        append(&mut self.pieces, segment.pieces);
         self.gaps.add(segment.start, segment.end);
         self.sum = segment.sum;
     }
@@ -206,111 +176,4 @@ fn copy_of(file_data: &FileData) -> Result<FileData, AllocError>
         offset: file_data.offset,
         octets: file_data.octets.copy()?,
     })
-}
-
-// Writes 0 at the offsets of a run.
-fn blank_run(kept: &mut [u8], run: Run)
-    requires ordered { run.start ≤ run.end }
-    requires room { run.end ≤ length kept.old }
-    ensures items { (i : ℕ) → slice_index kept.new i ≡ (if is_within run.start run.end i then 0 else slice_index kept.old i) }
-    ensures len { length kept.new ≡ length kept.old }
-{
-    kept[run.start as usize..run.end as usize].fill(0);
-}
-
-// Writes 0 at the offsets of the runs.
-fn blank_runs(kept: &mut [u8], runs: &[Run])
-    requires inside { All (λ run. (run.start ≤ run.end) × (run.end ≤ length kept.old)) runs.now }
-    ensures items { (i : ℕ) → slice_index kept.new i ≡ (if in_runs runs.now i then 0 else slice_index kept.old i) }
-    ensures len { length kept.new ≡ length kept.old }
-{
-    for run in runs {
-        blank_run(kept, *run);
-    }
-}
-
-// Writes 0 at the offsets of the runs, in a vector that reaches that far.
-fn blank(kept: &mut Vec<u8>, runs: &[Run])
-    requires inside { All (λ run. (run.start ≤ run.end) × (run.end ≤ vec_len kept.old)) runs.now }
-    ensures items { (i : ℕ) → slice_index kept.new.items i
-        ≡ (if in_runs runs.now i then 0 else slice_index kept.old.items i) }
-    ensures len { vec_len kept.new ≡ vec_len kept.old }
-{
-    blank_runs(kept, runs);
-}
-
-// Lengthens a vector to at least `wanted` octets, keeping those it has.
-fn lengthen(octets: &mut Vec<u8>, wanted: usize) -> Result<(), AllocError>
-    ensures same { (i : ℕ) → i < vec_len octets.old → slice_get octets.new.items i ≡ slice_get octets.old.items i }
-    ensures longer { vec_len octets.old ≤ vec_len octets.new }
-    ensures room { OnOk result (wanted ≤ vec_len octets.new) }
-{
-    let len = octets.len();
-    if len < wanted {
-        octets.reserve(wanted - len)?;
-        octets.resize(wanted, 0)?;
-    }
-    Ok(())
-}
-
-// The octets of a segment at the offsets of a run.
-fn part_of(octets: &[u8], offset: u32, run: Run) -> &[u8]
-    requires begins { offset ≤ run.start }
-    requires ordered { run.start ≤ run.end }
-    requires ends { run.end ≤ offset + length octets.now }
-    ensures { result.now ≡ take (run.end - run.start) (drop (run.start - offset) octets.now) }
-{
-    &octets[(run.start - offset) as usize..(run.end - offset) as usize]
-}
-
-// The checksum once the octets of a segment at the offsets of the runs are added.
-fn sum_with_runs(sum: Running, runs: &[Run], offset: u32, octets: &[u8]) -> Running
-    requires inside { All
-        (λ run. (offset ≤ run.start) × (run.start ≤ run.end) × (run.end ≤ offset + length octets.now)) runs.now }
-    ensures { result ≡ sum_after sum (map (piece_of offset octets.now) runs.now) }
-{
-    let mut sum = sum;
-    for run in runs {
-        sum.add(run.start, part_of(octets, offset, *run));
-    }
-    sum
-}
-
-// Copies the octets of a segment at the offsets of a run.
-fn put_run(kept: &mut [u8], run: Run, offset: u32, octets: &[u8])
-    requires begins { offset ≤ run.start }
-    requires ordered { run.start ≤ run.end }
-    requires ends { run.end ≤ offset + length octets.now }
-    requires room { run.end ≤ length kept.old }
-    ensures items { (i : ℕ) → slice_get kept.new i ≡
-        (if is_within run.start run.end i then slice_get octets.now (i - offset) else slice_get kept.old i) }
-    ensures len { length kept.new ≡ length kept.old }
-{
-    kept[run.start as usize..run.end as usize].copy_from_slice(part_of(octets, offset, run));
-}
-
-// Copies the octets of a segment at the offsets of the runs.
-fn put_runs(kept: &mut [u8], runs: &[Run], offset: u32, octets: &[u8])
-    requires inside { All
-        (λ run. (offset ≤ run.start) × (run.start ≤ run.end) × (run.end ≤ offset + length octets.now)) runs.now }
-    requires room { offset + length octets.now ≤ length kept.old }
-    ensures items { (i : ℕ) → slice_get kept.new i ≡
-        (if in_runs runs.now i then slice_get octets.now (i - offset) else slice_get kept.old i) }
-    ensures len { length kept.new ≡ length kept.old }
-{
-    for run in runs {
-        put_run(kept, *run, offset, octets);
-    }
-}
-
-// Copies the octets of a segment at the offsets of the runs, into a vector that reaches that far.
-fn put(kept: &mut Vec<u8>, runs: &[Run], offset: u32, octets: &[u8])
-    requires inside { All
-        (λ run. (offset ≤ run.start) × (run.start ≤ run.end) × (run.end ≤ offset + length octets.now)) runs.now }
-    requires room { offset + length octets.now ≤ vec_len kept.old }
-    ensures items { (i : ℕ) → slice_get kept.new.items i ≡
-        (if in_runs runs.now i then slice_get octets.now (i - offset) else slice_get kept.old.items i) }
-    ensures len { vec_len kept.new ≡ vec_len kept.old }
-{
-    put_runs(kept, runs, offset, octets);
 }

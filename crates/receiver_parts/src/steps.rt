@@ -23,7 +23,7 @@ fn closure_in(event: &What) -> Option<bool>
 {
     match event {
         What::Pdu(pdu) => match pdu.body() {
-            Body::Metadata(metadata) => Some(metadata.closure),
+            Body::Metadata(metadata) => Some(metadata.get().closure),
             _ => None,
         },
         _ => None,
@@ -117,18 +117,18 @@ pub fn with_event(control: &ControlBlock, event: &What, more: bool) -> ControlBl
     }
 }
 
-/// The control block after an event is answered with a response and a deposit; the timers stay as they were. `now` is
-/// the control block with the event, before it is answered.
+/// The control block after an event is answered with a response and a deposit; the timers stay as they were.
+/// `current` is the control block with the event, before it is answered.
 pub fn next(
     control: &ControlBlock,
-    now: ControlBlock,
+    current: ControlBlock,
     event: &What,
     response: &Response,
     deposit: Option<Deposit>,
     more: bool,
 ) -> ControlBlock
     requires few { AreFew control.now.entries control.now.tries }
-    ensures { IsNext control.now now event.now response.now deposit more result }
+    ensures { IsNext control.now current event.now response.now deposit more result }
 {
     let inds = response.inds.as_slice();
     ControlBlock {
@@ -140,7 +140,7 @@ pub fn next(
         paused: paused_after(control.paused, inds),
         ended: control.ended || response.inds.has_end(),
         tries: control.tries.after(event, inds, resets(more)),
-        ..now
+        ..current
     }
 }
 

@@ -31,7 +31,7 @@ unfolding initial step state_of answer_at runs_of runs_from written spelling dig
 stored_sends_finished = refl
 
 pub closed_one_told : issued (after class_one closed_one)
-    ≡ told.MetadataRecv (record { 0 = 1 }) 3 (97 ∷ []) (98 ∷ []) [] ∷ told.FileSegmentRecv 0 3 ∷ told.EofRecv ∷ told.TransactionFinished 0 Complete Retained ∷ []
+    ≡ told.MetadataRecv (record { source = record { 0 = 1 }; size = 3; source_name = 97 ∷ []; destination_name = 98 ∷ []; messages = [] }) ∷ told.FileSegmentRecv 0 3 ∷ told.EofRecv ∷ told.TransactionFinished 0 Complete Retained ∷ []
 unfolding initial step state_of runs_of runs_from
 closed_one_told = refl
 

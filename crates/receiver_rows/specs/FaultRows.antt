@@ -53,7 +53,7 @@ other_checksum_finished = refl
 
 -- a checksum type that is not supported: the Finished PDU names no entity
 pub other_type : tells (last class_one [] (metadata_of One 1 3))
-    ≡ Some (told.MetadataRecv (record { 0 = 1 }) 3 (97 ∷ []) (98 ∷ []) [] ∷ told.TransactionFinished 11 Incomplete Discarded ∷ [])
+    ≡ Some (told.MetadataRecv (record { source = record { 0 = 1 }; size = 3; source_name = 97 ∷ []; destination_name = 98 ∷ []; messages = [] }) ∷ told.TransactionFinished 11 Incomplete Discarded ∷ [])
 unfolding initial step state_of answer_at runs_of runs_from digits
 other_type = refl
 

@@ -109,7 +109,7 @@ no_octets = refl
 
 -- Metadata is indicated with its messages to the user
 pub messages_told : tells (last class_two [] (pdu Two (body.Metadata (record (metadata_value 0 3) { closure = true; messages = (109 ∷ []) ∷ [] ∷ [] }))))
-    ≡ Some (told.MetadataRecv (record { 0 = 1 }) 3 (97 ∷ []) (98 ∷ []) ((109 ∷ []) ∷ [] ∷ []) ∷ [])
+    ≡ Some (told.MetadataRecv (record { source = record { 0 = 1 }; size = 3; source_name = 97 ∷ []; destination_name = 98 ∷ []; messages = (109 ∷ []) ∷ [] ∷ [] }) ∷ [])
 unfolding initial step state_of answer_at runs_of runs_from digits
 messages_told = refl
 
@@ -133,7 +133,7 @@ reported_after_no_octets = refl
 
 -- Metadata and EOF are each indicated only once
 pub told_once : issued (after class_two (metadata Two ∷ metadata_of Two 1 9 ∷ eof Two ∷ eof Two ∷ []))
-    ≡ told.MetadataRecv (record { 0 = 1 }) 3 (97 ∷ []) (98 ∷ []) [] ∷ told.EofRecv ∷ []
+    ≡ told.MetadataRecv (record { source = record { 0 = 1 }; size = 3; source_name = 97 ∷ []; destination_name = 98 ∷ []; messages = [] }) ∷ told.EofRecv ∷ []
 unfolding initial step state_of runs_of runs_from
 told_once = refl
 

@@ -196,7 +196,7 @@ abbrev pub complete_one : List What
 complete_one = metadata One ∷ part One ∷ eof One ∷ what.Stored 2 true ∷ []
 
 pub complete_one_told : issued (after class_one complete_one)
-    ≡ told.MetadataRecv (record { 0 = 1 }) 3 (97 ∷ []) (98 ∷ []) [] ∷ told.FileSegmentRecv 0 3 ∷ told.EofRecv ∷ told.TransactionFinished 0 Complete Retained ∷ []
+    ≡ told.MetadataRecv (record { source = record { 0 = 1 }; size = 3; source_name = 97 ∷ []; destination_name = 98 ∷ []; messages = [] }) ∷ told.FileSegmentRecv 0 3 ∷ told.EofRecv ∷ told.TransactionFinished 0 Complete Retained ∷ []
 unfolding initial step state_of runs_of runs_from
 complete_one_told = refl
 
@@ -209,7 +209,7 @@ abbrev pub empty_one : List What
 empty_one = metadata_of One 0 0 ∷ eof_of One 0 0 0 ∷ what.Stored 1 true ∷ []
 
 pub empty_one_told : issued (after class_one empty_one)
-    ≡ told.MetadataRecv (record { 0 = 1 }) 0 (97 ∷ []) (98 ∷ []) [] ∷ told.EofRecv ∷ told.TransactionFinished 0 Complete Retained ∷ []
+    ≡ told.MetadataRecv (record { source = record { 0 = 1 }; size = 0; source_name = 97 ∷ []; destination_name = 98 ∷ []; messages = [] }) ∷ told.EofRecv ∷ told.TransactionFinished 0 Complete Retained ∷ []
 unfolding initial step state_of runs_of runs_from
 empty_one_told = refl
 
@@ -222,7 +222,7 @@ abbrev pub rejected_one : List What
 rejected_one = metadata One ∷ part One ∷ eof One ∷ what.Stored 2 false ∷ []
 
 pub rejected_one_told : issued (after class_one rejected_one)
-    ≡ told.MetadataRecv (record { 0 = 1 }) 3 (97 ∷ []) (98 ∷ []) [] ∷ told.FileSegmentRecv 0 3 ∷ told.EofRecv ∷ told.TransactionFinished 4 Incomplete Rejected ∷ []
+    ≡ told.MetadataRecv (record { source = record { 0 = 1 }; size = 3; source_name = 97 ∷ []; destination_name = 98 ∷ []; messages = [] }) ∷ told.FileSegmentRecv 0 3 ∷ told.EofRecv ∷ told.TransactionFinished 4 Incomplete Rejected ∷ []
 unfolding initial step state_of runs_of runs_from
 rejected_one_told = refl
 
@@ -253,7 +253,7 @@ abbrev pub complete_two : List What
 complete_two = metadata Two ∷ part Two ∷ eof Two ∷ what.Stored 2 true ∷ finished_acknowledged 0 ∷ []
 
 pub complete_two_told : issued (after class_two complete_two)
-    ≡ told.MetadataRecv (record { 0 = 1 }) 3 (97 ∷ []) (98 ∷ []) [] ∷ told.FileSegmentRecv 0 3 ∷ told.EofRecv ∷ told.TransactionFinished 0 Complete Retained ∷ []
+    ≡ told.MetadataRecv (record { source = record { 0 = 1 }; size = 3; source_name = 97 ∷ []; destination_name = 98 ∷ []; messages = [] }) ∷ told.FileSegmentRecv 0 3 ∷ told.EofRecv ∷ told.TransactionFinished 0 Complete Retained ∷ []
 unfolding initial step state_of runs_of runs_from
 complete_two_told = refl
 
@@ -266,7 +266,7 @@ abbrev pub metadata_last_two : List What
 metadata_last_two = part Two ∷ eof Two ∷ metadata Two ∷ what.Stored 2 true ∷ finished_acknowledged 0 ∷ []
 
 pub metadata_last_two_told : issued (after class_two metadata_last_two)
-    ≡ told.FileSegmentRecv 0 3 ∷ told.EofRecv ∷ told.MetadataRecv (record { 0 = 1 }) 3 (97 ∷ []) (98 ∷ []) [] ∷ told.TransactionFinished 0 Complete Retained ∷ []
+    ≡ told.FileSegmentRecv 0 3 ∷ told.EofRecv ∷ told.MetadataRecv (record { source = record { 0 = 1 }; size = 3; source_name = 97 ∷ []; destination_name = 98 ∷ []; messages = [] }) ∷ told.TransactionFinished 0 Complete Retained ∷ []
 unfolding initial step state_of runs_of runs_from
 metadata_last_two_told = refl
 
@@ -279,7 +279,7 @@ abbrev pub finished_in_vain : List What
 finished_in_vain = metadata Two ∷ part Two ∷ eof Two ∷ what.Stored 2 true ∷ what.Timer Ack 3 ∷ what.Timer Ack 4 ∷ []
 
 pub finished_in_vain_told : issued (after class_two finished_in_vain)
-    ≡ told.MetadataRecv (record { 0 = 1 }) 3 (97 ∷ []) (98 ∷ []) [] ∷ told.FileSegmentRecv 0 3 ∷ told.EofRecv ∷ told.TransactionFinished 0 Complete Retained ∷ []
+    ≡ told.MetadataRecv (record { source = record { 0 = 1 }; size = 3; source_name = 97 ∷ []; destination_name = 98 ∷ []; messages = [] }) ∷ told.FileSegmentRecv 0 3 ∷ told.EofRecv ∷ told.TransactionFinished 0 Complete Retained ∷ []
 unfolding initial step state_of runs_of runs_from
 finished_in_vain_told = refl
 
@@ -314,7 +314,7 @@ abbrev pub suspended_and_resumed : List What
 suspended_and_resumed = metadata Two ∷ eof Two ∷ what.Suspend ∷ part Two ∷ what.Resume ∷ what.Stored 4 true ∷ finished_acknowledged 0 ∷ []
 
 pub suspended_and_resumed_told : issued (after class_two suspended_and_resumed)
-    ≡ told.MetadataRecv (record { 0 = 1 }) 3 (97 ∷ []) (98 ∷ []) [] ∷ told.EofRecv ∷ told.Suspended 14 ∷ told.FileSegmentRecv 0 3
+    ≡ told.MetadataRecv (record { source = record { 0 = 1 }; size = 3; source_name = 97 ∷ []; destination_name = 98 ∷ []; messages = [] }) ∷ told.EofRecv ∷ told.Suspended 14 ∷ told.FileSegmentRecv 0 3
     ∷ told.Resumed 3 ∷ told.TransactionFinished 0 Complete Retained ∷ []
 unfolding initial step state_of runs_of runs_from
 suspended_and_resumed_told = refl
@@ -340,7 +340,7 @@ abbrev pub cancelled_by_user : List What
 cancelled_by_user = metadata Two ∷ what.Cancel ∷ eof Two ∷ finished_acknowledged 15 ∷ []
 
 pub cancelled_by_user_told : issued (after class_two cancelled_by_user)
-    ≡ told.MetadataRecv (record { 0 = 1 }) 3 (97 ∷ []) (98 ∷ []) [] ∷ told.TransactionFinished 15 Incomplete Discarded ∷ []
+    ≡ told.MetadataRecv (record { source = record { 0 = 1 }; size = 3; source_name = 97 ∷ []; destination_name = 98 ∷ []; messages = [] }) ∷ told.TransactionFinished 15 Incomplete Discarded ∷ []
 unfolding initial step state_of runs_of runs_from
 cancelled_by_user_told = refl
 

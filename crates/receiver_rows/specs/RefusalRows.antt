@@ -210,7 +210,7 @@ unfolding initial step state_of answer_at runs_of runs_from digits
 large_metadata = refl
 
 pub largest_metadata : tells (last class_one [] (metadata_of One 0 16777216))
-    ≡ Some (told.MetadataRecv (record { 0 = 1 }) 16777216 (97 ∷ []) (98 ∷ []) [] ∷ [])
+    ≡ Some (told.MetadataRecv (record { source = record { 0 = 1 }; size = 16777216; source_name = 97 ∷ []; destination_name = 98 ∷ []; messages = [] }) ∷ [])
 unfolding initial step state_of answer_at runs_of runs_from digits
 largest_metadata = refl
 

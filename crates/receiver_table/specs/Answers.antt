@@ -212,11 +212,21 @@ examines reception state =
 abbrev pub segment_told : Run → Indication
 segment_told run = told.FileSegmentRecv run.start (run.end - run.start)
 
+-- what is indicated of Metadata from an entity
+abbrev pub metadata_recv : EntityId → Metadata → Indication
+metadata_recv source m = told.MetadataRecv (record {
+  source = source;
+  size = m.size;
+  source_name = m.source_name;
+  destination_name = m.destination_name;
+  messages = m.messages;
+})
+
 -- Metadata: only the first is indicated
 abbrev pub on_metadata : Reception → State → State → Metadata → Response
 on_metadata reception front now m =
     (if is_some front.metadata then nothing
-    else tells (told.MetadataRecv reception.key.source m.size m.source_name m.destination_name m.messages ∷ []))
+    else tells (metadata_recv reception.key.source m ∷ []))
     and_then examines reception now
 
 -- File Data: each run of new octets is indicated

@@ -8,7 +8,9 @@ ghost use Rattle.pdu_values.specs.declared.bodies.TransactionStatus.TheVariants.
 ghost use Rattle.sender_table.specs.Answers.{header_of};
 ghost use Rattle.txn_events.specs.Events.{is_two};
 
-use cfdp_types::{Checksum, ChecksumType, Class, Condition, Octets, Params, PutRequest, TxnKey};
+use cfdp_types::{
+    Boxed, Checksum, ChecksumType, Class, Condition, Octets, Params, PutRequest, TxnKey,
+};
 use pdu_values::{
     Ack, Acknowledged, Direction, FileData, Header, Metadata, Pdu, TransactionStatus, octets_for,
 };
@@ -35,6 +37,7 @@ pub(crate) fn header_of(key: TxnKey, params: &Params, request: &PutRequest) -> H
 
 /// The Metadata PDU.
 pub(crate) fn metadata(
+    alloc: Global,
     header: Header,
     request: &PutRequest,
     checksum: Checksum,
@@ -61,7 +64,7 @@ pub(crate) fn metadata(
         destination_name: request.destination_name().copy()?,
         messages: request.messages().copy()?,
     };
-    Ok(Pdu::metadata(header, metadata))
+    Ok(Pdu::metadata(header, Boxed::new(alloc, metadata)?))
 }
 
 /// The File Data PDU with `count` octets of the file from `start`.

@@ -195,7 +195,8 @@ impl SenderCore {
             (λ response. IsResponse (sending_of self.now) response (on_pump (sending_of self.now) (shown self.now))) }
     {
         if self.control.metadata_remains {
-            let pdu = pdus::metadata(self.header, &self.request, self.params.checksum())?;
+            let checksum = self.params.checksum();
+            let pdu = pdus::metadata(self.alloc, self.header, &self.request, checksum)?;
             Ok(Response::sending(self.alloc, pdu))
         } else {
             self.sends_next()

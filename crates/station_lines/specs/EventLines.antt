@@ -47,8 +47,8 @@ said_members Transaction = []
 said_members EofSent = []
 said_members EofRecv = []
 said_members (TransactionFinished condition delivery status) = finished_members condition delivery status
-said_members (MetadataRecv source size source_name destination_name messages) =
-    metadata_members source size source_name destination_name messages
+said_members (MetadataRecv metadata) =
+    metadata_members metadata.source metadata.size metadata.source_name metadata.destination_name metadata.messages
 said_members (FileSegmentRecv offset octets) =
     number_member (codes "offset") offset ++ number_member (codes "length") octets
 said_members (Suspended condition) = number_member (codes "condition") condition

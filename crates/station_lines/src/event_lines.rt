@@ -69,20 +69,17 @@ fn said_members(line: &mut Line, said: &Indication) -> Result<(), AllocError>
             delivery,
             status,
         } => finished_members(line, *condition, *delivery, *status),
-        Indication::MetadataRecv {
-            source,
-            size,
-            source_name,
-            destination_name,
-            messages,
-        } => metadata_members(
-            line,
-            *source,
-            *size,
-            source_name,
-            destination_name,
-            messages,
-        ),
+        Indication::MetadataRecv(metadata) => {
+            let metadata = metadata.get();
+            metadata_members(
+                line,
+                metadata.source,
+                metadata.size,
+                &metadata.source_name,
+                &metadata.destination_name,
+                &metadata.messages,
+            )
+        }
         Indication::FileSegmentRecv { offset, length } => {
             line.number("offset", u64::from(*offset))?;
             line.number("length", u64::from(*length))

@@ -1,3 +1,4 @@
 pub mod SlotLemmas
+pub mod VacateLemmas
 pub mod ListLemmas
 pub mod Rows

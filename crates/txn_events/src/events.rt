@@ -77,7 +77,7 @@ pub fn is_body_too_large(body: &Body) -> bool
     ensures { result ≡ asked.is_body_too_large body.now }
 {
     match body {
-        Body::Metadata(metadata) => metadata.size > u64::from(FILE_OCTETS),
+        Body::Metadata(metadata) => metadata.get().size > u64::from(FILE_OCTETS),
         Body::FileData(part) => {
             let limit = u64::from(FILE_OCTETS);
             part.offset > limit || part.offset + part.octets.as_slice().len() as u64 > limit

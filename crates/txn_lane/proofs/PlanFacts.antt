@@ -38,8 +38,8 @@ answered_planned (core.Sender c) (plan.Sender p) (sent sending log) event stands
     (subst (λ state. sent_answers.answer_at (sender.sending_of c) state (to_sender event) ≡ Ok (sender.plan_answer p.value)) stands.1
     planned.answered.accepted)
 answered_planned (core.Receiver c) (plan.Receiver p) (received reception log) (On key event) stands planned =
-    subst (λ r. received_answers.answer_at r (receptions.state_of log) event ≡ Ok (receiver.plan_answer p.value)) stands.0
-    (subst (λ state. received_answers.answer_at (receiver.reception_of c) state event ≡ Ok (receiver.plan_answer p.value)) stands.1
+    subst (λ r. received_answers.answer_at r (receptions.state_of log) event ≡ Ok (receiver.plan_answer p)) stands.0
+    (subst (λ state. received_answers.answer_at (receiver.reception_of c) state event ≡ Ok (receiver.plan_answer p)) stands.1
     planned.answered.accepted)
 answered_planned (core.Receiver c) (plan.Receiver p) log (Put request params) stands planned = absurd planned
 answered_planned (core.Receiver c) (plan.Receiver p) (sent sending log) (On key event) stands planned = absurd stands
@@ -138,20 +138,17 @@ carried_sent c next b p event (sent sending front) is same carried planned stand
 )
 carried_sent c next b p event (received reception front) is same carried planned stands = absurd stands
 
--- a receiver that carried out the plan of a box
-pub carried_received : (c next : ReceiverCore) (b : Box received_plan.Plan) (p : received_plan.Plan) (event : Event) (log : Log) → p ≡ b.value
+-- a receiver that carried out a plan
+pub carried_received : (c next : ReceiverCore) (p : received_plan.Plan) (event : Event) (log : Log)
     → receiver.reception_of next ≡ receiver.reception_of c
     → ((happened : What) (front : List receptions.Entry) → receiver.IsPlanOf c p happened → receiver.StandsAfter c front
     → receiver.StandsAfter next (record { event = happened; answer = receiver.plan_answer p } ∷ front))
-    → IsPlanOf (core.Receiver c) (plan.Receiver b) event → StandsAfter (core.Receiver c) log
-    → StandsAfter (core.Receiver next) (extended log event (receiver.plan_answer b.value))
-carried_received c next b p (On key what) (received reception front) is same carried planned stands = (
-  same ∙ stands.0,
-  subst (λ q. receiver.StandsAfter next (record { event = what; answer = receiver.plan_answer q } ∷ front)) is
-      (carried what front (subst (λ q. receiver.IsPlanOf c q what) (sym is) planned) stands.1),
-)
-carried_received c next b p (Put request params) log is same carried planned stands = absurd planned
-carried_received c next b p (On key what) (sent sending front) is same carried planned stands = absurd stands
+    → IsPlanOf (core.Receiver c) (plan.Receiver p) event → StandsAfter (core.Receiver c) log
+    → StandsAfter (core.Receiver next) (extended log event (receiver.plan_answer p))
+carried_received c next p (On key what) (received reception front) same carried planned stands =
+    (same ∙ stands.0, carried what front planned stands.1)
+carried_received c next p (Put request params) log same carried planned stands = absurd planned
+carried_received c next p (On key what) (sent sending front) same carried planned stands = absurd stands
 
 -- the file that a receiver hands out
 pub image_received : (c : ReceiverCore) (log : Log) (stamp : ℕ) (P : Result Image Refusal → Type 0)

@@ -36,12 +36,12 @@ IsSettled c log = has_ended log ≡ true → ((glance_in log).phase ≡ phase.St
 -- the answer of a plan
 abbrev pub plan_answer : TransactionPlan → Answer
 plan_answer (plan.Sender p) = sender.plan_answer p.value
-plan_answer (plan.Receiver p) = receiver.plan_answer p.value
+plan_answer (plan.Receiver p) = receiver.plan_answer p
 
 -- in the present state the event gets the plan's answer
 abbrev pub IsPlanOf : TransactionCore → TransactionPlan → Event → Type 0
 IsPlanOf (core.Sender c) (plan.Sender p) event = sender.IsPlanOf c p.value (to_sender event)
-IsPlanOf (core.Receiver c) (plan.Receiver p) (On key event) = receiver.IsPlanOf c p.value event
+IsPlanOf (core.Receiver c) (plan.Receiver p) (On key event) = receiver.IsPlanOf c p event
 IsPlanOf c p event = ⊥
 
 -- there is a log, and the transaction shows the state that it gives

@@ -13,7 +13,7 @@ ghost use Rattle.lane_table.specs.Steps.{echo_to};
 ghost use Rattle.txn_lane.specs.LaneCode.{refused_by_key, refused_put};
 
 use cfdp_types::{Class, Condition, EntityId, TxnKey};
-use lane_table::{LaneSide, Refused};
+use lane_table::{Echo, LaneSide, Refused};
 use pdu_values::{Ack, Acknowledged, Body, Direction, Header, Pdu, TransactionStatus};
 use txn_events::{Refusal, What, body_opens};
 
@@ -34,13 +34,13 @@ pub(crate) fn plainly(why: Refusal) -> Refused
 }
 
 // The ACK of an EOF or a Finished PDU of a terminated transaction, with that PDU's condition code.
-fn late_ack(header: Header, of: Acknowledged, condition: Condition) -> Pdu
+fn late_ack(header: Header, of: Acknowledged, condition: Condition) -> Echo
     requires { HeaderFits header }
     ensures { result ≡ record
         { header = header; body = body.Ack (record { of = of; condition = condition; status = Terminated }) } }
 {
     let status = TransactionStatus::Terminated;
-    Pdu::ack(
+    Echo::new(
         header,
         Ack {
             of,
@@ -51,7 +51,7 @@ fn late_ack(header: Header, of: Acknowledged, condition: Condition) -> Pdu
 }
 
 // The echo of a PDU of a terminated transaction: in class 2 an EOF and a Finished are acknowledged.
-fn echo_of(pdu: &Pdu) -> Option<Pdu>
+fn echo_of(pdu: &Pdu) -> Option<Echo>
     ensures { result ≡ echo_of pdu.now }
 {
     let (header, body) = pdu.parts();
@@ -78,7 +78,7 @@ fn echo_of(pdu: &Pdu) -> Option<Pdu>
 }
 
 // The echo of an event, if it is a PDU that gets one.
-fn echo_to(event: &What) -> Option<Pdu>
+fn echo_to(event: &What) -> Option<Echo>
     ensures { (key : KeyValue) → result ≡ echo_to (On key event.now) }
 {
     match event {

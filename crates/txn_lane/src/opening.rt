@@ -52,7 +52,7 @@ impl TransactionCore {
     {
         let (core, plan) = ReceiverCore::open(alloc, key, pdu, params)?;
         let core = TransactionCore::Receiver(core);
-        Ok((core, TransactionPlan::Receiver(Box::new(alloc, plan)?)))
+        Ok((core, TransactionPlan::Receiver(plan)))
     }
 
     // The reception that an event other than a Put opens.

@@ -18,11 +18,11 @@ pub(crate) enum TransactionCore {
 }
 
 /// An event that the transaction accepts, with its answer and all the memory that carrying it out needs. A plan can
-/// be carried out in the state that it was made in. It is large and passed on often, so it is boxed.
+/// be carried out in the state that it was made in. It is passed on often, so what is large in it is boxed.
 #[derive(Drop)]
 pub(crate) enum TransactionPlan {
     Sender(Box<sender_core::Plan>),
-    Receiver(Box<receiver_core::Plan>),
+    Receiver(receiver_core::Plan),
 }
 
 impl TransactionPlan {
@@ -75,7 +75,7 @@ impl TransactionCore {
             }
             TransactionCore::Receiver(core) => {
                 let plan = core.plan(what)?;
-                Ok(TransactionPlan::Receiver(Box::new(alloc, plan)?))
+                Ok(TransactionPlan::Receiver(plan))
             }
             TransactionCore::Ended(_) => unreachable!(),
         }
@@ -93,9 +93,7 @@ impl TransactionCore {
             (TransactionCore::Sender(core), TransactionPlan::Sender(plan)) => {
                 core.commit(Box::into_inner(plan))
             }
-            (TransactionCore::Receiver(core), TransactionPlan::Receiver(plan)) => {
-                core.commit(Box::into_inner(plan))
-            }
+            (TransactionCore::Receiver(core), TransactionPlan::Receiver(plan)) => core.commit(plan),
             _ => unreachable!(),
         }
     }

@@ -99,23 +99,23 @@ none_of_another named = seven_five 7 5 (ap (λ (k : TxnKey). k.seq) named.0) ref
 -- ---- the users' indications
 
 pub told_of_first : told_of 5 (of_lane 2 (mine lanes history 0))
-    ≡ told.MetadataRecv (record { 0 = 1 }) 3 (97 ∷ []) (98 ∷ []) [] ∷ told.FileSegmentRecv 0 3 ∷ told.EofRecv ∷ told.TransactionFinished 0 Complete Retained ∷ []
+    ≡ told.MetadataRecv (record { source = record { 0 = 1 }; size = 3; source_name = 97 ∷ []; destination_name = 98 ∷ []; messages = [] }) ∷ told.FileSegmentRecv 0 3 ∷ told.EofRecv ∷ told.TransactionFinished 0 Complete Retained ∷ []
 unfolding initial step state_of runs_of runs_from
 told_of_first = refl
 
 pub told_of_second : told_of 7 (of_lane 2 (mine lanes history 0))
-    ≡ told.MetadataRecv (record { 0 = 1 }) 3 (97 ∷ []) (98 ∷ []) [] ∷ told.FileSegmentRecv 0 3 ∷ []
+    ≡ told.MetadataRecv (record { source = record { 0 = 1 }; size = 3; source_name = 97 ∷ []; destination_name = 98 ∷ []; messages = [] }) ∷ told.FileSegmentRecv 0 3 ∷ []
 unfolding initial step state_of runs_of runs_from
 told_of_second = refl
 
 -- the users' indications are what the logs issue
 pub logged_of_first : issued_in (log_for lanes history 0 2 5)
-    ≡ told.MetadataRecv (record { 0 = 1 }) 3 (97 ∷ []) (98 ∷ []) [] ∷ told.FileSegmentRecv 0 3 ∷ told.EofRecv ∷ told.TransactionFinished 0 Complete Retained ∷ []
+    ≡ told.MetadataRecv (record { source = record { 0 = 1 }; size = 3; source_name = 97 ∷ []; destination_name = 98 ∷ []; messages = [] }) ∷ told.FileSegmentRecv 0 3 ∷ told.EofRecv ∷ told.TransactionFinished 0 Complete Retained ∷ []
 unfolding initial step state_of runs_of runs_from
 logged_of_first = refl
 
 pub logged_of_second : issued_in (log_for lanes history 0 2 7)
-    ≡ told.MetadataRecv (record { 0 = 1 }) 3 (97 ∷ []) (98 ∷ []) [] ∷ told.FileSegmentRecv 0 3 ∷ []
+    ≡ told.MetadataRecv (record { source = record { 0 = 1 }; size = 3; source_name = 97 ∷ []; destination_name = 98 ∷ []; messages = [] }) ∷ told.FileSegmentRecv 0 3 ∷ []
 unfolding initial step state_of runs_of runs_from
 logged_of_second = refl
 

@@ -101,7 +101,7 @@ unfolding receiver.initial receiver.step receiver.state_of sender.initial sender
 told_of_four = refl
 
 told_of_five : told_under (receiving.key 5) (mine (first_lane reference_config) history 0)
-    ≡ told.MetadataRecv (record { 0 = 1 }) 3 (97 ∷ []) (98 ∷ []) [] ∷ told.FileSegmentRecv 0 3 ∷ told.EofRecv ∷ []
+    ≡ told.MetadataRecv (record { source = record { 0 = 1 }; size = 3; source_name = 97 ∷ []; destination_name = 98 ∷ []; messages = [] }) ∷ told.FileSegmentRecv 0 3 ∷ told.EofRecv ∷ []
 unfolding receiver.initial receiver.step receiver.state_of sender.initial sender.step sender.state_of runs_of runs_from
 told_of_five = refl
 

@@ -174,13 +174,13 @@ impl Notes {
             Err(
                 EntityRefusal::Lane(
                     Refused {
-                        echo: Some(pdu),
+                        echo: Some(echo),
                         ..
                     },
                 ),
             ) => {
                 count(&mut self.seen.echoes);
-                self.send(pdu)?;
+                self.send(&echo.pdu())?;
                 Ok(None)
             }
             Err(_) => Ok(None),

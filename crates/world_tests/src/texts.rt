@@ -53,7 +53,7 @@ fn push_refused(alloc: Global, text: &mut String, refused: &Refused) -> Result<(
     push_why(text, refused.why)?;
     match &refused.echo {
         None => Ok(()),
-        Some(pdu) => push_pdu(alloc, text, "echo", pdu),
+        Some(echo) => push_pdu(alloc, text, "echo", &echo.pdu()),
     }
 }
 

@@ -36,6 +36,11 @@ pub(crate) fn eof(alloc: Global, checksum: u32, size: u32) -> Result<Pdu, Fault>
     )
 }
 
+/// The EOF with which the sender cancels.
+pub(crate) fn cancel(alloc: Global) -> Result<Pdu, Fault> {
+    arrival(alloc, DIRECTIVE, &[&[4, 0xF0], &[0; 8], &[6, 1, 1]])
+}
+
 /// Octets of a file at an offset.
 pub(crate) fn file_data(alloc: Global, offset: u32, octets: &[u8]) -> Result<Pdu, Fault> {
     arrival(alloc, FILE_DATA, &[&offset.to_be_bytes(), octets])

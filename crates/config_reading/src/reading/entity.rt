@@ -14,7 +14,8 @@ use cfdp_types::limits::{
 use cfdp_types::{EntityId, HeaderLengths};
 use toml::Table;
 
-const KEYS: [Key; 8] = [
+/// The keys of the entity's table.
+pub const ENTITY_KEYS: [Key; 8] = [
     Key::Id,
     Key::IdOctets,
     Key::SequenceOctets,
@@ -26,10 +27,10 @@ const KEYS: [Key; 8] = [
 ];
 
 /// The entity's settings, from its table.
-pub(crate) fn entity_in(table: &Table) -> Result<EntitySettings, ConfigFault>
+pub fn entity_in(table: &Table) -> Result<EntitySettings, ConfigFault>
     ensures { result ≡ entity_in (table_view table.now) }
 {
-    if !has_only(table, &KEYS) {
+    if !has_only(table, &ENTITY_KEYS) {
         return Err(ConfigFault::UnknownKey(Section::Entity));
     }
     let id = number_at(table, Key::Id, 0, CONFIGURED_NUMBER)?;

@@ -11,7 +11,8 @@ use crate::reading::tables::{has_only, table_of, value_at};
 use cfdp_types::{Condition, FaultTable, Handler, Role};
 use toml::{Table, Value};
 
-const KEYS: [Key; 8] = [
+/// The keys of a table of handlers.
+pub const HANDLER_KEYS: [Key; 8] = [
     Key::PositiveAckLimit,
     Key::FilestoreRejection,
     Key::ChecksumFailure,
@@ -38,7 +39,7 @@ fn handlers_of(value: &Value, role: Role) -> Result<FaultTable, ConfigFault>
     ensures role { IfOk result (IsTableFor role) }
 {
     let table = table_of(value, Key::of_table(role))?;
-    if !has_only(table, &KEYS) {
+    if !has_only(table, &HANDLER_KEYS) {
         return Err(ConfigFault::HandlerNotAllowed(Key::of_table(role)));
     }
     handlers_from(table, role)

@@ -21,7 +21,8 @@ use cfdp_types::limits::SOURCES_OF_A_USER;
 use std::alloc::Global;
 use toml::{Table, Value};
 
-const KEYS: [Key; 14] = [
+/// The keys of a remote entity's table.
+pub const REMOTE_KEYS: [Key; 14] = [
     Key::Id,
     Key::Address,
     Key::User,
@@ -56,8 +57,8 @@ pub(crate) fn remotes_in(
     Ok(peers)
 }
 
-// The remote entity of one table; it may not repeat an ID of those before it.
-fn remote_in(
+/// The remote entity of one table; it may not repeat an ID of those before it.
+pub fn remote_in(
     alloc: Global,
     table: &Table,
     entity: EntitySettings,
@@ -68,7 +69,7 @@ fn remote_in(
     ensures { Reads peer_shown result
         (remote_in entity (map string_bytes users.now) (map peer_shown before.now) (table_view table.now)) }
 {
-    if !has_only(table, &KEYS) {
+    if !has_only(table, &REMOTE_KEYS) {
         return Err(ConfigFault::UnknownKey(Section::Remote));
     }
     let greatest = greatest_id(entity.lengths.entity_octets);

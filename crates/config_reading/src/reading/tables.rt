@@ -19,7 +19,7 @@ pub(crate) fn value_at(table: &Table, key: Key) -> Option<&Value>
 }
 
 /// The value of a required key.
-pub(crate) fn required(table: &Table, key: Key) -> Result<&Value, ConfigFault>
+pub fn required(table: &Table, key: Key) -> Result<&Value, ConfigFault>
     ensures value { IfOk result (λ value. value_at key (table_view table.now) ≡ Some (view value.now)) }
     ensures missing { IfErr result (λ fault. value_at key (table_view table.now) ≡ None) }
     ensures fault { IfErr result (λ fault. fault ≡ ConfigFault.MissingKey key) }
@@ -31,7 +31,7 @@ pub(crate) fn required(table: &Table, key: Key) -> Result<&Value, ConfigFault>
 }
 
 /// Whether a table has no keys but these.
-pub(crate) fn has_only(table: &Table, keys: &[Key]) -> bool
+pub fn has_only(table: &Table, keys: &[Key]) -> bool
     ensures { result ≡ has_only keys.now (table_view table.now) }
 {
     table.keys().all(|name| is_one_of(name.as_str(), keys))
@@ -44,7 +44,7 @@ fn is_one_of(name: &str, keys: &[Key]) -> bool
 }
 
 /// The value as a table.
-pub(crate) fn table_of(value: &Value, key: Key) -> Result<&Table, ConfigFault>
+pub fn table_of(value: &Value, key: Key) -> Result<&Table, ConfigFault>
     ensures { seen (λ table. table_view table.now) result ≡ table_of key (view value.now) }
 {
     match value.as_table() {
@@ -54,7 +54,7 @@ pub(crate) fn table_of(value: &Value, key: Key) -> Result<&Table, ConfigFault>
 }
 
 /// The tables of an array, whose number is from `least` to `most`.
-pub(crate) fn counted(
+pub fn counted(
     alloc: Global,
     value: &Value,
     key: Key,

@@ -25,8 +25,8 @@ pub(crate) fn users_in(alloc: Global, tables: &[&Table]) -> Result<Vec<String>, 
     Ok(users)
 }
 
-// The name in one table; it may not repeat one of those before it.
-fn user_in<'t>(table: &'t Table, before: &[String]) -> Result<&'t str, ConfigFault>
+/// The name in one table; it may not repeat one of those before it.
+pub fn user_in<'t>(table: &'t Table, before: &[String]) -> Result<&'t str, ConfigFault>
     ensures { seen (λ name. name.now) result ≡ user_in (map string_bytes before.now) (table_view table.now) }
 {
     if !has_only(table, &[Key::Name]) {

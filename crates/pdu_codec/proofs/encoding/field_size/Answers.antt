@@ -12,7 +12,7 @@ returns-in-Eof c = rw (c.in-Eof.is, c.from-wide.ensures, c.location_size.ensures
 
 pub returns-in-Metadata : goal.returns-in-Metadata
 returns-in-Metadata c =
-    rw (c.in-Metadata.is, c.from-wide.ensures, c.as_slice.ensures, c.as_slice-in-Metadata.ensures, c.messages_size.ensures)
+    rw (c.in-Metadata.is, c.from-wide.ensures, c.as_slice.ensures, c.as_slice-in-Metadata.ensures, c.messages_size.ensures, c.get-metadata.ensures)
     (metadata_length c.args.width c.args.entity_octets c.in-Metadata.metadata)
 
 pub returns-in-FileData : goal.returns-in-FileData

@@ -11,5 +11,5 @@ use Rattle.receiver_core.proofs.receiver.ReceiverCore.cancel_response.Goals as g
 pub returns-clause-response : goal.returns-clause-response
 returns-clause-response c m octets =
     subst (λ (status : FileStatus). IfOk c.finish_response.result (λ response. IsResponse response
-    (tells c.args.inds and_then finish_response (reception_of c.args.self.now) (state_from c.args.now.now m octets) c.args.condition Incomplete status)))
+    (tells c.args.inds and_then finish_response (reception_of c.args.self.now) (state_from c.args.current.now m octets) c.args.condition Incomplete status)))
     c.status_of.ensures (c.finish_response.ensures.response m octets)

@@ -8,8 +8,12 @@ use Rattle.receiver_core.proofs.receiver.ReceiverCore.commit.Goals as goal
 pub returns-clause-stands : goal.returns-clause-stands
 unfolding state_of
 returns-clause-stands c event log planned stood =
-    committed c.args.self.now c.args.plan event c.apply.new.metadata (received_of c.apply.new.file) c.apply.ensures.metadata c.apply.ensures.received planned
-    ∙ ap (λ s. step s (record { event = event; answer = plan_answer c.args.plan })) stood
+    rw c.into_inner-next.ensures
+    (committed c.args.self.now c.args.plan event c.apply.new.metadata (received_of c.apply.new.file)
+    (rw c.into_inner-next.ensures at c.apply.ensures.metadata) (rw c.into_inner-next.ensures at c.apply.ensures.received) planned
+    ∙ ap (λ s. step s (record { event = event; answer = plan_answer c.args.plan })) stood)
 
 pub invariant_of-self-clause-reached : goal.invariant_of-self-clause-reached
-invariant_of-self-clause-reached c = reached_after c.args.self.now c.args.plan c.requires.planned.0 c.apply.new.file c.requires.planned.1 c.apply.ensures.received
+invariant_of-self-clause-reached c =
+    rw c.into_inner-next.ensures
+    (reached_after c.args.self.now c.args.plan c.requires.planned.0 c.apply.new.file c.requires.planned.1 (rw c.into_inner-next.ensures at c.apply.ensures.received))

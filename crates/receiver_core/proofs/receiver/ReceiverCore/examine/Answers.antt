@@ -11,9 +11,9 @@ use Rattle.receiver_core.proofs.receiver.ReceiverCore.examine.Goals as goal
 pub returns-clause-response : goal.returns-clause-response
 returns-clause-response c =
     let core = c.args.self.now in
-    let state = now_state core c.args.now.now c.args.change.now in
+    let state = now_state core c.args.current.now c.args.change.now in
     let same : examines (reception_of core) state ≡ found_response (reception_of core) state c.look-finding.result =
-    examined (reception_of core) c.args.now.now (metadata_after core.metadata c.args.change.now) (received_after core.file c.args.change.now)
+    examined (reception_of core) c.args.current.now (metadata_after core.metadata c.args.change.now) (received_after core.file c.args.change.now)
     (covered_after core.file c.args.change.now) (word_after core.file c.args.change.now)
     (λ i. came_after core.file c.args.change.now i) c.requires.reached c.requires.summed
     (sym c.is_suspended.ensures ∙ c.if-is_suspended.false)

@@ -15,11 +15,11 @@ use Rattle.receiver_core.proofs.receiver.ReceiverCore.nak.Goals as goal
 pub returns : goal.returns
 returns c =
     let core = c.args.self.now in
-    let state = now_state core c.args.now.now c.args.change.now in
+    let state = now_state core c.args.current.now c.args.change.now in
     let runs : List Run = missing_runs (covered_after core.file c.args.change.now) c.scope-scope.result in
     let front : c.as_slice.result.now ≡ take 65 runs = c.as_slice.ensures.value ∙ c.in_ok-runs.ensures in
     let missing : runs ≡ missing_below state c.scope-scope.result =
-    sym (missing_same c.args.now.now (metadata_after core.metadata c.args.change.now) (received_after core.file c.args.change.now)
+    sym (missing_same c.args.current.now (metadata_after core.metadata c.args.change.now) (received_after core.file c.args.change.now)
     (covered_after core.file c.args.change.now) c.scope-scope.result (λ i. came_after core.file c.args.change.now i)) in
     c.nak-2.ensures ∙ sym (c.reply_header.ensures.value (body.Nak c.in_ok-nak.nak))
     ∙ ap (λ (b : Body). pdu_to_sender (reception_of core) b)

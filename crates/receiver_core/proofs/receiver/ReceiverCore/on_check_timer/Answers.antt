@@ -14,4 +14,4 @@ returns-else-self-from c m octets =
     let reached : nat_lt (core.control.tries.check + 1) core.params.limits.check ≡ false =
     le-ltb (core.control.tries.check + 1) core.params.limits.check (rw (c.from.ensures, c.limits.ensures.limits) at c.if-self-from.false) in
     rw reached
-    (alone c.fault_response.result c.new-inds.result (fault_response (reception_of core) (state_from c.args.now.now m octets) (Check ∷ []) condition.check_limit) c.new-inds.ensures (c.fault_response.ensures.response m octets))
+    (alone c.fault_response.result c.new-inds.result (fault_response (reception_of core) (state_from c.args.current.now m octets) (Check ∷ []) condition.check_limit) c.new-inds.ensures (c.fault_response.ensures.response m octets))

@@ -17,4 +17,4 @@ returns-in-Cancel c request =
     let metadata = metadata_after core.metadata c.args.change.now in
     let octets = received_after core.file c.args.change.now in
     rw c.in-Cancel.is
-    (alone c.cancel_response.result c.new-inds.result (cancel_response (reception_of core) (state_from c.args.now.now metadata octets) condition.cancel_request) c.new-inds.ensures (c.cancel_response.ensures.response metadata octets))
+    (alone c.cancel_response.result c.new-inds.result (cancel_response (reception_of core) (state_from c.args.current.now metadata octets) condition.cancel_request) c.new-inds.ensures (c.cancel_response.ensures.response metadata octets))

@@ -16,4 +16,4 @@ returns-in-Check c m octets = rw c.in-Check.is (c.on_check_timer.ensures m octet
 pub returns-in-Inactivity : goal.returns-in-Inactivity
 returns-in-Inactivity c m octets =
     rw c.in-Inactivity.is
-    (alone c.fault_response.result c.new.result (fault_response (reception_of c.args.self.now) (state_from c.args.now.now m octets) (Inactivity ∷ []) condition.inactivity) c.new.ensures (c.fault_response.ensures.response m octets))
+    (alone c.fault_response.result c.new.result (fault_response (reception_of c.args.self.now) (state_from c.args.current.now m octets) (Inactivity ∷ []) condition.inactivity) c.new.ensures (c.fault_response.ensures.response m octets))

@@ -1,5 +1,6 @@
 use Rattle.std.proofs.Common.{◌+◌, length}
 use Rattle.gap_list.specs.Covered.{covered}
+use Rattle.receiver_parts.specs.ReceivedFile.{received_of}
 use Rattle.receiver_parts.proofs.LayLemmas.{runs_inside}
 use Rattle.receiver_parts.proofs.SumLemmas.{sum_of_segment}
 use Rattle.receiver_parts.proofs.received_file.ReceivedFile.sum_with.Goals as goal
@@ -12,4 +13,4 @@ sum_with_runs-requires c =
 pub returns : goal.returns
 returns c =
     let file = c.args.self.now in
-    rw (c.sum_with_runs.ensures, c.requires.starts, c.requires.runs, c.as_slice.ensures) (sum_of_segment file.octets.items (covered file.gaps) file.sum c.args.file_data.now file.inside file.summed)
+    rw (c.sum_with_runs.ensures, c.requires.starts, c.requires.runs, c.as_slice.ensures) (sum_of_segment (received_of file) (covered file.gaps) file.sum c.args.file_data.now file.came file.summed)

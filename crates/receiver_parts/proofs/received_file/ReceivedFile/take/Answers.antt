@@ -1,34 +1,32 @@
-use Rattle.std.proofs.Common.{None, Some, sym, ap, ◌∙◌, arith, if◌then◌else◌}
-use Rattle.std.specs.Prelude.{slice_get}
+use Rattle.std.proofs.Common.{Some, sym, ap, ◌∙◌}
+use Rattle.std.specs.Prelude.{is_some}
 use Rattle.gap_list.specs.Covered.{covered}
 use Rattle.modular_sum.proofs.PieceLemmas.{IsSumOf-same}
-use Rattle.receiver_parts.specs.Offsets.{octets_in}
-use Rattle.receiver_parts.specs.ReceivedFile.{received_of, with_segment, end_of}
-use Rattle.receiver_parts.proofs.LayLemmas.{inside_with}
+use Rattle.receiver_parts.specs.Offsets.{octet_in}
+use Rattle.receiver_parts.specs.ReceivedFile.{received_of, with_segment}
+use Rattle.receiver_parts.proofs.LayLemmas.{came_with}
+use Rattle.receiver_parts.proofs.SumLemmas.{with_parts}
 use Rattle.receiver_parts.proofs.received_file.ReceivedFile.take.Goals as goal
 
-pub invariant_of-self-clause-inside : goal.invariant_of-self-clause-inside
-invariant_of-self-clause-inside c i came =
+pub invariant_of-self : goal.invariant_of-self
+invariant_of-self c =
     let file = c.args.self.now in
     let segment = c.args.segment in
-    inside_with _ (covered file.gaps) segment.file_data.offset (end_of segment) i
-    (λ j here. omega (arith, file.inside j here, file.octets.ok.0, c.lay.new.self.octets.ok.0, c.lay.ensures.len))
-    (omega (arith, c.requires.octets, c.lay.new.self.octets.ok.0, c.lay.ensures.len))
-    (sym (rw (c.lay.ensures.gaps, segment.starts, segment.ends) at (c.add.ensures.added i)) ∙ came)
-
-pub invariant_of-self-clause-summed : goal.invariant_of-self-clause-summed
-invariant_of-self-clause-summed c =
-    let file = c.args.self.now in
-    let segment = c.args.segment in
-    let octets = c.lay.new.self.octets.items in
-    IsSumOf-same (with_segment (received_of file) (Some segment.file_data)) (octets_in octets (covered c.add.new.self)) segment.sum
-    (λ i. sym (ap (λ b. if b then slice_get octets i else None) (rw (c.lay.ensures.gaps, segment.starts, segment.ends) at (c.add.ensures.added i)) ∙ c.lay.ensures.laid i))
-    c.requires.segment.sum
+    record {
+      came = λ i.
+          rw (c.append.ensures, segment.parts, c.requires.segment.runs)
+          (ap is_some (with_parts file.pieces.items (covered file.gaps) segment.file_data i (file.came i)))
+          ∙ came_with (received_of file) (covered file.gaps) segment.file_data i (file.came i)
+          ∙ sym (rw (segment.starts, segment.ends) at (c.add.ensures.added i));
+      summed = IsSumOf-same (with_segment (received_of file) (Some segment.file_data)) (octet_in c.append.new.pieces.items) segment.sum
+          (λ i. sym (rw (c.append.ensures, segment.parts, c.requires.segment.runs) (with_parts file.pieces.items (covered file.gaps) segment.file_data i (file.came i))))
+          c.requires.segment.sum;
+    }
 
 pub returns : goal.returns
-returns c = record {
-  received = λ i.
-      let segment = c.args.segment in
-      let octets = c.lay.new.self.octets.items in
-      ap (λ b. if b then slice_get octets i else None) (rw (c.lay.ensures.gaps, segment.starts, segment.ends) at (c.add.ensures.added i)) ∙ c.lay.ensures.laid i;
-}
+returns c =
+    let file = c.args.self.now in
+    let segment = c.args.segment in
+    record {
+      received = λ i. rw (c.append.ensures, segment.parts, c.requires.segment.runs) (with_parts file.pieces.items (covered file.gaps) segment.file_data i (file.came i));
+    }

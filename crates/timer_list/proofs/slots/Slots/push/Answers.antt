@@ -1,5 +1,6 @@
 use Rattle.std.proofs.Common.{◌∙◌}
-use Rattle.timer_list.proofs.SlotLemmas.{in_place-inserted, inserted-absent}
+use Rattle.timer_list.proofs.SlotLemmas.{inserted-absent}
+use Rattle.timer_list.proofs.VacateLemmas.{in_place-inserted}
 use Rattle.timer_list.specs.declared.slot.Slot.TheVariants as slot
 use Rattle.timer_list.proofs.slots.Slots.push.Goals as goal
 

@@ -1,4 +1,4 @@
-use Rattle.timer_list.proofs.SlotLemmas.{vacated_from}
+use Rattle.timer_list.proofs.VacateLemmas.{vacated_from}
 use Rattle.timer_list.proofs.slots.Slots.vacate.Goals as goal
 
 pub invariant_of-self-2 : goal.invariant_of-self-2

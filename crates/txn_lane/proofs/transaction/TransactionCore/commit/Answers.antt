@@ -21,7 +21,7 @@ returns-clause-stands c event log planned stood = elim c.match-self.branch [
       let done = w.commit-in-Receiver-Receiver in
       subst (λ s. StandsAfter s (extended log event (plan_answer c.args.plan))) (sym w.self-is)
       (subst (λ p. StandsAfter (core.Receiver done.new.self) (extended log event (plan_answer p))) (sym i.is-1)
-      (carried_received i.core done.new.self i.plan w.into_inner-in-Receiver-Receiver.result event log w.into_inner-in-Receiver-Receiver.ensures done.ensures.reception done.ensures.stands
+      (carried_received i.core done.new.self i.plan event log done.ensures.reception done.ensures.stands
       (subst (λ s. IsPlanOf s (plan.Receiver i.plan) event) i.is-0 (subst (λ p. IsPlanOf c.args.self.now p event) i.is-1 planned))
       (subst (λ s. StandsAfter s log) i.is-0 stood)))
 ]

@@ -1,7 +1,7 @@
 use Rattle.std.proofs.Common.{inr, subst}
 use Rattle.std.proofs.lemmas.Result.{err_from_is_err_and}
 use Rattle.txn_lane.specs.Transactions.{StandsAfter}
-use Rattle.txn_lane.proofs.PlanFacts.{refused_sent, refused_received, same_received, planned_sent, planned_received}
+use Rattle.txn_lane.proofs.PlanFacts.{refused_sent, refused_received, same_received, planned_sent}
 use Rattle.txn_lane.proofs.transaction.TransactionCore.plan.Goals as goal
 
 pub returns-in_err-plan-in-Sender-clause-refused : goal.returns-in_err-plan-in-Sender-clause-refused
@@ -31,23 +31,7 @@ returns-in_err-new-in-Sender-clause-refused c key log stood =
           (subst (λ s. StandsAfter s log) c.in-Sender.is stood),
     ))
 
-pub returns-in_err-new-in-Receiver-clause-same : goal.returns-in_err-new-in-Receiver-clause-same
-returns-in_err-new-in-Receiver-clause-same c log stood =
-    same_received c.in-Receiver.core c.plan-in-Receiver.new.self log c.in_ok-plan-in-Receiver.ensures.same c.in_ok-plan-in-Receiver.ensures.reception
-    (subst (λ s. StandsAfter s log) c.in-Receiver.is stood)
-
-pub returns-in_err-new-in-Receiver-clause-refused : goal.returns-in_err-new-in-Receiver-clause-refused
-returns-in_err-new-in-Receiver-clause-refused c key log stood =
-    let p = err_from_is_err_and c.from_residual-in_err-new-in-Receiver.result c.from_residual-in_err-new-in-Receiver.ensures.1 in
-    let planned = c.in_ok-plan-in-Receiver.ensures in
-    rw p.1 (inr (
-      p.2,
-      planned_received c.plan-in-Receiver.new.self c.in_ok-plan-in-Receiver.plan log key c.args.what.now planned.planned
-          (same_received c.in-Receiver.core c.plan-in-Receiver.new.self log planned.same planned.reception
-          (subst (λ s. StandsAfter s log) c.in-Receiver.is stood)),
-    ))
-
-pub returns-in_ok-new-in-Receiver-clause-same : goal.returns-in_ok-new-in-Receiver-clause-same
-returns-in_ok-new-in-Receiver-clause-same c log stood =
+pub returns-in_ok-plan-in-Receiver-clause-same : goal.returns-in_ok-plan-in-Receiver-clause-same
+returns-in_ok-plan-in-Receiver-clause-same c log stood =
     same_received c.in-Receiver.core c.plan-in-Receiver.new.self log c.in_ok-plan-in-Receiver.ensures.same c.in_ok-plan-in-Receiver.ensures.reception
     (subst (λ s. StandsAfter s log) c.in-Receiver.is stood)
