@@ -107,6 +107,7 @@ test:
 	@examples/transfer.sh $(server) $(put) 1 1048576 0 0
 	@examples/transfer.sh $(server) $(put) 1 4096 0 0 --closure
 	@tests/starts.py $(server) $(put)
+	@tests/places.py $(server)
 	@tests/server.py $(server)
 	@tests/control.py $(server)
 	@tests/station.py $(server) $(ctl)
@@ -119,6 +120,8 @@ test:
 	@tests/soak.py $(server) 60
 	@tests/numbers.py $(server) $(put)
 	@tests/restarts.py $(server)
+	@tests/outbox.py $(server)
+	@tests/told.py $(server)
 	@tests/large.py $(server) $(ctl) $(put)
 	@tests/units.py $(server) $(ctl)
 	@tests/faults.py $(server) $(put)

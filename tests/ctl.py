@@ -137,7 +137,7 @@ def answers():
                 (["suspend", "ops", "1", "2"], 0, b"ok\n"), (["cancel", "ops", "1", "2"], 3, b"refused 1 NoTransaction\n"),
                 (["take", "ops"], 3, b"refused TakenByEvents\n"), (["nonsense"], 3, b"bad command\n"),
                 (["put", "ops", "0", "2", "5", "missing", "b"], 3, b"read fault\n"),
-                (["put", "ops", "0", "2", "5", "unnumbered", "b"], 3, b"numbers fault\n"),
+                (["put", "ops", "0", "2", "5", "unnumbered", "b"], 3, b"numbers fault\n"), (["drop", "507"], 3, b"outbox fault\n"),
                 (["put", "ops", "0", "2", "5", FILE, "b"], 0, b"ok\ntxn 1 100\n")]:
             run = ctl(*line)
             check(" ".join(line), run, status)
@@ -837,6 +837,12 @@ def hot_folders():
         want("a full outbox is tried again", run.poll() is None and left_in(folder) == (["a.bin"], [], []), left_in(folder))
         run.kill()
         run.communicate()
+    with station("--faulty", "1", "--transactions", "0"):
+        folder = hot_folder("hot", {"a.bin": 10})
+        run = ctl("watch", folder, "--to", "5", "--once")
+        check("a file that the outbox doesn't take at first", run, 0, b"queued 1: a.bin\n")
+        want("a file that the outbox doesn't take at first, where it is", left_in(folder) == ([], ["a.bin"], []), left_in(folder))
+        check("a file that the outbox doesn't take at first, with send", ctl("send", "--to", "5", FILE), 0, b"queued 2")
     hot_folders_change()
     hot_folders_restart()
 

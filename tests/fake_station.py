@@ -14,6 +14,7 @@ usage: tests/fake_station.py SOCKET [OPTION..]
   --busy             has no seat for anybody
   --old              knows no status and no follow
   --refuse           refuses each send: the outbox is full
+  --faulty N         can't write the outbox's file for the first N sends (0)
   --lose NAME        the file that ends incomplete
   --unreadable NAME  the file that can't be read when its turn comes
   --ended-reads N    workers that stopped reading (0)
@@ -97,6 +98,7 @@ class Station:
         self.followers = set()
         self.sent = []
         self.asked = []
+        self.faults = 0
         self.held = {}
         self.open_until = {}
 
@@ -179,6 +181,9 @@ class Station:
             return "bad command\n"
         if self.options.refuse:
             return "refused OutboxFull\n"
+        if self.faults < self.options.faulty:
+            self.faults += 1
+            return "outbox fault\n"
         if not os.path.isfile(words[4]):
             return "read fault\n"
         sent = self.add(*words[1:6], "queued", unreported=words[2] == b"1" and len(words) == 6)
@@ -301,6 +306,8 @@ class Station:
             return "ok\n"
         if name == "rate" and len(words) in (2, 3):
             return "ok\n" if len(words) == 2 or words[1] in (b"5", b"7") else "refused UnknownRemote\n"
+        if words == [b"drop", b"507"]:
+            return "outbox fault\n"
         if name == "drop" and len(words) == 2 and words[1].isdigit():
             for sent in self.sent:
                 if sent["state"] == "queued" and sent["queued"] == int(words[1]):
@@ -386,6 +393,7 @@ def main():
     parser.add_argument("--busy", action="store_true")
     parser.add_argument("--old", action="store_true")
     parser.add_argument("--refuse", action="store_true")
+    parser.add_argument("--faulty", type=int, default=0)
     parser.add_argument("--lose")
     parser.add_argument("--unreadable")
     parser.add_argument("--ended-reads", type=int, default=0)

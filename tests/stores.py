@@ -13,7 +13,7 @@ import sys
 import time
 from unittest import mock
 
-from support import end_of_file, file_data, in_own_mounts, library, metadata, mounted, run_cases, station, unmount, until, want
+from support import configuration, end_of_file, file_data, in_own_mounts, library, metadata, mounted, run_cases, station, unmount, until, want
 
 SERVER = os.path.abspath(sys.argv[1])
 BAD = [b"..", b".", b"../x", b"a/../x", b"a/..", b"./a", b"a/.", b"a/./b", b"a//b", b"a/", b"/", b"//", b"a\0b", b"a/\0", b"\xff",
@@ -32,10 +32,11 @@ class Receiver:
         self.seq = 0
         want(self.client.ask("follow"), ["ok"])
 
-    def send(self, name, octets=b"abc"):
+    def send(self, name, octets=b"abc", source=2):
         """Sends a file; gives the number of its transaction."""
         self.seq += 1
-        for datagram in (metadata(self.seq, len(octets), name), file_data(self.seq, 0, octets), end_of_file(self.seq, octets)):
+        for datagram in (metadata(self.seq, len(octets), name, source), file_data(self.seq, 0, octets, source),
+                         end_of_file(self.seq, octets, source)):
             self.peer.sendto(datagram, ("127.0.0.1", self.one.port))
         return self.seq
 
@@ -44,8 +45,8 @@ class Receiver:
         event = self.client.wait_event(lambda event: event["kind"] == "stored" and event["seq"] == seq, f"the store's answer {seq}")
         return event["status"], event.get("as")
 
-    def receives(self, name, octets=b"abc"):
-        return self.stored(self.send(name, octets))
+    def receives(self, name, octets=b"abc", source=2):
+        return self.stored(self.send(name, octets, source))
 
 
 CASES = []
@@ -101,6 +102,37 @@ def names_that_are_there():
         for place, octets in (("d/a", b"one"), ("d/a.1", b"two"), ("d/a.2", b"three")):
             want(receiver.receives(b"d/a", octets), ("retained", place))
             want((one.received() / place).read_bytes(), octets)
+
+
+@case
+def names_by_source():
+    """With --by-source each source has a folder, in which names mean what they mean without it."""
+    for options, name, place in (((), b"a", "2/a"), (("--tree",), b"/d/a", "2/d/a"), (("--keep",), b"k", "2/k")):
+        with station(SERVER, options=("--by-source", *options)) as (one, peer):
+            receiver = Receiver(one, peer)
+            want(receiver.receives(name, b"one"), ("retained", place))
+            want(receiver.receives(name, b"two"), ("retained", place + ".1" if "--keep" in options else place))
+            want((one.received() / place).read_bytes(), b"one" if "--keep" in options else b"two")
+            if not options:
+                before = everything(one.received())
+                for bad in (b"x/y", b"/a", b"..", b".", b"../a"):
+                    want((bad, receiver.receives(bad)), (bad, ("rejected", None)))
+                want(everything(one.received()), before)
+
+
+@case
+def names_of_two_sources():
+    """With --by-source files of one name go into the folder of their own source, also where another source's file came in between."""
+    text = configuration("127.0.0.1:9", ("alice",), id=1, remote=2, octets=4)
+    text += text[text.index("[[remote]]"):].replace("id = 2\n", "id = 9\n", 1)
+    with station(SERVER, options=("--by-source",), text=text) as (one, peer):
+        receiver = Receiver(one, peer)
+        held = {}
+        for source, octets in ((2, b"one"), (9, b"three"), (2, b"fifteen"), (9, b"nine")):
+            want((source, receiver.receives(b"a", octets, source)), (source, ("retained", f"{source}/a")))
+            held[f"{source}/a"] = octets
+            want({name: (one.received() / name).read_bytes() for name in held}, held)
+        want(everything(one.received()), ["2", "2/a", "9", "9/a"])
 
 
 @case

@@ -353,25 +353,25 @@ def station(server, **named):
             one.close()
 
 
-def pdu(kind, seq, body):
-    """A PDU of a transaction of entity 2, toward the receiver, in class 1."""
-    head = bytes([0x34 if kind == "data" else 0x24]) + len(body).to_bytes(2, "big") + bytes([0x03, 2])
+def pdu(kind, seq, body, source=2):
+    """A PDU of a transaction of entity 2 or another one, toward the receiver, in class 1."""
+    head = bytes([0x34 if kind == "data" else 0x24]) + len(body).to_bytes(2, "big") + bytes([0x03, source])
     return head + seq.to_bytes(4, "big") + bytes([1]) + body
 
 
-def metadata(seq, size, name):
-    return pdu("directive", seq, bytes([7, 0]) + size.to_bytes(4, "big") + bytes([1]) + b"s" + bytes([len(name)]) + name)
+def metadata(seq, size, name, source=2):
+    return pdu("directive", seq, bytes([7, 0]) + size.to_bytes(4, "big") + bytes([1]) + b"s" + bytes([len(name)]) + name, source)
 
 
-def file_data(seq, offset, octets):
-    return pdu("data", seq, offset.to_bytes(4, "big") + octets)
+def file_data(seq, offset, octets, source=2):
+    return pdu("data", seq, offset.to_bytes(4, "big") + octets, source)
 
 
-def end_of_file(seq, octets):
+def end_of_file(seq, octets, source=2):
     total = 0
     for place, octet in enumerate(octets):
         total += octet << (8 * (3 - place % 4))
-    return pdu("directive", seq, bytes([4, 0]) + (total % 2**32).to_bytes(4, "big") + len(octets).to_bytes(4, "big"))
+    return pdu("directive", seq, bytes([4, 0]) + (total % 2**32).to_bytes(4, "big") + len(octets).to_bytes(4, "big"), source)
 
 
 def run_cases(subject, cases):

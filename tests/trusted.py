@@ -82,6 +82,7 @@ reading, the fixed header, the first fault: pdu_reading/Reading FixedHeader Firs
 laws of octets and PDUs: pdu_codec/Laws
 configurations and their limits; what a text means; faults by number: config_reading/Values Texts Walk Reads Faults
 the reference configuration, and settings: entity_config/Reference Settings
+the table at which reading a configuration stops, the line of a key; what makes little sense: fault_places/Spots Scans config_notes/Notes
 indications by kind; words of both sides; the last indication: indications/Kinds Words
 lane lists, and the side that a transaction shows: indications/LaneLists
 what a `WordReader` keeps: marks, offsets, the words after which it stands: ind_words/Marks Offsets Reading
@@ -122,8 +123,10 @@ what is known of a disk while a file is stored and written on: disk/Parts
 files that are stored over a part: whole_files/Wholes PartSteps
 what the file of numbers covers; its text; what it has after a power cut; its laws: number_file/Rounds Texts Files RoundLaws program_numbers/Held
 what an outbox's file says; its text; what it has after a power cut: outbox_file/Books Texts Files
+what an outbox and its file say together: held_outbox/Held
+how a word is written in a command; the words of commands that change something: command_words/Words Commands
 file names that a folder store takes; stores in memory and in a folder; faults: file_stores/Names MemoryStore FolderStore Faults
-where a store with folders puts a file, what it has ready, and the effect of a deposit: station_store/Paths Stations
+where a store with folders puts a file, what it has ready, and the effect of a deposit: station_store/Paths Stations Sources
 what lies behind a lane's lock, and a step of it: shared_lanes/Held
 what `Entity` may answer; what it is opened with: shared_entity/Answering Opening
 workers: faults, which answers a carrier accepts; deposits: entity_workers/Faults Carrying Depositing

@@ -453,7 +453,9 @@ where
 
 // Whether the same command may be taken later.
 fn has_to_wait(answer: &[u8]) -> bool {
-    answer == b"refused OutboxFull".as_slice() || answer == b"refused 12 NoMemory".as_slice()
+    answer == b"refused OutboxFull".as_slice()
+        || answer == b"refused 12 NoMemory".as_slice()
+        || answer == b"outbox fault".as_slice()
 }
 
 // The command that puts a file in the outbox.

@@ -164,6 +164,7 @@ fn started_with(config: &str) -> Started<'_> {
         bind: "",
         control: None,
         numbers: None,
+        outbox: None,
         source: None,
     }
 }
@@ -175,6 +176,7 @@ fn started_by<'a>(words: &PutWords<'a>) -> Started<'a> {
         bind: words.bind,
         control: None,
         numbers: words.numbers,
+        outbox: None,
         source: Some(words.source),
     }
 }

@@ -1,4 +1,4 @@
-use cfdp_types::Octets;
+use cfdp_types::{EntityId, Octets};
 use disk::Hindrance;
 use entity_workers::{Filestore, StoreFault};
 use program_storing::StationFiles;
@@ -34,6 +34,8 @@ impl Filestore for RefusingStore {
 }
 
 impl StationFiles for RefusingStore {
+    fn enter(&mut self, _source: EntityId) {}
+
     fn prepare(&mut self, _name: &Octets, _octets: &Octets) -> Result<(), Hindrance> {
         Ok(())
     }

@@ -5,6 +5,7 @@ use crate::answers::{
 use crate::audience::Audience;
 use crate::following::Spell;
 use crate::full::Begun;
+use crate::kept::OutboxFolder;
 use crate::readiness::Readiness;
 use crate::skipping::Opened;
 use cfdp_types::{EntityId, Octets, PutFault, PutRequest, TxnKey};
@@ -48,11 +49,15 @@ pub(crate) struct Server<'a, N: Names, R: Files + AllocGlobal + Copy + Drop> {
     pub(crate) depot: &'a Depot,
     pub(crate) tallies: &'a Tallies,
     pub(crate) outgoing: Outgoing,
+    /// The file of its outbox, where there is one.
+    pub(crate) held: Option<OutboxFolder<R>>,
     /// The links that are open for a time.
     pub(crate) windows: Windows,
     /// What the outbox began, and whether all transactions are abandoned whose journals are full, and not only those.
     pub(crate) begun: Begun,
     pub(crate) abandons_full: bool,
+    /// Whether commands are reported.
+    pub(crate) logs_commands: bool,
     pub(crate) readiness: Readiness,
     /// A transaction that was opened to use up its number, and isn't abandoned yet.
     pub(crate) opened: Option<Opened>,
@@ -79,7 +84,7 @@ pub(crate) enum Next {
 pub(crate) enum PutEnd {
     /// It opened a transaction.
     Opened,
-    /// It can be tried again: memory ran out, or the user's queue was full.
+    /// It can be tried again: memory ran out, the user's queue was full, or a file that is kept over restarts can't be written.
     Passing,
     /// The lane has no number left.
     Exhausted,
@@ -309,7 +314,12 @@ impl<'a, N: Names, R: Wait + Clock + Files + AllocGlobal + Copy + Drop> Server<'
         text: &mut String,
     ) -> Result<PutEnd, AllocError> {
         if !self.covers() {
-            return ends(text.push_str("numbers fault\n"), PutEnd::Refused);
+            let end = if queued.is_some() && self.held.is_some() {
+                PutEnd::Passing
+            } else {
+                PutEnd::Refused
+            };
+            return ends(text.push_str("numbers fault\n"), end);
         }
         let asked = self.ask(put.user, request, text);
         self.note_put(put, size, queued, asked)
@@ -337,9 +347,9 @@ impl<'a, N: Names, R: Wait + Clock + Files + AllocGlobal + Copy + Drop> Server<'
                     numbers.note_put(key);
                 }
                 self.readiness.note(put.destination, key.seq);
-                if queued.is_some() {
+                if let Some(number) = queued {
                     let (user, lane) = (put.user, put.lane);
-                    self.begun.note(Place { user, lane }, key);
+                    self.note_begun(Place { user, lane }, key, number);
                 }
                 self.audience.reports.put(put, size, queued, key);
                 Ok(PutEnd::Opened)

@@ -1,14 +1,15 @@
 //! What the server's threads do with files.
 use cfdp_types::TxnKey;
 use disk::SystemDisk;
+use entity_workers::Filestore;
 use program_desk::Desk;
 use program_recorder::{Keeper, Recording};
 use program_start::RuntimeFiles;
-use program_storing::{Depot, Storer, run_storer};
+use program_storing::{Depot, StationFiles, Storer, run_storer};
 use program_words::ServerWords;
 use shared_entity::Entity;
 use shared_lanes::Names;
-use station_store::{Clash, Layout, StationStore};
+use station_store::{Clash, Layout, SourceStore, StationStore};
 use std::alloc::Global;
 use std::io;
 use std::rt::Files;
@@ -48,18 +49,31 @@ impl<Q: Files + AllocGlobal + Copy + Drop> ServerFiles for RuntimeFiles<Q> {
             folder,
         } = storing;
         let disk = SystemDisk::new(*self.runtime(), folder);
-        let store = StationStore::new(disk, alloc, layout_of(words), clash_of(words));
-        let mut storer = Storer::new(rt, alloc, entity, desk, depot, store);
-        storer.try_for(words.retry.unwrap_or(0).saturating_mul(1_000));
-        if words.tree || words.keep {
-            storer.show_places();
+        let (layout, clash) = (layout_of(words), clash_of(words));
+        if words.by_source {
+            let store = SourceStore::new(disk, alloc, layout, clash);
+            run_with(Storer::new(rt, alloc, entity, desk, depot, store), words);
+        } else {
+            let store = StationStore::new(disk, alloc, layout, clash);
+            run_with(Storer::new(rt, alloc, entity, desk, depot, store), words);
         }
-        run_storer(storer);
     }
 
     fn keep(&self, keeper: &mut Keeper, key: TxnKey, recording: &Recording) -> io::Result<()> {
         keeper.keep(self.runtime(), key, recording)
     }
+}
+
+// Stores received files as the words say.
+fn run_with<N: Names, R: Wait + Clock + Copy, S: Filestore + StationFiles + Drop>(
+    mut storer: Storer<'_, N, R, S>,
+    words: &ServerWords<'_>,
+) {
+    storer.try_for(words.retry.unwrap_or(0).saturating_mul(1_000));
+    if words.tree || words.keep || words.by_source {
+        storer.show_places();
+    }
+    run_storer(storer);
 }
 
 // Whether files lie in folders below the store's.

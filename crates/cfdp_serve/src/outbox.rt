@@ -3,9 +3,11 @@ use crate::answers::{push_entity_refusal, push_no_memory, push_too_large};
 use crate::commands::{FromOutbox, PutEnd, Server};
 use cfdp_types::Octets;
 use cfdp_types::limits::FILE_OCTETS;
+use command_words::send_words;
 use entity_routing::RouteRefusal;
+use held_outbox::{HeldFault, Way, file_of};
 use program_desk::{moment, wall_moment};
-use program_outbox::{OutboxFault, OutboxFile, Outgoing};
+use program_outbox::{OutboxFault, Outgoing};
 use program_start::ProgramFault;
 use program_status::push_outbox;
 use server_lines::{PutCommand, SendCommand};
@@ -22,20 +24,31 @@ const ANSWER_OCTETS: usize = 1_024;
 impl<'a, N: Names, R: Wait + Clock + Files + AllocGlobal + Copy + Drop> Server<'a, N, R> {
     /// A file waits from now on.
     pub(crate) fn queue(&mut self, send: SendCommand, text: &mut String) -> Result<(), AllocError> {
-        let file = OutboxFile {
-            class: send.class,
-            destination: send.destination,
-            source: send.source,
-            source_name: send.source_name,
-            destination_name: send.destination_name,
-            closure: send.closure,
-            is_urgent: send.is_urgent,
-            since: wall_moment(self.rt),
-        };
-        match self.outgoing.push(send.user, file, moment(self.rt)) {
+        match self.queue_file(send) {
             Ok(number) => writeln!(text, "queued {number}"),
-            Err(OutboxFault::Full) => text.push_str("refused OutboxFull\n"),
-            Err(OutboxFault::NoMemory) => push_no_memory(text),
+            Err(HeldFault::Full) => text.push_str("refused OutboxFull\n"),
+            Err(HeldFault::NoMemory) => push_no_memory(text),
+            Err(HeldFault::Disk | HeldFault::NoFile) => text.push_str("outbox fault\n"),
+        }
+    }
+
+    // Puts a file in the outbox, and in its file, where there is one.
+    fn queue_file(&mut self, send: SendCommand) -> Result<u64, HeldFault> {
+        let (user, now, since) = (send.user, moment(self.rt), wall_moment(self.rt));
+        if self.held.is_none() {
+            return match self.outgoing.push(user, file_of(send, since), now) {
+                Ok(number) => Ok(number),
+                Err(OutboxFault::Full) => Err(HeldFault::Full),
+                Err(OutboxFault::NoMemory) => Err(HeldFault::NoMemory),
+            };
+        }
+        let Ok(words) = send_words(self.alloc, self.station.entity().config(), &send) else {
+            return Err(HeldFault::NoMemory);
+        };
+        let file = file_of(send, since);
+        match &mut self.held {
+            Some(held) => held.queue(&mut self.outgoing, user, file, words.as_slice(), now),
+            None => Err(HeldFault::Disk),
         }
     }
 
@@ -70,11 +83,19 @@ impl<'a, N: Names, R: Wait + Clock + Files + AllocGlobal + Copy + Drop> Server<'
 
     /// The file with a number waits no more.
     pub(crate) fn withdraw(&mut self, number: u64, text: &mut String) -> Result<(), AllocError> {
-        if let Some(waiting) = self.outgoing.withdraw(number) {
-            self.audience.reports.fail(&waiting, "dropped");
-            return text.push_str("ok\n");
+        let withdrawn = match &mut self.held {
+            Some(held) => held.drop_file(&mut self.outgoing, number),
+            None => Ok(self.outgoing.withdraw(number)),
+        };
+        match withdrawn {
+            Ok(Some(waiting)) => {
+                self.audience.reports.fail(&waiting, "dropped");
+                text.push_str("ok\n")
+            }
+            Ok(None) => text.push_str("refused NotQueued\n"),
+            Err(HeldFault::NoMemory) => push_no_memory(text),
+            Err(_) => text.push_str("outbox fault\n"),
         }
-        text.push_str("refused NotQueued\n")
     }
 
     /// Puts the file of the outbox that was read, or has that read whose turn it is, if a lane of its user can take it, or else
@@ -82,7 +103,9 @@ impl<'a, N: Names, R: Wait + Clock + Files + AllocGlobal + Copy + Drop> Server<'
     pub(crate) fn start_queued(&mut self, now: u64) -> Result<bool, AllocError> {
         if self.station.take_ended() {
             self.outgoing.try_from(now);
+            self.begun.look_again(true);
         }
+        self.note_ends(now);
         if self.outgoing.is_reading() {
             return self.put_read(now);
         }
@@ -131,14 +154,15 @@ impl<'a, N: Names, R: Wait + Clock + Files + AllocGlobal + Copy + Drop> Server<'
         match self.put_queued(file, now, &mut answer)? {
             PutEnd::Passing => self.outgoing.give_back(now),
             PutEnd::Opened => drop(self.outgoing.finish()),
-            PutEnd::Exhausted | PutEnd::Refused => self.fail_read(answer.as_str()),
+            PutEnd::Exhausted | PutEnd::Refused => self.fail_read(answer.as_str(), now),
         }
         Ok(true)
     }
 
     // The file that was read is not put: its answer says why.
-    fn fail_read(&mut self, answer: &str) {
+    fn fail_read(&mut self, answer: &str, now: u64) {
         if let Some(waiting) = self.outgoing.finish() {
+            self.leave_outbox(waiting.number, Way::Dropped, now);
             let why = answer.lines().next().unwrap_or("");
             self.audience.reports.fail(&waiting, why);
         }

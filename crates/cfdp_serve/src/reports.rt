@@ -11,7 +11,7 @@ use program_status::{Events, LaneNotes};
 use program_tallies::Tallies;
 use program_words::SERVER_VERSION;
 use server_lines::PutCommand;
-use station_lines::{LogStatus, Moment, PutEvent, SkippedEvent, UnsentEvent};
+use station_lines::{CommandEvent, LogStatus, Moment, PutEvent, SkippedEvent, UnsentEvent};
 use std::alloc::{AllocError, Global};
 use std::rt::Files;
 use std::sync::Wait;
@@ -152,6 +152,20 @@ impl<'a, R: Wait + Clock + Files> Reports<'a, R> {
         };
         if let Some(events) = &mut self.events {
             events.put(at, &event);
+        }
+    }
+
+    /// Reports a command, by its words as it was understood, with the first line of its answer, and the seat of the client that
+    /// gave it, if one did.
+    pub(crate) fn command(&mut self, words: &str, answer: &str, seat: Option<u64>) {
+        let at = self.now();
+        let given = CommandEvent {
+            words,
+            answer: answer.lines().next().unwrap_or(""),
+            seat,
+        };
+        if let Some(events) = &mut self.events {
+            events.command(at, &given);
         }
     }
 

@@ -1,11 +1,13 @@
 //! How the server starts.
+use crate::explaining::{push_cause, push_path_notes};
 use crate::files::ServerFiles;
+use crate::kept::{Kept, OutboxHold};
 use crate::lane_notes::{hints_of, push_hints};
 use crate::named::serve_named;
+use crate::remarks::push_remarks;
 use crate::threads::{Given, Sockets, Starting};
 use entity_config::Config;
 use program_control::ControlSocket;
-use program_numbers::{HeldNumbers, Puts};
 use program_seats::Seats;
 use program_start::{
     FileReader, ProgramFault, Started, load_config, print, push_explanation, tell_explanation,
@@ -14,7 +16,7 @@ use program_start::{
 use program_station::Control;
 use program_udp::open_socket;
 use program_words::{
-    ServerWords, WordsFault, asks_for_check, check_words, push_check_complaint,
+    ServerWords, WordsFault, asks_for_check, asks_to_explain, check_words, push_check_complaint,
     push_server_complaint, server_help, server_version, server_words,
 };
 use std::alloc::{AllocError, Global};
@@ -29,7 +31,7 @@ use std::time::Clock;
 /// that `reader` gives. The answers go to `writer`, and why it ended too early to `errors`. The result is the exit status: 0,
 /// or 1 where it ended too early. Where the output takes no more, it ends once the reader has given one more line or its end.
 /// With a control socket clients command it, and neither `reader` nor `writer` is used. Files that are to be sent are read by
-/// `files`, beside the main thread. Where a person reads `errors`, a second
+/// `files`, beside the main thread. Where a person reads `errors`, or `--explain` is given, a second
 /// line there explains the fault, as it does after a check of the configuration.
 pub fn serve<
     R: Threads + Wait + Net + Clock + Files + AllocGlobal + Copy + Drop + Send + Sync,
@@ -40,9 +42,11 @@ pub fn serve<
 >(rt: R, files: &F, words: &[String], reader: I, writer: W, errors: &mut E, explains: bool) -> u8 {
     let alloc: Global = rt.alloc();
     let checks = asks_for_check(words);
+    let explains = explains || asks_to_explain(words);
     let ended = if checks {
         check(&rt, alloc, words, writer, errors)
     } else {
+        note_paths(&rt, alloc, errors, words);
         start(&rt, alloc, files, words, reader, writer)
     };
     match ended {
@@ -72,6 +76,9 @@ fn check<R: Files, W: Write + Drop, E: Write>(
             print(&mut writer, "ok\n")?;
             let mut notes = String::new(alloc);
             push_hints(&mut notes, hints_of(alloc, &config, &[])?.as_slice())?;
+            if asks_to_explain(words) {
+                push_remarks(alloc, &mut notes, &config)?;
+            }
             tell_explanation(errors, notes.as_str());
             Ok(0)
         }
@@ -120,15 +127,38 @@ fn push_meaning<R: Net + Files>(
         return writeln!(text, "`cfdp_server --help` lists the options");
     }
     if let Ok(path) = check_words(alloc, line) {
-        let started = started_with(path);
-        return push_explanation(rt, alloc, text, &started, fault);
+        return push_why(rt, alloc, text, line, (started_with(path), fault));
     }
     match server_words(alloc, line) {
-        Ok(words) => {
-            let started = started_by(&words);
-            push_explanation(rt, alloc, text, &started, fault)
-        }
+        Ok(words) => push_why(rt, alloc, text, line, (started_by(&words), fault)),
         Err(_) => Ok(()),
+    }
+}
+
+// Adds why a program that was started like that has a fault: where the line asks for it, exactly what is wrong and where.
+fn push_why<R: Net + Files>(
+    rt: &R,
+    alloc: Global,
+    text: &mut String,
+    line: &[String],
+    (started, fault): (Started<'_>, &ProgramFault),
+) -> Result<(), AllocError> {
+    if asks_to_explain(line) {
+        push_cause(rt, alloc, text, &started, fault)
+    } else {
+        push_explanation(rt, alloc, text, &started, fault)
+    }
+}
+
+// Prints which paths can't be used from the start, where the line asks for explanations.
+fn note_paths<R: Files, E: Write>(rt: &R, alloc: Global, errors: &mut E, line: &[String]) {
+    if let Ok(words) = server_words(alloc, line)
+        && words.explain
+    {
+        let mut text = String::new(alloc);
+        if push_path_notes(rt, alloc, &mut text, &words).is_ok() && !text.is_empty() {
+            tell_explanation(errors, text.as_str());
+        }
     }
 }
 
@@ -158,6 +188,7 @@ fn started_with(config: &str) -> Started<'_> {
         bind: "",
         control: None,
         numbers: None,
+        outbox: None,
         source: None,
     }
 }
@@ -169,6 +200,7 @@ fn started_by<'a>(words: &ServerWords<'a>) -> Started<'a> {
         bind: words.bind,
         control: words.control,
         numbers: words.numbers,
+        outbox: words.outbox,
         source: None,
     }
 }
@@ -203,30 +235,68 @@ fn start<
     let mut writer = writer;
     match server_words(alloc, words) {
         Ok(words) => {
-            let mut config = load_config(rt, alloc, words.config)?;
+            let config = load_config(rt, alloc, words.config)?;
             if !has_named(&config, &words) {
                 return Err(ProgramFault::Usage);
             }
             let socket = open_socket(rt, words.bind)?;
-            let numbers = match words.numbers {
-                Some(path) => Some(HeldNumbers::open(rt, alloc, path, Puts::Many, &mut config)?),
-                None => None,
-            };
-            let given = Given {
-                numbers,
-                reader,
-                writer,
-            };
             let starting = Starting {
                 rt,
                 alloc,
                 files,
                 words: &words,
             };
-            serve_at(&starting, config, &socket, given)
+            serve_alone(&starting, config, &socket, reader, writer)
         }
         Err(fault) => tell_about(&mut writer, fault),
     }
+}
+
+// Serves while no other server uses the file of its outbox, where it has one.
+fn serve_alone<
+    'x,
+    R: Threads + Wait + Net + Clock + Files + AllocGlobal + Copy + Drop + Send + Sync,
+    F: FileReader + ServerFiles + Sync,
+    I: Read + Send + Drop,
+    W: Write + Drop,
+>(
+    starting: &Starting<'x, R, F>,
+    config: Config,
+    datagrams: &'x UdpSocket,
+    reader: I,
+    writer: W,
+) -> Result<u8, ProgramFault> {
+    let Some(path) = starting.words.outbox else {
+        return serve_kept(starting, config, datagrams, reader, writer);
+    };
+    let hold = OutboxHold::open(starting.rt, starting.alloc, path)?;
+    let ended = serve_kept(starting, config, datagrams, reader, writer);
+    hold.leave(starting.rt);
+    ended
+}
+
+// Serves with what the server keeps over restarts.
+fn serve_kept<
+    'x,
+    R: Threads + Wait + Net + Clock + Files + AllocGlobal + Copy + Drop + Send + Sync,
+    F: FileReader + ServerFiles + Sync,
+    I: Read + Send + Drop,
+    W: Write + Drop,
+>(
+    starting: &Starting<'x, R, F>,
+    config: Config,
+    datagrams: &'x UdpSocket,
+    reader: I,
+    writer: W,
+) -> Result<u8, ProgramFault> {
+    let mut config = config;
+    let kept = Kept::open(starting.rt, starting.alloc, starting.words, &mut config)?;
+    let given = Given {
+        kept,
+        reader,
+        writer,
+    };
+    serve_at(starting, config, datagrams, given)
 }
 
 // Whether the configuration has each remote entity that the words give a limit, or lanes.

@@ -4,6 +4,7 @@ use crate::commands::Server;
 use crate::console::Console;
 use crate::files::{FolderStoring, ServerFiles};
 use crate::full::Begun;
+use crate::kept::Kept;
 use crate::readiness::Readiness;
 use crate::recording::{Book, Recorder, Watched};
 use crate::reports::Reports;
@@ -11,8 +12,7 @@ use crate::working::Serving;
 use entity_config::Config;
 use program_desk::{Desk, Urgency, moment, wall_moment};
 use program_lot::Lot;
-use program_numbers::HeldNumbers;
-use program_outbox::{Outgoing, Windows};
+use program_outbox::Windows;
 use program_seats::{PLACES, Seats};
 use program_start::{FileReader, ProgramFault};
 use program_station::{Control, Sources, Station, WayIn, run_commanded, run_controlled};
@@ -56,11 +56,11 @@ pub(crate) struct Sockets<'x> {
     pub(crate) control: Option<Control<'x>>,
 }
 
-/// What a server is given: its numbers, where a file keeps them, and where commands come from and answers go without a control
+/// What a server is given: what it keeps over restarts, and where commands come from and answers go without a control
 /// socket.
 #[derive(Drop)]
 pub(crate) struct Given<R: Files + AllocGlobal + Drop, I: Drop, W: Drop> {
-    pub(crate) numbers: Option<HeldNumbers<R>>,
+    pub(crate) kept: Kept<R>,
     pub(crate) reader: I,
     pub(crate) writer: W,
 }
@@ -194,7 +194,7 @@ fn serve_commanded<
 ) -> Result<u8, ProgramFault> {
     match control {
         None => serve_reader(opened, ports, given),
-        Some(control) => serve_clients::<N, R, F, W>(opened, ports, given.numbers, control),
+        Some(control) => serve_clients::<N, R, F, W>(opened, ports, given.kept, control),
     }
 }
 
@@ -233,12 +233,12 @@ fn serve_reader<
     given: Given<R, I, W>,
 ) -> Result<u8, ProgramFault> {
     let Given {
-        numbers,
+        kept,
         reader,
         writer,
     } = given;
     match in_blocks(opened.alloc, reader) {
-        Ok(reader) => serve_lines(opened, ports, numbers, reader, writer),
+        Ok(reader) => serve_lines(opened, ports, kept, reader, writer),
         Err(_) => Err(ProgramFault::NoMemory),
     }
 }
@@ -254,7 +254,7 @@ fn serve_lines<
 >(
     opened: &Opened<'x, N, R, F>,
     ports: Vec<UserPort>,
-    numbers: Option<HeldNumbers<R>>,
+    kept: Kept<R>,
     reader: BufReader<I>,
     writer: W,
 ) -> Result<u8, ProgramFault> {
@@ -268,7 +268,7 @@ fn serve_lines<
         ..
     } = *opened;
     let way_in = way_in_of(opened)?;
-    match server_over(opened, ports, numbers, None) {
+    match server_over(opened, ports, kept, None) {
         Ok(server) => {
             let serving = Serving {
                 server,
@@ -292,7 +292,7 @@ fn serve_clients<
 >(
     opened: &Opened<'x, N, R, F>,
     ports: Vec<UserPort>,
-    numbers: Option<HeldNumbers<R>>,
+    kept: Kept<R>,
     control: Control<'x>,
 ) -> Result<u8, ProgramFault> {
     let Opened {
@@ -305,7 +305,7 @@ fn serve_clients<
         ..
     } = *opened;
     let way_in = way_in_of(opened)?;
-    match server_over(opened, ports, numbers, Some(control.seats)) {
+    match server_over(opened, ports, kept, Some(control.seats)) {
         Ok(server) => {
             let serving = Serving {
                 server,
@@ -364,13 +364,17 @@ fn parking_of<'x, N: Names, R: Copy, F>(opened: &Opened<'x, N, R, F>) -> Option<
 fn server_over<'x, N: Names, R: Wait + Clock + Files + AllocGlobal + Copy + Drop, F>(
     opened: &Opened<'x, N, R, F>,
     ports: Vec<UserPort>,
-    numbers: Option<HeldNumbers<R>>,
+    kept: Kept<R>,
     seats: Option<&'x Seats>,
 ) -> Result<Server<'x, N, R>, ProgramFault> {
     let words = opened.words;
     let (alloc, config) = (opened.alloc, opened.entity.config());
     let steps = Vec::with_capacity(alloc, opened.desk.step_room())?;
-    let outgoing = Outgoing::new(alloc, config.users())?;
+    let Kept {
+        numbers,
+        outgoing,
+        held,
+    } = kept;
     let begun = Begun::new(alloc, config)?;
     let readiness = Readiness::new(alloc, config, words.lanes.as_slice())?;
     let spells = Vec::from_elem(alloc, None, PLACES)?;
@@ -388,9 +392,11 @@ fn server_over<'x, N: Names, R: Wait + Clock + Files + AllocGlobal + Copy + Drop
             depot: opened.depot,
             tallies: opened.tallies,
             outgoing,
+            held,
             windows: Windows::new(alloc),
             begun,
             abandons_full: words.abandon_full,
+            logs_commands: words.log_commands,
             readiness,
             opened: None,
             lot: opened.lot,

@@ -33,11 +33,12 @@ impl<'a, N: Names, R: Wait + Clock + Files + AllocGlobal + Copy + Drop> Server<'
         self.record_ended();
         self.end_windows(now);
         let has_started = self.start_queued(now)?;
+        let has_noted = self.settle_outbox(now);
         let has_worked = self.station.turn(now);
         self.abandon_full();
         let has_stored = self.report_stored();
         self.audience.reports.end_turn(now);
-        Ok(has_started || has_worked || has_stored)
+        Ok(has_started || has_noted || has_worked || has_stored)
     }
 
     /// Sleeps until something comes, or until there is work without that: soon, where users' bundles wait for a client.
@@ -51,14 +52,21 @@ impl<'a, N: Names, R: Wait + Clock + Files + AllocGlobal + Copy + Drop> Server<'
         };
         let until = self.outgoing.next_moment(self.station.next_moment(now));
         let until = self.windows.next_moment(until);
+        let until = match &self.held {
+            Some(held) => held.next_moment(until),
+            None => until,
+        };
         self.desk
             .wait(self.rt, now, until.min(now.saturating_add(longest)));
     }
 
-    /// Reports the server's end, and leaves the file of numbers.
+    /// Notes which files of the outbox have ended, reports the server's end, and leaves the file of numbers.
     pub(crate) fn end(&mut self) {
         self.record_ended();
         let now = moment(self.rt);
+        self.begun.look_again(true);
+        self.note_ends(now);
+        self.settle_last();
         self.audience.reports.end(now);
         if let Some(numbers) = &self.numbers {
             numbers.leave(self.rt);

@@ -154,21 +154,24 @@ fn prints_recording<N: Names, R: Wait + Clock + Files + AllocGlobal + Copy + Dro
     }
 }
 
-// Does what a line says. Where there is no memory for the answer, that is the answer.
+// Does what a line says, and reports it, if that is wanted. Where there is no memory for the answer, that is the answer.
 fn obey<N: Names, R: Wait + Clock + Files + AllocGlobal + Copy + Drop>(
     server: &mut Server<'_, N, R>,
     said: Said,
     asker: Option<Asker>,
     text: &mut String,
 ) -> Result<Next, AllocError> {
-    match server.obey(said, asker, text) {
-        Ok(next) => Ok(next),
+    let words = server.words_of(&said);
+    let next = match server.obey(said, asker, text) {
+        Ok(next) => next,
         Err(AllocError) => {
             text.clear();
             push_no_memory(text)?;
-            Ok(Next::GoesOn)
+            Next::GoesOn
         }
-    }
+    };
+    server.report_command(words.as_slice(), asker, text);
+    Ok(next)
 }
 
 // Takes what users received so far, if that is wanted, in rounds, as long as the last round took a bundle. Says whether any

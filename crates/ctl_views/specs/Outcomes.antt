@@ -12,9 +12,10 @@ abbrev pub IsOutcome : Outcome → List ℕ → Type 0
 IsOutcome outcomes.BadCommand line = line ≡ codes "bad command"
 IsOutcome outcomes.ReadFault line = line ≡ codes "read fault"
 IsOutcome outcomes.NumbersFault line = line ≡ codes "numbers fault"
+IsOutcome outcomes.OutboxFault line = line ≡ codes "outbox fault"
 IsOutcome outcomes.Refused line = SaysRefused line
 IsOutcome outcomes.Taken line =
-    (line ≢ codes "bad command") × (line ≢ codes "read fault") × (line ≢ codes "numbers fault") × ¬ SaysRefused line
+    (line ≢ codes "bad command") × (line ≢ codes "read fault") × (line ≢ codes "numbers fault") × (line ≢ codes "outbox fault") × ¬ SaysRefused line
 
 -- 0 if a command was taken, and else 3
 abbrev pub exit_status : Outcome → ℕ
@@ -23,3 +24,4 @@ exit_status outcomes.Refused = 3
 exit_status outcomes.BadCommand = 3
 exit_status outcomes.ReadFault = 3
 exit_status outcomes.NumbersFault = 3
+exit_status outcomes.OutboxFault = 3

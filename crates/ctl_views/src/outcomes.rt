@@ -15,6 +15,8 @@ pub enum Outcome {
     ReadFault,
     /// The number of its Put couldn't be written to the file of numbers.
     NumbersFault,
+    /// The line of its file couldn't be written to the file of the outbox.
+    OutboxFault,
 }
 
 /// What became of a command, by the first line of its answer, without the line feed.
@@ -27,6 +29,8 @@ pub fn outcome_of(line: &[u8]) -> Outcome
         Outcome::ReadFault
     } else if line == b"numbers fault".as_slice() {
         Outcome::NumbersFault
+    } else if line == b"outbox fault".as_slice() {
+        Outcome::OutboxFault
     } else if says_refused(line) {
         Outcome::Refused
     } else {
@@ -47,6 +51,10 @@ pub fn exit_status(outcome: Outcome) -> u8
 {
     match outcome {
         Outcome::Taken => 0,
-        Outcome::Refused | Outcome::BadCommand | Outcome::ReadFault | Outcome::NumbersFault => 3,
+        Outcome::Refused
+        | Outcome::BadCommand
+        | Outcome::ReadFault
+        | Outcome::NumbersFault
+        | Outcome::OutboxFault => 3,
     }
 }

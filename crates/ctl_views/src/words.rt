@@ -101,7 +101,7 @@ pub(crate) const INDICATIONS: [Said; 11] = [
 ];
 
 /// The entries for other events, by kind.
-pub(crate) const KINDS: [Said; 11] = [
+pub(crate) const KINDS: [Said; 12] = [
     Said {
         name: "start",
         tint: Always(Plain),
@@ -171,6 +171,19 @@ pub(crate) const KINDS: [Said; 11] = [
         parts: &[
             Words("parked datagrams dropped for want of room: "),
             Number("count", "?"),
+        ],
+    },
+    Said {
+        name: "command",
+        tint: Always(Plain),
+        parts: &[
+            Words("command "),
+            Text("words", "?"),
+            Words(": "),
+            Text("answer", "?"),
+            Words(", from "),
+            Text("by", "?"),
+            SomeNumber(" at seat ", "seat", ""),
         ],
     },
     Said {

@@ -8,3 +8,4 @@ mod reading;
 
 pub use book::{Book, Entry};
 pub use file::{StoredOutbox, StoredOutboxFault};
+pub use lines::Line;

@@ -11,7 +11,7 @@ use std::alloc::{AllocError, Global};
 
 /// What a line of the file says.
 #[derive(Drop)]
-pub(crate) enum Line {
+pub enum Line {
     /// The next file gets this number.
     Next(u64),
     /// A file waits.

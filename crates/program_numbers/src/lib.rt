@@ -2,5 +2,7 @@
 #![tactic(auto)]
 
 mod held;
+mod reasons;
 
 pub use held::{HeldNumbers, Puts};
+pub use reasons::push_numbers_reason;

@@ -1,14 +1,16 @@
 //! Explains a program's faults to a person.
 use crate::fault::ProgramFault;
-use crate::files::read_configuration;
-use entity_config::{ConfigFault, Key};
+use crate::files::{CONFIG_OCTETS, octets_of, read_configuration};
+use crate::paths::{push_file_reason, push_path_reason};
+use crate::places::push_place;
+use entity_config::{ConfigFault, Key, read_config};
 use script_io::write_whole;
 use std::alloc::{AllocError, Global};
-use std::fs;
 use std::fs::File;
-use std::io::Write;
+use std::io::{ErrorKind, Write};
 use std::net::{Net, UdpSocket};
 use std::rt::Files;
+use std::{fs, io};
 
 /// What a program was started with, as far as explanations mention it.
 #[derive(Clone, Copy)]
@@ -21,6 +23,8 @@ pub struct Started<'a> {
     pub control: Option<&'a str>,
     /// The path of the file that keeps where transaction numbers begin.
     pub numbers: Option<&'a str>,
+    /// The path of the file that keeps the outbox.
+    pub outbox: Option<&'a str>,
     /// The path of the file to be sent.
     pub source: Option<&'a str>,
 }
@@ -39,7 +43,74 @@ pub fn push_explanation<R: Net + Files>(
         ProgramFault::Config(_) => push_config(rt, alloc, text, started.config),
         ProgramFault::Bind => push_bind(rt, text, started),
         ProgramFault::Numbers => push_numbers(text, started.numbers),
+        ProgramFault::Outbox => push_outbox(text, started.outbox),
         _ => Ok(()),
+    }
+}
+
+/// Adds a line that says exactly what is wrong, likewise: of a configuration the table, the key, the line, what was found and
+/// what is allowed; of a file and an address the system's reason. Nothing comes of a control socket or of numbers, which others
+/// explain.
+pub fn push_reason<R: Net + Files>(
+    rt: &R,
+    alloc: Global,
+    text: &mut String,
+    started: &Started<'_>,
+    fault: &ProgramFault,
+) -> Result<(), AllocError> {
+    match fault {
+        ProgramFault::Read => push_file_reason(rt, text, started.config, u64::MAX),
+        ProgramFault::Config(_) => push_config_reason(rt, alloc, text, started.config),
+        ProgramFault::Bind => match UdpSocket::bind(rt, started.bind) {
+            Err(error) => push_address_reason(text, started.bind, &error),
+            Ok(_) => Ok(()),
+        },
+        _ => Ok(()),
+    }
+}
+
+// Adds what is wrong with a configuration, and where.
+fn push_config_reason<R: Files>(
+    rt: &R,
+    alloc: Global,
+    text: &mut String,
+    path: &str,
+) -> Result<(), AllocError> {
+    if !is_plain(rt, path) {
+        return Ok(());
+    }
+    let before = text.len();
+    push_file_reason(rt, text, path, CONFIG_OCTETS)?;
+    if text.len() > before {
+        return Ok(());
+    }
+    let Ok(octets) = octets_of(rt, alloc, path) else {
+        return Ok(());
+    };
+    match str::from_utf8(octets.as_slice()) {
+        Ok(config) => match read_config(alloc, config) {
+            Err(fault) => push_place(alloc, text, path, config, fault),
+            Ok(_) => Ok(()),
+        },
+        Err(error) => {
+            let offset = error.valid_up_to();
+            writeln!(text, "{path}: octet {offset} is no part of a text in UTF-8")
+        }
+    }
+}
+
+// Adds why a socket can't be opened at an address.
+fn push_address_reason(
+    text: &mut String,
+    address: &str,
+    error: &io::Error,
+) -> Result<(), AllocError> {
+    match error.kind() {
+        ErrorKind::AddrInUse => writeln!(text, "{address}: another program has this address"),
+        ErrorKind::AddrNotAvailable => {
+            writeln!(text, "{address}: this machine does not have the address")
+        }
+        _ => push_path_reason(text, address, error),
     }
 }
 
@@ -131,8 +202,18 @@ fn push_numbers(text: &mut String, path: Option<&str>) -> Result<(), AllocError>
     }
 }
 
+fn push_outbox(text: &mut String, path: Option<&str>) -> Result<(), AllocError> {
+    match path {
+        Some(path) => writeln!(
+            text,
+            "{path}: can't be read or written, is in use by another program, or has a line that doesn't queue a file of this configuration"
+        ),
+        None => Ok(()),
+    }
+}
+
 // Which values are allowed for a key.
-fn allowed_at(key: Key) -> &'static str {
+pub(crate) fn allowed_at(key: Key) -> &'static str {
     match key {
         Key::Id => "; allowed: 0 to 9223372036854775807, in `id_octets` octets",
         Key::IdOctets | Key::SequenceOctets => "; allowed: 1 to 8",
@@ -158,7 +239,7 @@ fn allowed_at(key: Key) -> &'static str {
 }
 
 // How to repair a fault of a configuration.
-fn remedy(fault: ConfigFault) -> &'static str {
+pub(crate) fn remedy(fault: ConfigFault) -> &'static str {
     match fault {
         ConfigFault::BadToml =>
             "; look for a missing quote or bracket, or a key that is given twice",

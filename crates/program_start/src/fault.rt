@@ -23,6 +23,8 @@ pub enum ProgramFault {
     /// The file of numbers has no number, can't be read or written, or is in use by another program; or the numbers are
     /// used up.
     Numbers,
+    /// The file of the outbox can't be read or written, has a line that says nothing here, or is in use by another program.
+    Outbox,
     /// A thread can't be started.
     Start,
     /// The output can't be written.
@@ -58,6 +60,7 @@ fn plain_text(fault: &ProgramFault) -> &'static str
         ProgramFault::Config(_) => "config fault",
         ProgramFault::Bind => "bind fault",
         ProgramFault::Numbers => "numbers fault",
+        ProgramFault::Outbox => "outbox fault",
         ProgramFault::Start => "start fault",
         ProgramFault::Write => "write fault",
         ProgramFault::NoMemory => "no memory",

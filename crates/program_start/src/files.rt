@@ -39,7 +39,16 @@ fn read_up_to<R: Files>(
 }
 
 // The most octets of a configuration's file: some hundred times what the largest configuration takes.
-const CONFIG_OCTETS: u64 = 16 * 1_024 * 1_024;
+pub(crate) const CONFIG_OCTETS: u64 = 16 * 1_024 * 1_024;
+
+/// The octets of a configuration's file.
+pub(crate) fn octets_of<R: Files>(
+    rt: &R,
+    alloc: Global,
+    path: &str,
+) -> Result<Vec<u8>, ProgramFault> {
+    read_up_to(rt, alloc, path, CONFIG_OCTETS, 0)
+}
 
 /// Reads a file as a configuration. A file that is not UTF-8 is not TOML.
 pub(crate) fn read_configuration<R: Files>(
@@ -47,7 +56,7 @@ pub(crate) fn read_configuration<R: Files>(
     alloc: Global,
     path: &str,
 ) -> Result<Result<Config, ConfigFault>, ProgramFault> {
-    let octets = read_up_to(rt, alloc, path, CONFIG_OCTETS, 0)?;
+    let octets = octets_of(rt, alloc, path)?;
     match str::from_utf8(octets.as_slice()) {
         Ok(text) => Ok(read_config(alloc, text)),
         Err(_) => Ok(Err(ConfigFault::BadToml)),

@@ -9,11 +9,11 @@ use kept_events::KeptEvents;
 use program_seats::{Asker, Seats};
 use program_tallies::RefusalCase;
 use station_lines::{
-    EventHead, IndicationEvent, LogStatus, Moment, PutEvent, SkippedEvent, UnsentEvent,
-    push_end_event, push_hold_event, push_indication_event, push_journal_full_event,
-    push_planned_hold_event, push_put_event, push_refused_event, push_release_event,
-    push_skipped_event, push_start_event, push_stored_event, push_unparked_event,
-    push_unsent_event,
+    CommandEvent, EventHead, IndicationEvent, LogStatus, Moment, PutEvent, SkippedEvent,
+    UnsentEvent, push_command_event, push_end_event, push_hold_event, push_indication_event,
+    push_journal_full_event, push_planned_hold_event, push_put_event, push_refused_event,
+    push_release_event, push_skipped_event, push_start_event, push_stored_event,
+    push_unparked_event, push_unsent_event,
 };
 use std::alloc::{AllocError, Global};
 use std::rt::Files;
@@ -243,6 +243,13 @@ impl<'a, R: Wait + Files> Events<'a, R> {
         self.add(EventKind::JournalFull, line);
     }
 
+    /// Reports a command, and what came of it.
+    pub fn command(&mut self, at: Moment, given: &CommandEvent<'_>) {
+        let head = self.next_head(at);
+        let line = command_line(self.alloc, head, given);
+        self.add(EventKind::Command, line);
+    }
+
     /// Reports that transaction numbers were used up without a file.
     pub fn skip(&mut self, at: Moment, skipped: &SkippedEvent<'_>) {
         let head = self.next_head(at);
@@ -346,6 +353,16 @@ fn journal_full_line(
 ) -> Result<String, AllocError> {
     let mut line = String::new(alloc);
     push_journal_full_event(alloc, &mut line, head, user, key)?;
+    Ok(line)
+}
+
+fn command_line(
+    alloc: Global,
+    head: EventHead,
+    given: &CommandEvent<'_>,
+) -> Result<String, AllocError> {
+    let mut line = String::new(alloc);
+    push_command_event(alloc, &mut line, head, given)?;
     Ok(line)
 }
 

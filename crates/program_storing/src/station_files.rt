@@ -1,9 +1,12 @@
-use cfdp_types::Octets;
+use cfdp_types::{EntityId, Octets};
 use disk::{Disk, Hindrance};
-use station_store::{Prepared, StationStore};
+use station_store::{Prepared, SourceStore, StationStore};
 
 /// A store that can try to keep a file before its deposit counts, and says where it kept one.
 pub trait StationFiles {
+    /// The files that come next are of this source.
+    fn enter(&mut self, source: EntityId);
+
     /// Tries to keep a file under a name. The error says what hinders that for now; a deposit after it tries once more.
     fn prepare(&mut self, name: &Octets, octets: &Octets) -> Result<(), Hindrance>;
 
@@ -12,6 +15,8 @@ pub trait StationFiles {
 }
 
 impl<D: Disk + Drop> StationFiles for StationStore<D> {
+    fn enter(&mut self, _source: EntityId) {}
+
     fn prepare(&mut self, name: &Octets, octets: &Octets) -> Result<(), Hindrance> {
         match StationStore::prepare(self, name, octets) {
             Prepared::Ready => Ok(()),
@@ -21,5 +26,22 @@ impl<D: Disk + Drop> StationFiles for StationStore<D> {
 
     fn place(&self) -> &str {
         self.stored_as()
+    }
+}
+
+impl<D: Disk + Drop> StationFiles for SourceStore<D> {
+    fn enter(&mut self, source: EntityId) {
+        SourceStore::enter(self, source);
+    }
+
+    fn prepare(&mut self, name: &Octets, octets: &Octets) -> Result<(), Hindrance> {
+        match SourceStore::prepare(self, name, octets) {
+            Prepared::Ready => Ok(()),
+            Prepared::Later => Err(self.hindrance().unwrap_or(Hindrance::NoMemory)),
+        }
+    }
+
+    fn place(&self) -> &str {
+        self.store.stored_as()
     }
 }

@@ -98,6 +98,7 @@ impl<'a, N: Names, R: Wait + Copy + Clock, S: Filestore + StationFiles + Drop> S
             last,
         } = pending;
         let last = last.unwrap_or(now.saturating_add(self.retry));
+        self.store.enter(deposit.key.source);
         if let Some(why) = self.hindrance(deposit, now < last) {
             let pending = Pending {
                 storing: Storing {
@@ -123,6 +124,7 @@ impl<'a, N: Names, R: Wait + Copy + Clock, S: Filestore + StationFiles + Drop> S
     // Tells a lane the store's answer again.
     fn tell(&mut self, untold: Untold, now: u64) -> StorerTurn {
         let Untold { storing, rest, .. } = untold;
+        self.store.enter(storing.key.source);
         if self.store.calls() == u64::MAX {
             return self.tell_later(storing, rest, now);
         }

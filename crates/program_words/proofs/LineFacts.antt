@@ -56,6 +56,10 @@ server_in_rows found words said = record {
   abandon_full = flag_by found (codes "abandon-full") words.abandon_full said.abandon_full;
   log_level = ap level_of (sym (first_value-rows found (codes "log-level"))) ∙ said.log_level;
   control_mode = ap mode_of (sym (first_value-rows found (codes "control-mode"))) ∙ said.control_mode;
+  outbox = sym (first_value-rows found (codes "outbox")) ∙ said.outbox;
+  log_commands = flag_by found (codes "log-commands") words.log_commands said.log_commands;
+  explain = flag_by found (codes "explain") words.explain said.explain;
+  by_source = flag_by found (codes "by-source") words.by_source said.by_source;
 }
 
 put_in_rows : (found : Found) (words : PutWords) → PutSays (found_in found) words → PutSays (in_rows (rows_of found)) words

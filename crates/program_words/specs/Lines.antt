@@ -1,5 +1,5 @@
 -- Meaning. The command lines of the programs: their options and words, and what a line gives to each.
-use Rattle.std.specs.Prelude.{◌≡◌, Bool, true, false, List, [], ◌∷◌, Option, Some, None, codes, map, option_and_then}
+use Rattle.std.specs.Prelude.{◌≡◌, Bool, true, false, List, [], ◌∷◌, ◌++◌, Option, Some, None, codes, map, option_and_then}
 use Rattle.std.specs.Option.{option_map}
 use Rattle.clap.specs.Words.{App, Rule, Text, all_of, first_of, first_value, matched_of, matches_of, new_rule, one_of, one_text, raw_values}
 use Rattle.clap.specs.declared.parser.matches.Found.{Found}
@@ -37,21 +37,27 @@ put_program = program_of (codes "cfdp_put")
     ∷ flag (codes "closure") ∷ valued (codes "first") false ∷ valued (codes "numbers") false
     ∷ flag (codes "known-sources") ∷ placed (codes "source") ∷ placed (codes "target") ∷ [])
 
--- the options and words of `cfdp_server`
-abbrev pub server_program : App
-server_program = program_of (codes "cfdp_server")
-    (valued (codes "config") true ∷ valued (codes "bind") true ∷ valued (codes "folder") true
+-- the options of `cfdp_server`: the first ones, and all
+abbrev pub first_options : List Rule
+first_options =
+    valued (codes "config") true ∷ valued (codes "bind") true ∷ valued (codes "folder") true
     ∷ valued (codes "workers") false ∷ repeated (codes "rate") ∷ flag (codes "follow")
     ∷ valued (codes "control") false ∷ valued (codes "log") false ∷ valued (codes "numbers") false
     ∷ flag (codes "known-sources") ∷ flag (codes "hold") ∷ flag (codes "tree") ∷ flag (codes "keep")
-    ∷ valued (codes "retry") false ∷ valued (codes "park") false ∷ repeated (codes "lanes")
+    ∷ valued (codes "retry") false ∷ []
+
+abbrev pub server_program : App
+server_program = program_of (codes "cfdp_server")
+    (first_options ++ (valued (codes "park") false ∷ repeated (codes "lanes")
     ∷ valued (codes "record") false ∷ flag (codes "record-all") ∷ valued (codes "record-most") false
     ∷ flag (codes "strict-sources") ∷ flag (codes "abandon-full")
-    ∷ valued (codes "log-level") false ∷ valued (codes "control-mode") false ∷ [])
+    ∷ valued (codes "log-level") false ∷ valued (codes "control-mode") false
+    ∷ valued (codes "outbox") false ∷ flag (codes "log-commands")
+    ∷ flag (codes "explain") ∷ flag (codes "by-source") ∷ []))
 
 -- the options of a check of the configuration
 abbrev pub check_program : App
-check_program = program_of (codes "check") (valued (codes "config") true ∷ flag (codes "check") ∷ [])
+check_program = program_of (codes "check") (valued (codes "config") true ∷ flag (codes "check") ∷ flag (codes "explain") ∷ [])
 
 -- what an option or word is given, by its name: its first value as it stands and as it was read, and all its values
 pub record Givings : Type 0 where
@@ -106,6 +112,10 @@ pub record ServerSays (given : Givings) (words : ServerWords) : Type 0 where
   pub abandon_full : IsFlag (given.one (codes "abandon-full")) words.abandon_full
   pub log_level : level_of (given.first (codes "log-level")) ≡ Some words.log_level
   pub control_mode : mode_of (given.first (codes "control-mode")) ≡ Some words.control_mode
+  pub outbox : given.first (codes "outbox") ≡ option_map (λ path. path.now) words.outbox
+  pub log_commands : IsFlag (given.one (codes "log-commands")) words.log_commands
+  pub explain : IsFlag (given.one (codes "explain")) words.explain
+  pub by_source : IsFlag (given.one (codes "by-source")) words.by_source
 
 -- the put's words, as its command line gives them
 pub record PutSays (given : Givings) (words : PutWords) : Type 0 where

@@ -11,11 +11,22 @@ use std::alloc::{AllocError, Global};
 /// Whether a command line asks for a check of the configuration: `--check` before the word `--`, after which names
 /// follow.
 pub fn asks_for_check(line: &[String]) -> bool {
+    has_flag(line, "--check")
+}
+
+/// Whether a command line asks that faults are explained: `--explain`, likewise.
+pub fn asks_to_explain(line: &[String]) -> bool {
+    has_flag(line, "--explain")
+}
+
+// Whether a word is among those before the word `--`.
+fn has_flag(line: &[String], flag: &str) -> bool {
     for word in line {
-        match word.as_str() {
-            "--check" => return true,
-            "--" => return false,
-            _ => {}
+        if word.as_str() == flag {
+            return true;
+        }
+        if word.as_str() == "--" {
+            return false;
         }
     }
     false
@@ -28,7 +39,8 @@ pub(crate) fn command<'a>(alloc: Global) -> Result<Command<'a>, AllocError>
     let command = Command::new(alloc, "check")
         .version("0.1")
         .arg(required(alloc, "config"))?
-        .arg(flag(alloc, "check"))?;
+        .arg(flag(alloc, "check"))?
+        .arg(flag(alloc, "explain"))?;
     Ok(command)
 }
 
@@ -51,7 +63,7 @@ fn path_by<'a>(command: Command<'a>, line: &'a [String]) -> Result<&'a str, Word
 }
 
 /// The path of the configuration that a command line asks to check; its first word is the program's own name. Such a
-/// line has no other option.
+/// line has no other option but `--explain`.
 pub fn check_words<'a>(alloc: Global, line: &'a [String]) -> Result<&'a str, WordsFault>
     ensures { IfOk result (λ path. (given_by check_program (map string_bytes line.entry.now)).first (codes "config") ≡ Some path.now) }
 {

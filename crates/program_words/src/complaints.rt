@@ -119,6 +119,9 @@ fn new_complaint(matches: &ArgMatches<'_>) -> Option<&'static str> {
     if mode_of(matches.get_str("control-mode")).is_none() {
         return Some("--control-mode takes 0600, 0660 or 0666");
     }
+    if matches.get_str("outbox") == Some("") {
+        return Some("--outbox takes the path of a file");
+    }
     numbers_complaint(matches)
 }
 

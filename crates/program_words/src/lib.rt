@@ -7,11 +7,12 @@ mod fault;
 mod lanes;
 mod line;
 mod options;
+mod parts;
 mod putting;
 mod rates;
 mod serving;
 
-pub use checking::{asks_for_check, check_words};
+pub use checking::{asks_for_check, asks_to_explain, check_words};
 pub use complaints::{push_check_complaint, push_put_complaint, push_server_complaint};
 pub use fault::WordsFault;
 pub use lanes::PeerLanes;

@@ -1,14 +1,12 @@
 ghost use Rattle.std.specs.Prelude.{◌≡◌, IfOk, IfSome, Some, codes, map, string_bytes};
 ghost use Rattle.clap.specs.Words.{app_of, found_of};
-ghost use Rattle.program_words.specs.Lines.{ServerSays, found_in, given_by, server_program};
+ghost use Rattle.program_words.specs.Lines.{ServerSays, first_options, found_in, given_by, program_of, server_program};
 ghost use Rattle.program_words.specs.Numbers.{all_lanes_of, rates_of};
 
 use crate::fault::WordsFault;
 use crate::lanes::{PeerLanes, all_lanes_of};
-use crate::options::{
-    fault_of, flag, is_address, level_of, mode_of, most_of, optional, park_of, repeated, required,
-    seconds_of, workers_of,
-};
+use crate::options::{fault_of, flag, optional, repeated, required};
+use crate::parts::{flags_in, paths_in, values_in};
 use crate::rates::{Rate, rates_of};
 use clap::{ArgMatches, Command};
 use event_levels::Level;
@@ -40,6 +38,10 @@ pub struct ServerWords<'a> {
     pub control_mode: Option<u32>,
     /// The path of the file that keeps where transaction numbers begin.
     pub numbers: Option<&'a str>,
+    /// The path of the file that keeps what waits in the outbox and what is under way from there.
+    pub outbox: Option<&'a str>,
+    /// Whether commands that change something are events.
+    pub log_commands: bool,
     /// Whether datagrams from addresses that aren't in the configuration are dropped.
     pub known_sources: bool,
     /// Whether PDUs that don't come from the address of their own entity are dropped, too.
@@ -50,6 +52,8 @@ pub struct ServerWords<'a> {
     pub hold: bool,
     /// Whether slashes in a received file's name lead into folders.
     pub tree: bool,
+    /// Whether each source's files lie in a folder of its ID.
+    pub by_source: bool,
     /// Whether an existing file is kept, and the new one gets another name.
     pub keep: bool,
     /// For how many seconds storing a received file is retried: 1 to 86,400.
@@ -65,6 +69,8 @@ pub struct ServerWords<'a> {
     pub record_all: bool,
     /// How many scripts are kept at most: 1 to 1,000,000.
     pub record_most: u64,
+    /// Whether the standard error says exactly what is wrong, also where no person reads it.
+    pub explain: bool,
 }
 
 const HELP: &str = "Receives and sends files by CFDP over UDP, as one entity.
@@ -73,7 +79,8 @@ Usage: cfdp_server --config FILE --bind ADDR --folder DIR [--workers N] [--rate 
        [--follow] [--control PATH] [--log FILE] [--numbers FILE] [--known-sources]
        [--strict-sources] [--hold] [--tree] [--keep] [--retry N] [--park OCTETS] [--lanes ID=N]..
        [--record DIR [--record-all] [--record-most N]] [--abandon-full]
-       [--log-level LEVEL] [--control-mode MODE]
+       [--log-level LEVEL] [--control-mode MODE] [--outbox FILE] [--log-commands]
+       [--explain] [--by-source]
 
   --config FILE   the configuration of the entity, in TOML
   --bind ADDR     where it listens: A.B.C.D:PORT, all in decimal
@@ -89,6 +96,7 @@ Usage: cfdp_server --config FILE --bind ADDR --folder DIR [--workers N] [--rate 
   --strict-sources drops these, and PDUs from another address than their entity's
   --hold          sends nothing to any remote entity until `release`
   --tree          slashes in a received file's name lead into folders
+  --by-source     keeps each source's files in a folder of its ID
   --keep          keeps an existing file; the new one gets `.1`, `.2` .. appended to its name
   --retry N       retries for N seconds, 1 to 86400, to store a received file (default: one attempt)
   --park OCTETS   keeps datagrams that a busy lane can't take yet, this many octets at most
@@ -102,6 +110,9 @@ Usage: cfdp_server --config FILE --bind ADDR --folder DIR [--workers N] [--rate 
   --abandon-full  abandons each transaction whose journal is full: it could not end by itself
   --log-level LEVEL  appends only events from this level on: detail, info or warning; each has its level then
   --control-mode MODE  the permissions of the socket: 0600 (default), 0660 for its group, 0666 for everyone
+  --outbox FILE   keeps in this file what waits in the outbox and what is under way from there
+  --log-commands  reports each command that changes something as an event, and who gave it
+  --explain       says in a second line which key, path or address is wrong, and why; with --check, too
   --check         with --config alone: reads FILE, prints `ok` or what is wrong with it, and ends
   --help          prints this, and ends
   --version       prints the version, and ends
@@ -142,6 +153,14 @@ pub fn server_version() -> &'static str {
 pub(crate) fn command<'a>(alloc: Global) -> Result<Command<'a>, AllocError>
     ensures { IfOk result (λ command. app_of command ≡ server_program) }
 {
+    let first = first_command(alloc)?;
+    whole_command(alloc, first)
+}
+
+// The server, with the first of its options.
+fn first_command<'a>(alloc: Global) -> Result<Command<'a>, AllocError>
+    ensures { IfOk result (λ command. app_of command ≡ program_of (codes "cfdp_server") first_options) }
+{
     let command = Command::new(alloc, "cfdp_server")
         .version("0.1")
         .arg(required(alloc, "config"))?
@@ -157,7 +176,16 @@ pub(crate) fn command<'a>(alloc: Global) -> Result<Command<'a>, AllocError>
         .arg(flag(alloc, "hold"))?
         .arg(flag(alloc, "tree"))?
         .arg(flag(alloc, "keep"))?
-        .arg(optional(alloc, "retry"))?
+        .arg(optional(alloc, "retry"))?;
+    Ok(command)
+}
+
+// The server, with the rest of its options, too.
+fn whole_command<'a>(alloc: Global, first: Command<'a>) -> Result<Command<'a>, AllocError>
+    requires { app_of first ≡ program_of (codes "cfdp_server") first_options }
+    ensures { IfOk result (λ command. app_of command ≡ server_program) }
+{
+    let command = first
         .arg(optional(alloc, "park"))?
         .arg(repeated(alloc, "lanes"))?
         .arg(optional(alloc, "record"))?
@@ -166,7 +194,11 @@ pub(crate) fn command<'a>(alloc: Global) -> Result<Command<'a>, AllocError>
         .arg(flag(alloc, "strict-sources"))?
         .arg(flag(alloc, "abandon-full"))?
         .arg(optional(alloc, "log-level"))?
-        .arg(optional(alloc, "control-mode"))?;
+        .arg(optional(alloc, "control-mode"))?
+        .arg(optional(alloc, "outbox"))?
+        .arg(flag(alloc, "log-commands"))?
+        .arg(flag(alloc, "explain"))?
+        .arg(flag(alloc, "by-source"))?;
     Ok(command)
 }
 
@@ -189,55 +221,37 @@ fn words_with<'a>(
     requires lanes { all_lanes_of ((found_in (found_of matches.now)).all (codes "lanes")) ≡ map Some lanes.items }
     ensures { IfSome result (λ words. ServerSays (found_in (found_of matches.now)) words) }
 {
-    let config = matches.get_str("config")?;
-    let bind = matches.get_str("bind")?;
-    let folder = matches.get_str("folder")?;
-    let workers = workers_of(matches.get_str("workers"))?;
-    let follow = matches.get_flag("follow");
-    let control = matches.get_str("control");
-    let log = matches.get_str("log");
-    let numbers = matches.get_str("numbers");
-    let known_sources = matches.get_flag("known-sources");
-    let hold = matches.get_flag("hold");
-    let tree = matches.get_flag("tree");
-    let keep = matches.get_flag("keep");
-    let retry = seconds_of(matches.get_str("retry"))?;
-    let park = park_of(matches.get_str("park"))?;
-    let record = matches.get_str("record");
-    let record_all = matches.get_flag("record-all");
-    let record_most = most_of(matches.get_str("record-most"))?;
-    let strict_sources = matches.get_flag("strict-sources");
-    let abandon_full = matches.get_flag("abandon-full");
-    let log_level = level_of(matches.get_str("log-level"))?;
-    let control_mode = mode_of(matches.get_str("control-mode"))?;
-    let is_named = control != Some("") && log != Some("") && numbers != Some("");
-    if !is_address(bind) || folder.is_empty() || !is_named || record == Some("") {
-        return None;
-    }
+    let paths = paths_in(matches)?;
+    let values = values_in(matches)?;
+    let flags = flags_in(matches);
     Some(ServerWords {
-        config,
-        bind,
-        folder,
-        workers,
+        config: paths.config,
+        bind: paths.bind,
+        folder: paths.folder,
+        workers: values.workers,
         rates,
-        follow,
-        control,
-        log,
-        log_level,
-        control_mode,
-        numbers,
-        known_sources,
-        strict_sources,
-        abandon_full,
-        hold,
-        tree,
-        keep,
-        retry,
-        park,
+        follow: flags.follow,
+        control: paths.control,
+        log: paths.log,
+        log_level: values.log_level,
+        control_mode: values.control_mode,
+        numbers: paths.numbers,
+        outbox: paths.outbox,
+        log_commands: flags.log_commands,
+        known_sources: flags.known_sources,
+        strict_sources: flags.strict_sources,
+        abandon_full: flags.abandon_full,
+        hold: flags.hold,
+        tree: flags.tree,
+        by_source: flags.by_source,
+        keep: flags.keep,
+        retry: values.retry,
+        park: values.park,
         lanes,
-        record,
-        record_all,
-        record_most,
+        record: paths.record,
+        record_all: flags.record_all,
+        record_most: values.record_most,
+        explain: flags.explain,
     })
 }
 

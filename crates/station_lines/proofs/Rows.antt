@@ -9,7 +9,7 @@ use Rattle.station_lines.specs.Letters.{safe_text}
 use Rattle.station_lines.specs.Moments.{moment_text}
 use Rattle.station_lines.specs.Members.{number_member, octets_member, text_member, flag_member, hex_member, moment_member}
 use Rattle.station_lines.specs.StatusLines.{log_line, storing_line, why_members}
-use Rattle.station_lines.specs.EventLines.{stored_line, end_line}
+use Rattle.station_lines.specs.EventLines.{asker_members, stored_line, end_line}
 
 -- ---- moments
 
@@ -71,6 +71,10 @@ storing = refl
 why : map print (why_members None ∷ why_members (Some (codes "no space is left")) ∷ []) ≡ [] ∷ codes "\"why\":\"no space is left\"" ∷ []
 unfolding print_from escape_byte text_member
 why = refl
+
+askers : map print (asker_members None ∷ asker_members (Some 3) ∷ []) ≡ codes "\"by\":\"input\"" ∷ codes "\"by\":\"client\",\"seat\":3" ∷ []
+unfolding digits print_from escape_byte text_member number_member
+askers = refl
 
 ends : end_line (record { at = record { 0 = 0 }; number = 5 })
     ≡ codes "{\"at\":\"1970-01-01T00:00:00.000Z\",\"number\":5,\"kind\":\"end\"}\n"

@@ -13,6 +13,7 @@ use Rattle.station_lines.specs.Shared.{key_members, finished_members, case_membe
 use Rattle.station_lines.specs.declared.event.EventHead.{EventHead}
 use Rattle.station_lines.specs.declared.event.IndicationEvent.{IndicationEvent}
 use Rattle.station_lines.specs.declared.event.PutEvent.{PutEvent}
+use Rattle.station_lines.specs.declared.event.CommandEvent.{CommandEvent}
 use Rattle.station_lines.specs.declared.event.SkippedEvent.{SkippedEvent}
 use Rattle.station_lines.specs.declared.event.UnsentEvent.{UnsentEvent}
 use Rattle.station_lines.specs.declared.members.RefusedCase.{RefusedCase}
@@ -137,6 +138,21 @@ planned_hold_line head id =
 -- the line of a hold's end
 abbrev pub release_line : EventHead → EntityId → List ℕ
 release_line head id = about_remote_line head (codes "release") id
+
+-- ---- commands
+
+-- who gave a command: a client, by its seat, or somebody at the standard input
+abbrev pub asker_members : Option ℕ → List Token
+asker_members None = text_member (codes "by") (codes "input")
+asker_members (Some seat) = text_member (codes "by") (codes "client") ++ number_member (codes "seat") seat
+
+-- the words of a command, the first line of its answer, and who gave it
+abbrev pub command_members : CommandEvent → List Token
+command_members given = text_member (codes "words") given.words.now ++ (text_member (codes "answer") given.answer.now ++ asker_members given.seat)
+
+-- the line of a command
+abbrev pub command_line : EventHead → CommandEvent → List ℕ
+command_line head given = line_of (head_members head (codes "command") ++ command_members given)
 
 -- ---- lanes that wait
 

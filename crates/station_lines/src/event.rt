@@ -54,6 +54,17 @@ pub struct UnsentEvent<'a> {
     pub why: &'a str,
 }
 
+/// A command that changes something, and what came of it.
+#[derive(Clone, Copy, Debug)]
+pub struct CommandEvent<'a> {
+    /// Its words, as it was understood.
+    pub words: &'a str,
+    /// The first line of its answer, without the line feed.
+    pub answer: &'a str,
+    /// The seat of the client that gave it; `None` where it came over standard input.
+    pub seat: Option<u64>,
+}
+
 /// Transaction numbers that were used up without a file, since a user's numbers lagged behind those used toward a remote
 /// entity.
 #[derive(Clone, Copy, Debug)]

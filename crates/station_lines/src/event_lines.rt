@@ -1,9 +1,9 @@
 //! The lines of events. Followers get each after the word `event` and a space, which these functions don't write.
 ghost use Rattle.std.specs.Prelude.{◌≡◌, ◌++◌, OnErr, OnOk, string_bytes};
 ghost use Rattle.std.specs.Option.{option_copied};
-ghost use Rattle.station_lines.specs.EventLines.{head_members, start_line, indication_line, said_members, metadata_members, put_line, put_head, put_file, queued_members, unsent_line, unsent_members, place_members, stored_line, stored_status, refused_line, hold_line, planned_hold_line, release_line, about_remote_line, unparked_line, skipped_line, skipped_members, journal_full_line, journal_full_members, reads_ended_line, end_line, plain_line};
+ghost use Rattle.station_lines.specs.EventLines.{head_members, start_line, indication_line, said_members, metadata_members, put_line, put_head, put_file, queued_members, unsent_line, unsent_members, place_members, stored_line, stored_status, refused_line, hold_line, planned_hold_line, release_line, about_remote_line, unparked_line, skipped_line, skipped_members, command_line, command_members, asker_members, journal_full_line, journal_full_members, reads_ended_line, end_line, plain_line};
 
-use crate::event::{EventHead, IndicationEvent, PutEvent, SkippedEvent, UnsentEvent};
+use crate::event::{CommandEvent, EventHead, IndicationEvent, PutEvent, SkippedEvent, UnsentEvent};
 use crate::line::Line;
 use crate::members::{
     RefusedCase, case_members, class_number, datagram_members, finished_members, key_members,
@@ -354,6 +354,44 @@ fn skipped_members(line: &mut Line, skipped: &SkippedEvent<'_>) -> Result<(), Al
     line.number("destination", skipped.destination.0)?;
     line.number("count", skipped.count)?;
     line.number("next", skipped.next)
+}
+
+/// Adds the line of a command, and what came of it.
+pub fn push_command_event(
+    alloc: Global,
+    text: &mut String,
+    head: EventHead,
+    command: &CommandEvent<'_>,
+) -> Result<(), AllocError>
+    ensures added { OnOk result (string_bytes text.new ≡ string_bytes text.old ++ command_line head command.entry.now) }
+    ensures kept { OnErr result (string_bytes text.new ≡ string_bytes text.old) }
+{
+    let mut line = Line::begin(alloc)?;
+    head_members(&mut line, head, "command")?;
+    command_members(&mut line, command)?;
+    line.end(text)
+}
+
+// Its words, its answer, and who gave it.
+fn command_members(line: &mut Line, command: &CommandEvent<'_>) -> Result<(), AllocError>
+    ensures { OnOk result (line.new ≡ line.old ++ command_members command.entry.now) }
+{
+    line.text("words", command.words)?;
+    line.text("answer", command.answer)?;
+    asker_members(line, command.seat)
+}
+
+// Who gave a command.
+fn asker_members(line: &mut Line, seat: Option<u64>) -> Result<(), AllocError>
+    ensures { OnOk result (line.new ≡ line.old ++ asker_members seat) }
+{
+    match seat {
+        Some(seat) => {
+            line.text("by", "client")?;
+            line.number("seat", seat)
+        }
+        None => line.text("by", "input"),
+    }
 }
 
 /// Adds the line of a user's transaction that was abandoned since its journal is full.

@@ -12,12 +12,12 @@ mod moment;
 mod status;
 mod status_lines;
 
-pub use event::{EventHead, IndicationEvent, PutEvent, SkippedEvent, UnsentEvent};
+pub use event::{CommandEvent, EventHead, IndicationEvent, PutEvent, SkippedEvent, UnsentEvent};
 pub use event_lines::{
-    push_end_event, push_hold_event, push_indication_event, push_journal_full_event,
-    push_planned_hold_event, push_put_event, push_reads_ended_event, push_refused_event,
-    push_release_event, push_skipped_event, push_start_event, push_stored_event,
-    push_unparked_event, push_unsent_event,
+    push_command_event, push_end_event, push_hold_event, push_indication_event,
+    push_journal_full_event, push_planned_hold_event, push_put_event, push_reads_ended_event,
+    push_refused_event, push_release_event, push_skipped_event, push_start_event,
+    push_stored_event, push_unparked_event, push_unsent_event,
 };
 pub use members::{Datagram, RefusedCase, SHOWN_OCTETS};
 pub use moment::Moment;

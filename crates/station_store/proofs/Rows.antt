@@ -1,10 +1,11 @@
 -- Worked rows: names as flight systems send them, and the parts of their paths.
-use Rattle.std.proofs.Common.{◌≡◌, true, false, [], ◌∷◌, map, length, Some, None, Ok, Err, codes, refl, arith}
+use Rattle.std.proofs.Common.{◌≡◌, true, false, [], ◌∷◌, ◌++◌, map, length, Some, None, Ok, Err, codes, decimal, refl, arith}
 use Rattle.std.specs.List.{list_all}
 use Rattle.file_stores.specs.Names.{is_plain_name}
 use Rattle.file_stores.specs.declared.filestore.StoreFault.TheVariants.{Failed}
 use Rattle.station_store.specs.declared.settings.Layout.TheVariants.{Tree}
 use Rattle.station_store.specs.Paths.{tree_parts, relative, IsTaken}
+use Rattle.station_store.specs.Sources.{name_from}
 use Rattle.station_store.specs.Stations.{kept_as, place_of}
 
 parts : map tree_parts (codes "log" ∷ codes "/log" ∷ codes "//ram/log.1" ∷ codes "a//b" ∷ codes "a/" ∷ codes "/" ∷ codes "" ∷ [])
@@ -45,3 +46,7 @@ not_deposited = refl
 
 tried : map place_of (None ∷ Some (record { name = codes "log"; octets = []; place = None }) ∷ Some (record { name = codes "log"; octets = []; place = Some (codes "log.1") }) ∷ []) ≡ None ∷ None ∷ Some (codes "log.1") ∷ []
 tried = refl
+
+-- a name in the folder of its source
+in_folder : name_from (record { 0 = 12 }) (codes "ram/log") ≡ decimal 12 ++ codes "/ram/log"
+in_folder = refl

@@ -1,5 +1,5 @@
 -- A file is stored once its folders are reached.
-use Rattle.std.proofs.Common.{◌≡◌, inl, inr, ⊎_elim, ℕ, List, Option, Some, None, Result, Ok, Err, IfOk, OnErr, refl}
+use Rattle.std.proofs.Common.{inl, inr, ⊎_elim, ℕ, List, Option, Some, None, Result, Ok, Err, IfOk, OnErr, refl}
 use Rattle.disk.specs.Steps.{Step}
 use Rattle.disk.specs.Crash.{state}
 use Rattle.disk.specs.Promise.{Is, IsReached, NoPath, NothingNew, Unchanged, Whole, WholeOrGone}

@@ -1,3 +1,4 @@
 pub mod Folders
 pub mod Paths
 pub mod Stations
+pub mod Sources

@@ -6,8 +6,10 @@ mod keeping;
 mod names;
 mod prepared;
 mod settings;
+mod sources;
 mod store;
 
 pub use prepared::Prepared;
 pub use settings::{Clash, Layout};
+pub use sources::SourceStore;
 pub use store::StationStore;

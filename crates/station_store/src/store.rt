@@ -1,5 +1,6 @@
-ghost use Rattle.std.specs.Prelude.{◌≡◌, [], None, Some, string_bytes};
+ghost use Rattle.std.specs.Prelude.{◌≡◌, ◌<◌, [], None, Some, string_bytes};
 ghost use Rattle.std.specs.Option.{option_map};
+ghost use Rattle.station_store.specs.Sources.{forgotten, refused};
 ghost use Rattle.station_store.specs.Stations.{ready_place, Prepares};
 
 use crate::keeping::keep_at;
@@ -104,6 +105,25 @@ impl<D: Disk + Drop> StationStore<D> {
         } else {
             self.disk.hindrance()
         }
+    }
+
+    /// Forgets the file that is ready, for a file that isn't tried; a fault is that memory ran out.
+    pub(crate) fn forget(&mut self, fault: Option<Fault>)
+        ensures { self.new ≡ forgotten fault self.old }
+    {
+        self.ready = None;
+        self.is_short = fault.is_some();
+        self.fault = fault;
+    }
+
+    /// Counts a deposit that fails before there is a name for it.
+    pub(crate) fn refuse(&mut self)
+        requires { self.old.calls < u64.MAX }
+        ensures { self.new ≡ refused self.old }
+    {
+        self.forget(None);
+        self.calls += 1;
+        self.failures += 1;
     }
 
     /// Tries to keep a file, without counting a deposit. After `Ready` the next deposit is answered at once, if it has

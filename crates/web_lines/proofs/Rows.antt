@@ -11,6 +11,7 @@ use Rattle.web_lines.specs.Hindered.{says_why}
 use Rattle.web_lines.specs.Labels.{labels_at}
 use Rattle.web_lines.specs.Numbers.{IsNumberAt, at_counter, at_known, at_member, at_truth}
 use Rattle.web_lines.specs.Metrics.{escaped, head_text, labels_text, sample_text, told_text}
+use Rattle.web_lines.specs.Starts.{start_in}
 use Rattle.web_lines.specs.States.{count_in_state, name_of_state, state_in, state_named}
 
 -- a name is among these
@@ -142,3 +143,10 @@ names_of_states = refl
 
 ended_twice : count_in_state Ended (Ended ∷ Active ∷ Ended ∷ []) ≡ 2
 ended_twice = refl
+
+start_that_is_said : start_in (object (member (codes "started") (string (codes "2026-02-03T04:05:06.007Z")) no_members))
+    ≡ Some (codes "2026-02-03T04:05:06.007Z")
+start_that_is_said = refl
+
+start_that_is_no_text : start_in (object (member (codes "started") (boolean true) no_members)) ≡ None
+start_that_is_no_text = refl

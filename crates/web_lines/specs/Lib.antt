@@ -4,4 +4,5 @@ pub mod Hindered
 pub mod Labels
 pub mod Metrics
 pub mod Numbers
+pub mod Starts
 pub mod States

@@ -5,7 +5,7 @@ ghost use Rattle.http_server.specs.Response.{IsBlank, fields_of};
 ghost use Rattle.web_pages.specs.Answers.{IsAnswered, IsAt, IsObeyed, IsPage, IsPostedAt, IsReadAt, IsRefused, IsShown, IsWrongMethod, last_seen, status_of};
 ghost use Rattle.web_pages.specs.Guard.{IsFor, HasToken};
 ghost use Rattle.web_pages.specs.Routes.{asked_route};
-ghost use Rattle.web_pages.specs.Settings.{token_of};
+ghost use Rattle.web_pages.specs.Settings.{settings_of, source_of, token_of};
 
 use crate::command::is_command;
 use crate::guard::{Names, Verdict, is_for, judge};
@@ -37,7 +37,10 @@ pub struct Console<'a, S: Source> {
 
 impl<'a, S: Source> Console<'a, S> {
     /// The console with these settings, which answers what the source has.
-    pub fn new(alloc: Global, settings: &'a Settings, source: &'a S) -> Console<'a, S> {
+    pub fn new(alloc: Global, settings: &'a Settings, source: &'a S) -> Console<'a, S>
+        ensures settings { settings_of result ≡ settings.now }
+        ensures source { source_of result ≡ source.now }
+    {
         Console {
             alloc,
             settings,

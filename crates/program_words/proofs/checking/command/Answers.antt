@@ -11,4 +11,6 @@ returns c =
     let config_is : rule_of c.required.result ≡ valued (codes "config") true = search rules in
     let with_config = c.in_ok-arg.ensures.shape c.required.ensures.local ∙ ap₂ with_rule begun config_is in
     let check_is : rule_of c.flag.result ≡ flag (codes "check") = search rules in
-    c.in_ok-command.ensures.shape c.flag.ensures.local ∙ ap₂ with_rule with_config check_is
+    let with_check = c.in_ok-arg-2.ensures.shape c.flag.ensures.local ∙ ap₂ with_rule with_config check_is in
+    let explain_is : rule_of c.flag-2.result ≡ flag (codes "explain") = search rules in
+    c.in_ok-command.ensures.shape c.flag-2.ensures.local ∙ ap₂ with_rule with_check explain_is

@@ -2,7 +2,7 @@ use Rattle.std.proofs.Common.{◌≡◌, ◌∙◌, [], ap, ap₂, codes, rules,
 use Rattle.clap.specs.Words.{app_of, new_app, rule_of, with_rule}
 use Rattle.clap.specs.Simple.{app_of_fields, on_top}
 use Rattle.program_words.specs.Lines.{flag, program_of, repeated, valued}
-use Rattle.program_words.proofs.serving.command.Goals as goal
+use Rattle.program_words.proofs.serving.first_command.Goals as goal
 
 pub returns : goal.returns
 returns c =
@@ -26,31 +26,13 @@ returns c =
     let with_log = c.in_ok-arg-8.ensures.shape c.optional-3.ensures.local ∙ ap₂ with_rule with_control log_is in
     let numbers_is : rule_of c.optional-4.result ≡ valued (codes "numbers") false = search rules in
     let with_numbers = c.in_ok-arg-9.ensures.shape c.optional-4.ensures.local ∙ ap₂ with_rule with_log numbers_is in
-    let known_is : rule_of c.flag-2.result ≡ flag (codes "known-sources") = search rules in
-    let with_known = c.in_ok-arg-10.ensures.shape c.flag-2.ensures.local ∙ ap₂ with_rule with_numbers known_is in
+    let known_sources_is : rule_of c.flag-2.result ≡ flag (codes "known-sources") = search rules in
+    let with_known_sources = c.in_ok-arg-10.ensures.shape c.flag-2.ensures.local ∙ ap₂ with_rule with_numbers known_sources_is in
     let hold_is : rule_of c.flag-3.result ≡ flag (codes "hold") = search rules in
-    let with_hold = c.in_ok-arg-11.ensures.shape c.flag-3.ensures.local ∙ ap₂ with_rule with_known hold_is in
+    let with_hold = c.in_ok-arg-11.ensures.shape c.flag-3.ensures.local ∙ ap₂ with_rule with_known_sources hold_is in
     let tree_is : rule_of c.flag-4.result ≡ flag (codes "tree") = search rules in
     let with_tree = c.in_ok-arg-12.ensures.shape c.flag-4.ensures.local ∙ ap₂ with_rule with_hold tree_is in
     let keep_is : rule_of c.flag-5.result ≡ flag (codes "keep") = search rules in
     let with_keep = c.in_ok-arg-13.ensures.shape c.flag-5.ensures.local ∙ ap₂ with_rule with_tree keep_is in
     let retry_is : rule_of c.optional-5.result ≡ valued (codes "retry") false = search rules in
-    let with_retry = c.in_ok-arg-14.ensures.shape c.optional-5.ensures.local ∙ ap₂ with_rule with_keep retry_is in
-    let park_is : rule_of c.optional-6.result ≡ valued (codes "park") false = search rules in
-    let with_park = c.in_ok-arg-15.ensures.shape c.optional-6.ensures.local ∙ ap₂ with_rule with_retry park_is in
-    let lanes_is : rule_of c.repeated-2.result ≡ repeated (codes "lanes") = search rules in
-    let with_lanes = c.in_ok-arg-16.ensures.shape c.repeated-2.ensures.local ∙ ap₂ with_rule with_park lanes_is in
-    let record_is : rule_of c.optional-7.result ≡ valued (codes "record") false = search rules in
-    let with_record = c.in_ok-arg-17.ensures.shape c.optional-7.ensures.local ∙ ap₂ with_rule with_lanes record_is in
-    let all_is : rule_of c.flag-6.result ≡ flag (codes "record-all") = search rules in
-    let with_all = c.in_ok-arg-18.ensures.shape c.flag-6.ensures.local ∙ ap₂ with_rule with_record all_is in
-    let most_is : rule_of c.optional-8.result ≡ valued (codes "record-most") false = search rules in
-    let with_most = c.in_ok-arg-19.ensures.shape c.optional-8.ensures.local ∙ ap₂ with_rule with_all most_is in
-    let strict_is : rule_of c.flag-7.result ≡ flag (codes "strict-sources") = search rules in
-    let with_strict = c.in_ok-arg-20.ensures.shape c.flag-7.ensures.local ∙ ap₂ with_rule with_most strict_is in
-    let full_is : rule_of c.flag-8.result ≡ flag (codes "abandon-full") = search rules in
-    let with_full = c.in_ok-arg-21.ensures.shape c.flag-8.ensures.local ∙ ap₂ with_rule with_strict full_is in
-    let level_is : rule_of c.optional-9.result ≡ valued (codes "log-level") false = search rules in
-    let with_level = c.in_ok-arg-22.ensures.shape c.optional-9.ensures.local ∙ ap₂ with_rule with_full level_is in
-    let mode_is : rule_of c.optional-10.result ≡ valued (codes "control-mode") false = search rules in
-    c.in_ok-command.ensures.shape c.optional-10.ensures.local ∙ ap₂ with_rule with_level mode_is
+    c.in_ok-command.ensures.shape c.optional-5.ensures.local ∙ ap₂ with_rule with_keep retry_is

@@ -1,0 +1,119 @@
+//! What a server keeps in files over restarts: its numbers, and its outbox.
+use disk::SystemDisk;
+use entity_config::Config;
+use held_outbox::{HeldFault, HeldOutbox, restore_one};
+use program_control::ControlSocket;
+use program_desk::moment;
+use program_numbers::{HeldNumbers, Puts};
+use program_outbox::Outgoing;
+use program_start::ProgramFault;
+use program_words::ServerWords;
+use std::alloc::Global;
+use std::net::Net;
+use std::rt::Files;
+use std::time::Clock;
+
+/// The file of an outbox, in its folder.
+pub(crate) type OutboxFolder<R> = HeldOutbox<SystemDisk<R>>;
+
+/// The numbers of a server and its outbox, with the file of each where there is one.
+#[derive(Drop)]
+pub(crate) struct Kept<R: Files + AllocGlobal + Drop> {
+    pub(crate) numbers: Option<HeldNumbers<R>>,
+    pub(crate) outgoing: Outgoing,
+    pub(crate) held: Option<OutboxFolder<R>>,
+}
+
+impl<R: Net + Clock + Files + AllocGlobal + Copy + Drop> Kept<R> {
+    /// Opens the files that the words name. What waited in the outbox when the last run stopped, or was under way from there,
+    /// waits again. Where the outbox can't be opened, the file of numbers is released.
+    pub(crate) fn open(
+        rt: &R,
+        alloc: Global,
+        words: &ServerWords<'_>,
+        config: &mut Config,
+    ) -> Result<Kept<R>, ProgramFault> {
+        let numbers = match words.numbers {
+            Some(path) => Some(HeldNumbers::open(rt, alloc, path, Puts::Many, config)?),
+            None => None,
+        };
+        match outbox_of(rt, alloc, words, config) {
+            Ok((outgoing, held)) => Ok(Kept {
+                numbers,
+                outgoing,
+                held,
+            }),
+            Err(fault) => {
+                if let Some(numbers) = &numbers {
+                    numbers.leave(rt);
+                }
+                Err(fault)
+            }
+        }
+    }
+}
+
+/// That no other server uses the file of an outbox: a socket beside it, where nobody is let in.
+#[derive(Drop)]
+pub(crate) struct OutboxHold {
+    socket: ControlSocket,
+    path: String,
+}
+
+impl OutboxHold {
+    /// Takes hold of the file at a path. Fails where another program has it.
+    pub(crate) fn open<R: Net + Files>(
+        rt: &R,
+        alloc: Global,
+        path: &str,
+    ) -> Result<OutboxHold, ProgramFault> {
+        let path = format!(in alloc; "{path}.lock")?;
+        match ControlSocket::open(rt, alloc, path.as_str()) {
+            Ok(socket) => Ok(OutboxHold { socket, path }),
+            Err(_) => Err(ProgramFault::Outbox),
+        }
+    }
+
+    /// Releases the file.
+    pub(crate) fn leave<R: Files>(&self, rt: &R) {
+        self.socket.leave(rt, self.path.as_str());
+    }
+}
+
+// The outbox in memory and its file, where the words name one.
+fn outbox_of<R: Clock + Files + AllocGlobal + Copy + Drop>(
+    rt: &R,
+    alloc: Global,
+    words: &ServerWords<'_>,
+    config: &Config,
+) -> Result<(Outgoing, Option<OutboxFolder<R>>), ProgramFault> {
+    let mut outgoing = Outgoing::new(alloc, config.users())?;
+    let Some(path) = words.outbox else {
+        return Ok((outgoing, None));
+    };
+    let (folder, name) = parts_of(path);
+    let disk = SystemDisk::new(*rt, String::from_str(alloc, folder)?);
+    let held = HeldOutbox::open(disk, alloc, String::from_str(alloc, name)?).map_err(fault_of)?;
+    for entry in held.entries() {
+        restore_one(alloc, config, entry, &mut outgoing, moment(rt)).map_err(fault_of)?;
+    }
+    outgoing.go_on_from(held.next());
+    Ok((outgoing, Some(held)))
+}
+
+// The fault of a start whose outbox has one.
+fn fault_of(why: HeldFault) -> ProgramFault {
+    match why {
+        HeldFault::NoMemory => ProgramFault::NoMemory,
+        HeldFault::Full | HeldFault::Disk | HeldFault::NoFile => ProgramFault::Outbox,
+    }
+}
+
+// The folder of a path, and the name behind it.
+fn parts_of(path: &str) -> (&str, &str) {
+    match path.rsplit_once('/') {
+        None => (".", path),
+        Some(("", name)) => ("/", name),
+        Some((folder, name)) => (folder, name),
+    }
+}

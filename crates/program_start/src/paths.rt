@@ -1,0 +1,86 @@
+//! Why a path can't be used, in words.
+use std::alloc::AllocError;
+use std::fs::{File, Metadata};
+use std::io::ErrorKind;
+use std::rt::Files;
+use std::{fs, io};
+
+/// Adds a line that says why a call for a path failed.
+pub fn push_path_reason(
+    text: &mut String,
+    path: &str,
+    error: &io::Error,
+) -> Result<(), AllocError> {
+    match words_of(error.kind()) {
+        Some(words) => writeln!(text, "{path}: {words}"),
+        None => writeln!(text, "{path}: {error}"),
+    }
+}
+
+// What a kind of failure means for a path.
+fn words_of(kind: ErrorKind) -> Option<&'static str> {
+    match kind {
+        ErrorKind::NotFound => Some("is not there"),
+        ErrorKind::PermissionDenied => Some("permission denied"),
+        ErrorKind::IsADirectory => Some("is a folder"),
+        ErrorKind::NotADirectory => Some("a part of the path is no folder"),
+        ErrorKind::FilesystemLoop => Some("its links lead in a circle"),
+        ErrorKind::ReadOnlyFilesystem => Some("the file system can only be read"),
+        ErrorKind::InvalidFilename => Some("the path is too long"),
+        ErrorKind::InvalidInput => Some("no such path can be: it is too long, or has a zero octet"),
+        _ => None,
+    }
+}
+
+/// Adds a line that says why a file can't be read, if it can't be: it isn't there, may not be read, is no plain file, or has
+/// more than `most` octets. A pipe or the like is not opened, since that might wait for a writer.
+pub fn push_file_reason<R: Files>(
+    rt: &R,
+    text: &mut String,
+    path: &str,
+    most: u64,
+) -> Result<(), AllocError> {
+    match fs::metadata(rt, path) {
+        Err(error) => push_path_reason(text, path, &error),
+        Ok(found) if !found.is_file() => push_kind(text, path, &found),
+        Ok(found) if found.len() > most => {
+            let octets = found.len();
+            writeln!(text, "{path}: too large: {octets} octets; allowed: {most}")
+        }
+        Ok(_) => match File::open(rt, path) {
+            Err(error) => push_path_reason(text, path, &error),
+            Ok(_) => Ok(()),
+        },
+    }
+}
+
+// Adds what something is that is no plain file.
+fn push_kind(text: &mut String, path: &str, found: &Metadata) -> Result<(), AllocError> {
+    if found.is_dir() {
+        writeln!(text, "{path}: is a folder")
+    } else {
+        writeln!(text, "{path}: no plain file")
+    }
+}
+
+/// Adds a line that says why a path is no folder in which files can be, if it is none.
+pub fn push_folder_reason<R: Files>(
+    rt: &R,
+    text: &mut String,
+    path: &str,
+) -> Result<(), AllocError> {
+    match fs::metadata(rt, path) {
+        Err(error) => push_path_reason(text, path, &error),
+        Ok(found) if !found.is_dir() => writeln!(text, "{path}: no folder"),
+        Ok(_) => Ok(()),
+    }
+}
+
+/// The folder in which a path leads to a file.
+pub fn folder_of(path: &str) -> &str {
+    match path.rsplit_once('/') {
+        None => ".",
+        Some(("", _)) => "/",
+        Some((folder, _)) => folder,
+    }
+}

@@ -1,0 +1,457 @@
+#!/usr/bin/env python3
+"""An outbox that is kept in a file: what waits there or is under way is there after a restart, a kill, and on a disk that was full.
+
+usage: tests/outbox.py SERVER
+
+Each case has its own server on loopback, in its own folder, and ends within a minute.
+"""
+import contextlib
+import json
+import os
+import pathlib
+import socket
+import subprocess
+import sys
+import threading
+import time
+
+from support import Station, Wrong, configuration, free_port, in_own_mounts, mounted, run_cases, unmount, until, want
+
+SERVER = os.path.abspath(sys.argv[1])
+KILLS = 50
+CASES = []
+
+
+def case(body):
+    CASES.append(body)
+    return body
+
+
+class Peer:
+    """The entity that files are sent to. It answers nothing; a thread of its own notes what arrives."""
+
+    def __init__(self):
+        self.socket = socket.socket(socket.AF_INET, socket.SOCK_DGRAM)
+        self.socket.setsockopt(socket.SOL_SOCKET, socket.SO_RCVBUF, 8_000_000)
+        self.socket.bind(("127.0.0.1", 0))
+        self.socket.settimeout(0.05)
+        self.port = self.socket.getsockname()[1]
+        # of each transaction its names, in the order in which they came, and those whose EOF came
+        self.names = {}
+        self.ended = set()
+        self.is_over = False
+        self.thread = threading.Thread(target=self.work, daemon=True)
+        self.thread.start()
+
+    def work(self):
+        while not self.is_over:
+            with contextlib.suppress(TimeoutError):
+                octets = self.socket.recv(65_536)
+                seq, body = int.from_bytes(octets[5:9], "big"), octets[10:]
+                if body[:1] == b"\7":
+                    source, rest = body[7 : 7 + body[6]], body[7 + body[6] :]
+                    self.names.setdefault(seq, (source.decode(), rest[1 : 1 + rest[0]].decode()))
+                elif body[:1] == b"\4" and not octets[0] & 0x10:
+                    self.ended.add(seq)
+
+    def targets(self):
+        """The destination names that came, in order."""
+        return [target for _, target in list(self.names.values())]
+
+    def whole(self):
+        """Those of files that came up to their EOF."""
+        return [target for seq, (_, target) in list(self.names.items()) if seq in self.ended]
+
+    def close(self):
+        self.is_over = True
+        self.thread.join()
+        self.socket.close()
+
+
+class Sender:
+    """Station 1 with the file of its outbox, and the peer that its files go to."""
+
+    def __init__(self, *options, at="outbox", **named):
+        self.peer = Peer()
+        self.port = free_port()
+        self.at = at
+        self.named = named
+        for name in "abc":
+            pathlib.Path(name).write_bytes(name.encode() * 100)
+        self.start(*options)
+
+    def start(self, *options):
+        words = ("--outbox", self.at, "--numbers", "numbers", *options)
+        self.one = Station(SERVER, 1, self.port, 2, self.peer.port, **{"options": words, **self.named})
+        self.client = self.one.client()
+
+    def kill(self):
+        self.client.close()
+        self.one.close()
+
+    def restart(self, *options):
+        self.kill()
+        self.start(*options)
+
+    def quit(self):
+        """Lets the server end by itself."""
+        want(self.client.ask("quit"), ["ok"])
+        want(self.one.run.wait(20), 0)
+
+    def close(self):
+        self.one.close()
+        self.peer.close()
+
+    def waiting(self):
+        return [json.loads(line) for line in self.client.ask("outbox")]
+
+    def numbers(self):
+        return [line["number"] for line in self.waiting()]
+
+
+@contextlib.contextmanager
+def sender(*options, **named):
+    one = Sender(*options, **named)
+    try:
+        yield one
+    finally:
+        one.close()
+
+
+def lines(path="outbox"):
+    return pathlib.Path(path).read_text().splitlines()
+
+
+@case
+def what_waits_is_there_after_a_restart():
+    """Order, numbers, users, names and moments stay, whether the server quits or is killed; and numbers go on."""
+    with sender("--hold") as one:
+        want(one.client.ask("send alice 2 2 a first"), ["queued 1"])
+        want(one.client.ask("send bob 1 2 b second closure"), ["queued 2"])
+        want(one.client.ask('send alice 1 2 c "a \\"third\\" \\xff one" urgent as "other name"'), ["queued 3"])
+        listed = one.waiting()
+        want([(line["number"], line["user"]) for line in listed], [(1, "alice"), (2, "bob"), (3, "alice")])
+        one.restart("--hold")
+        want(one.waiting(), listed)
+        one.quit()
+        want(os.path.exists("outbox.lock"), False)
+        one.start("--hold")
+        want(one.waiting(), listed)
+        want(one.client.ask("send bob 1 2 a fourth"), ["queued 4"])
+        one.restart("--hold")
+        want(one.numbers(), [1, 2, 3, 4])
+        want(one.client.ask("drop 4"), ["ok"])
+        one.restart("--hold")
+        want((one.numbers(), one.client.ask("drop 4")), ([1, 2, 3], ["refused NotQueued"]))
+        want(one.client.ask("send bob 1 2 a fifth"), ["queued 5"])
+
+
+@case
+def an_urgent_file_is_still_urgent():
+    """After a restart it goes before its user's others, and another source name is told to the receiver. What ended doesn't come back."""
+    with sender("--hold", lanes=1, users=("alice",)) as one:
+        for words in ("a first", "b second", "c third urgent as other"):
+            one.client.ask(f"send alice 1 2 {words}")
+        one.restart()
+        until(lambda: len(one.peer.whole()) == 3, "the files")
+        want(one.peer.targets(), ["third", "first", "second"])
+        want([source for source, _ in one.peer.names.values()], ["other", "a", "b"])
+        until(lambda: sum(line.startswith("ended") for line in lines()) == 3, "the end of all three in the file")
+        one.restart()
+        want((one.numbers(), lines()), ([], ["next 4"]))
+        time.sleep(0.5)
+        want(len(one.peer.names), 3)
+        want(one.client.ask("send alice 1 2 a fourth"), ["queued 4"])
+
+
+@case
+def what_is_under_way_comes_back():
+    """A transaction that a kill interrupts begins again, as a new one; one that was abandoned does not."""
+    with sender(lanes=1, users=("alice",)) as one:
+        one.client.ask("send alice 2 2 a first")
+        until(lambda: one.peer.targets() == ["first"], "the file")
+        until(lambda: "began 1" in lines(), "its line")
+        want(one.numbers(), [])
+        one.restart()
+        until(lambda: one.peer.targets() == ["first", "first"], "the file again")
+        seq = max(one.peer.names)
+        want(one.client.ask(f"abandon alice 1 {seq}")[0].startswith("ok"), True)
+        until(lambda: "ended 1" in lines(), "its end")
+        one.restart()
+        time.sleep(0.5)
+        want((one.numbers(), len(one.peer.names)), ([], 2))
+
+
+@case
+def a_file_that_cannot_be_sent_does_not_come_back():
+    """It is told as not sent once."""
+    with sender("--hold") as one:
+        want(one.client.ask("follow"), ["ok"])
+        one.client.ask("send alice 1 2 missing x")
+        one.client.ask("release 2")
+        event = one.client.wait_event(lambda event: event["kind"] == "unsent", "the event")
+        want((event["queued"], event["why"]), (1, "read fault"))
+        until(lambda: "dropped 1" in lines(), "its line")
+        one.restart()
+        want(one.numbers(), [])
+
+
+def count_of(word, path="outbox"):
+    """How many lines of the file begin with a word."""
+    return sum(line.startswith(word) for line in lines(path))
+
+
+# What is counted until a server is killed: answers, lines of the file, names and whole files at the peer.
+COUNTED = [
+    lambda _, answered: len(answered),
+    lambda *_: count_of("began"),
+    lambda one, _: len(one.peer.names),
+    lambda one, _: len(one.peer.ended),
+    lambda *_: count_of("ended"),
+]
+
+
+def send_until_killed(one, kill, answered):
+    """Sends three files, notes their numbers and names, and kills the server as soon as there is more of what is counted: one, two or
+    three. Before every other kill one more file is given, and nobody waits for its answer."""
+    counted = COUNTED[kill % len(COUNTED)]
+    wanted = counted(one, answered) + 1 + kill % 3
+    for name in "abc":
+        answer = one.client.ask(f"send alice 1 2 {name} {name}{kill}")
+        want(answer[0].split()[0], "queued")
+        answered.append((int(answer[0].split()[1]), f"{name}{kill}"))
+    if kill % 2:
+        one.client.stream.sendall(b"send alice 1 2 a unanswered\n")
+    end = time.monotonic() + 20
+    while counted(one, answered) < wanted:
+        want((kill, time.monotonic() < end), (kill, True))
+        time.sleep(0.003)
+    one.kill()
+
+
+@case
+def fifty_kills():
+    """In the middle of sends: each file that was answered as queued arrives, the first time in the order of the numbers."""
+    with sender(lanes=1, users=("alice",)) as one:
+        answered = []
+        for kill in range(KILLS):
+            send_until_killed(one, kill, answered)
+            one.start()
+        until(lambda: count_of("queued") == count_of("ended"), "the end of all files", 60)
+        want(one.numbers(), [])
+        known = [name for _, name in answered]
+        until(lambda: set(known) <= set(one.peer.whole()), "each file", 10)
+        want([number for number, _ in answered], sorted({number for number, _ in answered}))
+        want([name for name in dict.fromkeys(one.peer.targets()) if name in known], known)
+
+
+def fill_disk():
+    """Leaves no room on the small disk."""
+    with contextlib.suppress(OSError), open("disk/filler", "wb", buffering=0) as filler:
+        while True:
+            filler.write(bytes(4_096))
+
+
+@case
+def a_full_disk():
+    """What can't be noted is refused, in memory too, and what waits stays. Once there is room, files are taken again."""
+    why = mounted("disk", "size=64k")
+    if why:
+        return why
+    try:
+        with sender("--hold", at="disk/outbox") as one:
+            want(one.client.ask("send alice 1 2 a first"), ["queued 1"])
+            fill_disk()
+            count = 1
+            while (answer := one.client.ask("send alice 1 2 a next")) != ["outbox fault"]:
+                want(answer, [f"queued {count + 1}"])
+                count += 1
+            want(one.numbers(), list(range(1, count + 1)))
+            want(one.client.ask("send alice 1 2 a again"), ["outbox fault"])
+            want(one.client.ask("drop 1"), ["outbox fault"])
+            want(one.numbers(), list(range(1, count + 1)))
+            os.remove("disk/filler")
+            want(one.client.ask("drop 1"), ["ok"])
+            want(one.client.ask("send alice 1 2 a last"), [f"queued {count + 1}"])
+            one.restart("--hold")
+            want(one.numbers(), list(range(2, count + 2)))
+    finally:
+        unmount("disk")
+    return None
+
+
+@case
+def ends_on_a_full_disk():
+    """What leaves while the disk is full is noted once there is room: while the server runs, and also by one that quits at once."""
+    for quits in (False, True):
+        why = mounted("disk", "size=64k")
+        if why:
+            return why
+        try:
+            with sender("--hold", at="disk/outbox", lanes=1, users=("alice",)) as one:
+                fill_disk()
+                count = 0
+                # long names, so that some fifteen files fill what the file has of the disk
+                while one.client.ask(f"send alice 1 2 a {'next' * 50}") != ["outbox fault"]:
+                    count += 1
+                want(count > 9, True)
+                one.client.ask("release 2")
+                until(lambda: len(one.peer.whole()) == count, "the files")
+                want(count_of("ended", "disk/outbox"), 0)
+                os.remove("disk/filler")
+                if quits:
+                    one.quit()
+                    want(count_of("ended", "disk/outbox"), count_of("queued", "disk/outbox"))
+                    one.start()
+                else:
+                    until(lambda: count_of("queued", "disk/outbox") == count_of("ended", "disk/outbox"), "their ends in the file")
+                    one.restart()
+                time.sleep(0.5)
+                want((one.numbers(), len(one.peer.names)), ([], count))
+        finally:
+            unmount("disk")
+    return None
+
+
+@case
+def a_full_disk_of_the_numbers():
+    """A file whose number can't be written waits, and goes once there is room."""
+    why = mounted("disk", "size=64k")
+    if why:
+        return why
+    try:
+        with numbered() as one:
+            one.client.ask("send alice 1 2 a first")
+            one.client.ask("send alice 1 2 b second")
+            fill_disk()
+            one.client.ask("release 2")
+            time.sleep(2.5)
+            want((sorted(one.numbers()), one.peer.targets()), ([1, 2], []))
+            os.remove("disk/filler")
+            until(lambda: sorted(one.peer.whole()) == ["first", "second"], "the files")
+    finally:
+        unmount("disk")
+    return None
+
+
+@case
+def a_full_disk_of_the_numbers_alone():
+    """Without a file of the outbox a file whose number can't be written leaves it unsent, once; one that comes when there is room goes."""
+    why = mounted("disk", "size=64k")
+    if why:
+        return why
+    try:
+        with numbered(outbox=()) as one:
+            want(one.client.ask("follow"), ["ok"])
+            want(one.client.ask("send alice 1 2 a first"), ["queued 1"])
+            fill_disk()
+            want(one.client.ask("release 2"), ["ok"])
+            event = one.client.wait_event(lambda event: event["kind"] == "unsent", "the event")
+            want((event["queued"], event["why"], one.waiting()), (1, "numbers fault", []))
+            os.remove("disk/filler")
+            want(one.client.ask("send alice 1 2 b second"), ["queued 2"])
+            until(lambda: one.peer.whole() == ["second"], "the next file")
+            want((one.waiting(), one.peer.targets()), ([], ["second"]))
+            want([event["queued"] for event in one.client.events if event["kind"] == "unsent"], [1])
+    finally:
+        unmount("disk")
+    return None
+
+
+@contextlib.contextmanager
+def numbered(outbox=("--outbox", "outbox")):
+    """A station whose numbers are on the small disk."""
+    with sender(options=(*outbox, "--numbers", "disk/numbers", "--hold"), lanes=1, users=("alice",)) as one:
+        yield one
+
+
+def start_alone(*options):
+    """What a server prints that can't start, and its status."""
+    pathlib.Path("config").write_text(configuration("127.0.0.1:1", ("alice",), octets=4))
+    words = [SERVER, "--config", "config", "--bind", "127.0.0.1:0", "--folder", ".", *options]
+    done = subprocess.run(words, stdin=subprocess.DEVNULL, capture_output=True, text=True, timeout=30, check=False)
+    return done.returncode, done.stderr
+
+
+FAULT = (1, "cfdp_server: outbox fault\n")
+
+
+@case
+def a_second_server():
+    """It doesn't get the file, and the first one goes on."""
+    with sender("--hold") as one:
+        one.client.ask("send alice 1 2 a first")
+        want(start_alone("--outbox", "outbox"), FAULT)
+        want(start_alone("--outbox", "outbox", "--numbers", "own"), FAULT)
+        want(os.path.exists("own.lock"), False)
+        want(one.client.ask("send alice 1 2 a second"), ["queued 2"])
+        one.restart("--hold")
+        want(one.numbers(), [1, 2])
+
+
+@case
+def half_a_line():
+    """A line that a cut of power tore is passed over, also with zeros behind it."""
+    whole = "next 5\nqueued 5 17 send alice 1 2 a b\n"
+    for torn in ("", "q", "queued 6 18 send al", "dropped 5", "ended 5\0\0\0"):
+        pathlib.Path("outbox").write_text(whole + torn)
+        with sender("--hold") as one:
+            want(one.numbers(), [5])
+            want(one.waiting()[0]["since"], "1970-01-01T00:00:00.017Z")
+            want(lines(), ["queued 5 17 send alice 1 2 a b", "next 6"])
+            want(one.client.ask("send alice 1 2 a c"), ["queued 6"])
+
+
+@case
+def bad_files():
+    """A file that says nothing, or something that this configuration can't do, is a fault of the start: what it says stays, and the
+    file is released, as is that of numbers."""
+    for text in ("nonsense\n", "queued 5 17 send carol 1 2 a b\n", "queued 5 17 status\n", "queued 5 17\n", "next -1\n"):
+        pathlib.Path("outbox").write_text(text)
+        want(start_alone("--outbox", "outbox"), FAULT)
+        want((pathlib.Path("outbox").read_text().splitlines()[0], os.path.exists("outbox.lock")), (text.splitlines()[0], False))
+        want(start_alone("--outbox", "outbox", "--numbers", "own"), FAULT)
+        want((pathlib.Path("outbox").read_text().splitlines()[0], os.path.exists("outbox.lock")), (text.splitlines()[0], False))
+        want(os.path.exists("own.lock"), False)
+    os.remove("outbox")
+    os.mkdir("outbox")
+    want(start_alone("--outbox", "outbox"), FAULT)
+    want(start_alone("--outbox", "nowhere/outbox"), FAULT)
+    want(start_alone("--outbox", "fresh", "--control", "nowhere/control"), (1, "cfdp_server: bind fault\n"))
+    want((os.path.exists("fresh"), os.path.exists("fresh.lock")), (True, False))
+    want(start_alone("--outbox", ""), (1, "cfdp_server: usage\n"))
+    want(start_alone("--outbox", "fresh"), (0, ""))
+
+
+@case
+def a_file_that_grows():
+    """Once it has grown tenfold, it is written anew: it has what waits, and no more."""
+    with sender("--hold") as one:
+        want(one.client.ask("send alice 1 2 a kept"), ["queued 1"])
+        size = 0
+        for number in range(2, 3_000):
+            want(one.client.ask("send bob 1 2 a x"), [f"queued {number}"])
+            want(one.client.ask(f"drop {number}"), ["ok"])
+            before, size = size, os.path.getsize("outbox")
+            if size < before:
+                break
+        want((before > 40_000, size < 200), (True, True))
+        one.restart("--hold")
+        want(one.numbers(), [1])
+        want(one.client.ask("send bob 1 2 a x"), [f"queued {number + 1}"])
+
+
+@case
+def as_many_as_wait_come_back():
+    """1,024 files, those under way included; one more is refused."""
+    with sender("--hold") as one:
+        for number in range(1, 1_025):
+            want(one.client.ask("send alice 1 2 a x"), [f"queued {number}"])
+        want(one.client.ask("send alice 1 2 a x"), ["refused OutboxFull"])
+        one.restart("--hold")
+        want(one.numbers(), list(range(1, 1_025)))
+        want(one.client.ask("send alice 1 2 a x"), ["refused OutboxFull"])
+
+
+in_own_mounts()
+run_cases("outbox", CASES)

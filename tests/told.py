@@ -1,0 +1,107 @@
+#!/usr/bin/env python3
+"""What a server tells only where that is asked for: which commands were given, by whom, and what came of them.
+
+usage: tests/told.py SERVER
+
+Each case has its own server on loopback, in its own folder, and ends within a minute.
+"""
+import json
+import os
+import pathlib
+import subprocess
+import sys
+
+from support import configuration, run_cases, station, until, want
+
+SERVER = os.path.abspath(sys.argv[1])
+CASES = []
+
+
+def case(body):
+    CASES.append(body)
+    return body
+
+
+def commands(events):
+    return [event for event in events if event["kind"] == "command"]
+
+
+def logged(path="log"):
+    return [json.loads(line) for line in pathlib.Path(path).read_text().splitlines()]
+
+
+GIVEN = [
+    ("hold all", "hold all", "ok"),
+    ("hold 2", "hold 2", "ok"),
+    ("hold 7", "hold 7", "refused UnknownRemote"),
+    ("rate 2 5000", "rate 2 5000", "ok"),
+    ("rate off", "rate off", "ok"),
+    ("rate 9000", "rate 9000", "ok"),
+    ('send alice 1 2 "a" b', "send alice 1 2 a b", "queued 1"),
+    ('send bob 2 2 a "\\xff b" urgent as "c d"', 'send bob 2 2 a "\\xff b" urgent as "c d"', "queued 2"),
+    ("send alice 1 2 missing b closure urgent", "send alice 1 2 missing b closure urgent", "read fault"),
+    ("drop 1", "drop 1", "ok"),
+    ("drop 1", "drop 1", "refused NotQueued"),
+    ("put alice 0 1 2 a b closure", "put alice 0 1 2 a b closure", "ok"),
+    ("suspend alice 1 2", "suspend alice 1 2", None),
+    ("resume alice 1 2", "resume alice 1 2", None),
+    ("cancel alice 1 2", "cancel alice 1 2", None),
+    ("abandon alice 1 3", "abandon alice 1 3", None),
+    ("release 2 600", "release 2 600", "ok"),
+    ("release 2", "release 2", "ok"),
+    ("release all", "release all", "ok"),
+    ("reopen", "reopen", "ok"),
+]
+UNTOLD = ["status", "outbox", "trace 1 2", "report alice 1 2", "take alice", "journal 1 2", "follow 1 warning", "nonsense", "send alice"]
+
+
+@case
+def each_command_that_changes_something():
+    """Its words, the first line of its answer, and the seat of its client are an event, in the log too."""
+    with station(SERVER, options=("--log-commands", "--log", "log", "--log-level", "info")) as (one, _):
+        pathlib.Path("a").write_bytes(b"abc")
+        watcher = one.client()
+        want(watcher.ask("follow"), ["ok"])
+        client = one.client()
+        answers = []
+        for line, _, answer in GIVEN:
+            answers.append(client.ask(line)[0])
+            if answer is not None:
+                want((line, answers[-1]), (line, answer))
+        for line in UNTOLD:
+            client.ask(line)
+        want(client.ask("hold 2"), ["ok"])
+        watcher.wait_event(lambda event: len(commands(watcher.events)) > len(GIVEN), "the last command")
+        told = commands(watcher.events)
+        want([event["words"] for event in told], [words for _, words, _ in GIVEN] + ["hold 2"])
+        want([event["answer"] for event in told], answers + ["ok"])
+        want({(event["by"], event["seat"]) for event in told}, {("client", 1)})
+        want(one.client().ask("quit"), ["ok"])
+        want(one.run.wait(20), 0)
+        of_log = commands(logged())
+        want([event["words"] for event in of_log], [event["words"] for event in told] + ["quit"])
+        want((of_log[-1]["seat"], {event["level"] for event in of_log}), (2, {"info"}))
+
+
+@case
+def commands_of_standard_input():
+    """They are told as of `input`."""
+    pathlib.Path("config").write_text(configuration("127.0.0.1:1", ("alice",), octets=4))
+    words = [SERVER, "--config", "config", "--bind", "127.0.0.1:0", "--folder", ".", "--log", "log", "--log-commands"]
+    done = subprocess.run(words, input="hold 1\nstatus\nquit\n", capture_output=True, text=True, timeout=30, check=False)
+    want(done.returncode, 0)
+    want([(event["words"], event["answer"], event["by"], "seat" in event) for event in commands(logged())],
+         [("hold 1", "ok", "input", False), ("quit", "", "input", False)])
+
+
+@case
+def nothing_without_the_option():
+    with station(SERVER, options=("--log", "log")) as (one, _):
+        client = one.client()
+        want(client.ask("follow"), ["ok"])
+        want((client.ask("hold 2"), client.ask("release 2")), (["ok"], ["ok"]))
+        until(lambda: [event["kind"] for event in logged()][-2:] == ["hold", "release"], "the log")
+        want(commands(logged()), [])
+
+
+run_cases("told", CASES)
