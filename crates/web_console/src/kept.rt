@@ -1,5 +1,4 @@
-//! The last answer to `status`, and the connection that it came over.
-use station_client::Station;
+//! The last answer to `status`.
 use std::alloc::Global;
 use std::sync::Arc;
 use std::time::Duration;
@@ -10,21 +9,12 @@ const FRESH_MILLIS: u64 = 500;
 /// The lines of an answer, or none where the station couldn't be asked.
 pub(crate) type Lines = Option<Arc<Vec<u8>, Global>>;
 
-/// Who wants a status: it is there, or the caller has to ask for it, over the connection that is kept, if there is one.
-#[derive(Drop)]
-pub(crate) enum Turn {
-    There(Lines),
-    Ask(Option<Station>),
-}
-
-/// The last answer to `status`, when it came, the connection that it came over, and whether somebody asks for the next
-/// one, who has the connection meanwhile.
+/// The last answer to `status`, when it came, and whether somebody asks for the next one.
 #[derive(Drop)]
 pub(crate) struct Kept {
     // on the system's own clock; none where nothing was asked yet
     at: Option<Duration>,
     lines: Lines,
-    station: Option<Station>,
     is_asking: bool,
 }
 
@@ -34,7 +24,6 @@ impl Kept {
         Kept {
             at: None,
             lines: None,
-            station: None,
             is_asking: false,
         }
     }
@@ -60,17 +49,15 @@ impl Kept {
         }
     }
 
-    /// From now on somebody asks, over this connection, if there is one.
-    pub(crate) fn begin(&mut self) -> Option<Station> {
+    /// From now on somebody asks.
+    pub(crate) fn begin(&mut self) {
         self.is_asking = true;
-        self.station.take()
     }
 
-    /// Keeps the answer that came at a moment, and the connection for the next one.
-    pub(crate) fn keep(&mut self, at: Option<Duration>, lines: Lines, station: Option<Station>) {
+    /// Keeps the answer that came at a moment.
+    pub(crate) fn keep(&mut self, at: Option<Duration>, lines: Lines) {
         self.at = at;
         self.lines = lines;
-        self.station = station;
         self.is_asking = false;
     }
 }

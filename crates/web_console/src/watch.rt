@@ -5,7 +5,7 @@ ghost use Rattle.web_console.specs.Shown.{IsSeen, IsShown, IsShownAway, IsShownH
 
 use crate::asked::Asked;
 use crate::events::Events;
-use crate::kept::{Kept, Lines, Turn};
+use crate::kept::{Kept, Lines};
 use station_client::{Station, StationFault};
 use std::alloc::{AllocError, Global};
 use std::net::Net;
@@ -27,8 +27,8 @@ const FOLLOW_MILLIS: u64 = 5000;
 // For how many milliseconds one waits for an event at once.
 const EVENT_MILLIS: u64 = 60_000;
 
-/// What the console knows of its station: it is asked one `status` at a time, over one connection, and an answer is used again
-/// for half a second. No lock is held while the station is asked, and it is asked nothing but what `Asked` has.
+/// What the console knows of its station: it is asked one `status` at a time, and an answer is used again for half a second.
+/// No lock is held while the station is asked, and it is asked nothing but what `Asked` has.
 #[derive(Drop)]
 pub struct Watch<'a, R> {
     rt: &'a R,
@@ -109,50 +109,18 @@ impl<'a, R: Wait + Net + Clock> Watch<'a, R> {
 
     // The lines of a status that is fresh enough. Who finds another one asking waits for what that one hears.
     fn status(&self) -> Lines {
-        match self.turn() {
-            Turn::There(lines) => lines,
-            Turn::Ask(station) => self.hear_status(station),
+        if let Some(lines) = self.kept_status() {
+            return lines;
         }
-    }
-
-    // Asks for a status, over a connection that was kept, or a new one where there is none or the station has gone from it.
-    // Keeps what it hears.
-    fn hear_status(&self, station: Option<Station>) -> Lines {
-        let limit = Duration::from_millis(Asked::Status.millis());
-        let mut station = match station {
-            Some(station) => Some(station),
-            None => self.connect(limit),
+        let lines = match self.ask(Asked::Status) {
+            Ok(lines) => Arc::new(self.alloc, lines).ok(),
+            Err(_) => None,
         };
-        let mut answer = self.answer_over(&mut station, limit);
-        if let Err(StationFault::Gone | StationFault::System) = answer {
-            station = self.connect(limit);
-            answer = self.answer_over(&mut station, limit);
-        }
-        match answer {
-            Ok(lines) => self.keep_status(Arc::new(self.alloc, lines).ok(), station),
-            Err(_) => self.keep_status(None, None),
-        }
+        self.keep_status(lines)
     }
 
-    // A new connection, if the station lets one in.
-    fn connect(&self, limit: Duration) -> Option<Station> {
-        Station::connect(self.rt, self.alloc, self.path, limit).ok()
-    }
-
-    // The answer to `status` over a connection.
-    fn answer_over(
-        &self,
-        station: &mut Option<Station>,
-        limit: Duration,
-    ) -> Result<Vec<u8>, StationFault> {
-        match station {
-            Some(station) => station.ask(self.rt, Asked::Status.line(), limit),
-            None => Err(StationFault::NoServer),
-        }
-    }
-
-    // The answer that is kept, or else that the caller has to ask, and to keep what it hears.
-    fn turn(&self) -> Turn {
+    // The answer that is kept; none where the caller has to ask, and to keep what it hears.
+    fn kept_status(&self) -> Option<Lines> {
         let limit = Duration::from_millis(OTHERS_MILLIS);
         let (mut kept, _late) = self.answered.wait_timeout_while(
             self.rt,
@@ -161,20 +129,21 @@ impl<'a, R: Wait + Net + Clock> Watch<'a, R> {
             |kept| kept.is_asking(),
         );
         if kept.is_asking() {
-            return Turn::There(None);
+            return Some(None);
         }
         let now = self.rt.monotonic().unwrap_or(Duration::ZERO);
         if kept.is_fresh(now) {
-            return Turn::There(kept.lines());
+            return Some(kept.lines());
         }
-        Turn::Ask(kept.begin())
+        kept.begin();
+        None
     }
 
-    // Keeps an answer and its connection, and gives the answer.
-    fn keep_status(&self, lines: Lines, station: Option<Station>) -> Lines {
+    // Keeps an answer, and gives it.
+    fn keep_status(&self, lines: Lines) -> Lines {
         let now = self.rt.monotonic().ok();
         let mut kept = self.kept.lock(self.rt);
-        kept.keep(now, lines, station);
+        kept.keep(now, lines);
         let given = kept.lines();
         drop(kept);
         self.answered.notify_all();
