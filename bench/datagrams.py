@@ -84,35 +84,31 @@ def server_cost(program, parts):
     return counted("out")
 
 
-def put_cost(server, put, parts):
-    """The instructions of a put of so many parts."""
+def transfer(server, put, parts, rate, tool=()):
+    """Has a put, under a tool or alone, send a file of so many parts to a server; the page faults of the server meanwhile."""
     at_server, at_put = programs.free_ports(2)
     configs = programs.configure("ground.toml", at_put), programs.configure("spacecraft.toml", at_server)
     pathlib.Path("image").write_bytes(random.Random(7).randbytes(parts * PART))
     with programs.serving(server, configs[0], at_server, words=["--follow"], told=subprocess.DEVNULL) as running:
         running.tell("trace 2 1")
         time.sleep(0.3)
-        words = ["--bind", f"127.0.0.1:{at_put}", "--user", "alice", "--remote", "2", "--class", "2", "--rate", str(RATE)]
-        command = counting("out") + [put, "--config", configs[1], *words, "image", "image.received"]
+        before = programs.minor_faults(running.process.pid)
+        words = ["--bind", f"127.0.0.1:{at_put}", "--user", "alice", "--remote", "2", "--class", "2", "--rate", str(rate)]
+        command = [*tool, put, "--config", configs[1], *words, "image", "image.received"]
         if subprocess.run(command, stdout=subprocess.DEVNULL, stderr=subprocess.DEVNULL, timeout=300, check=False).returncode:
             sys.exit("the put failed")
+        return programs.minor_faults(running.process.pid) - before
+
+
+def put_cost(server, put, parts):
+    """The instructions of a put of so many parts."""
+    transfer(server, put, parts, RATE, counting("out"))
     return counted("out")
 
 
 def faults_of(server, put):
     """The page faults of a server for each PDU of a transfer, those aside that the disk had to serve."""
-    at_server, at_put = programs.free_ports(2)
-    configs = programs.configure("ground.toml", at_put), programs.configure("spacecraft.toml", at_server)
-    pathlib.Path("image").write_bytes(random.Random(7).randbytes(TRANSFER * PART))
-    with programs.serving(server, configs[0], at_server, words=["--follow"], told=subprocess.DEVNULL) as running:
-        running.tell("trace 2 1")
-        time.sleep(0.3)
-        before = programs.minor_faults(running.process.pid)
-        words = ["--bind", f"127.0.0.1:{at_put}", "--user", "alice", "--remote", "2", "--class", "2", "--rate", str(TRANSFER_RATE)]
-        done = subprocess.run([put, "--config", configs[1], *words, "image", "image.received"], stdout=subprocess.DEVNULL, timeout=300)
-        if done.returncode:
-            sys.exit("the put failed")
-        return (programs.minor_faults(running.process.pid) - before) / TRANSFER
+    return transfer(server, put, TRANSFER, TRANSFER_RATE) / TRANSFER
 
 
 def tell(name, few, many, bar):
