@@ -86,6 +86,13 @@ impl Clone for Octets {
     }
 }
 
+/// No octets.
+impl Default for Octets {
+    fn default() -> Octets {
+        Octets::new()
+    }
+}
+
 impl PartialEq for Octets {
     ghost eq = { pointwise nat_eq };
 

@@ -1,4 +1,4 @@
-use crate::run::Run;
+use crate::run::{Run, Runs};
 use crate::{edit, search, walk};
 use std::alloc::{AllocError, Global};
 use std::marker::Model;
@@ -114,7 +114,7 @@ impl Gaps {
 
     /// Covers the offsets from `start` to `end` - 1, and returns those that are new, as maximal runs from the
     /// lowest up.
-    pub fn cover(&mut self, start: u32, end: u32) -> Result<Vec<Run>, AllocError>
+    pub fn cover(&mut self, start: u32, end: u32) -> Result<Runs, AllocError>
         requires { start ≤ end }
         ensures added { OnOk result
             (SameSet (covered self.new) (with_range (covered self.old) start end)) }
@@ -128,10 +128,10 @@ impl Gaps {
     }
 
     /// The offsets from `start` to `end` - 1 that aren't covered, as maximal runs from the lowest up.
-    pub fn new_within(&self, start: u32, end: u32) -> Result<Vec<Run>, AllocError>
+    pub fn new_within(&self, start: u32, end: u32) -> Result<Runs, AllocError>
         ensures { IfOk result (λ runs. runs.items ≡ new_runs (covered self.now) start end) }
     {
-        let mut new = Vec::new(*self.runs.allocator());
+        let mut new = Runs::new(*self.runs.allocator());
         walk::put_gaps(&mut new, self.runs.as_slice(), start, end, end as usize)?;
         Ok(new)
     }
@@ -144,17 +144,17 @@ impl Gaps {
     }
 
     /// The offsets below the limit that aren't covered, as maximal runs from the lowest up.
-    pub fn missing(&self, limit: u32) -> Result<Vec<Run>, AllocError>
+    pub fn missing(&self, limit: u32) -> Result<Runs, AllocError>
         ensures { IfOk result (λ runs. runs.items ≡ missing_runs (covered self.now) limit) }
     {
         self.missing_first(limit, limit as usize)
     }
 
     /// The first `count` of the runs that `missing` gives.
-    pub fn missing_first(&self, limit: u32, count: usize) -> Result<Vec<Run>, AllocError>
+    pub fn missing_first(&self, limit: u32, count: usize) -> Result<Runs, AllocError>
         ensures { IfOk result (λ runs. runs.items ≡ take count (missing_runs (covered self.now) limit)) }
     {
-        let mut missing = Vec::new(*self.runs.allocator());
+        let mut missing = Runs::new(*self.runs.allocator());
         walk::put_gaps(&mut missing, self.runs.as_slice(), 0, limit, count)?;
         Ok(missing)
     }
@@ -167,12 +167,12 @@ impl Gaps {
         end: u32,
         limit: u32,
         count: usize,
-    ) -> Result<Vec<Run>, AllocError>
+    ) -> Result<Runs, AllocError>
         requires { start ≤ end }
         ensures { IfOk result
             (λ runs. runs.items ≡ take count (missing_runs (with_range (covered self.now) start end) limit)) }
     {
-        let mut missing = Vec::new(*self.runs.allocator());
+        let mut missing = Runs::new(*self.runs.allocator());
         walk::put_gaps_with(
             &mut missing,
             self.runs.as_slice(),

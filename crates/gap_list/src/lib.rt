@@ -8,4 +8,4 @@ mod search;
 mod walk;
 
 pub use gaps::Gaps;
-pub use run::Run;
+pub use run::{Run, Runs};

@@ -3,12 +3,12 @@ ghost use Rattle.std.specs.Prelude.{◌≡◌, ◌≤◌, ◌-◌, ◌++◌, OnO
 ghost use Rattle.gap_list.specs.Places.{kept};
 ghost use Rattle.gap_list.specs.Runs.{in_runs, new_runs, missing_runs, with_range, IsRisingFrom};
 
-use crate::run::Run;
+use crate::run::{Run, Runs};
 use crate::search::ended_below;
 use std::alloc::AllocError;
 
 // Appends a run unless it is empty.
-fn put(gaps: &mut Vec<Run>, run: Run) -> Result<(), AllocError>
+fn put(gaps: &mut Runs, run: Run) -> Result<(), AllocError>
     ensures { OnOk result (gaps.new.items ≡ gaps.old.items ++ kept run []) }
 {
     if run.start < run.end {
@@ -20,7 +20,7 @@ fn put(gaps: &mut Vec<Run>, run: Run) -> Result<(), AllocError>
 // Appends the gaps among the offsets from `start` to `end` - 1, from the lowest up, until the list has `most`
 // runs.
 pub fn put_gaps(
-    gaps: &mut Vec<Run>,
+    gaps: &mut Runs,
     runs: &[Run],
     start: u32,
     end: u32,
@@ -50,7 +50,7 @@ pub fn put_gaps(
 
 // Appends the first `most` runs of offsets below the limit that are neither in a run nor in the range.
 pub fn put_gaps_with(
-    gaps: &mut Vec<Run>,
+    gaps: &mut Runs,
     runs: &[Run],
     range: Run,
     limit: u32,

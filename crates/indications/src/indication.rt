@@ -1,10 +1,11 @@
-ghost use Rattle.std.specs.Prelude.{◌≡◌, [], ◌∷◌, ◌++◌, IfOk, OnOk, OnErr};
+ghost use Rattle.std.specs.Prelude.{◌≡◌, ◌≤◌, ◌+◌, [], ◌∷◌, ◌++◌, IfOk, OnOk, OnErr, length, vec_len, vec_capacity};
 ghost use Rattle.std.specs.List.{list_any};
 ghost use Rattle.indications.specs.Kinds.{kind_of};
 ghost use Rattle.indications.specs.Words.{is_end};
 
 use crate::kind::IndicationKind;
 use cfdp_types::{Boxed, Condition, Delivery, EntityId, FileStatus, Messages, Octets};
+use smallvec::SmallVec;
 use std::alloc::{AllocError, Global};
 use std::marker::Model;
 
@@ -67,6 +68,13 @@ pub enum Indication {
     },
 }
 
+// What a list has where it holds nothing.
+impl Default for Indication {
+    fn default() -> Indication {
+        Indication::Transaction
+    }
+}
+
 impl Indication {
     /// A copy of the indication.
     pub fn copy(&self) -> Result<Indication, AllocError>
@@ -104,10 +112,11 @@ impl Indication {
     }
 }
 
-/// The indications of one step or of one transaction, in order. Contracts see the list of them.
+/// The indications of one step, in order: most often one, which then takes no memory of its own. Contracts see the list
+/// of them.
 #[derive(Debug, Drop)]
 pub struct Indications {
-    items: Vec<Indication>,
+    items: SmallVec<Indication, 1>,
 }
 
 impl Model for Indications {
@@ -125,7 +134,7 @@ impl Indications {
         ensures { result ≡ [] }
     {
         Indications {
-            items: Vec::new(alloc),
+            items: SmallVec::new(alloc),
         }
     }
 
@@ -136,26 +145,31 @@ impl Indications {
         self.items.as_slice()
     }
 
-    /// The indications as a vector, in order.
-    pub fn into_vec(self) -> Vec<Indication>
-        ensures { result.items ≡ self }
+    /// Moves the indications to the end of a vector, which has room for them. It does not allocate.
+    pub fn append_to(self, told: &mut Vec<Indication>)
+        requires { vec_len told.old + length self ≤ vec_capacity told.old }
+        ensures { told.new.items ≡ told.old.items ++ self }
     {
-        self.items
+        let Indications { items } = self;
+        for indication in items {
+            told.push_reserved(indication);
+        }
     }
 
     /// Whether one of them indicates the end of the transaction.
     pub fn has_end(&self) -> bool
         ensures { result ≡ list_any is_end self.now }
     {
-        self.items.iter().any(|indication| indication.is_end())
+        self.as_slice().iter().any(|indication| indication.is_end())
     }
 
     /// A copy of the list.
     pub fn copy(&self) -> Result<Indications, AllocError>
         ensures { IfOk result (λ copy. copy ≡ self.now) }
     {
-        let mut items = Vec::with_capacity(*self.items.allocator(), self.items.len())?;
-        for indication in &self.items {
+        let told = self.as_slice();
+        let mut items = SmallVec::with_capacity(*self.items.allocator(), told.len())?;
+        for indication in told {
             items.push(indication.copy()?)?;
         }
         Ok(Indications { items })

@@ -30,12 +30,34 @@ fn read_up_to<R: Files>(
 ) -> Result<Vec<u8>, ProgramFault> {
     let mut octets = Vec::with_capacity(alloc, room)?;
     match File::open(rt, path) {
-        Ok(file) => match file.take(most).read_to_end(&mut octets) {
-            Ok(_) => Ok(octets),
-            Err(error) => Err(fault_of(&error)),
-        },
+        Ok(file) => {
+            append_all(alloc, &mut file.take(most), &mut octets)?;
+            Ok(octets)
+        }
         Err(error) => Err(fault_of(&error)),
     }
+}
+
+// How many octets of a file are read at once.
+const BLOCK_OCTETS: usize = 16 * 1_024;
+
+// Appends all that a reader gives. It goes through one block, so that the memory of a large file is not cleared first.
+fn append_all<S: Read>(
+    alloc: Global,
+    reader: &mut S,
+    octets: &mut Vec<u8>,
+) -> Result<(), ProgramFault> {
+    let mut block = Vec::new(alloc);
+    block.resize(BLOCK_OCTETS, 0)?;
+    for _ in 0..u64::MAX {
+        match reader.read(block.as_mut_slice()) {
+            Ok(0) => return Ok(()),
+            Ok(count) => octets.extend_from_slice(&block[..count])?,
+            Err(error) if error.kind() == ErrorKind::Interrupted => {}
+            Err(error) => return Err(fault_of(&error)),
+        }
+    }
+    Err(ProgramFault::Read)
 }
 
 // The most octets of a configuration's file: some hundred times what the largest configuration takes.

@@ -39,6 +39,7 @@ impl ReceiverCore {
             file: ReceivedFile::new(alloc),
             metadata: None,
             control: ControlBlock::first(),
+            spare: None,
         }
     }
 

@@ -1,4 +1,6 @@
 //! Planning an event.
+ghost use Rattle.std.specs.Prelude.{◌≡◌, IfOk};
+
 use crate::plan::{Plan, Step};
 use crate::receiver::ReceiverCore;
 use cfdp_types::Deposit;
@@ -7,7 +9,7 @@ use receiver_parts::control::ControlBlock;
 use receiver_parts::file_change::FileChange;
 use receiver_parts::response::Response;
 use receiver_parts::steps::{changes, next, with_event};
-use std::alloc::AllocError;
+use std::alloc::{AllocError, Global};
 use txn_events::{Answer, Refusal, TimerChanges, TimerContext, TimerOps, What, operations};
 
 impl ReceiverCore {
@@ -95,13 +97,15 @@ impl ReceiverCore {
         }
     }
 
-    // The plan of an event with its response and its change; `current` is the control block with the event.
+    // The plan of an event with its response and its change; `current` is the control block with the event. What changes
+    // goes into the spare memory, if there is some.
     fn plan_response(
         &self,
         event: &What,
         current: ControlBlock,
         response: Response,
         change: FileChange,
+        spare: Option<Box<Step>>,
     ) -> Result<Plan, AllocError>
         requires { IsSmall current }
         ensures { IfOk result (λ plan. HoldsResponse self.now event.now current response change plan) }
@@ -122,7 +126,7 @@ impl ReceiverCore {
         let armed = self.control.armed.after(changes, self.control.entries);
         let next = ControlBlock { armed, ..next };
         Ok(Plan {
-            step: Box::new(self.alloc, Step { next, change })?,
+            step: boxed(self.alloc, spare, Step { next, change })?,
             answer: Answer {
                 inds: response.inds,
                 pdus,
@@ -133,7 +137,12 @@ impl ReceiverCore {
     }
 
     // The plan of an accepted event and its change, for which there is room already.
-    fn plan_change(&self, event: &What, change: FileChange) -> Result<Plan, AllocError>
+    fn plan_change(
+        &self,
+        event: &What,
+        change: FileChange,
+        spare: Option<Box<Step>>,
+    ) -> Result<Plan, AllocError>
         requires taken { refusal_at (reception_of self.now) (shown self.now) event.now ≡ None }
         requires change { IsChange self.now (body_of_event event.now) change }
         requires room { HasRoom self.now.file change }
@@ -141,7 +150,7 @@ impl ReceiverCore {
     {
         let current = with_event(&self.control, event, change.adds());
         let response = self.response_to(event, &current, &change)?;
-        self.plan_response(event, current, response, change)
+        self.plan_response(event, current, response, change, spare)
     }
 
     // Plans an event in the present state.
@@ -155,7 +164,8 @@ impl ReceiverCore {
         }
         let change = self.change_of(event)?;
         self.prepare(&change)?;
-        let plan = self.plan_change(event, change)?;
+        let spare = self.spare.take();
+        let plan = self.plan_change(event, change, spare)?;
         Ok(plan)
     }
 
@@ -172,5 +182,18 @@ impl ReceiverCore {
             → IfErr result (λ why. IsWhy (answer_at (reception_of self.old) (state_of log) event.now) why) }
     {
         self.plan_now(event)
+    }
+}
+
+// A step in the spare memory, or in new memory.
+fn boxed(alloc: Global, spare: Option<Box<Step>>, step: Step) -> Result<Box<Step>, AllocError>
+    ensures { IfOk result (λ boxed. boxed.value ≡ step) }
+{
+    match spare {
+        None => Ok(Box::new(alloc, step)?),
+        Some(mut boxed) => {
+            *boxed = step;
+            Ok(boxed)
+        }
     }
 }

@@ -8,8 +8,10 @@ use crate::plan::{Plan, Step};
 use cfdp_types::{Params, TxnKey};
 use pdu_values::{Header, Metadata};
 use receiver_parts::control::ControlBlock;
+use receiver_parts::file_change::FileChange;
 use receiver_parts::received_file::ReceivedFile;
 use std::alloc::Global;
+use std::mem;
 use txn_events::Answer;
 
 /// The receiving end of one transaction, in either class.
@@ -23,6 +25,8 @@ pub struct ReceiverCore {
     pub(crate) file: ReceivedFile,
     pub(crate) metadata: Option<Metadata>,
     pub(crate) control: ControlBlock,
+    // The memory of the step before, for the next one.
+    pub(crate) spare: Option<Box<Step>>,
     ghost fits: { HeaderFits header },
     ghost sound: { IsSound control },
     ghost reached: { IsInside control.progress (covered file.gaps) },
@@ -51,9 +55,24 @@ impl ReceiverCore {
             → StandsAfter self.new (record { event = event; answer = plan_answer plan } ∷ log) }
     {
         let Plan { step, answer } = plan;
-        let Step { next, change } = Box::into_inner(step);
+        let (step, spare) = taken(step);
+        let Step { next, change } = step;
         change.apply(&mut self.file, &mut self.metadata);
         self.control = next;
+        self.spare = Some(spare);
         answer
     }
+}
+
+// A step, and the memory in which it was.
+fn taken(step: Box<Step>) -> (Step, Box<Step>)
+    ensures { result.0 ≡ step.value }
+{
+    let mut spare = step;
+    let empty = Step {
+        next: ControlBlock::first(),
+        change: FileChange::Nothing,
+    };
+    let step = mem::replace(&mut *spare, empty);
+    (step, spare)
 }

@@ -1,5 +1,6 @@
 -- Of the code. What an event changes in the received file, and the file after it.
-use Rattle.std.specs.Prelude.{◌≡◌, ℕ, ◌<◌, ◌≤◌, Bool, true, false, not, ◌==◌, List, [], length, Option, Some, None, vec_len}
+use Rattle.std.specs.Prelude.{◌≡◌, ℕ, ◌<◌, ◌≤◌, Bool, true, false, not, ◌==◌, List, [], length, Option, Some, None}
+use Rattle.smallvec.specs.SmallVec.{small_vec_len}
 use Rattle.gap_list.specs.Covered.{covered}
 use Rattle.gap_list.specs.Runs.{with_range}
 use Rattle.gap_list.specs.declared.run.Run.{Run}
@@ -44,7 +45,7 @@ FitsFile file _ = Unit {0}
 
 -- there is room for what a change adds
 abbrev pub HasRoom : ReceivedFile → change_type.FileChange → Type 0
-HasRoom file (change.NewSegment segment) = (vec_len segment.pieces ≤ room_of file) × (0 < file.gaps.room)
+HasRoom file (change.NewSegment segment) = (small_vec_len segment.pieces ≤ room_of file) × (0 < file.gaps.room)
 HasRoom file _ = Unit {0}
 
 -- the new runs in a change

@@ -1,7 +1,7 @@
 //! The file as it will be once a change is carried out.
 use crate::file_change::FileChange;
 use crate::received_file::ReceivedFile;
-use gap_list::Run;
+use gap_list::Runs;
 use std::alloc::AllocError;
 
 impl ReceivedFile {
@@ -28,7 +28,7 @@ impl ReceivedFile {
         change: &FileChange,
         limit: u32,
         count: usize,
-    ) -> Result<Vec<Run>, AllocError>
+    ) -> Result<Runs, AllocError>
         ensures { IfOk result (λ runs. runs.items ≡ take count (missing_runs (covered_after self.now change.now) limit)) }
     {
         match change {

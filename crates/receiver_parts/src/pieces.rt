@@ -1,5 +1,6 @@
 //! Pieces of a file: the octets that PDUs brought, in the memory of these PDUs.
 ghost use Rattle.std.specs.Prelude.{◌≡◌, ℕ, ◌+◌, ◌-◌, ◌<◌, ◌≤◌, ◌++◌, max, if◌then◌else◌, All, IfOk, OnOk, length, slice_get, slice_index, unwrap_or, vec_len, vec_capacity, map, take, drop};
+ghost use Rattle.smallvec.specs.SmallVec.{small_vec_len};
 ghost use Rattle.gap_list.specs.Runs.{is_within};
 ghost use Rattle.modular_sum.specs.Pieces.{octet_from, sum_after};
 ghost use Rattle.receiver_parts.specs.Offsets.{octet_in, part_of, piece_of};
@@ -7,16 +8,20 @@ ghost use Rattle.receiver_parts.specs.Offsets.{octet_in, part_of, piece_of};
 use cfdp_types::Octets;
 use gap_list::Run;
 use modular_sum::Running;
+use smallvec::SmallVec;
 use std::alloc::{AllocError, Global};
 
 /// Consecutive octets of a file.
-#[derive(Debug, Drop)]
+#[derive(Debug, Default, Drop)]
 pub struct Piece {
     /// The offset in the file of the first octet.
     pub offset: u32,
     /// The octets, in the memory of the PDU that brought them.
     pub octets: Octets,
 }
+
+/// Pieces of one segment, most often one, which then takes no memory of its own.
+pub type Pieces = SmallVec<Piece, 1>;
 
 // The octets of a segment at the offsets of a run.
 fn slice_of(octets: &[u8], offset: u32, run: Run) -> &[u8]
@@ -62,12 +67,12 @@ pub fn parts_of(
     octets: &Octets,
     offset: u32,
     runs: &[Run],
-) -> Result<Vec<Piece>, AllocError>
+) -> Result<Pieces, AllocError>
     requires inside { All
         (λ run. (offset ≤ run.start) × (run.start ≤ run.end) × (run.end ≤ offset + length octets.now)) runs.now }
     ensures { IfOk result (λ pieces. pieces.items ≡ map (part_of offset octets.now) runs.now) }
 {
-    let mut pieces = Vec::with_capacity(alloc, runs.len())?;
+    let mut pieces = Pieces::with_capacity(alloc, runs.len())?;
     for run in runs {
         pieces.push(part_of(octets, offset, *run)?)?;
     }
@@ -141,10 +146,11 @@ pub fn resize(kept: &mut Vec<u8>, size: usize) -> Result<(), AllocError>
 }
 
 /// Appends pieces, without allocating.
-pub fn append(pieces: &mut Vec<Piece>, more: Vec<Piece>)
-    requires { vec_len pieces.old + vec_len more ≤ vec_capacity pieces.old }
+pub fn append(pieces: &mut Vec<Piece>, more: Pieces)
+    requires { vec_len pieces.old + small_vec_len more ≤ vec_capacity pieces.old }
     ensures { pieces.new.items ≡ pieces.old.items ++ more.items }
 {
-    let mut more = more;
-    let _appended = pieces.append(&mut more);
+    for piece in more {
+        pieces.push_reserved(piece);
+    }
 }

@@ -4,8 +4,8 @@ ghost use Rattle.gap_list.specs.Covered.{covered};
 ghost use Rattle.modular_sum.specs.Pieces.{IsSumOf};
 ghost use Rattle.receiver_parts.specs.Offsets.{octet_in, part_of};
 
-use crate::pieces::{Piece, append, parts_of, put_pieces, resize, sum_with_runs};
-use gap_list::{Gaps, Run};
+use crate::pieces::{Piece, Pieces, append, parts_of, put_pieces, resize, sum_with_runs};
+use gap_list::{Gaps, Run, Runs};
 use modular_sum::Running;
 use pdu_values::FileData;
 use std::alloc::{AllocError, Global};
@@ -32,9 +32,9 @@ pub struct NewSegment {
     /// One more than the segment's last offset.
     pub end: u32,
     /// The offsets of the segment that were not received before.
-    pub runs: Vec<Run>,
+    pub runs: Runs,
     /// The octets at these offsets.
-    pub pieces: Vec<Piece>,
+    pub pieces: Pieces,
     /// The checksum once the octets at these offsets are added.
     pub sum: Running,
     ghost starts: { start ≡ file_data.offset },
@@ -43,7 +43,8 @@ pub struct NewSegment {
 }
 
 impl ReceivedFile {
-    ghost use Rattle.std.specs.Prelude.{◌≡◌, ℕ, ◌+◌, ◌<◌, ◌≤◌, IfOk, OnOk, false, None, Some, length, vec_len, map};
+    ghost use Rattle.std.specs.Prelude.{◌≡◌, ℕ, ◌+◌, ◌<◌, ◌≤◌, IfOk, OnOk, false, None, Some, length, map};
+    ghost use Rattle.smallvec.specs.SmallVec.{small_vec_len};
     ghost use Rattle.gap_list.specs.Runs.{new_runs};
     ghost use Rattle.receiver_table.specs.Answers.{octets_from};
     ghost use Rattle.gap_list.specs.Covered.{covered};
@@ -74,12 +75,7 @@ impl ReceivedFile {
     }
 
     // The pieces of a segment at these runs, which are those not received before.
-    fn parts_at(
-        &self,
-        file_data: &FileData,
-        start: u32,
-        runs: &[Run],
-    ) -> Result<Vec<Piece>, AllocError>
+    fn parts_at(&self, file_data: &FileData, start: u32, runs: &[Run]) -> Result<Pieces, AllocError>
         requires starts { start ≡ file_data.now.offset }
         requires runs { runs.now ≡ new_runs (covered self.now.gaps) file_data.now.offset
             (file_data.now.offset + length file_data.now.octets) }
@@ -157,7 +153,7 @@ impl ReceivedFile {
     /// Adds a segment to the file, without allocating.
     pub fn take(&mut self, segment: NewSegment)
         requires segment { IsSegmentOf self.old segment }
-        requires pieces { vec_len segment.pieces ≤ room_of self.old }
+        requires pieces { small_vec_len segment.pieces ≤ room_of self.old }
         requires run { 0 < self.old.gaps.room }
         ensures received { (i : ℕ) → received_of self.new i
             ≡ with_segment (received_of self.old) (Some segment.file_data) i }

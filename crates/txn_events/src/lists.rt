@@ -2,6 +2,7 @@ ghost use Rattle.std.specs.Prelude.{◌≡◌, [], ◌∷◌, ◌++◌, IfOk, On
 
 use cfdp_types::TimerOp;
 use pdu_values::Pdu;
+use smallvec::SmallVec;
 use std::alloc::{AllocError, Global};
 use std::marker::Model;
 
@@ -47,10 +48,11 @@ impl Pdus {
     }
 }
 
-/// The timer operations of one step, in order. Contracts see the list of them.
+/// The timer operations of one step, in order: most often one, which then takes no memory of its own. Contracts see the
+/// list of them.
 #[derive(Debug, Drop)]
 pub struct TimerOps {
-    items: Vec<TimerOp>,
+    items: SmallVec<TimerOp, 1>,
 }
 
 impl Model for TimerOps {
@@ -68,7 +70,7 @@ impl TimerOps {
         ensures { result ≡ [] }
     {
         TimerOps {
-            items: Vec::new(alloc),
+            items: SmallVec::new(alloc),
         }
     }
 

@@ -102,7 +102,7 @@ impl Running {
         // Without memory for the glance, the lane keeps the whole transaction until the next one opens.
         let _settled = self.core.settle();
         self.journal.push_reserved(event);
-        append_reserved(&mut self.trace, inds.into_vec());
+        inds.append_to(&mut self.trace);
         Done {
             key,
             pdus,
@@ -110,12 +110,4 @@ impl Running {
             deposit,
         }
     }
-}
-
-// Appends indications without allocating.
-fn append_reserved(trace: &mut Vec<Indication>, mut told: Vec<Indication>)
-    requires { vec_len trace.old + vec_len told ≤ vec_capacity trace.old }
-    ensures { trace.new.items ≡ trace.old.items ++ told.items }
-{
-    let _done = trace.append(&mut told);
 }

@@ -17,7 +17,7 @@ returns c =
     let core = c.args.self.now in
     let state = now_state core c.args.current.now c.args.change.now in
     let runs : List Run = missing_runs (covered_after core.file c.args.change.now) c.scope-scope.result in
-    let front : c.as_slice.result.now ≡ take 65 runs = c.as_slice.ensures.value ∙ c.in_ok-runs.ensures in
+    let front : c.as_slice.result.now ≡ take 65 runs = c.as_slice.ensures ∙ c.in_ok-runs.ensures in
     let missing : runs ≡ missing_below state c.scope-scope.result =
     sym (missing_same c.args.current.now (metadata_after core.metadata c.args.change.now) (received_after core.file c.args.change.now)
     (covered_after core.file c.args.change.now) c.scope-scope.result (λ i. came_after core.file c.args.change.now i)) in

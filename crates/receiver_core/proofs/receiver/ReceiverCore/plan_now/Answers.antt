@@ -30,4 +30,11 @@ returns-in_err-plan-clause-refused c =
 
 pub plan_change-requires-clause-change : goal.plan_change-requires-clause-change
 plan_change-requires-clause-change c =
-    change_still c.args.self.now c.prepare.new.self (body_of_event c.args.event.now) c.in_ok-change.change c.prepare.ensures.same c.in_ok-change.ensures
+    let is = change_still c.args.self.now c.prepare.new.self (body_of_event c.args.event.now) c.in_ok-change.change c.prepare.ensures.same c.in_ok-change.ensures in
+    record {
+      metadata = is.metadata;
+      file_data = is.file_data;
+      fits = is.fits;
+      runs = is.runs;
+      more = is.more;
+    }
