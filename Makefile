@@ -122,6 +122,7 @@ test:
 	@tests/restarts.py $(server)
 	@tests/outbox.py $(server)
 	@tests/told.py $(server)
+	@tests/counts.py $(server) $(ctl) $(web)
 	@tests/large.py $(server) $(ctl) $(put)
 	@tests/units.py $(server) $(ctl)
 	@tests/faults.py $(server) $(put)

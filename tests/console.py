@@ -148,9 +148,23 @@ def work(console, one, two):
     metrics = console.ask("GET", "/metrics")[1].decode()
     want([line for line in ("cfdp_up 1", 'cfdp_remote_held{remote="2"} 0', 'cfdp_transactions{state="ended"} 1') if line not in metrics], [])
     check_members(console)
+    check_watching(client)
     give_up(console, two, file)
     want((client.ask("quit"), one.run.wait(15)), (["ok"], 0))
     until(lambda: console.ask("GET", "/healthz")[0] == 503, "the console to miss the station")
+
+
+def check_watching(client):
+    """A console at the status socket shows the same, and commands nothing."""
+    console = Console("watched")
+    try:
+        want([entity["id"] for entity in console.document()["entities"]], [1])
+        until(lambda: any(event["kind"] == "put" for event in console.events()), "the events")
+        want(console.command("hold 2"), ["refused NotHere"])
+        want([line["held"] for line in client.status() if line["kind"] == "remote"], [False])
+        want("cfdp_up 1" in console.ask("GET", "/metrics")[1].decode(), True)
+    finally:
+        console.close()
 
 
 def main():
@@ -158,7 +172,7 @@ def main():
     with tempfile.TemporaryDirectory() as home:
         os.chdir(home)
         # files to a peer that has gone stay under way for a minute
-        one = Station(SERVER, 1, ports[0], 2, ports[1], ("--log", "log"), limit=200)
+        one = Station(SERVER, 1, ports[0], 2, ports[1], ("--log", "log", "--status-socket", "watched"), limit=200)
         two = Station(SERVER, 2, ports[1], 1, ports[0])
         console = None
         try:

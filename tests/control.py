@@ -17,12 +17,12 @@ import sys
 import threading
 import time
 
-from support import Client, Running, Wrong, configuration, free_port, in_own_mounts, mounted, run_cases, unmount, until, want
+from support import (
+    EOF, FILE_DATA, METADATA, Client, Running, Wrong, case, configuration, free_port, in_own_mounts, mounted, run_cases,
+    unmount, until, want,
+)
 
 SERVER = os.path.abspath(sys.argv[1])
-METADATA = bytes.fromhex("24000a0001050207000000000301610162")
-FILE_DATA = bytes.fromhex("3400070001050200000000616263")
-EOF = bytes.fromhex("24000a0001050204006162630000000003")
 SEATS = 16
 
 
@@ -61,14 +61,6 @@ class Server(Running):
         want(client.line(), None)
         want(self.ended(), (0, ""))
         want(os.path.exists(self.path), False)
-
-
-CASES = []
-
-
-def case(body):
-    CASES.append(body)
-    return body
 
 
 @contextlib.contextmanager
@@ -140,6 +132,25 @@ def refusals():
         want("from" in refused["NoTransaction", None], False)
         counters = status[0]["counters"]
         want((counters["datagrams_in"], counters["decode_faults"], counters["foreign_datagrams"], counters["refused"]), (3, 2, 3, 4))
+        one.quits()
+
+
+@case
+def refused_pdus():
+    """With --explain the status says which PDU a refused datagram was, or that it was none; a command names none."""
+    with server(options=("--explain",)) as one:
+        client = one.client()
+        want(client.ask("follow"), ["ok"])
+        one.send(b"\x24\0", METADATA[:4] + b"\x09" + METADATA[5:], METADATA[:6] + b"\x09" + METADATA[7:])
+        for name in ("NoRoute", "NotForUs"):
+            client.wait_event(lambda event, name=name: event.get("name") == name, name)
+        want(client.ask("cancel alice 1 9"), ["refused 1 NoTransaction"])
+        pdus = {line["name"]: (line.get("pdu"), line.get("source"), line.get("seq")) for line in client.status() if line["kind"] == "refusal"}
+        want(pdus, {"DecodeFault": ("no PDU", None, None), "NoRoute": ("Metadata", 9, 5), "NotForUs": ("Metadata", 1, 5),
+                    "NoTransaction": (None, None, None)})
+        want([event for event in client.events if event["kind"] == "refused" and "pdu" in event], [])
+        one.send(FILE_DATA[:6] + b"\x09" + FILE_DATA[7:])
+        until(lambda: [line["pdu"] for line in client.status() if line.get("name") == "NotForUs"] == ["File Data"], "the file data")
         one.quits()
 
 
@@ -266,6 +277,71 @@ def many_clients():
         for client in clients:
             client.close()
         until(lambda: one.clients_sit() == 1, "the end of the visits")
+        one.quits()
+
+
+@case
+def a_status_socket():
+    """A client of the status socket sees what there is to see, and changes nothing: any other line is refused, isn't reported, and reads no
+    file."""
+    os.mkfifo("endless")
+    with server(options=("--status-socket", "watched", "--control-mode", "0660", "--log-commands")) as one:
+        client = one.client()
+        until(lambda: os.path.exists("watched"), "the status socket")
+        watcher = Client("watched")
+        want([stat.S_IMODE(os.stat(path).st_mode) for path in ("control", "watched")], [0o660, 0o660])
+        one.send(METADATA, FILE_DATA, EOF)
+        until(lambda: os.path.exists("received/b"), "the file")
+        want((client.ask("hold 1"), client.ask("send alice 1 1 gone b")), (["ok"], ["queued 1"]))
+        kinds = lambda asker: [line["kind"] for line in asker.status()]
+        want(kinds(watcher), kinds(client))
+        want([json.loads(line)["file"] for line in watcher.ask("outbox")], ["gone"])
+        want(watcher.ask("journal 1 5")[0][:1], "#")
+        want(watcher.ask("journal 1 9"), ["refused 1 NoTransaction"])
+        for line in ("follow 100 warning", "follow"):
+            want(watcher.ask(line), ["ok"])
+        for line in ("put alice 0 1 1 endless b", "send alice 1 1 endless b urgent", "send alice 1 1 a b", "drop 1", "hold 1", "hold all", "release 1",
+                     "release 1 5", "release all", "rate 5", "rate 1 off", "cancel alice 1 5", "suspend alice 1 5", "resume alice 1 5", "report alice 1 5",
+                     "abandon alice 1 5", "take alice", "trace 1 5", "reopen", "quit", "", "no command", "status now", "follow x"):
+            want((line, watcher.ask(line)), (line, ["refused NotHere"]))
+        [remote] = [line for line in client.status() if line["kind"] == "remote"]
+        want((remote["held"], kinds(client).count("queued")), (True, 1))
+        want(client.ask("release 1"), ["ok"])
+        watcher.wait_event(lambda event: event.get("words") == "release 1", "the event of a command")
+        want([event["words"] for event in watcher.events if event["kind"] == "command"], ["release 1"])
+        one.quits()
+        until(lambda: watcher.line() is None, "the end of the stream")
+        want(os.path.exists("watched"), False)
+
+
+@case
+def seats_of_watchers():
+    """Four watchers take no seat of the control socket, a fifth one is told so, and clients of the control socket take none of theirs."""
+    with server(options=("--status-socket", "watched")) as one:
+        one.client().close()
+        until(lambda: one.clients_sit() == 1, "the end of the visit")
+        until(lambda: os.path.exists("watched"), "the status socket")
+        watchers = [Client("watched") for _ in range(4)]
+        for watcher in watchers:
+            want(watcher.status()[0]["kind"], "entity")
+        fifth = Client("watched")
+        want((fifth.line(), fifth.line()), (b"busy", None))
+        clients = [one.client() for _ in range(SEATS)]
+        for client in clients:
+            want(client.ask("trace 1 9"), ["refused 1 NoTransaction"])
+        want(clients[0].status()[0]["clients"], SEATS + 4)
+        want(Spare(one).ask("trace 1 9"), (None, b"busy"))
+        until(lambda: len(Spare(one).ask("status")[0] or []) > 2, "a status at the spare seat")
+        want([watcher.ask("hold all") for watcher in watchers], [["refused NotHere"]] * 4)
+        watchers.pop().close()
+        until(lambda: Client("watched").ask("outbox") == [], "a free seat of a watcher")
+        long = watchers.pop()
+        with contextlib.suppress(OSError):
+            long.stream.sendall(b"x" * 300_000)
+        want((long.answer(), long.line()), (["bad command"], None))
+        for client in clients:
+            client.close()
+        until(lambda: one.clients_sit() == 3, "the end of the visits")
         one.quits()
 
 
@@ -525,4 +601,4 @@ def a_status_of_standard_input():
 
 
 in_own_mounts()
-run_cases("a control socket", CASES)
+run_cases("a control socket")

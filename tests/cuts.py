@@ -13,7 +13,7 @@ import pathlib
 import socket
 import sys
 
-from support import Wrong, end_of_file, file_data, library, metadata, run_cases, station, until, want
+from support import Wrong, case, end_of_file, file_data, library, metadata, run_cases, station, until, want
 
 SERVER = os.path.abspath(sys.argv[1])
 FOLDER = object()
@@ -227,14 +227,6 @@ def stores(options, names, places):
     want_all_needed(lambda some: check_stores(some, log, kept, folder), calls, folder)
 
 
-CASES = []
-
-
-def case(body):
-    CASES.append(body)
-    return body
-
-
 @case
 def files_that_replace_others():
     stores((), (b"a", b"b", b"a"), ("a", "b", "a"))
@@ -317,4 +309,4 @@ def numbers():
             want(put_some(1) > given, True)
 
 
-run_cases("cuts", CASES)
+run_cases("cuts")

@@ -22,6 +22,7 @@ usage: tests/fake_station.py SOCKET [OPTION..]
   --storing N        received files that are being stored, of which all but the first couldn't be stored so far (none)
   --recorded A,B,C   how many recordings were written, of how many transactions the journal was gone, and how many failed
   --parked N         lanes for which datagrams wait; one more has dropped some (0)
+  --counters         counts ends, whole files, missing octets (a third of those up to the greatest offset) and when remotes were heard
   --note             notes on the lanes of two remote entities
   --stop SECONDS     stops answering this long after the first send, and stays connected
   --say FILE         what a status says, and which events a follower receives: JSON with lists `status` and `events`
@@ -203,10 +204,11 @@ class Station:
             name = b'a "b"\x1b[31m\n\xff' if self.options.odd and n % 2 == 0 else \
                 b"<img src=x onerror=alert(1)></script>" if self.options.odd else b"file %d.bin" % n
             end = {"condition": 0, "delivery": "complete", "status": "retained"} if octets == size else {}
+            lacks = {} if end or not self.options.counters else {"missing": size - octets + octets // 3}
             yield {"kind": "transaction", "source": 7, "seq": n, "user": self.options.users[n % len(self.options.users)],
                    "lane": n, "role": "receiver", "peer": 7, "class": 2, "state": "ended" if end else "active",
                    **named("file", name), "to": f"b{n}.bin", "size": size, "octets": octets, "events": n,
-                   "last": moment(time.time() - 1.5), **end}
+                   "last": moment(time.time() - 1.5), **end, **lacks}
         for sent in list(self.sent):
             if sent["state"] in ("active", "ended"):
                 yield {"kind": "transaction", "source": 1, "seq": sent["seq"], "user": sent["user"],
@@ -250,12 +252,19 @@ class Station:
             yield {"kind": "remote", "id": number, "address": f"192.0.2.{number}:4556", "held": held is not None,
                    **({"held_since": held} if held else {}),
                    **({"open_until": self.open_until[number]} if number in self.open_until else {}), "datagrams_in": 1, "octets_in": 9, "datagrams_out": 1,
-                   "octets_out": 9, "failed_sends": 0}
+                   "octets_out": 9, "failed_sends": 0,
+                   **({"heard": moment(time.time() - 90), "silence": 90_000} if number == 7 and self.options.counters else {})}
         yield {"kind": "refusal", "number": 20, "name": "DecodeFault", "fault": 3, "count": 3, "last": moment(),
                "from": "192.0.2.1:4556", "octets": "24000a"}
         if self.options.note:
             yield {"kind": "note", "remote": 7, "sending_lanes": 6, "receiving_lanes": 8, "better": [1, 2, 4, 8]}
             yield {"kind": "note", "remote": 5, "sending_lanes": 6, "receiving_lanes": 16, "better": [1, 2, 4, 8, 16]}
+        if self.options.counters:
+            yield {"kind": "ended", "role": "sender", "class": 2, "condition": 0, "count": 5}
+            yield {"kind": "ended", "role": "receiver", "class": 1, "condition": 10, "count": 2}
+            yield {"kind": "delivered", "role": "sender", "files": 5, "octets": 700}
+            yield {"kind": "delivered", "role": "receiver", "files": 0, "octets": 0}
+            yield {"kind": "store", "source": 7, "seq": 3, "at": moment(self.begun), "microseconds": 1500}
         if self.options.recorded:
             yield {"kind": "recorder", **dict(zip(("kept", "missed", "failed"), self.options.recorded))}
 
@@ -403,6 +412,7 @@ def main():
     parser.add_argument("--recorded", type=lambda text: [int(word) for word in text.split(",")])
     parser.add_argument("--parked", type=int, default=0)
     parser.add_argument("--note", action="store_true")
+    parser.add_argument("--counters", action="store_true")
     parser.add_argument("--stop", type=float)
     parser.add_argument("--say", type=lambda path: json.load(open(path)))
     options = parser.parse_args()

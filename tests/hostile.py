@@ -14,17 +14,11 @@ import sys
 import threading
 import time
 
-from support import configuration, end_of_file, file_data, free_port, library, metadata, pdu, run_cases, station, until, want
+from support import case, configuration, end_of_file, file_data, free_port, library, metadata, pdu, run_cases, station, until, want
 
 SERVER, PUT = (os.path.abspath(word) for word in sys.argv[1:3])
 # How many events a transaction takes at most.
 MOST_EVENTS = 262_144
-CASES = []
-
-
-def case(body):
-    CASES.append(body)
-    return body
 
 
 def in_class_2(datagram):
@@ -279,4 +273,4 @@ def memory_that_ends():
         os.chdir("..")
 
 
-run_cases("hostile", CASES)
+run_cases("hostile")

@@ -12,7 +12,7 @@ import random
 import subprocess
 import sys
 
-from support import Relay, Station, free_port, linked, run_cases, until, want
+from support import Relay, Station, case, free_port, linked, run_cases, until, want
 
 SERVER, CTL = (os.path.abspath(path) for path in sys.argv[1:3])
 PUT = os.path.abspath(sys.argv[3]) if len(sys.argv) > 3 else None
@@ -70,14 +70,6 @@ def stations(workers=16):
         return Station(SERVER, place + 1, port, 0, 0, options, text=configuration(place, peer), workers=workers)
 
     return linked(Relay(), start)
-
-
-CASES = []
-
-
-def case(body):
-    CASES.append(body)
-    return body
 
 
 def write(name, size):
@@ -186,4 +178,4 @@ def a_put_alone():
     return None
 
 
-run_cases("large configurations", CASES)
+run_cases("large configurations")

@@ -104,8 +104,8 @@ def real_shapes():
     os.makedirs("records")
     ports = [free_port(), free_port()]
     # three sending lanes don't divide eight receiving ones, so there is a note
-    one = Station(SERVER, 1, ports[0], 2, ports[1], ("--hold", "--record", "records", "--log", "log", "--rate", "100000"), lanes=3)
-    two = Station(SERVER, 2, ports[1], 1, ports[0], ("--retry", "30", "--tree"))
+    one = Station(SERVER, 1, ports[0], 2, ports[1], ("--hold", "--record", "records", "--log", "log", "--rate", "100000", "--counters"), lanes=3)
+    two = Station(SERVER, 2, ports[1], 1, ports[0], ("--retry", "30", "--tree", "--counters"))
     try:
         busy_station(one, two, ports[0], shapes)
     finally:
@@ -119,7 +119,7 @@ def simulated_shapes():
     shapes = {}
     pathlib.Path("file").write_bytes(bytes(2_000))
     words = ["simulated", "--reading", "a", "--storing", "2", "--recorded", "3,0,0", "--parked", "1", "--note", "--unreadable", "missing",
-             "--lanes", "1", "--pace", "1000000"]
+             "--lanes", "1", "--pace", "1000000", "--counters"]
     with subprocess.Popen([sys.executable, FAKE, *words]) as running:
         try:
             until(lambda: os.path.exists("simulated"), "the simulated station")

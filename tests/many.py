@@ -12,7 +12,7 @@ import random
 import re
 import sys
 
-from support import Relay, Station, end_of_file, file_data, linked, metadata, run_cases, station, until, want
+from support import Relay, Station, case, end_of_file, file_data, linked, metadata, run_cases, station, until, want
 
 SERVER, CTL = (os.path.abspath(path) for path in sys.argv[1:3])
 EXAMPLES = pathlib.Path(__file__).resolve().parent.parent / "examples"
@@ -140,14 +140,6 @@ def whole(receiver, *senders):
         want(sender.events("unsent"), [])
         sender.numbers_are_in_order()
     client.close()
-
-
-CASES = []
-
-
-def case(body):
-    CASES.append(body)
-    return body
 
 
 def one_way(lanes, users, recv_lanes, service, sizes, peers_lanes=None, workers=1, **around):
@@ -345,4 +337,4 @@ def lanes_of_nobody():
             want(one.run.stderr.read(), b"cfdp_server: usage\n")
 
 
-run_cases("many files", CASES)
+run_cases("many files")

@@ -15,16 +15,10 @@ import sys
 import threading
 import time
 
-from support import Station, Wrong, configuration, free_port, in_own_mounts, mounted, run_cases, unmount, until, want
+from support import Station, Wrong, case, configuration, free_port, in_own_mounts, mounted, run_cases, unmount, until, want
 
 SERVER = os.path.abspath(sys.argv[1])
 KILLS = 50
-CASES = []
-
-
-def case(body):
-    CASES.append(body)
-    return body
 
 
 class Peer:
@@ -454,4 +448,4 @@ def as_many_as_wait_come_back():
 
 
 in_own_mounts()
-run_cases("outbox", CASES)
+run_cases("outbox")

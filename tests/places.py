@@ -135,6 +135,16 @@ def sockets():
         other.listen()
         want(started(usual("good", "--explain", "--control", "live")), ["cfdp_server: bind fault", "live: another program listens there"])
         want(started(usual("good", "--control", "live")), ["cfdp_server: bind fault"])
+        status = ("--control", "c", "--status-socket", "live")
+        want(started(usual("good", "--explain", *status)), ["cfdp_server: bind fault", "live: another program listens there"])
+        want(started(usual("good", *status)), ["cfdp_server: bind fault"])
+        want(started(usual("good", "--explain", "--control", "live", "--status-socket", "c")),
+             ["cfdp_server: bind fault", "live: another program listens there"])
+    want(started(usual("good", "--explain", "--control", "c", "--status-socket", "gone/c")), ["cfdp_server: bind fault", "gone: is not there"])
+    want(os.path.exists("c"), False)
+    for words, why in (((), "--status-socket stands beside --control"), (("--control", "c"), "--status-socket takes another path than --control")):
+        complaint = started(usual("good", "--explain", "--status-socket", "c", *words))
+        want(complaint, ["cfdp_server: usage", why, "`cfdp_server --help` lists the options"])
     if os.path.exists("live.lock"):
         raise Wrong("a file is left")
 

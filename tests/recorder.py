@@ -12,52 +12,29 @@ import json
 import os
 import pathlib
 import random
-import select
-import socket
 import subprocess
 import sys
-import threading
 import time
 
-from support import Station, Wrong, configuration, free_port, linked, run_cases, station, until, want
+from support import Link, Station, Wrong, case, configuration, free_port, linked, run_cases, station, until, want
 
 SERVER, REPLAY, CTL = (os.path.abspath(path) for path in sys.argv[1:4])
 USERS = ("alice", "bob")
 
 
-class Wire:
+class Wire(Link):
     """The link between two stations: it loses or changes datagrams by a rule, and keeps what each station sent."""
 
     def __init__(self, rule=None):
-        self.sockets = [socket.socket(socket.AF_INET, socket.SOCK_DGRAM) for _ in range(2)]
-        for one in self.sockets:
-            one.setsockopt(socket.SOL_SOCKET, socket.SO_RCVBUF, 8_000_000)
-            one.bind(("127.0.0.1", 0))
-        self.ports = [one.getsockname()[1] for one in self.sockets]
+        super().__init__(room=8_000_000)
         self.rule = rule or (lambda way, octets: octets)
         self.sent = [[], []]
-        self.is_over = False
-        self.thread = threading.Thread(target=self.work, daemon=True)
 
-    def join(self, first, second):
-        self.targets = [("127.0.0.1", second), ("127.0.0.1", first)]
-        self.thread.start()
-
-    def work(self):
-        while not self.is_over:
-            for one in select.select(self.sockets, [], [], 0.1)[0]:
-                way = self.sockets.index(one)
-                octets = one.recv(65_536)
-                self.sent[way].append(octets)
-                passed = self.rule(way, octets)
-                if passed is not None:
-                    self.sockets[1 - way].sendto(passed, self.targets[way])
-
-    def close(self):
-        self.is_over = True
-        self.thread.join()
-        for one in self.sockets:
-            one.close()
+    def take(self, way, octets):
+        self.sent[way].append(octets)
+        passed = self.rule(way, octets)
+        if passed is not None:
+            self.give(way, passed)
 
 
 def key_of(datagram):
@@ -188,14 +165,6 @@ def put(one, words, size, name="a", seed=7):
     client = one.client()
     want(client.ask(f"send {words}")[0].split()[0], "queued")
     client.close()
-
-
-CASES = []
-
-
-def case(body):
-    CASES.append(body)
-    return body
 
 
 @case
@@ -451,4 +420,4 @@ def numbers_that_are_used_up():
     want(len(os.listdir(home)), 2)
 
 
-run_cases("recorder", CASES)
+run_cases("recorder")

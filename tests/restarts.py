@@ -12,7 +12,7 @@ import socket
 import sys
 import time
 
-from support import Station, Wrong, end_of_file, file_data, free_port, metadata, run_cases, until, want
+from support import Station, Wrong, case, end_of_file, file_data, free_port, metadata, run_cases, until, want
 
 SERVER = os.path.abspath(sys.argv[1])
 FILE = b"abcdef"
@@ -72,14 +72,6 @@ class Ends:
 
     def held(self):
         return [line["held"] for line in self.client.status() if line["kind"] == "remote"]
-
-
-CASES = []
-
-
-def case(body):
-    CASES.append(body)
-    return body
 
 
 @contextlib.contextmanager
@@ -192,4 +184,4 @@ def files_that_waited():
         want((ok, int(txn.split()[2]) > 1), ("ok", True))
 
 
-run_cases("restarts", CASES)
+run_cases("restarts")

@@ -17,12 +17,9 @@ import subprocess
 import sys
 import time
 
-from support import Wrong, configuration, free_port, in_own_mounts, mounted, run_cases, unmount, want
+from support import EOF, FILE_DATA, METADATA, Wrong, case, configuration, free_port, in_own_mounts, mounted, run_cases, unmount, want
 
 SERVER = os.path.abspath(sys.argv[1])
-METADATA = bytes.fromhex("24000a0001050207000000000301610162")
-FILE_DATA = bytes.fromhex("3400070001050200000000616263")
-EOF = bytes.fromhex("24000a0001050204006162630000000003")
 FINISHED = "alice 1 5 Transaction-Finished "
 
 
@@ -97,14 +94,6 @@ class Server:
     def quits(self):
         self.say(b"quit\n")
         want(self.ended(), (0, ""))
-
-
-CASES = []
-
-
-def case(body):
-    CASES.append(body)
-    return body
 
 
 @contextlib.contextmanager
@@ -337,4 +326,4 @@ def many_bad_commands():
 
 
 in_own_mounts()
-run_cases("a running server", CASES)
+run_cases("a running server")

@@ -17,15 +17,13 @@ import json
 import os
 import pathlib
 import random
-import select
 import shutil
 import socket
 import sys
 import tempfile
-import threading
 import time
 
-from support import Client, Station, Wrong, configuration, free_port
+from support import Client, Link, Station, Wrong, configuration, free_port
 
 SERVER = os.path.abspath(sys.argv[1])
 SECONDS = float(sys.argv[2]) if len(sys.argv) > 2 else 600.0
@@ -38,36 +36,24 @@ AROUND = dict(os.environ, MALLOC_TRIM_THRESHOLD_="0", MALLOC_TOP_PAD_="0")
 QUIET = 90
 
 
-class Link:
+class BadLink(Link):
     """A link between two stations. Of a hundred datagrams it loses seven, doubles five, and delays five for up to 0.3 seconds."""
 
     def __init__(self, seed):
-        self.sockets = [socket.socket(socket.AF_INET, socket.SOCK_DGRAM) for _ in range(2)]
-        for one in self.sockets:
-            one.setsockopt(socket.SOL_SOCKET, socket.SO_RCVBUF, 4_000_000)
-            one.bind(("127.0.0.1", 0))
-        self.ports = [one.getsockname()[1] for one in self.sockets]
-        self.targets = [None, None]
+        super().__init__()
         self.chance = random.Random(seed)
         self.late = []
         self.old = [b""] * 64
         self.passed = self.lost = self.doubled = self.delayed = 0
-        self.is_perfect = self.is_over = False
-        self.thread = threading.Thread(target=self.work, daemon=True)
+        self.is_perfect = False
 
-    def join(self, first, second):
-        self.targets = [("127.0.0.1", second), ("127.0.0.1", first)]
-        self.thread.start()
+    def patience(self):
+        return 0.05 if not self.late else max(0, min(0.05, self.late[0][0] - time.monotonic()))
 
-    def work(self):
-        while not self.is_over:
-            wait = 0.05 if not self.late else max(0, min(0.05, self.late[0][0] - time.monotonic()))
-            for one in select.select(self.sockets, [], [], wait)[0]:
-                way = self.sockets.index(one)
-                self.take(way, one.recv(65_536))
-            while self.late and self.late[0][0] <= time.monotonic():
-                _, _, way, octets = heapq.heappop(self.late)
-                self.give(way, octets)
+    def turn(self):
+        while self.late and self.late[0][0] <= time.monotonic():
+            _, _, way, octets = heapq.heappop(self.late)
+            self.give(way, octets)
 
     def take(self, way, octets):
         self.passed += 1
@@ -83,15 +69,6 @@ class Link:
             if drawn < 0.17:
                 self.doubled += 1
                 self.give(way, octets)
-
-    def give(self, way, octets):
-        self.sockets[1 - way].sendto(octets, self.targets[way])
-
-    def close(self):
-        self.is_over = True
-        self.thread.join()
-        for one in self.sockets:
-            one.close()
 
 
 def content(name):
@@ -316,7 +293,7 @@ def main():
     home = tempfile.mkdtemp()
     os.chdir(home)
     draws = random.Random(SEED)
-    link = Link(SEED)
+    link = BadLink(SEED)
     ports = [free_port(), free_port()]
     ends = [End(place, ports, link) for place in range(2)]
     link.join(*ports)

@@ -16,7 +16,10 @@ import subprocess
 import sys
 import time
 
-from support import Station, Wrong, configuration, end_of_file, file_data, free_port, library, metadata, pair, run_cases, station, until, want
+from support import (
+    Station, Wrong, case, configuration, end_of_file, file_data, free_port, library, metadata, pair, run_cases, station, until,
+    want,
+)
 
 SERVER, CTL = (os.path.abspath(path) for path in sys.argv[1:3])
 BRIDGE = pathlib.Path(__file__).resolve().parent.parent / "examples" / "packet_bridge.py"
@@ -25,14 +28,6 @@ BRIDGE = pathlib.Path(__file__).resolve().parent.parent / "examples" / "packet_b
 def stations(loss=0.0, first=(), second=(), **named):
     """Two stations, 1 and 2, over a link."""
     return pair(SERVER, (first, second), loss, **named)
-
-
-CASES = []
-
-
-def case(body):
-    CASES.append(body)
-    return body
 
 
 def write(name, octets):
@@ -499,4 +494,4 @@ def a_bridge_for_packets():
         want((counters["datagrams_in"], counters["refused"]), (3, 0))
 
 
-run_cases("stations", CASES)
+run_cases("stations")

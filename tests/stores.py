@@ -13,7 +13,10 @@ import sys
 import time
 from unittest import mock
 
-from support import configuration, end_of_file, file_data, in_own_mounts, library, metadata, mounted, run_cases, station, unmount, until, want
+from support import (
+    case, configuration, end_of_file, file_data, in_own_mounts, library, metadata, mounted, run_cases, station, unmount, until,
+    want,
+)
 
 SERVER = os.path.abspath(sys.argv[1])
 BAD = [b"..", b".", b"../x", b"a/../x", b"a/..", b"./a", b"a/.", b"a/./b", b"a//b", b"a/", b"/", b"//", b"a\0b", b"a/\0", b"\xff",
@@ -47,14 +50,6 @@ class Receiver:
 
     def receives(self, name, octets=b"abc", source=2):
         return self.stored(self.send(name, octets, source))
-
-
-CASES = []
-
-
-def case(body):
-    CASES.append(body)
-    return body
 
 
 def everything(folder):
@@ -348,4 +343,4 @@ def parked_datagrams_give_way_where_memory_runs_out():
 
 
 in_own_mounts()
-run_cases("stores", CASES)
+run_cases("stores")

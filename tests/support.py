@@ -20,6 +20,12 @@ class Wrong(Exception):
     """A server did something that it should not."""
 
 
+# The PDUs of a file of three octets, in class 1 from entity 1 to entity 2, the transaction with the number 5.
+METADATA = bytes.fromhex("24000a0001050207000000000301610162")
+FILE_DATA = bytes.fromhex("3400070001050200000000616263")
+EOF = bytes.fromhex("24000a0001050204006162630000000003")
+
+
 def want(found, wanted):
     if found != wanted:
         raise Wrong(f"{found!r} in place of {wanted!r}")
@@ -272,21 +278,16 @@ def part_of(octets):
     return octets[4 : 4 + ids + numbers], octets[head : head + (8 if octets[0] & 1 else 4)]
 
 
-class Relay:
-    """A link between two stations that loses datagrams at random, and counts them."""
+class Link:
+    """A link between two stations, which hands on what arrives. Those that lose, change or count it have a `take` of their own."""
 
-    def __init__(self, loss=0.0, seed=1):
+    def __init__(self, room=4_000_000):
         self.sockets = [socket.socket(socket.AF_INET, socket.SOCK_DGRAM) for _ in range(2)]
         for one in self.sockets:
-            one.setsockopt(socket.SOL_SOCKET, socket.SO_RCVBUF, 4_000_000)
+            one.setsockopt(socket.SOL_SOCKET, socket.SO_RCVBUF, room)
             one.bind(("127.0.0.1", 0))
         self.ports = [one.getsockname()[1] for one in self.sockets]
         self.targets = [None, None]
-        self.passed = [[], []]
-        self.parts = set()
-        self.twice = 0
-        self.loss = loss
-        self.chance = random.Random(seed)
         self.is_over = False
         self.thread = threading.Thread(target=self.work, daemon=True)
 
@@ -297,20 +298,22 @@ class Relay:
 
     def work(self):
         while not self.is_over:
-            for one in select.select(self.sockets, [], [], 0.1)[0]:
-                way = self.sockets.index(one)
-                octets = one.recv(65_536)
-                self.passed[way].append(time.monotonic())
-                self.count(octets)
-                if self.chance.random() >= self.loss:
-                    self.sockets[1 - way].sendto(octets, self.targets[way])
+            for one in select.select(self.sockets, [], [], self.patience())[0]:
+                self.take(self.sockets.index(one), one.recv(65_536))
+            self.turn()
 
-    def count(self, octets):
-        """Counts a part of a file that left already before."""
-        part = part_of(octets)
-        if part is not None:
-            self.twice += part in self.parts
-            self.parts.add(part)
+    def patience(self):
+        """For how many seconds a turn waits for datagrams."""
+        return 0.1
+
+    def turn(self):
+        """What is done in each turn besides."""
+
+    def take(self, way, octets):
+        self.give(way, octets)
+
+    def give(self, way, octets):
+        self.sockets[1 - way].sendto(octets, self.targets[way])
 
     def close(self):
         self.is_over = True
@@ -318,6 +321,31 @@ class Relay:
             self.thread.join()
         for one in self.sockets:
             one.close()
+
+
+class Relay(Link):
+    """A link between two stations that loses datagrams at random, and counts them."""
+
+    def __init__(self, loss=0.0, seed=1):
+        super().__init__()
+        self.passed = [[], []]
+        self.parts = set()
+        self.twice = 0
+        self.loss = loss
+        self.chance = random.Random(seed)
+
+    def take(self, way, octets):
+        self.passed[way].append(time.monotonic())
+        self.count(octets)
+        if self.chance.random() >= self.loss:
+            self.give(way, octets)
+
+    def count(self, octets):
+        """Counts a part of a file that left already before."""
+        part = part_of(octets)
+        if part is not None:
+            self.twice += part in self.parts
+            self.parts.add(part)
 
 
 def pair(server, options, loss=0.0, **named):
@@ -374,7 +402,16 @@ def end_of_file(seq, octets, source=2):
     return pdu("directive", seq, bytes([4, 0]) + (total % 2**32).to_bytes(4, "big") + len(octets).to_bytes(4, "big"), source)
 
 
-def run_cases(subject, cases):
+CASES = []
+
+
+def case(body):
+    """A case of the script, for `run_cases`."""
+    CASES.append(body)
+    return body
+
+
+def run_cases(subject, cases=CASES):
     """Runs each case in its own folder; ends with status 1 if one fails. One that can't run here, and says why, fails unless the variable
     ALLOWED_SKIPS has its name."""
     failed = 0

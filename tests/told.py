@@ -11,15 +11,9 @@ import pathlib
 import subprocess
 import sys
 
-from support import configuration, run_cases, station, until, want
+from support import case, configuration, run_cases, station, until, want
 
 SERVER = os.path.abspath(sys.argv[1])
-CASES = []
-
-
-def case(body):
-    CASES.append(body)
-    return body
 
 
 def commands(events):
@@ -104,4 +98,51 @@ def nothing_without_the_option():
         want(commands(logged()), [])
 
 
-run_cases("told", CASES)
+# Paths that can't be read, and why; the last one is no text.
+UNREAD = [("gone", "is not there"), ("folder", "is a folder"), ("pipe", "no plain file"), ("a/b", "a part of the path is no folder"),
+          ("circle", "its links lead in a circle"), ("a\\x00", "no such path can be: it is too long, or has a zero octet"),
+          ("\\xff", "the path is not UTF-8")]
+
+
+def paths():
+    pathlib.Path("a").write_bytes(b"abc")
+    os.mkdir("folder")
+    os.mkfifo("pipe")
+    os.symlink("circle", "circle")
+    if os.geteuid() == 0:
+        return UNREAD
+    pathlib.Path("secret").write_bytes(b"abc")
+    os.chmod("secret", 0)
+    return [*UNREAD, ("secret", "permission denied")]
+
+
+def ask_for(client, path):
+    """A file that can't be read, from a lane and by the outbox."""
+    want((path, client.ask(f'put alice 0 1 2 "{path}" b')), (path, ["read fault"]))
+    want((path, client.ask(f'send alice 1 2 "{path}" b')[0][:7]), (path, "queued "))
+
+
+@case
+def why_a_file_cannot_be_read():
+    """With --explain the events of its command and of the outbox say it, and the answer is as ever; without, no event does."""
+    unread = paths()
+    for options, reasons in ((("--explain",), [why for _, why in unread]), ((), [None] * len(unread))):
+        with station(SERVER, options=("--log-commands", *options)) as (one, _):
+            client = one.client()
+            want(client.ask("follow"), ["ok"])
+            for path, _ in unread:
+                ask_for(client, path)
+            want(client.ask("send alice 1 2 gone b urgent"), ["read fault"])
+            want(client.ask("send alice 1 9 gone b urgent"), ["refused 25 UnknownRemote"])
+            want(client.ask("hold 2"), ["ok"])
+            client.wait_event(lambda event: event.get("words") == "hold 2", "the last command")
+            until_unsent = lambda event: event["kind"] == "unsent" and event["queued"] == len(unread)
+            client.wait_event(until_unsent, "the last file")
+            told = commands(client.events)
+            want([event.get("reason") for event in told if event["words"][:4] == "put "], reasons)
+            want([event.get("reason") for event in client.events if event["kind"] == "unsent"], reasons)
+            want({event["why"] for event in client.events if event["kind"] == "unsent"}, {"read fault"})
+            want([event.get("reason") for event in told[-3:]], [reasons[0], None, None])
+
+
+run_cases("told")

@@ -131,7 +131,7 @@ what lies behind a lane's lock, and a step of it: shared_lanes/Held
 what `Entity` may answer; what it is opened with: shared_entity/Answering Opening
 workers: faults, which answers a carrier accepts; deposits: entity_workers/Faults Carrying Depositing
 words of a line, and operands that scripts and commands share: line_words/Words Operands Places
-words of a line with quotes: quoted_words/Quoted
+words of a line with quotes: line_words/Quoted
 printed lines: indications; answers and refusals: answer_texts/ToldTexts AnswerTexts
 what a line of a script says: script_lines/Commands
 the lines of a journal's events, how they are read back, and the script of a whole journal: journal_scripts/Rows Laws journal_recording/Recording
@@ -139,6 +139,7 @@ the first lines of a recording, its text, its pieces and the names of files; whe
 what a PDU says in words: pdu_words/Words
 a reader's lines, what a writer gains, how the end of a run is reported: script_io/Lines Output Ending
 what a line does to a script's session, what it prints, and a whole script: script_replay/Sessions Texts Run
+how many transactions ended and how, and which files came whole: ended_counts/Counts Files Whole
 how much each event matters, and which of the last ones are kept and shown: event_levels/Levels Events kept_events/Rings
 what a line of a server's commands asks for, and what of it is left at the desk: server_lines/Commands program_desk/Says
 options and words of the programs; numbers on a command line: program_words/Lines Numbers
@@ -148,7 +149,7 @@ datagrams that wait for their lane, their room, and the laws of both: program_pa
 which number begins next toward an entity, and its law; with how many lanes files don't wait: program_lineup/Lineups Counts lineup_laws/LineupLaws
 where a PDU goes, how far its data reaches; when a step's timers expire: program_udp/Peers Reaches program_desk/Steps
 what a program prints for a fault: program_start/Faults
-what the server prints of an answer; exit status and progress of a put: cfdp_serve/Answers cfdp_send/Ended Progress
+what the server prints of an answer, and of a configuration that makes little sense; exit status and progress of a put: server_answers/Answers Remarks cfdp_send/Ended Progress
 the texts of configurations that tests read: test_configs/Texts
 """
 

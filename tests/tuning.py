@@ -16,15 +16,9 @@ import subprocess
 import sys
 import time
 
-from support import configuration, free_port, pair, run_cases, station, until, want
+from support import case, configuration, free_port, pair, run_cases, station, until, want
 
 SERVER = os.path.abspath(sys.argv[1])
-CASES = []
-
-
-def case(body):
-    CASES.append(body)
-    return body
 
 
 def stations(first=(), second=(), **named):
@@ -341,4 +335,4 @@ def a_socket_of_a_group():
         want((word, done.returncode, done.stderr.splitlines()[0]), (word, 1, "cfdp_server: usage"))
 
 
-run_cases("tuning", CASES)
+run_cases("tuning")

@@ -14,7 +14,7 @@ import shutil
 import subprocess
 import sys
 
-from support import Client, Wrong, run_cases, until, want
+from support import Client, Wrong, case, run_cases, until, want
 
 SERVER, CTL = (os.path.abspath(path) for path in sys.argv[1:3])
 EXAMPLES = pathlib.Path(__file__).resolve().parent.parent / "examples"
@@ -36,14 +36,6 @@ def placed(words):
     """A command of the unit, with its files below this folder, its programs where they are, and an address of loopback."""
     places = {"/usr/local/bin/cfdp_server": SERVER, "/usr/local/bin/cfdp_ctl": CTL, "192.0.2.7:4556": "127.0.0.1:0"}
     return [places.get(word, os.getcwd() + word if word.startswith("/") else word) for word in shlex.split(words)]
-
-
-CASES = []
-
-
-def case(body):
-    CASES.append(body)
-    return body
 
 
 @case
@@ -110,4 +102,4 @@ def units_that_systemd_takes():
     return None
 
 
-run_cases("units", CASES)
+run_cases("units")

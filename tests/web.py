@@ -137,6 +137,7 @@ def routes(port):
               "# TYPE cfdp_recordings_kept_total counter\ncfdp_recordings_kept_total 7\n", "\ncfdp_recordings_missed_total 2\n",
               "\ncfdp_recordings_failed_total 1\n")))
     heads = re.findall(r"^# TYPE (\S+)", text, re.M)
+    check("/metrics, /status.json: nothing is counted", heads[-1] == "cfdp_hindered_files" and "delivered" not in document)
     check("/metrics: each family once, with help", len(heads) == len(set(heads)) and all(f"# HELP {head} " in text for head in heads))
     check("/healthz: 200", ask(port, "/healthz")[0] == 200)
     found = wait_for(lambda: b"data: " in ask(port, "/events")[2])
@@ -398,6 +399,26 @@ def thousand():
     stop(console)
 
 
+def counted():
+    """A station that counts: its numbers come last, with their labels."""
+    station = start_station("--transactions", "1", "--pace", "0", "--counters")
+    console, port = start_console()
+    check("a station that counts", wait_for(lambda: ask(port, "/healthz")[0] == 200))
+    document, text = json.loads(ask(port, "/status.json")[2]), ask(port, "/metrics")[2].decode()
+    check("/status.json: what is counted", [len(document[name]) for name in ("ended", "delivered", "stores")] == [2, 2, 1]
+          and document["transactions"][0]["missing"] == 100_000 and document["remotes"][1]["silence"] == 90_000)
+    check("/metrics: what is counted", all(line in text for line in (
+        '# TYPE cfdp_ended_transactions_total counter\ncfdp_ended_transactions_total{role="sender",class="2",condition="0"} 5\n',
+        '\ncfdp_ended_transactions_total{role="receiver",class="1",condition="10"} 2\n',
+        '\ncfdp_delivered_files_total{role="sender"} 5\n', '\ncfdp_delivered_bytes_total{role="sender"} 700\n',
+        '# TYPE cfdp_missing_bytes gauge\ncfdp_missing_bytes{user="ops",lane="0"} 100000\n#',
+        '# TYPE cfdp_remote_silence_milliseconds gauge\ncfdp_remote_silence_milliseconds{remote="7"} 90000\n#')))
+    check("/metrics: they come last", text.endswith("\ncfdp_last_store_microseconds 1500\n"))
+    stop(console)
+    stop(station)
+    os.unlink(control)
+
+
 def usage():
     for words, status, text in (((), 2, b"usage"), (("--control", control, "--token-file", "x"), 2, b"usage"),
                                 (("--help",), 0, b"Usage: cfdp_web"), (("--version",), 0, b"cfdp_web 0.1\n"),
@@ -409,6 +430,7 @@ def usage():
 
 def main():
     usage()
+    counted()
     console, port = start_console()
     check("no station: 503", ask(port, "/status.json")[0] == 503 and ask(port, "/healthz")[0] == 503)
     check("no station: /metrics says so", ask(port, "/metrics")[2].endswith(b"\ncfdp_up 0\n"))

@@ -1,8 +1,7 @@
 //! The entity of a run, with queues under the run's name.
 ghost use Rattle.shared_entity.specs.Opening.{AreQueuesFor};
 
-use crate::outputs::Outputs;
-use crate::threads::{Wanted, put_over};
+use crate::threads::{Run, put_over};
 use entity_config::Config;
 use program_start::ProgramFault;
 use shared_entity::{Entity, queues_of};
@@ -27,11 +26,10 @@ pub(crate) fn put_named<
     alloc: Global,
     config: Config,
     socket: &UdpSocket,
-    wanted: Wanted<R>,
-    outputs: Outputs<W, P>,
+    run: Run<R, W, P>,
 ) -> Result<u8, ProgramFault> {
     let queues = queues_of(*rt, alloc, &config)?;
-    put_opened::<Brand, R, W, P>(rt, alloc, config, queues, socket, wanted, outputs)
+    put_opened::<Brand, R, W, P>(rt, alloc, config, queues, socket, run)
 }
 
 fn put_opened<
@@ -45,11 +43,10 @@ fn put_opened<
     config: Config,
     queues: Queues<R>,
     socket: &UdpSocket,
-    wanted: Wanted<R>,
-    outputs: Outputs<W, P>,
+    run: Run<R, W, P>,
 ) -> Result<u8, ProgramFault>
     requires { AreQueuesFor N.queue N.lanes config queues }
 {
     let (entity, ports) = Entity::<N, R>::open(alloc, config, queues)?;
-    put_over(rt, alloc, &entity, ports, socket, wanted, outputs)
+    put_over(rt, alloc, &entity, ports, socket, run)
 }

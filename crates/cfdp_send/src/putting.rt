@@ -1,7 +1,7 @@
 //! Starts the program.
 use crate::named::put_named;
 use crate::outputs::Outputs;
-use crate::threads::Wanted;
+use crate::threads::{Run, Wanted};
 use cfdp_types::{PutFault, PutRequest};
 use entity_config::{Config, Setting};
 use program_numbers::{HeldNumbers, Puts};
@@ -209,7 +209,7 @@ fn start<
             if let Some(path) = words.numbers {
                 wanted.numbers = Some(HeldNumbers::open(rt, alloc, path, Puts::One, &mut config)?);
             }
-            put_named(rt, alloc, config, &socket, wanted, outputs)
+            put_named(rt, alloc, config, &socket, Run { wanted, outputs })
         }
         Err(fault) => tell_about(&mut outputs, fault),
     }

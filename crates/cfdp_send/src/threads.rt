@@ -8,7 +8,7 @@ use entity_routing::Request;
 use program_desk::{Desk, Step, Urgency, moment};
 use program_numbers::HeldNumbers;
 use program_start::ProgramFault;
-use program_station::{MainThread, REST_MS, Sources, Station, WayIn, run_beside};
+use program_station::{Common, MainThread, REST_MS, Sources, Station, WayIn, run_beside};
 use program_storing::{Depot, Storer, StorerTurn};
 use program_tallies::Tallies;
 use program_udp::PduSender;
@@ -41,15 +41,11 @@ pub(crate) struct Wanted<R: Files + AllocGlobal + Drop> {
     pub(crate) numbers: Option<HeldNumbers<R>>,
 }
 
-// What the threads share.
+/// What a run puts, and where it prints.
 #[derive(Drop)]
-struct Shared<'x, N: Names, R: Copy> {
-    rt: &'x R,
-    alloc: Global,
-    entity: &'x Entity<N, R>,
-    socket: &'x UdpSocket,
-    desk: &'x Desk,
-    depot: &'x Depot,
+pub(crate) struct Run<R: Files + AllocGlobal + Drop, W: Drop, P: Drop> {
+    pub(crate) wanted: Wanted<R>,
+    pub(crate) outputs: Outputs<W, P>,
 }
 
 // The state of the main thread.
@@ -85,21 +81,20 @@ pub(crate) fn put_over<
     entity: &Entity<N, R>,
     ports: Vec<UserPort>,
     socket: &UdpSocket,
-    wanted: Wanted<R>,
-    outputs: Outputs<W, P>,
+    run: Run<R, W, P>,
 ) -> Result<u8, ProgramFault> {
     let desk = Desk::new(alloc, STEPS, 1)?;
     let tallies = Tallies::new(alloc, 1, entity.config().remotes())?;
     let depot = Depot::new(alloc, entity.config())?;
-    let shared = Shared {
+    let common = Common {
         rt,
         alloc,
         entity,
         socket,
         desk: &desk,
-        depot: &depot,
     };
-    put_at(shared, ports, &tallies, wanted, outputs)
+    let kept = (&depot, &tallies);
+    put_at(&common, ports, kept, run)
 }
 
 // Puts a file with a desk whose memory is reserved; that of the threads is, too, before the first one starts. The
@@ -112,54 +107,33 @@ fn put_at<
     W: Write + Drop,
     P: Write + Drop,
 >(
-    shared: Shared<'x, N, R>,
+    common: &Common<'x, N, R>,
     ports: Vec<UserPort>,
-    tallies: &'x Tallies,
-    wanted: Wanted<R>,
-    outputs: Outputs<W, P>,
+    kept: (&'x Depot, &'x Tallies),
+    run: Run<R, W, P>,
 ) -> Result<u8, ProgramFault> {
-    let Shared {
-        rt,
-        alloc,
-        entity,
-        socket,
-        desk,
-        ..
-    } = shared;
-    let sources = wanted.sources;
-    let putter = putter_over(&shared, ports, tallies, wanted, outputs)?;
-    let config = entity.config();
-    let way_in = WayIn::new(
-        rt,
-        alloc,
-        tallies,
-        config,
-        socket,
-        desk,
-        Urgency::Soon,
-        sources,
-        None,
-    )?;
-    run_beside(rt, alloc, entity, socket, desk, way_in, putter)
+    let sources = run.wanted.sources;
+    let putter = putter_over(common, ports, kept, run)?;
+    let way_in = WayIn::new(common, kept.1, Urgency::Soon, sources, None)?;
+    run_beside(common, way_in, putter)
 }
 
 fn putter_over<'x, N: Names, R: Wait + Clock + Files + AllocGlobal + Copy + Drop, W: Drop, P: Drop>(
-    shared: &Shared<'x, N, R>,
+    common: &Common<'x, N, R>,
     ports: Vec<UserPort>,
-    tallies: &'x Tallies,
-    wanted: Wanted<R>,
-    outputs: Outputs<W, P>,
+    (depot, tallies): (&'x Depot, &'x Tallies),
+    run: Run<R, W, P>,
 ) -> Result<Putter<'x, N, R, W, P>, AllocError> {
-    let Shared {
+    let Common {
         rt,
         alloc,
         entity,
         socket,
         desk,
-        depot,
-    } = *shared;
+    } = *common;
     let sender = PduSender::new(alloc, socket, entity.config(), &tallies.own, &tallies.links)?;
     let steps = Vec::with_capacity(alloc, desk.step_room())?;
+    let Run { wanted, outputs } = run;
     let Wanted {
         user,
         put,
@@ -174,7 +148,7 @@ fn putter_over<'x, N: Names, R: Wait + Clock + Files + AllocGlobal + Copy + Drop
         alloc,
         desk,
         steps,
-        station: Station::new(rt, alloc, entity, sender, depot, tallies, octets_a_second)?,
+        station: Station::new(common, sender, depot, tallies, octets_a_second)?,
         storer: Storer::new(rt, alloc, entity, desk, depot, store),
         numbers,
         ports,

@@ -8,13 +8,11 @@ use program_numbers::{HeldNumbers, Puts};
 use program_outbox::Outgoing;
 use program_start::ProgramFault;
 use program_words::ServerWords;
+use server_commands::OutboxFolder;
 use std::alloc::Global;
 use std::net::Net;
 use std::rt::Files;
 use std::time::Clock;
-
-/// The file of an outbox, in its folder.
-pub(crate) type OutboxFolder<R> = HeldOutbox<SystemDisk<R>>;
 
 /// The numbers of a server and its outbox, with the file of each where there is one.
 #[derive(Drop)]

@@ -2,31 +2,14 @@
 //! commands say.
 #![tactic(auto)]
 
-mod answers;
-mod audience;
-mod commands;
 mod console;
-mod explaining;
-mod files;
-mod following;
-mod full;
-mod given;
 mod kept;
-mod lane_notes;
-mod links;
 mod named;
-mod outbox;
-mod outbox_notes;
-mod readiness;
-mod recording;
-mod remarks;
-mod reports;
 mod serving;
-mod showing;
-mod skipping;
+mod setting;
 mod threads;
-mod turns;
+mod watched;
 mod working;
 
-pub use files::{FolderStoring, ServerFiles};
+pub use server_recording::{FolderStoring, ServerFiles};
 pub use serving::{serve, tell_words_fault};

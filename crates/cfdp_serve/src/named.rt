@@ -1,10 +1,10 @@
 //! The entity of a run, over queues that bear the run's name.
 ghost use Rattle.shared_entity.specs.Opening.{AreQueuesFor};
 
-use crate::files::ServerFiles;
 use crate::threads::{Given, Sockets, Starting, serve_over};
 use entity_config::Config;
 use program_start::{FileReader, ProgramFault};
+use server_recording::ServerFiles;
 use shared_entity::{Entity, queues_of};
 use shared_lanes::Names;
 use std::io::{Read, Write};

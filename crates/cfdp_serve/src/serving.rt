@@ -1,11 +1,8 @@
 //! How the server starts.
-use crate::explaining::{push_cause, push_path_notes};
-use crate::files::ServerFiles;
 use crate::kept::{Kept, OutboxHold};
-use crate::lane_notes::{hints_of, push_hints};
 use crate::named::serve_named;
-use crate::remarks::push_remarks;
 use crate::threads::{Given, Sockets, Starting};
+use crate::watched::{open_watched, push_socket_cause};
 use entity_config::Config;
 use program_control::ControlSocket;
 use program_seats::Seats;
@@ -19,6 +16,9 @@ use program_words::{
     ServerWords, WordsFault, asks_for_check, asks_to_explain, check_words, push_check_complaint,
     push_server_complaint, server_help, server_version, server_words,
 };
+use server_answers::{push_cause, push_path_notes, push_remarks};
+use server_lanes::{hints_of, push_hints};
+use server_recording::ServerFiles;
 use std::alloc::{AllocError, Global};
 use std::io::{Read, Write};
 use std::net::{Net, UdpSocket};
@@ -130,7 +130,12 @@ fn push_meaning<R: Net + Files>(
         return push_why(rt, alloc, text, line, (started_with(path), fault));
     }
     match server_words(alloc, line) {
-        Ok(words) => push_why(rt, alloc, text, line, (started_by(&words), fault)),
+        Ok(words) => match words.status_socket {
+            Some(path) if *fault == ProgramFault::Bind => {
+                push_socket_cause(rt, alloc, text, &started_by(&words), path)
+            }
+            _ => push_why(rt, alloc, text, line, (started_by(&words), fault)),
+        },
         Err(_) => Ok(()),
     }
 }
@@ -341,12 +346,21 @@ fn serve_at<
     let Ok(socket) = ControlSocket::open_for(starting.rt, starting.alloc, path, mode) else {
         return Err(ProgramFault::Bind);
     };
+    let watched = match open_watched(starting) {
+        Ok(watched) => watched,
+        Err(fault) => {
+            socket.leave(starting.rt, path);
+            return Err(fault);
+        }
+    };
     let sockets = Sockets {
         datagrams,
         control: Some(Control {
             socket: &socket,
             path,
             seats: &seats,
+            watched: &watched,
+            watched_path: starting.words.status_socket.unwrap_or(""),
         }),
     };
     serve_named(starting, config, sockets, given)

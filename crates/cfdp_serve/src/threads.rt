@@ -1,27 +1,23 @@
 //! The threads of the server: one reads commands, beside those of each program.
-use crate::audience::Audience;
-use crate::commands::Server;
 use crate::console::Console;
-use crate::files::{FolderStoring, ServerFiles};
-use crate::full::Begun;
 use crate::kept::Kept;
-use crate::readiness::Readiness;
-use crate::recording::{Book, Recorder, Watched};
-use crate::reports::Reports;
+use crate::setting::{events_of, rest_of, set_links};
 use crate::working::Serving;
-use entity_config::Config;
-use program_desk::{Desk, Urgency, moment, wall_moment};
+use program_desk::{Desk, Urgency, wall_moment};
 use program_lot::Lot;
 use program_outbox::Windows;
 use program_seats::{PLACES, Seats};
 use program_start::{FileReader, ProgramFault};
-use program_station::{Control, Sources, Station, WayIn, run_commanded, run_controlled};
-use program_status::{EventLog, Events};
+use program_station::{Common, Control, Sources, Station, WayIn, run_commanded, run_controlled};
 use program_storing::Depot;
 use program_tallies::Tallies;
 use program_udp::PduSender;
 use program_words::ServerWords;
 use script_io::in_blocks;
+use server_commands::{Server, counts_of};
+use server_lanes::{Begun, Readiness};
+use server_recording::{Book, FolderStoring, Recorder, ServerFiles, Watched};
+use server_reports::{Audience, Reports};
 use shared_entity::Entity;
 use shared_lanes::Names;
 use station_lines::Moment;
@@ -38,7 +34,7 @@ use user_queues::UserPort;
 // How many steps may wait for the main thread, and how many lines.
 const STEPS: usize = 1_024;
 
-const LINES: usize = 17;
+const LINES: usize = PLACES;
 
 /// What a server starts from: its runtime, who reads files that are to be sent, and the words of its command line.
 #[derive(Drop)]
@@ -200,7 +196,8 @@ fn serve_commanded<
 
 // Whether the server itself takes from its users' queues as bundles come.
 fn takes_bundles(words: &ServerWords<'_>) -> bool {
-    words.follow || words.control.is_some() || words.log.is_some() || words.record.is_some()
+    let is_reported = words.control.is_some() || words.log.is_some() || words.record.is_some();
+    is_reported || words.follow || words.counters
 }
 
 // What is opened of a server before its threads start.
@@ -258,25 +255,15 @@ fn serve_lines<
     reader: BufReader<I>,
     writer: W,
 ) -> Result<u8, ProgramFault> {
-    let Opened {
-        rt,
-        alloc,
-        files,
-        entity,
-        socket,
-        desk,
-        ..
-    } = *opened;
     let way_in = way_in_of(opened)?;
     match server_over(opened, ports, kept, None) {
         Ok(server) => {
-            let serving = Serving {
+            let main_thread = Serving {
                 server,
                 console: Console::Printed(writer),
             };
-            run_commanded(
-                rt, alloc, files, entity, socket, desk, way_in, reader, serving,
-            )
+            let common = common_of(opened);
+            run_commanded(&common, way_in, opened.files, reader, main_thread)
         }
         Err(fault) => Err(fault),
     }
@@ -295,27 +282,28 @@ fn serve_clients<
     kept: Kept<R>,
     control: Control<'x>,
 ) -> Result<u8, ProgramFault> {
-    let Opened {
-        rt,
-        alloc,
-        files,
-        entity,
-        socket,
-        desk,
-        ..
-    } = *opened;
     let way_in = way_in_of(opened)?;
     match server_over(opened, ports, kept, Some(control.seats)) {
         Ok(server) => {
-            let serving = Serving {
+            let main_thread = Serving {
                 server,
                 console: Console::<W>::Seated(control.seats),
             };
-            run_controlled(
-                rt, alloc, files, entity, socket, desk, way_in, control, serving,
-            )
+            let common = common_of(opened);
+            run_controlled(&common, way_in, opened.files, control, main_thread)
         }
         Err(fault) => Err(fault),
+    }
+}
+
+// What the threads of a server share with those of any program.
+fn common_of<'x, N: Names, R: Copy, F>(opened: &Opened<'x, N, R, F>) -> Common<'x, N, R> {
+    Common {
+        rt: opened.rt,
+        alloc: opened.alloc,
+        entity: opened.entity,
+        socket: opened.socket,
+        desk: opened.desk,
     }
 }
 
@@ -336,18 +324,9 @@ fn way_in_of<'x, N: Names, R: Wait + Clock + Copy, F>(
     } else {
         Sources::Any
     };
-    let config = opened.entity.config();
-    let way_in = WayIn::new(
-        opened.rt,
-        opened.alloc,
-        opened.tallies,
-        config,
-        opened.socket,
-        opened.desk,
-        others,
-        sources,
-        parking_of(opened),
-    )?;
+    let common = common_of(opened);
+    let lot = parking_of(opened);
+    let way_in = WayIn::new(&common, opened.tallies, others, sources, lot)?;
     Ok(way_in)
 }
 
@@ -397,6 +376,7 @@ fn server_over<'x, N: Names, R: Wait + Clock + Files + AllocGlobal + Copy + Drop
             begun,
             abandons_full: words.abandon_full,
             logs_commands: words.log_commands,
+            explains: words.explain,
             readiness,
             opened: None,
             lot: opened.lot,
@@ -419,7 +399,9 @@ fn audience_over<'x, N: Names, R: Wait + Clock + Files + Copy, F>(
     let reports = Reports::new(rt, alloc, config, opened.tallies, events, opened.lot)?;
     let follows = words.follow && seats.is_none();
     let watched = Watched::new(alloc, config, opened.book)?;
-    Ok(Audience::new(rt, alloc, config, ports, follows, reports, watched))
+    let mut audience = Audience::new(rt, alloc, ports, follows, reports, watched);
+    audience.counts = counts_of(alloc, words, config, opened.tallies)?;
+    Ok(audience)
 }
 
 // The station of a server, with its store, and its links as the words say.
@@ -437,7 +419,8 @@ fn station_over<'x, N: Names, R: Wait + Clock + Files + AllocGlobal + Copy + Dro
         ..
     } = *opened;
     let sender = PduSender::new(alloc, socket, entity.config(), &tallies.own, &tallies.links)?;
-    let mut station = Station::new(rt, alloc, entity, sender, depot, tallies, rest_of(words))?;
+    let common = common_of(opened);
+    let mut station = Station::new(&common, sender, depot, tallies, rest_of(words))?;
     set_links(rt, &mut station, words);
     if let Some(lot) = parking_of(opened) {
         station.use_lot(lot);
@@ -459,69 +442,4 @@ fn storing_over<'x, N: Names, R: Copy, F>(
         words: opened.words,
         folder,
     })
-}
-
-// How many octets a second may leave for the files to all remote entities without a limit of their own.
-fn rest_of(words: &ServerWords<'_>) -> Option<u64> {
-    for rate in &words.rates {
-        if rate.remote.is_none() {
-            return Some(rate.octets);
-        }
-    }
-    None
-}
-
-// Sets the limits of single remote entities, which the configuration has; and holds all links if that is wanted.
-fn set_links<N: Names, R: Wait + Clock + Copy>(
-    rt: &R,
-    station: &mut Station<'_, N, R>,
-    words: &ServerWords<'_>,
-) {
-    for rate in &words.rates {
-        if let Some(remote) = rate.remote {
-            let _is_there = station.limit(remote, Some(rate.octets), moment(rt));
-        }
-    }
-    if words.hold {
-        hold_all(rt, station);
-    }
-}
-
-// Nothing leaves for any remote entity until it is released.
-fn hold_all<N: Names, R: Wait + Clock + Copy>(rt: &R, station: &mut Station<'_, N, R>) {
-    let config = station.entity().config();
-    for place in 0..config.remotes() {
-        if let Some(remote) = config.remote_at(place) {
-            let _is_held = station.hold(remote.id, wall_moment(rt));
-        }
-    }
-}
-
-// A log at a path, of the events that the words ask for.
-fn log_at<R: Files>(
-    alloc: Global,
-    words: &ServerWords<'_>,
-    path: &str,
-) -> Result<EventLog<R>, AllocError> {
-    let mut log = EventLog::new(alloc, String::from_str(alloc, path)?);
-    if let Some(least) = words.log_level {
-        log.write_from(least);
-    }
-    Ok(log)
-}
-
-// The events of a server, where clients or a log may read them.
-fn events_of<'x, R: Wait + Files>(
-    alloc: Global,
-    words: &ServerWords<'_>,
-    seats: Option<&'x Seats>,
-) -> Result<Option<Events<'x, R>>, AllocError> {
-    let log = match words.log {
-        Some(path) => Some(log_at(alloc, words, path)?),
-        None => None,
-    };
-    if seats.is_none() && log.is_none() {
-        return Ok(None);
-    }
-    Ok(Some(Events::new(alloc, seats, log)?))
 }

@@ -1,12 +1,12 @@
 //! The main thread of the server, which works in turns.
-use crate::answers::push_no_memory;
-use crate::audience::Audience;
-use crate::commands::{Next, Server};
 use crate::console::Console;
 use program_desk::{AskedLine, NextLine, Said, moment};
 use program_seats::{Asker, RESERVED_OCTETS};
 use program_start::ProgramFault;
 use program_station::{MainThread, REST_MS};
+use server_answers::push_no_memory;
+use server_commands::{Next, Server};
+use server_reports::Audience;
 use shared_lanes::Names;
 use std::alloc::AllocError;
 use std::io::Write;
@@ -162,6 +162,7 @@ fn obey<N: Names, R: Wait + Clock + Files + AllocGlobal + Copy + Drop>(
     text: &mut String,
 ) -> Result<Next, AllocError> {
     let words = server.words_of(&said);
+    let unread = server.unread_of(&said);
     let next = match server.obey(said, asker, text) {
         Ok(next) => next,
         Err(AllocError) => {
@@ -170,7 +171,7 @@ fn obey<N: Names, R: Wait + Clock + Files + AllocGlobal + Copy + Drop>(
             Next::GoesOn
         }
     };
-    server.report_command(words.as_slice(), asker, text);
+    server.report_command(words.as_slice(), asker, text, unread);
     Ok(next)
 }
 

@@ -2,8 +2,8 @@
 use crate::columns::Column::{Left, Right};
 use crate::parts::Part;
 use crate::parts::Part::{
-    Age, Bar, Direction, End, Held, Name, Number, Octets, Percent, Rate, SomeNumber, SomeNumbers,
-    SomeText, Text, Words,
+    Age, Bar, Condition, Direction, End, Held, Name, Number, Octets, Percent, Rate, SomeNumber,
+    SomeNumbers, SomeOctets, SomeText, Text, Words,
 };
 
 /// A column of a table: its head, and the parts of its cells.
@@ -67,7 +67,7 @@ pub(crate) struct Layout {
 }
 
 /// The tables, in the order in which they are shown.
-pub(crate) const LAYOUTS: [Layout; 9] = [
+pub(crate) const LAYOUTS: [Layout; 12] = [
     Layout {
         rows: Rows::Of("user"),
         title: "Users",
@@ -92,7 +92,10 @@ pub(crate) const LAYOUTS: [Layout; 9] = [
             Left("state", &[Text("state", "?")]),
             Left("progress", &[Bar]),
             Right("", &[Percent]),
-            Right("octets", &[Octets("octets", "0 B")]),
+            Right(
+                "octets",
+                &[Octets("octets", "0 B"), SomeOctets(", lacks ", "missing")],
+            ),
             Right("rate", &[Rate]),
             Right("last event", &[Age]),
             Left(
@@ -197,7 +200,14 @@ pub(crate) const LAYOUTS: [Layout; 9] = [
             Right("out", &[Number("datagrams_out", "-")]),
             Right("octets out", &[Octets("octets_out", "-")]),
             Right("failed", &[Number("failed_sends", "-")]),
-            Left("link", &[Text("address", "no address"), Held]),
+            Left(
+                "link",
+                &[
+                    Text("address", "no address"),
+                    Held,
+                    SomeText(", heard ", "heard", ""),
+                ],
+            ),
         ],
     },
     Layout {
@@ -213,10 +223,47 @@ pub(crate) const LAYOUTS: [Layout; 9] = [
                     Words(" "),
                     Text("name", "?"),
                     SomeNumber(" ", "fault", ""),
+                    SomeText(", ", "pdu", ""),
+                    SomeNumber(" of ", "source", ""),
+                    SomeNumber(".", "seq", ""),
                 ],
             ),
             Left("last", &[Text("last", "-")]),
             Left("from", &[Text("from", "-")]),
+        ],
+    },
+    Layout {
+        rows: Rows::Of("ended"),
+        title: "Ends",
+        shade: Shade::Plain,
+        columns: &[
+            Right("count", &[Number("count", "-")]),
+            Left("role", &[Text("role", "?")]),
+            Right("class", &[Number("class", "-")]),
+            Left("condition", &[Condition]),
+        ],
+    },
+    Layout {
+        rows: Rows::Of("delivered"),
+        title: "Delivered",
+        shade: Shade::Plain,
+        columns: &[
+            Right("files", &[Number("files", "-")]),
+            Right("octets", &[Octets("octets", "-")]),
+            Left("role", &[Text("role", "?")]),
+        ],
+    },
+    Layout {
+        rows: Rows::Of("store"),
+        title: "Last store",
+        shade: Shade::Plain,
+        columns: &[
+            Left(
+                "transaction",
+                &[Number("source", "?"), Words("."), Number("seq", "?")],
+            ),
+            Right("microseconds", &[Number("microseconds", "-")]),
+            Left("at", &[Text("at", "?")]),
         ],
     },
 ];

@@ -145,6 +145,7 @@ pub(crate) const KINDS: [Said; 12] = [
             Number("destination", "?"),
             Words(": "),
             Text("why", "?"),
+            SomeText(" (", "reason", ")"),
         ],
     },
     Said {
@@ -181,6 +182,7 @@ pub(crate) const KINDS: [Said; 12] = [
             Text("words", "?"),
             Words(": "),
             Text("answer", "?"),
+            SomeText(" (", "reason", ")"),
             Words(", from "),
             Text("by", "?"),
             SomeNumber(" at seat ", "seat", ""),

@@ -1,5 +1,5 @@
 -- Meaning. What an outbox and its file say together, and how a file comes back from there.
-use Rattle.std.specs.Prelude.{◌≡◌, ◌⊎◌, ℕ, ◌||◌, ◌==◌, Bool, true, false, List, [], ◌∷◌, ◌++◌, Option, Some, None, Result, Ok, OnOk, OnErr, IfOk, if◌then◌else◌, length, min}
+use Rattle.std.specs.Prelude.{◌≡◌, ◌⊎◌, ℕ, ◌+◌, ◌-◌, ◌^◌, ◌<◌, ◌≤◌, ◌||◌, ◌==◌, Bool, true, false, List, [], ◌∷◌, ◌++◌, Option, Some, None, Result, Ok, Err, OnOk, OnErr, IfOk, if◌then◌else◌, length, min}
 use Rattle.std.specs.List.{list_any}
 use Rattle.config_reading.specs.Values.{ConfigValue}
 use Rattle.server_lines.specs.Commands.{command_of}
@@ -9,7 +9,6 @@ use Rattle.server_lines.specs.declared.command.SendCommand.{SendCommand}
 use Rattle.outbox_file.specs.declared.book.Entry.{Entry}
 use Rattle.outbox_file.specs.declared.lines.Line.{Line}
 use Rattle.outbox_file.specs.declared.lines.Line.TheVariants as line
-use Rattle.outbox_file.specs.Books.{after}
 use Rattle.outbox_file.specs.Files.{FileValue, NotesLine, queued_entry}
 use Rattle.program_outbox.specs.declared.outbox.OutboxFile.{OutboxFile}
 use Rattle.program_outbox.specs.declared.outbox.Waiting.{Waiting}
@@ -17,6 +16,8 @@ use Rattle.program_outbox.specs.Outboxes.{has_number}
 use Rattle.program_outbox.specs.Outgoings.{OutgoingValue, is_named, named, queued_as_at, without_named}
 use Rattle.held_outbox.specs.declared.held.Gone.{Gone}
 use Rattle.held_outbox.specs.declared.held.HeldFault.{HeldFault}
+use Rattle.held_outbox.specs.declared.held.HeldFault.TheVariants as fault
+use Rattle.program_outbox.specs.declared.outbox.TheConstants.{MOST_FILES}
 use Rattle.held_outbox.specs.declared.held.Way.{Way}
 use Rattle.held_outbox.specs.declared.held.Way.TheVariants as way
 
@@ -71,7 +72,9 @@ pub record Queues (user : ℕ) (file : OutboxFile) (words : List ℕ) (now : ℕ
   pub number : IfOk result (λ number. number ≡ held.file.book.next)
   pub waits : OnOk result (outgoing_then ≡ queued_as_at held.file.book.next user file now outgoing)
   pub notes : OnOk result (NotesLine (line.Queued (queued_entry held.file.book.next file.since words)) held.file result held_then.file)
-  pub not : OnErr result (held_then.file.book ≡ held.file.book)
+  pub not : OnErr result ((held_then ≡ held) ⊎ NotesLine (line.Queued (queued_entry held.file.book.next file.since words)) held.file result held_then.file)
+  pub full : MOST_FILES ≤ length held.file.book.entries → result ≡ Err fault.Full
+  pub due : held_then.due ≡ held.due
   pub out : OnErr result ((outgoing_then ≡ outgoing) ⊎ (outgoing_then ≡ without_named held.file.book.next (queued_as_at held.file.book.next user file now outgoing)))
   pub owed : held_then.owed ≡ held.owed
 
@@ -83,23 +86,45 @@ pub record Drops (number : ℕ) (held : HeldValue) (outgoing : OutgoingValue) (r
   pub notes : has_file number outgoing ≡ true → NotesLine (line.Dropped number) held.file result held_then.file
   pub not : OnErr result (outgoing_then ≡ outgoing)
   pub owed : held_then.owed ≡ held.owed
+  pub due : held_then.due ≡ held.due
 
--- the book and what is owed stay as they are
-pub record StaysOwed (held held_then : HeldValue) : Type 0 where
-  pub book : held_then.file.book ≡ held.file.book
-  pub owed : held_then.owed ≡ held.owed
+-- the moment a second after one, at which a line is tried again that the disk didn't take
+abbrev pub rested : ℕ → ℕ
+rested now = min (now + 1000) (2 ^ 64 - 1)
 
--- a file that left for good is noted, and what is owed stays; or the book stays, and the file is owed behind the others
-abbrev pub Leaves : Gone → HeldValue → HeldValue → Type 0
-Leaves gone held held_then =
-    ((held_then.file.book ≡ after (line_of gone) held.file.book) × (held_then.owed ≡ held.owed))
-    ⊎ ((held_then.file.book ≡ held.file.book) × (held_then.owed ≡ held.owed ++ gone ∷ []))
+-- the disk takes the line of a file that left for good
+pub record IsNoted (gone : Gone) (held held_then : HeldValue) : Type 0 where
+  pub notes : NotesLine {T = Unit {0}} {E = HeldFault} (line_of gone) held.file (Ok tt) held_then.file
+  pub due : held_then.due ≡ held.due
 
--- the first file that is owed is noted, and is owed no more
-pub record Settles (held held_then : HeldValue) : Type 0 where
+-- the disk doesn't take it, and what is owed is tried again a second later
+pub record IsRefused (gone : Gone) (now : ℕ) (held held_then : HeldValue) : Type 0 where
+  pub why : HeldFault
+  pub notes : NotesLine {T = Unit {0}} {E = HeldFault} (line_of gone) held.file (Err why) held_then.file
+  pub due : held_then.due ≡ rested now
+
+-- a file that left for good is noted, and what is owed stays; or it is owed after the others
+abbrev pub Leaves : Gone → ℕ → HeldValue → HeldValue → Type 0
+Leaves gone now held held_then =
+    (IsNoted gone held held_then × (held_then.owed ≡ held.owed))
+    ⊎ (IsRefused gone now held held_then × (held_then.owed ≡ held.owed ++ gone ∷ []))
+
+-- the disk doesn't take the line of a file that left for good, and what is owed stays
+abbrev pub StaysOwed : Gone → ℕ → HeldValue → HeldValue → Type 0
+StaysOwed gone now held held_then = IsRefused gone now held held_then × (held_then.owed ≡ held.owed)
+
+-- it is time, and the first file that is owed is noted, and is owed no more
+pub record Settles (now : ℕ) (held held_then : HeldValue) : Type 0 where
+  pub time : held.due ≤ now
   pub gone : Gone
   pub first : held.owed ≡ gone ∷ held_then.owed
-  pub noted : held_then.file.book ≡ after (line_of gone) held.file.book
+  pub noted : IsNoted gone held held_then
+
+-- nothing is owed, or it isn't time yet; or it is, the disk doesn't take the first line, and all stay owed
+abbrev pub Waits : ℕ → HeldValue → HeldValue → Type 0
+Waits now held held_then =
+    ((held_then ≡ held) × ((now < held.due) ⊎ (held.owed ≡ [])))
+    ⊎ ((held.due ≤ now) × ((gone : Gone) × (rest : List Gone) × (held.owed ≡ gone ∷ rest) × StaysOwed gone now held held_then))
 
 -- a moment, or the one at which what is owed is tried again if that comes before it
 abbrev pub moment_owed : ℕ → HeldValue → ℕ

@@ -5,7 +5,7 @@ ghost use Rattle.outbox_file.specs.Files.{NotesLine, Opens};
 ghost use Rattle.outbox_file.specs.declared.lines.Line.TheVariants as line;
 ghost use Rattle.program_outbox.specs.Outboxes.{has_number};
 ghost use Rattle.program_outbox.specs.Outgoings.{is_named};
-ghost use Rattle.held_outbox.specs.Held.{Drops, Leaves, Queues, Settles, StaysOwed, has_file, line_of, moment_owed};
+ghost use Rattle.held_outbox.specs.Held.{Drops, Leaves, Queues, Settles, StaysOwed, Waits, has_file, line_of, moment_owed};
 
 use disk::Disk;
 use outbox_file::{Entry, StoredOutbox, StoredOutboxFault};
@@ -145,6 +145,7 @@ impl<D: Disk + Drop> HeldOutbox<D> {
     pub fn began(&mut self, number: u64) -> Result<(), HeldFault>
         ensures notes { NotesLine (line.Began number) self.old.file result self.new.file }
         ensures owed { self.new.owed ≡ self.old.owed }
+        ensures due { self.new.due ≡ self.old.due }
     {
         self.stored.began(number).map_err(fault_of)
     }
@@ -152,8 +153,8 @@ impl<D: Disk + Drop> HeldOutbox<D> {
     /// Notes in the file which one left for good. What the disk doesn't take is noted later; without memory for that it comes
     /// back in the next run.
     pub fn leave(&mut self, gone: Gone, now: u64) -> Result<(), AllocError>
-        ensures ok { OnOk result (Leaves gone self.old self.new) }
-        ensures err { OnErr result (StaysOwed self.old self.new) }
+        ensures ok { OnOk result (Leaves gone now self.old self.new) }
+        ensures err { OnErr result (StaysOwed gone now self.old self.new) }
     {
         match self.note(gone) {
             Ok(()) => Ok(()),
@@ -168,8 +169,8 @@ impl<D: Disk + Drop> HeldOutbox<D> {
     /// Tries again to note the first file that left and isn't noted, at most once a second while the disk takes nothing. Returns
     /// whether one was noted.
     pub fn settle(&mut self, now: u64) -> bool
-        ensures noted { result ≡ true → Settles self.old self.new }
-        ensures not { result ≡ false → StaysOwed self.old self.new }
+        ensures noted { result ≡ true → Settles now self.old self.new }
+        ensures not { result ≡ false → Waits now self.old self.new }
     {
         if now < self.due {
             return false;
@@ -200,6 +201,7 @@ impl<D: Disk + Drop> HeldOutbox<D> {
     fn note(&mut self, gone: Gone) -> Result<(), HeldFault>
         ensures notes { NotesLine (line_of gone) self.old.file result self.new.file }
         ensures owed { self.new.owed ≡ self.old.owed }
+        ensures due { self.new.due ≡ self.old.due }
     {
         let noted = match gone.way {
             Way::Ended => self.stored.ended(gone.number),

@@ -1,5 +1,6 @@
 //! What an outbox's file says comes back into memory.
-ghost use Rattle.std.specs.Prelude.{◌≡◌, IfOk, OnErr, OnOk};
+ghost use Rattle.std.specs.Prelude.{◌≡◌, ◌⊎◌, Err, None, OnErr, OnOk};
+ghost use Rattle.server_lines.specs.Commands.{command_of};
 ghost use Rattle.held_outbox.specs.Held.{Restores, file_of, sent_in};
 ghost use Rattle.program_outbox.specs.Outgoings.{queued_as_at};
 
@@ -36,6 +37,8 @@ pub fn restore_one(
     now: u64,
 ) -> Result<(), HeldFault>
     ensures restored { OnOk result (Restores config.now entry.now now outgoing.old outgoing.new) }
+    ensures none { sent_in (command_of config.now entry.now.words) ≡ None
+        → (result ≡ Err HeldFault.NoFile) ⊎ (result ≡ Err HeldFault.NoMemory) }
     ensures same { OnErr result (outgoing.new ≡ outgoing.old) }
 {
     let sent = match command_of(alloc, config, entry.words.as_slice()) {

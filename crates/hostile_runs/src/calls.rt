@@ -249,7 +249,9 @@ fn copy_once(transcript: &mut Transcript, gaps: &Gaps) -> Result<bool, AllocErro
 
 fn note_missing(transcript: &mut Transcript, gaps: &Gaps) -> Result<(), AllocError> {
     let made = gaps.missing(16);
-    for Run { start, end } in made.or_else(|_error| gaps.missing(16))? {
+    let runs = made.or_else(|_error| gaps.missing(16))?;
+    for run in runs.as_slice() {
+        let Run { start, end } = *run;
         transcript.note_number("Gaps::missing", u64::from(start) * 100 + u64::from(end))?;
     }
     Ok(())

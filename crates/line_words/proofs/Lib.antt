@@ -1,3 +1,4 @@
 pub mod Numbers
 pub mod WordFacts
 pub mod Texts
+pub mod QuotedRows

@@ -1,3 +1,4 @@
 pub mod Words
+pub mod Quoted
 pub mod Operands
 pub mod Places

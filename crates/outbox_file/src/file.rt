@@ -1,5 +1,5 @@
 //! The file on a disk.
-ghost use Rattle.std.specs.Prelude.{◌≡◌, true, IfOk, OnOk, string_bytes};
+ghost use Rattle.std.specs.Prelude.{◌≡◌, ◌⊎◌, ◌-◌, ◌^◌, false, true, Err, IfOk, OnOk, string_bytes};
 ghost use Rattle.std.specs.List.{list_any};
 ghost use Rattle.disk.specs.Crash.Content.{flushed};
 ghost use Rattle.disk.specs.Parts.{IsKept};
@@ -141,6 +141,9 @@ impl<D: Disk + Drop> StoredOutbox<D> {
     /// Notes that a file waits since a moment, by the words of its command; answers its number.
     pub fn queued(&mut self, since: u64, words: &[u8]) -> Result<u64, StoredOutboxFault>
         ensures number { IfOk result (λ number. number ≡ self.old.book.next) }
+        ensures over { self.old.book.next ≡ 2 ^ 64 - 1 → result ≡ Err StoredOutboxFault.Over }
+        ensures no_line { is_line words.now ≡ false
+            → (result ≡ Err StoredOutboxFault.NoLine) ⊎ (result ≡ Err StoredOutboxFault.Over) }
         ensures notes { NotesLine (line.Queued (queued_entry self.old.book.next since words.now)) self.old result self.new }
     {
         let number = self.book.next;

@@ -1,2 +1,3 @@
+pub mod HeadRows
 pub mod VectorRows
 pub mod LargeVectorRows

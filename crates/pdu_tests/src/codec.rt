@@ -1,4 +1,4 @@
-use pdu_codec::{DecodeFault, Pdu, decode, encode};
+use pdu_codec::{DecodeFault, Pdu, decode, encode, head_of};
 use std::alloc::{AllocError, Global};
 use std::test::*;
 
@@ -60,6 +60,22 @@ fn is_refused_cut(alloc: Global, octets: &[u8]) -> bool {
         }
     }
     true
+}
+
+// Whether the front of a datagram says as much of its PDU as the whole.
+fn is_known_by_front(octets: &[u8]) -> bool {
+    let front = &octets[..octets.len().min(HEADER + 1)];
+    match (head_of(octets), head_of(front)) {
+        (Some(whole), Some(cut)) => whole == cut && whole.kind.name() != "unknown directive",
+        _ => false,
+    }
+}
+
+#[test]
+fn fronts_of_datagrams(rt: HostRuntime) {
+    for octets in SENT {
+        assert!(rt; is_known_by_front(octets), "{octets:?}");
+    }
 }
 
 #[test]

@@ -1,3 +1,4 @@
+pub mod ExpiryRows
 pub mod Lists
 pub mod PaceFacts
 pub mod PaceRows

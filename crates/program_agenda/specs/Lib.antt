@@ -1,3 +1,4 @@
+pub mod Expiries
 pub mod Fates
 pub mod Links
 pub mod Paces

@@ -3,6 +3,7 @@
 #![tactic(auto)]
 
 mod agenda;
+mod expiry;
 mod fate;
 pub mod laws;
 mod pace;
@@ -12,6 +13,7 @@ mod sending;
 mod store_queue;
 
 pub use agenda::Agenda;
+pub use expiry::{Expiry, TimedLink, expiry_of};
 pub use fate::{Fate, Obstacle, fate_of_pump, fate_of_retry};
 pub use pace::Pace;
 pub use resting::{Resting, RestingTimers, deadline_behind};

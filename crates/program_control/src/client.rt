@@ -1,13 +1,11 @@
 //! The two threads that serve a client.
+use crate::attending::Attending;
 use crate::reading::read_commands;
 use crate::urgent::{PATIENCE_MS, read_urgent};
 use crate::writing::write_answers;
-use entity_config::Config;
-use program_desk::Desk;
 use program_seats::{Asker, Seats};
 use program_start::FileReader;
 use script_io::in_blocks;
-use std::alloc::Global;
 use std::net::Shutdown;
 use std::os::unix::net::UnixStream;
 use std::sync::Wait;
@@ -17,16 +15,12 @@ use std::time::{Clock, Duration};
 
 /// Serves the client of a seat until it leaves: this thread reads, and a second one writes. A client at the spare seat gives one
 /// command.
-pub(crate) fn serve_client<'x, R: Threads + Wait + Clock + Sync, F: FileReader>(
-    rt: &'x R,
-    alloc: Global,
-    files: &'x F,
-    config: &'x Config,
+pub(crate) fn serve_client<R: Threads + Wait + Clock + Sync, F: FileReader>(
+    attending: &Attending<'_, R, F>,
     stream: UnixStream,
     asker: Asker,
-    desk: &'x Desk,
-    seats: &'x Seats,
 ) {
+    let (rt, alloc, seats) = (attending.rt, attending.alloc, attending.seats);
     let is_spare = Seats::is_spare(asker);
     if is_spare {
         let _as_it_may = stream.set_write_timeout(Some(Duration::from_millis(PATIENCE_MS)));
@@ -38,11 +32,11 @@ pub(crate) fn serve_client<'x, R: Threads + Wait + Clock + Sync, F: FileReader>(
             write_answers(rt, alloc, &mut writer, asker, seats)
         });
         if started.is_ok() && is_spare {
-            read_urgent(rt, alloc, config, shared, asker, desk, seats);
+            read_urgent(attending, shared, asker);
         } else if started.is_ok()
             && let Ok(mut reader) = in_blocks(alloc, shared)
         {
-            read_commands(rt, alloc, files, config, &mut reader, asker, desk, seats);
+            read_commands(attending, &mut reader, asker);
         }
         seats.end(rt, asker);
     });

@@ -1,9 +1,10 @@
 //! Reads one client's commands.
-use entity_config::Config;
+use crate::attending::Attending;
+use crate::watching::look;
 use program_desk::{Desk, Said, said_by};
 use program_seats::{Asker, Seats};
 use program_start::FileReader;
-use std::alloc::Global;
+use server_lines::command_of;
 use std::io::{BufRead, Read};
 use std::sync::Wait;
 use std::time::Clock;
@@ -16,17 +17,21 @@ pub const COMMAND_OCTETS: u64 = 131_072;
 
 /// Leaves a client's commands at the desk, one at a time: the next is read once the one before was answered. The file
 /// of a Put is read here, so only this client waits for it. Returns when the lines end, reading fails, a line is too
-/// long, memory runs out, or the client's way or the desk is closed. A last line without a line feed is not a command.
+/// long, memory runs out, or the client's way or the desk is closed. A last line without a line feed is not a command. Of a
+/// client that only watches, other lines than those that look at the station are refused.
 pub(crate) fn read_commands<R: Wait + Clock, F: FileReader, B: BufRead + Drop>(
-    rt: &R,
-    alloc: Global,
-    files: &F,
-    config: &Config,
+    attending: &Attending<'_, R, F>,
     reader: &mut B,
     asker: Asker,
-    desk: &Desk,
-    seats: &Seats,
 ) {
+    let Attending {
+        rt,
+        alloc,
+        files,
+        config,
+        desk,
+        seats,
+    } = *attending;
     let Ok(mut line) = Vec::with_capacity(alloc, RESERVED_OCTETS) else {
         return;
     };
@@ -35,8 +40,13 @@ pub(crate) fn read_commands<R: Wait + Clock, F: FileReader, B: BufRead + Drop>(
         let wants_more = match reader.take(COMMAND_OCTETS).read_until(b'\n', &mut line) {
             Ok(count) => {
                 if line.pop() == Some(b'\n') {
-                    let said = said_by(rt, alloc, files, config, line.as_slice(), desk);
-                    ask(rt, asker, said, desk, seats) && line.as_slice() != b"quit".as_slice()
+                    if Seats::is_watching(asker) {
+                        let command = command_of(alloc, config, line.as_slice());
+                        look(rt, command, asker, desk, seats)
+                    } else {
+                        let said = said_by(rt, alloc, files, config, line.as_slice(), desk);
+                        ask(rt, asker, said, desk, seats) && line.as_slice() != b"quit".as_slice()
+                    }
                 } else {
                     if count as u64 >= COMMAND_OCTETS {
                         let _answered = ask(rt, asker, Said::Nothing, desk, seats);

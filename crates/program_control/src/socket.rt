@@ -1,10 +1,9 @@
 //! The socket: its file, the clients it lets in, and its end.
+use crate::attending::Attending;
 use crate::client::serve_client;
 use crate::probing::{Probed, probe};
 use crate::urgent::refuse;
-use entity_config::Config;
-use program_desk::Desk;
-use program_seats::Seats;
+use program_seats::{Asker, Seats};
 use program_start::FileReader;
 use std::alloc::Global;
 use std::fs::Permissions;
@@ -51,6 +50,8 @@ pub struct ControlSocket {
     // the file's identity: another server may have put its own file there
     device: u64,
     node: u64,
+    // whether its clients only watch
+    is_watched: bool,
 }
 
 impl ControlSocket {
@@ -80,26 +81,28 @@ impl ControlSocket {
         Ok(socket)
     }
 
-    /// Lets clients in, each at a free seat, until the seats are closed, and returns once all have left. Their lines
-    /// are parsed by `config`, and the files of their Puts read by `files`.
+    /// The same socket, whose clients only watch: they get the seats of those, and other lines of them are refused.
+    pub fn for_watchers(self) -> ControlSocket {
+        let mut socket = self;
+        socket.is_watched = true;
+        socket
+    }
+
+    /// Lets clients in, each at a free seat, until the seats are closed, and returns once all have left.
     pub fn run<R: Threads + Wait + Clock + Sync, F: FileReader + Sync>(
         &self,
-        rt: &R,
-        alloc: Global,
-        files: &F,
-        config: &Config,
-        desk: &Desk,
-        seats: &Seats,
+        attending: &Attending<'_, R, F>,
     ) {
         let listener = &self.listener;
+        let (rt, seats) = (attending.rt, attending.seats);
         thread::scope(thread::scope_env(), rt, move |scope| {
             for _ in rt.forever() {
                 match listener.accept() {
-                    Ok((stream, _)) => match seats.sit(rt, &stream) {
+                    Ok((stream, _)) => match self.sit(rt, &stream, seats) {
                         Some(asker) => {
-                            let started = scope.spawn(move || {
-                                serve_client(rt, alloc, files, config, stream, asker, desk, seats)
-                            });
+                            let started = scope.spawn(move || serve_client(
+                                attending, stream, asker,
+                            ));
                             if started.is_err() {
                                 seats.cut(rt, asker);
                                 seats.leave(rt, asker);
@@ -122,9 +125,23 @@ impl ControlSocket {
     /// at once.
     pub fn close<R: Files + Wait + Clock>(&self, rt: &R, path: &str, seats: &Seats) {
         seats.close(rt);
+        self.shut(rt, path);
+        seats.finish(rt);
+    }
+
+    /// Lets nobody in any more by this socket, and removes its file. Its clients leave once the seats are closed.
+    pub fn shut<R: Files>(&self, rt: &R, path: &str) {
         let _as_it_may = self.shutter.shutdown(Shutdown::Both);
         self.leave(rt, path);
-        seats.finish(rt);
+    }
+
+    // Lets a client of this socket sit down, if one of its seats is free.
+    fn sit<R: Wait>(&self, rt: &R, stream: &UnixStream, seats: &Seats) -> Option<Asker> {
+        if self.is_watched {
+            seats.sit_watching(rt, stream)
+        } else {
+            seats.sit(rt, stream)
+        }
     }
 
     /// Removes the socket's file, if the one at its path is still this socket's.
@@ -239,5 +256,6 @@ fn listen_at<R: Files>(
         shutter,
         device: found.dev(),
         node: found.ino(),
+        is_watched: false,
     })
 }

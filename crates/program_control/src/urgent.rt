@@ -1,9 +1,9 @@
 //! Reads the command of a client that came while all seats were taken.
+use crate::attending::Attending;
 use crate::reading::ask;
-use entity_config::Config;
 use entity_routing::Request;
-use program_desk::{Desk, Said, moment};
-use program_seats::{Asker, Seats};
+use program_desk::{Said, moment};
+use program_seats::Asker;
 use script_io::write_whole;
 use server_lines::{Command, Tuning, command_of};
 use std::alloc::Global;
@@ -21,15 +21,19 @@ const COMMAND_OCTETS: usize = 128;
 
 /// Leaves the command of a client at the spare seat at the desk: its first line, if it comes within five seconds and looks at the
 /// station, ends it, holds or releases a link, or abandons a transaction. Otherwise the client is told that no seat is free.
-pub(crate) fn read_urgent<R: Wait + Clock>(
-    rt: &R,
-    alloc: Global,
-    config: &Config,
+pub(crate) fn read_urgent<R: Wait + Clock, F>(
+    attending: &Attending<'_, R, F>,
     stream: &UnixStream,
     asker: Asker,
-    desk: &Desk,
-    seats: &Seats,
 ) {
+    let Attending {
+        rt,
+        alloc,
+        config,
+        desk,
+        seats,
+        ..
+    } = *attending;
     let command = match line_in_time(rt, alloc, stream) {
         Ok(Some(line)) => command_of(alloc, config, line.as_slice()),
         _ => Ok(None),

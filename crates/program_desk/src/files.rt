@@ -2,7 +2,7 @@
 use crate::clock::wall_moment;
 use crate::desk::Desk;
 use cfdp_types::Octets;
-use program_start::{FileReader, ProgramFault};
+use program_start::{FileReader, ProgramFault, Unread};
 use std::alloc::{AllocError, Global};
 use std::str;
 use std::sync::Wait;
@@ -133,7 +133,7 @@ pub fn read_files<R: Wait + Clock, F: FileReader>(rt: &R, alloc: Global, files: 
 fn load<F: FileReader>(alloc: Global, files: &F, path: &[u8]) -> Result<Octets, ProgramFault> {
     match str::from_utf8(path) {
         Ok(path) => files.load(alloc, path),
-        Err(_) => Err(ProgramFault::Read),
+        Err(_) => Err(ProgramFault::Unread(Unread::NotText)),
     }
 }
 
@@ -141,7 +141,7 @@ fn load<F: FileReader>(alloc: Global, files: &F, path: &[u8]) -> Result<Octets, 
 fn size_of<F: FileReader>(files: &F, path: &[u8]) -> Result<u64, ProgramFault> {
     match str::from_utf8(path) {
         Ok(path) => files.size(path),
-        Err(_) => Err(ProgramFault::Read),
+        Err(_) => Err(ProgramFault::Unread(Unread::NotText)),
     }
 }
 

@@ -1,8 +1,8 @@
 -- Worked calls at a seat.
-use Rattle.std.proofs.Common.{◌≡◌, true, false, [], ◌∷◌, refl, arith}
+use Rattle.std.proofs.Common.{◌≡◌, true, false, [], ◌∷◌, map, refl, arith}
 use Rattle.program_seats.specs.declared.outbox.Way.TheVariants.{Open}
 use Rattle.program_seats.specs.declared.seat.Given.TheVariants.{Taken, Dropped, Gone}
-use Rattle.program_seats.specs.Seating.{SeatValue, IsAnswered, IsTold, cut, followed, free_seat, is_here, left, may_sit, sat}
+use Rattle.program_seats.specs.Seating.{SeatValue, IsAnswered, IsTold, cut, followed, free_seat, is_here, is_spare_seat, is_watchers_seat, left, may_sit, sat}
 
 -- the third client of a seat, who has asked
 abbrev third : SeatValue
@@ -40,3 +40,10 @@ next_reads_no_events = refl
 
 left_is_gone : is_here 3 (left third) ≡ false
 left_is_gone = refl
+
+-- the last of the sixteen seats, the spare one, and the first of those that only watch
+spare : map is_spare_seat (15 ∷ 16 ∷ 17 ∷ []) ≡ false ∷ true ∷ false ∷ []
+spare = refl
+
+watchers : map is_watchers_seat (15 ∷ 16 ∷ 17 ∷ []) ≡ false ∷ false ∷ true ∷ []
+watchers = refl

@@ -1,5 +1,5 @@
 -- Meaning. A seat for one client, and what each call does to it.
-use Rattle.std.specs.Prelude.{◌≡◌, ◌≢◌, ◌⊎◌, ◌+◌, ◌++◌, ◌==◌, ◌&&◌, ◌||◌, ◌≤◌, ℕ, Bool, true, false, if◌then◌else◌, List, length, not}
+use Rattle.std.specs.Prelude.{◌≡◌, ◌≢◌, ◌⊎◌, ◌+◌, ◌++◌, ◌==◌, ◌&&◌, ◌||◌, ◌≤◌, ℕ, nat_lt, Bool, true, false, if◌then◌else◌, List, length, not}
 use Rattle.program_seats.specs.Outboxes.{OutboxValue, cut_off, empty, ended}
 use Rattle.program_seats.specs.declared.outbox.Way.{Way}
 use Rattle.program_seats.specs.declared.outbox.Way.TheVariants.{Open}
@@ -15,6 +15,13 @@ pub record SeatValue : Type 0 where
   pub is_asking : Bool
   pub is_closed : Bool
   pub outbox : OutboxValue
+
+-- the spare seat comes after the sixteen, and then those of clients that only watch
+abbrev pub is_spare_seat : ℕ → Bool
+is_spare_seat seat = seat == 16
+
+abbrev pub is_watchers_seat : ℕ → Bool
+is_watchers_seat seat = nat_lt 16 seat
 
 -- nobody has sat there
 abbrev pub free_seat : SeatValue

@@ -1,5 +1,6 @@
 //! All seats, each with its own lock.
-ghost use Rattle.std.specs.Prelude.{◌≡◌, nat_le};
+ghost use Rattle.std.specs.Prelude.{◌≡◌};
+ghost use Rattle.program_seats.specs.Seating.{is_spare_seat, is_watchers_seat};
 
 use crate::asker::Asker;
 use crate::outbox::Way;
@@ -13,8 +14,11 @@ use std::time::{Clock, Duration};
 /// How many clients are served at once, but for one that comes while all seats are taken.
 pub const SEATS: usize = 16;
 
-/// The seats, and a spare one.
-pub const PLACES: usize = SEATS + 1;
+/// How many clients that only watch are served at once, beside those.
+pub const WATCHERS: usize = 4;
+
+/// The seats, a spare one, and those of clients that only watch.
+pub const PLACES: usize = SEATS + 1 + WATCHERS;
 
 /// How many octets may wait for one client.
 pub const TEXT_OCTETS: usize = 8 * 1024 * 1024;
@@ -58,7 +62,7 @@ pub struct Seats {
 }
 
 impl Seats {
-    /// `SEATS` free seats, and a spare one.
+    /// `SEATS` free seats, a spare one, and `WATCHERS` for clients that only watch.
     pub fn new(alloc: Global) -> Result<Seats, AllocError> {
         let mut places = Vec::with_capacity(alloc, PLACES)?;
         for _ in 0..PLACES {
@@ -100,14 +104,34 @@ impl Seats {
 
     /// Whether a client has the spare seat, so that it may give one command alone.
     pub fn is_spare(asker: Asker) -> bool
-        ensures { result ≡ nat_le 16 asker.seat }
+        ensures { result ≡ is_spare_seat asker.seat }
     {
-        asker.seat >= SEATS
+        asker.seat == SEATS
+    }
+
+    /// Whether a client has a seat of those that only watch.
+    pub fn is_watching(asker: Asker) -> bool
+        ensures { result ≡ is_watchers_seat asker.seat }
+    {
+        is_watchers_seat(asker.seat)
     }
 
     /// Lets a client sit down, if a seat is free; the spare one comes last. The stream is a second handle of the client's.
     pub fn sit<R: Wait>(&self, rt: &R, stream: &UnixStream) -> Option<Asker> {
+        self.sit_among(rt, stream, false)
+    }
+
+    /// Lets a client that only watches sit down, if one of the seats for those is free.
+    pub fn sit_watching<R: Wait>(&self, rt: &R, stream: &UnixStream) -> Option<Asker> {
+        self.sit_among(rt, stream, true)
+    }
+
+    // Lets a client sit down at a free seat of those that only watch, or of the others.
+    fn sit_among<R: Wait>(&self, rt: &R, stream: &UnixStream, watches: bool) -> Option<Asker> {
         for (number, place) in self.places.iter().enumerate() {
+            if is_watchers_seat(number) != watches {
+                continue;
+            }
             let mut seat = place.seat.lock(rt);
             if !seat.may_sit() {
                 continue;
@@ -353,4 +377,11 @@ impl Seats {
             place.changed.notify_all();
         }
     }
+}
+
+// Whether a seat is for a client that only watches.
+fn is_watchers_seat(seat: usize) -> bool
+    ensures { result ≡ is_watchers_seat seat }
+{
+    seat > SEATS
 }

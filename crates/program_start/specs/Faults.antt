@@ -9,6 +9,7 @@ use Rattle.program_start.specs.declared.fault.ProgramFault.TheVariants as fault
 abbrev pub plain_text : ProgramFault → List ℕ
 plain_text fault.Usage = codes "usage"
 plain_text fault.Read = codes "read fault"
+plain_text (fault.Unread why) = codes "read fault"
 plain_text (fault.Config number) = codes "config fault"
 plain_text fault.Bind = codes "bind fault"
 plain_text fault.Numbers = codes "numbers fault"

@@ -39,7 +39,7 @@ pub fn push_explanation<R: Net + Files>(
     fault: &ProgramFault,
 ) -> Result<(), AllocError> {
     match fault {
-        ProgramFault::Read => push_read(rt, text, started),
+        ProgramFault::Read | ProgramFault::Unread(_) => push_read(rt, text, started),
         ProgramFault::Config(_) => push_config(rt, alloc, text, started.config),
         ProgramFault::Bind => push_bind(rt, text, started),
         ProgramFault::Numbers => push_numbers(text, started.numbers),

@@ -3,6 +3,7 @@ ghost use Rattle.std.specs.Prelude.{◌≡◌, ◌++◌, OnOk, codes};
 ghost use Rattle.std.specs.String.{string_bytes};
 ghost use Rattle.program_start.specs.Faults.{plain_text, refusal_text, fault_line};
 
+use crate::unread::Unread;
 use entity_routing::RouteRefusal;
 use script_io::write_whole;
 use std::alloc::{AllocError, Global};
@@ -16,6 +17,8 @@ pub enum ProgramFault {
     Usage,
     /// A file can't be read.
     Read,
+    /// A file that is to be sent can't be read, and why.
+    Unread(Unread),
     /// The configuration is not taken; the number is its fault's.
     Config(u8),
     /// The socket can't be opened at its address.
@@ -56,7 +59,7 @@ fn plain_text(fault: &ProgramFault) -> &'static str
 {
     match fault {
         ProgramFault::Usage => "usage",
-        ProgramFault::Read => "read fault",
+        ProgramFault::Read | ProgramFault::Unread(_) => "read fault",
         ProgramFault::Config(_) => "config fault",
         ProgramFault::Bind => "bind fault",
         ProgramFault::Numbers => "numbers fault",

@@ -2,11 +2,12 @@
 ghost use Rattle.std.specs.Prelude.{◌≡◌, ◌≤◌, ◌+◌, IfOk, vec_len};
 
 use crate::fault::ProgramFault;
+use crate::unread::{Unread, unread_by};
 use cfdp_types::Octets;
 use cfdp_types::limits::FILE_OCTETS;
 use entity_config::{Config, ConfigFault, read_config};
 use std::alloc::Global;
-use std::fs::File;
+use std::fs::{File, Metadata};
 use std::io::{ErrorKind, Read};
 use std::rt::Files;
 use std::{fs, io};
@@ -20,6 +21,15 @@ fn fault_of(error: &io::Error) -> ProgramFault {
     }
 }
 
+// The same for a file that is to be sent.
+fn unread_of(error: &io::Error) -> ProgramFault {
+    if error.kind() == ErrorKind::OutOfMemory {
+        ProgramFault::NoMemory
+    } else {
+        ProgramFault::Unread(unread_by(error))
+    }
+}
+
 // The octets of a file, at most `most`, in memory reserved for `room` octets at first.
 fn read_up_to<R: Files>(
     rt: &R,
@@ -27,26 +37,18 @@ fn read_up_to<R: Files>(
     path: &str,
     most: u64,
     room: usize,
-) -> Result<Vec<u8>, ProgramFault> {
+) -> io::Result<Vec<u8>> {
     let mut octets = Vec::with_capacity(alloc, room)?;
-    match File::open(rt, path) {
-        Ok(file) => {
-            append_all(alloc, &mut file.take(most), &mut octets)?;
-            Ok(octets)
-        }
-        Err(error) => Err(fault_of(&error)),
-    }
+    let mut rest = File::open(rt, path)?.take(most);
+    append_all(alloc, &mut rest, &mut octets)?;
+    Ok(octets)
 }
 
 // How many octets of a file are read at once.
 const BLOCK_OCTETS: usize = 16 * 1_024;
 
 // Appends all that a reader gives. It goes through one block, so that the memory of a large file is not cleared first.
-fn append_all<S: Read>(
-    alloc: Global,
-    reader: &mut S,
-    octets: &mut Vec<u8>,
-) -> Result<(), ProgramFault> {
+fn append_all<S: Read>(alloc: Global, reader: &mut S, octets: &mut Vec<u8>) -> io::Result<()> {
     let mut block = Vec::new(alloc);
     block.resize(BLOCK_OCTETS, 0)?;
     for _ in 0..u64::MAX {
@@ -54,10 +56,10 @@ fn append_all<S: Read>(
             Ok(0) => return Ok(()),
             Ok(count) => octets.extend_from_slice(&block[..count])?,
             Err(error) if error.kind() == ErrorKind::Interrupted => {}
-            Err(error) => return Err(fault_of(&error)),
+            Err(error) => return Err(error),
         }
     }
-    Err(ProgramFault::Read)
+    Err(io::Error::from(ErrorKind::TimedOut))
 }
 
 // The most octets of a configuration's file: some hundred times what the largest configuration takes.
@@ -69,7 +71,7 @@ pub(crate) fn octets_of<R: Files>(
     alloc: Global,
     path: &str,
 ) -> Result<Vec<u8>, ProgramFault> {
-    read_up_to(rt, alloc, path, CONFIG_OCTETS, 0)
+    read_up_to(rt, alloc, path, CONFIG_OCTETS, 0).map_err(|error| fault_of(&error))
 }
 
 /// Reads a file as a configuration. A file that is not UTF-8 is not TOML.
@@ -100,11 +102,22 @@ pub fn load_file<R: Files>(rt: &R, alloc: Global, path: &str) -> Result<Octets, 
         Ok(found) if found.is_file() => {
             let most = FILE_OCTETS as u64 + 1;
             let room = found.len().saturating_add(1).min(most) as usize;
-            let octets = read_up_to(rt, alloc, path, most, room)?;
-            Ok(Octets::from_vec(octets)?)
+            match read_up_to(rt, alloc, path, most, room) {
+                Ok(octets) => Ok(Octets::from_vec(octets)?),
+                Err(error) => Err(unread_of(&error)),
+            }
         }
-        Ok(_) => Err(ProgramFault::Read),
-        Err(error) => Err(fault_of(&error)),
+        Ok(found) => Err(no_plain_file(&found)),
+        Err(error) => Err(unread_of(&error)),
+    }
+}
+
+// The fault for what is no plain file.
+fn no_plain_file(found: &Metadata) -> ProgramFault {
+    if found.is_dir() {
+        ProgramFault::Unread(Unread::Folder)
+    } else {
+        ProgramFault::Unread(Unread::NotPlain)
     }
 }
 
@@ -112,8 +125,8 @@ pub fn load_file<R: Files>(rt: &R, alloc: Global, path: &str) -> Result<Octets, 
 fn size_of<R: Files>(rt: &R, path: &str) -> Result<u64, ProgramFault> {
     match fs::metadata(rt, path) {
         Ok(found) if found.is_file() => Ok(found.len()),
-        Ok(_) => Err(ProgramFault::Read),
-        Err(error) => Err(fault_of(&error)),
+        Ok(found) => Err(no_plain_file(&found)),
+        Err(error) => Err(unread_of(&error)),
     }
 }
 

@@ -6,8 +6,10 @@ mod fault;
 mod files;
 mod paths;
 mod places;
+mod unread;
 
 pub use explaining::{Started, push_explanation, push_reason, tell_explanation};
 pub use fault::{ProgramFault, print, push_fault, tell_fault};
 pub use files::{FileReader, RuntimeFiles, load_config, load_file};
 pub use paths::{folder_of, push_file_reason, push_folder_reason, push_path_reason};
+pub use unread::Unread;

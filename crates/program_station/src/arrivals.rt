@@ -90,7 +90,10 @@ impl<'a> Arrivals<'a> {
                 forwarder.note_refusal(RefusalKind::ForeignSource);
                 None
             }
-            Ok(pdu) => Some(pdu),
+            Ok(pdu) => {
+                forwarder.note_heard();
+                Some(pdu)
+            }
             Err(fault) => {
                 forwarder.note_decode_fault(fault);
                 None

@@ -2,7 +2,7 @@ use crate::forwarder::run_forwarders;
 use crate::way_in::WayIn;
 use entity_config::Config;
 use entity_workers::WorkersFault;
-use program_control::ControlSocket;
+use program_control::{Attending, ControlSocket};
 use program_desk::{Desk, read_files, read_lines};
 use program_seats::Seats;
 use program_start::{FileReader, ProgramFault};
@@ -18,12 +18,15 @@ use std::thread;
 use std::thread::Threads;
 use std::time::Clock;
 
-/// A control socket, its path, and the seats of its clients.
+/// A control socket, its path, and the seats of its clients; and a socket for clients that only watch, with its path, where
+/// there is one.
 #[derive(Clone, Copy)]
 pub struct Control<'x> {
     pub socket: &'x ControlSocket,
     pub path: &'x str,
     pub seats: &'x Seats,
+    pub watched: &'x Option<ControlSocket>,
+    pub watched_path: &'x str,
 }
 
 /// The work of a program's main thread.
@@ -41,6 +44,18 @@ fn fault_beside(ended: Result<u8, ProgramFault>, fault: WorkersFault) -> Result<
     }
 }
 
+/// What the threads of a program share.
+#[derive(Drop)]
+pub struct Common<'x, N: Names, R: Copy> {
+    pub rt: &'x R,
+    pub alloc: Global,
+    pub entity: &'x Entity<N, R>,
+    /// The socket of its datagrams.
+    pub socket: &'x UdpSocket,
+    /// Where the other threads leave work for the main thread.
+    pub desk: &'x Desk,
+}
+
 /// Runs the main thread's work beside the workers, which end with it. If not all workers could be started, that is
 /// reported at the end, unless the work ended for another reason.
 pub fn run_beside<
@@ -48,15 +63,14 @@ pub fn run_beside<
     N: Names + Send + Sync,
     R: Threads + Wait + Clock + Copy + Send + Sync,
     M: MainThread + Drop,
->(
-    rt: &'x R,
-    alloc: Global,
-    entity: &'x Entity<N, R>,
-    socket: &'x UdpSocket,
-    desk: &'x Desk,
-    way_in: WayIn<'x, R>,
-    main_thread: M,
-) -> Result<u8, ProgramFault> {
+>(common: &Common<'x, N, R>, way_in: WayIn<'x, R>, main_thread: M) -> Result<u8, ProgramFault> {
+    let Common {
+        rt,
+        alloc,
+        entity,
+        socket,
+        desk,
+    } = *common;
     let WayIn {
         arrivals,
         forwarders,
@@ -91,16 +105,19 @@ pub fn run_commanded<
     B: BufRead + Send + Drop,
     M: MainThread + Drop,
 >(
-    rt: &'x R,
-    alloc: Global,
-    files: &'x F,
-    entity: &'x Entity<N, R>,
-    socket: &'x UdpSocket,
-    desk: &'x Desk,
+    common: &Common<'x, N, R>,
     way_in: WayIn<'x, R>,
+    files: &'x F,
     reader: B,
     main_thread: M,
 ) -> Result<u8, ProgramFault> {
+    let Common {
+        rt,
+        alloc,
+        entity,
+        socket,
+        desk,
+    } = *common;
     let WayIn {
         arrivals,
         forwarders,
@@ -115,7 +132,7 @@ pub fn run_commanded<
                 return Err(ProgramFault::Start);
             };
             let config = entity.config();
-            let ended = work_commanded(rt, alloc, files, config, desk, reader, main_thread);
+            let ended = work_commanded(rt, alloc, files, (config, desk), reader, main_thread);
             desk.close(rt);
             wake_reader(socket);
             match workers.join(rt) {
@@ -126,8 +143,8 @@ pub fn run_commanded<
     )
 }
 
-/// `run_beside` with the threads of a control socket, and one that reads files that are wanted at the desk. The socket
-/// is removed once the work has ended.
+/// `run_beside` with the threads of a control socket, and one that reads files that are wanted at the desk. The sockets
+/// are removed once the work has ended.
 pub fn run_controlled<
     'x,
     N: Names + Send + Sync,
@@ -135,16 +152,19 @@ pub fn run_controlled<
     F: FileReader + Sync,
     M: MainThread + Drop,
 >(
-    rt: &'x R,
-    alloc: Global,
-    files: &'x F,
-    entity: &'x Entity<N, R>,
-    socket: &'x UdpSocket,
-    desk: &'x Desk,
+    common: &Common<'x, N, R>,
     way_in: WayIn<'x, R>,
+    files: &'x F,
     control: Control<'x>,
     main_thread: M,
 ) -> Result<u8, ProgramFault> {
+    let Common {
+        rt,
+        alloc,
+        entity,
+        socket,
+        desk,
+    } = *common;
     let WayIn {
         arrivals,
         forwarders,
@@ -158,8 +178,15 @@ pub fn run_controlled<
             )) else {
                 return Err(ProgramFault::Start);
             };
-            let config = entity.config();
-            let ended = work_controlled(rt, alloc, files, config, desk, control, main_thread);
+            let attending = Attending {
+                rt,
+                alloc,
+                files,
+                config: entity.config(),
+                desk,
+                seats: control.seats,
+            };
+            let ended = work_controlled(&attending, control, main_thread);
             desk.close(rt);
             wake_reader(socket);
             match workers.join(rt) {
@@ -181,8 +208,7 @@ fn work_commanded<
     rt: &'x R,
     alloc: Global,
     files: &'x F,
-    config: &'x Config,
-    desk: &'x Desk,
+    (config, desk): (&'x Config, &'x Desk),
     reader: B,
     main_thread: M,
 ) -> Result<u8, ProgramFault> {
@@ -213,41 +239,57 @@ fn work_commanded<
 
 // The main thread's work beside a thread that reads files, and the threads of a control socket.
 fn work_controlled<
-    'x,
     R: Threads + Wait + Clock + Files + Sync,
     F: FileReader + Sync,
     M: MainThread + Drop,
 >(
-    rt: &'x R,
-    alloc: Global,
-    files: &'x F,
-    config: &'x Config,
-    desk: &'x Desk,
-    control: Control<'x>,
+    attending: &Attending<'_, R, F>,
+    control: Control<'_>,
     main_thread: M,
 ) -> Result<u8, ProgramFault> {
-    let Control {
-        socket,
-        path,
-        seats,
-    } = control;
+    let Attending {
+        rt,
+        alloc,
+        files,
+        desk,
+        ..
+    } = *attending;
+    let (socket, watched) = (control.socket, control.watched);
     thread::scope(
         thread::scope_env(),
         rt,
         move |scope| -> Result<u8, ProgramFault> {
             let Ok(_files) = scope.spawn(move || read_files(rt, alloc, files, desk)) else {
-                socket.close(rt, path, seats);
+                close(rt, control);
                 return Err(ProgramFault::Start);
             };
-            let ended = match scope.spawn(move || socket.run(
-                rt, alloc, files, config, desk, seats,
-            )) {
-                Ok(_clients) => main_thread.work(),
-                Err(_) => Err(ProgramFault::Start),
+            let lets_watchers_in = match watched {
+                Some(watched) => scope.spawn(move || watched.run(attending)).is_ok(),
+                None => true,
+            };
+            let ended = match scope.spawn(move || socket.run(attending)) {
+                Ok(_clients) if lets_watchers_in => main_thread.work(),
+                _ => Err(ProgramFault::Start),
             };
             desk.close(rt);
-            socket.close(rt, path, seats);
+            close(rt, control);
             ended
         },
     )
+}
+
+// Lets nobody in any more by either socket, and makes all clients leave.
+fn close<R: Wait + Clock + Files>(rt: &R, control: Control<'_>) {
+    let Control {
+        socket,
+        path,
+        seats,
+        watched,
+        watched_path,
+    } = control;
+    if let Some(watched) = watched {
+        seats.close(rt);
+        watched.shut(rt, watched_path);
+    }
+    socket.close(rt, path, seats);
 }

@@ -1,5 +1,6 @@
 //! Handles a worker's answers.
 use crate::arrivals::Arrivals;
+use crate::beside::Common;
 use crate::parked::{Crowd, WorkersLot};
 use cfdp_types::EntityId;
 use entity_config::Config;
@@ -63,6 +64,15 @@ impl<'a, R: Wait + Clock> Forwarder<'a, R> {
         };
         self.traffic.note_arrival(octets, place);
         place.is_some()
+    }
+
+    /// Notes that the datagram that was read is a PDU of a remote entity with its address, where that is wanted.
+    pub(crate) fn note_heard(&self) {
+        if self.traffic.hears()
+            && let Some((_, Some(place))) = self.known
+        {
+            self.traffic.note_heard(place, wall_moment(self.rt));
+        }
     }
 
     /// Whether the datagram that was read comes from the address of the entity that its PDU says it comes from.
@@ -230,16 +240,20 @@ impl<'a, R: Wait + Clock> Carrier<Result<Done, Refused>> for Forwarder<'a, R> {
 /// One forwarder for each worker that `tallies` counts. They wake the main thread at once for a deposit and for a step
 /// of one of the entity's sending transactions, and for other steps as soon as `others` says. Datagrams are parked in the
 /// lot, where there is one.
-pub fn forwarders_of<'a, R>(
-    rt: &'a R,
-    alloc: Global,
+pub fn forwarders_of<'a, N: Names, R: Copy>(
+    common: &Common<'a, N, R>,
     tallies: &'a Tallies,
-    config: &'a Config,
-    socket: &'a UdpSocket,
-    desk: &'a Desk,
     others: Urgency,
     lot: Option<&'a Lot>,
 ) -> Result<Vec<Forwarder<'a, R>>, AllocError> {
+    let Common {
+        rt,
+        alloc,
+        entity,
+        socket,
+        desk,
+    } = *common;
+    let config = entity.config();
     let mut forwarders = Vec::with_capacity(alloc, tallies.workers.len())?;
     for traffic in &tallies.workers {
         forwarders.push(Forwarder {

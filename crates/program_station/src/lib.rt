@@ -13,7 +13,7 @@ mod station;
 mod way_in;
 
 pub use arrivals::{Arrivals, Sources};
-pub use beside::{Control, MainThread, run_beside, run_commanded, run_controlled};
+pub use beside::{Common, Control, MainThread, run_beside, run_commanded, run_controlled};
 pub use forwarder::{Forwarder, forwarders_of, run_forwarders};
 pub use station::{REST_MS, Station};
 pub use way_in::WayIn;

@@ -3,10 +3,9 @@
 use cfdp_types::{EntityId, TxnKey};
 use entity_config::Config;
 use entity_routing::{Place, place_of_key};
-use program_agenda::{Pace, deadline_behind};
+use program_agenda::{Pace, TimedLink};
 use program_tallies::Tallies;
 use std::alloc::{AllocError, Global};
-use timer_list::Armed;
 
 // The link to one remote entity.
 #[derive(Clone, Copy)]
@@ -166,12 +165,16 @@ impl<'a> LinkBook<'a> {
         }
     }
 
-    /// The deadline of a timer of a link.
-    pub(crate) fn deadline(&self, place: usize, timer: Armed) -> u64 {
-        match self.links.get(place) {
-            Some(link) if link.released > 0 => deadline_behind(timer, link.released, link.silence),
-            _ => timer.deadline,
-        }
+    /// The link of a transaction, as its timers depend on it.
+    pub(crate) fn timed_link(&self, key: TxnKey) -> Option<TimedLink> {
+        let remote = self.link_of(key)?;
+        let link = self.links.get(remote)?;
+        Some(TimedLink {
+            remote,
+            is_held: self.is_held(remote),
+            released: link.released,
+            silence: link.silence,
+        })
     }
 
     /// When the next PDU of a transaction's file may be sent. What else was sent to its entity meanwhile, such as the answers of

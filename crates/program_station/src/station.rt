@@ -1,9 +1,10 @@
 //! The state of the main thread, and its turns.
 use crate::answers::{is_full, obstacle_of};
+use crate::beside::Common;
 use crate::link_book::{Departure, LinkBook};
 use cfdp_types::{Deposit, EntityId, TxnKey};
 use lane_table::Done;
-use program_agenda::{Agenda, Fate, Pace, fate_of_pump, fate_of_retry};
+use program_agenda::{Agenda, Expiry, Fate, Pace, expiry_of, fate_of_pump, fate_of_retry};
 use program_desk::{Desk, Step, moment, wall_moment};
 use program_lot::Lot;
 use program_storing::{Depot, Stored, StoredNote};
@@ -70,14 +71,13 @@ impl<'a, N: Names, R: Wait + Copy + Clock> Station<'a, N, R> {
     /// A station without work, which sends at most `octets_a_second` for its files. All links are open. Memory for the timers of
     /// all lanes is reserved, so the rest of a step needs none.
     pub fn new(
-        rt: &'a R,
-        alloc: Global,
-        entity: &'a Entity<N, R>,
+        common: &Common<'a, N, R>,
         sender: PduSender<'a>,
         depot: &'a Depot,
         tallies: &'a Tallies,
         octets_a_second: Option<u64>,
     ) -> Result<Station<'a, N, R>, AllocError> {
+        let (rt, alloc, entity) = (common.rt, common.alloc, common.entity);
         let mut agenda = Agenda::new(alloc);
         agenda.reserve_timers(depot.room().saturating_mul(TIMER_KINDS))?;
         Ok(Station {
@@ -352,21 +352,19 @@ impl<'a, N: Names, R: Wait + Copy + Clock> Station<'a, N, R> {
         let Some(timer) = self.agenda.due(now) else {
             return false;
         };
-        let Some(place) = self.links.link_of(timer.key) else {
-            return self.tell_expired(timer, now);
-        };
-        if self.links.is_held(place) {
-            if let Err(back) = self.agenda.lay_by(place, timer) {
-                self.kept_timer = Some(back);
+        match expiry_of(timer, self.links.timed_link(timer.key), now) {
+            Expiry::Fires => self.tell_expired(timer, now),
+            Expiry::Rests(remote) => {
+                if let Err(back) = self.agenda.lay_by(remote, timer) {
+                    self.kept_timer = Some(back);
+                }
+                true
             }
-            return true;
+            Expiry::RunsUntil(deadline) => {
+                self.put_back(Armed { deadline, ..timer });
+                true
+            }
         }
-        let deadline = self.links.deadline(place, timer);
-        if deadline > now {
-            self.put_back(Armed { deadline, ..timer });
-            return true;
-        }
-        self.tell_expired(timer, now)
     }
 
     // Passes a timer's expiration to the entity; false if the entity refused it for now.

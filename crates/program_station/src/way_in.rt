@@ -1,11 +1,11 @@
 use crate::arrivals::{Arrivals, Sources};
+use crate::beside::Common;
 use crate::forwarder::{Forwarder, forwarders_of};
-use entity_config::Config;
-use program_desk::{Desk, Urgency};
+use program_desk::Urgency;
 use program_lot::Lot;
 use program_tallies::Tallies;
-use std::alloc::{AllocError, Global};
-use std::net::UdpSocket;
+use shared_lanes::Names;
+use std::alloc::AllocError;
 
 /// The datagrams that arrive at a program's socket, with a forwarder for each worker. All memory is reserved when it is
 /// opened.
@@ -15,23 +15,19 @@ pub struct WayIn<'a, R> {
     pub(crate) forwarders: Vec<Forwarder<'a, R>>,
 }
 
-impl<'a, R> WayIn<'a, R> {
+impl<'a, R: Copy> WayIn<'a, R> {
     /// A forwarder for each worker that `tallies` counts, for datagrams from these sources. `others` says how soon the
     /// main thread has to handle a step for which no client waits. Datagrams are parked in the lot, where there is one.
-    pub fn new(
-        rt: &'a R,
-        alloc: Global,
+    pub fn new<N: Names>(
+        common: &Common<'a, N, R>,
         tallies: &'a Tallies,
-        config: &'a Config,
-        socket: &'a UdpSocket,
-        desk: &'a Desk,
         others: Urgency,
         sources: Sources,
         lot: Option<&'a Lot>,
     ) -> Result<WayIn<'a, R>, AllocError> {
         Ok(WayIn {
-            arrivals: Arrivals::new(alloc, socket, desk, sources),
-            forwarders: forwarders_of(rt, alloc, tallies, config, socket, desk, others, lot)?,
+            arrivals: Arrivals::new(common.alloc, common.socket, common.desk, sources),
+            forwarders: forwarders_of(common, tallies, others, lot)?,
         })
     }
 }

@@ -1,6 +1,8 @@
 //! What a server shows: its status, and the events that it reports.
 #![tactic(auto)]
 
+mod count_lines;
+mod counts;
 mod event_log;
 mod events;
 mod notes;
@@ -8,6 +10,7 @@ mod refused;
 mod status;
 mod streams;
 
+pub use counts::StationCounts;
 pub use event_log::{EventLog, PENDING_OCTETS};
 pub use events::Events;
 pub use notes::{LaneNote, LaneNotes};

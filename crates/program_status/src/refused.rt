@@ -1,6 +1,7 @@
 //! Refusals, in the form that lines show.
+use pdu_codec::head_of;
 use program_tallies::RefusalCase;
-use station_lines::{Datagram, RefusedCase};
+use station_lines::{Datagram, RefusedCase, RefusedPdu};
 use std::alloc::{AllocError, Global};
 
 /// The address that a case's datagram came from; `None` for a command.
@@ -36,5 +37,20 @@ pub(crate) fn refused_case<'a>(
             }),
             None => None,
         },
+    }
+}
+
+/// What the datagram of a case says of its PDU; `None` for a command.
+pub(crate) fn refused_pdu(case: &RefusedCase<'_>) -> Option<RefusedPdu<'static>> {
+    let datagram = case.datagram?;
+    match head_of(datagram.octets) {
+        Some(head) => Some(RefusedPdu {
+            key: Some(head.key),
+            kind: head.kind.name(),
+        }),
+        None => Some(RefusedPdu {
+            key: None,
+            kind: "no PDU",
+        }),
     }
 }

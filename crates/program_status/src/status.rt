@@ -1,22 +1,24 @@
 //! The lines of a status.
+use crate::count_lines::{heard_at, missing_in, push_counts};
+use crate::counts::StationCounts;
 use crate::notes::LaneNotes;
-use crate::refused::{origin_of, refused_case};
+use crate::refused::{origin_of, refused_case, refused_pdu};
 use cfdp_types::limits::{JOURNAL_ENTRIES, JOURNAL_ENTRIES_KEPT};
 use cfdp_types::{EntityId, TxnKey};
 use entity_config::Config;
-use entity_routing::Place;
+use entity_routing::{Place, lanes_of};
 use lane_table::Glance;
 use program_desk::Reading;
 use program_lot::ParkedLane;
 use program_outbox::{Outgoing, Waiting, Windows};
 use program_tallies::Tallies;
-use shared_entity::{Entity, EntityRefusal};
+use shared_entity::Entity;
 use shared_lanes::Names;
 use station_lines::{
     Counters, EntityStatus, LogStatus, Moment, NoteStatus, Notice, ParkedStatus, QueuedStatus,
-    ReadingStatus, RemoteStatus, StoringStatus, TransactionStatus, UserStatus, push_entity,
-    push_log, push_note, push_parked, push_queued, push_reading, push_refusal, push_remote,
-    push_storing, push_transaction, push_user,
+    ReadingStatus, RemoteStatus, StoreStatus, StoringStatus, TransactionStatus, UserStatus,
+    push_entity, push_log, push_note, push_parked, push_queued, push_reading, push_refusal,
+    push_remote, push_storing, push_transaction, push_user,
 };
 use std::alloc::{AllocError, Global};
 use std::sync::Wait;
@@ -68,11 +70,16 @@ pub struct Shown<'a> {
     pub dropped_clients: u64,
     /// How many files were given to the store, and how many of them it did not keep.
     pub stores: (u64, u64),
+    /// What is counted of transactions and files, where that is asked for, and the last file that the store was given.
+    pub counts: Option<&'a StationCounts>,
+    pub last_store: Option<StoreStatus>,
+    /// Whether refusals show which PDU the last datagram was.
+    pub explains: bool,
 }
 
 /// Adds a line for the entity, for the log, for each user, for each lane that has run a transaction, for each file of
 /// the outbox, for each file that is being read or stored, for each lane for which datagrams are parked, for each remote entity,
-/// for each kind of refusal, and for each note on lanes. The lanes' locks are taken one at a time.
+/// for each kind of refusal, for each note on lanes, and for what is counted. The lanes' locks are taken one at a time.
 pub fn push_status<N: Names, R: Wait + Copy>(
     rt: &R,
     alloc: Global,
@@ -84,15 +91,16 @@ pub fn push_status<N: Names, R: Wait + Copy>(
     push_head(alloc, text, entity, shown)?;
     push_users(rt, alloc, text, entity, ports)?;
     for user in 0..entity.users() {
-        push_lanes(rt, alloc, text, entity, user, shown.notes)?;
+        push_lanes(rt, alloc, text, entity, user, shown)?;
     }
     push_outbox(alloc, text, entity.config(), shown.outgoing)?;
     push_readings(alloc, text, shown.readings)?;
     push_stores(alloc, text, shown.storing)?;
     push_parked_lanes(alloc, text, entity.config(), shown.parked)?;
     push_remotes(alloc, text, entity, shown)?;
-    push_refusals(rt, alloc, text, shown.tallies)?;
-    push_notes(alloc, text, shown.hints)
+    push_refusals(rt, alloc, text, shown.tallies, shown.explains)?;
+    push_notes(alloc, text, shown.hints)?;
+    push_counts(alloc, text, shown)
 }
 
 fn push_head<N: Names, R: Copy>(
@@ -163,12 +171,12 @@ fn push_lanes<N: Names, R: Wait + Copy>(
     text: &mut String,
     entity: &Entity<N, R>,
     user: usize,
-    notes: &LaneNotes,
+    shown: &Shown<'_>,
 ) -> Result<(), AllocError> {
-    for lane in 0..LANES {
+    for lane in 0..lanes_of(entity.config(), user) {
         match entity.glance(rt, Place { user, lane }) {
             Ok(Some(glance)) => {
-                let note = notes.of(user, lane, glance.key);
+                let note = shown.notes.of(user, lane, glance.key);
                 let transaction = TransactionStatus {
                     glance: &glance,
                     user: entity.config().name_of(user).unwrap_or(""),
@@ -176,19 +184,16 @@ fn push_lanes<N: Names, R: Wait + Copy>(
                     last: note.last,
                     ending: if glance.has_ended { note.ending } else { None },
                     notice: notice_of(&glance, few_numbers(entity.config(), glance.key)),
+                    missing: missing_in(shown, Place { user, lane }, &glance),
                 };
                 push_transaction(alloc, text, &transaction)?;
             }
             Ok(None) => {}
-            Err(EntityRefusal::WrongLane) => break,
             Err(_) => return Err(AllocError),
         }
     }
     Ok(())
 }
-
-// More lanes than a user may have.
-const LANES: usize = 1_024;
 
 // The number from which on a lane has few left: a thousand rounds before the greatest that its sequence numbers can
 // tell apart, or an eighth before it if that is less.
@@ -319,6 +324,7 @@ fn push_remotes<N: Names, R: Copy>(
             datagrams_out: totals.datagrams_out,
             octets_out: totals.octets_out,
             failed_sends: totals.failed_sends,
+            heard: heard_at(tallies, place, shown.now),
         };
         push_remote(alloc, text, &status)?;
     }
@@ -337,11 +343,13 @@ fn push_refusals<R: Wait>(
     alloc: Global,
     text: &mut String,
     tallies: &Tallies,
+    explains: bool,
 ) -> Result<(), AllocError> {
     for case in &tallies.ledger.cases(rt, alloc)? {
         let origin = origin_of(alloc, case)?;
         let shown = refused_case(case, &origin, case.count);
-        push_refusal(alloc, text, &shown, Moment(case.last))?;
+        let pdu = if explains { refused_pdu(&shown) } else { None };
+        push_refusal(alloc, text, &shown, Moment(case.last), pdu)?;
     }
     Ok(())
 }

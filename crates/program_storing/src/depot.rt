@@ -62,6 +62,16 @@ pub struct StoredNote {
     pub place: Option<String>,
 }
 
+/// The last file that the store was given.
+#[derive(Clone, Copy, Debug, PartialEq, Eq)]
+pub struct LastStore {
+    pub key: TxnKey,
+    /// When it was stored, in milliseconds since 1970.
+    pub at: u64,
+    /// How long the last try to store it took, in microseconds.
+    pub microseconds: u64,
+}
+
 /// What the store's thread leaves for the main thread.
 #[derive(Debug, Drop)]
 pub struct Stored {
@@ -90,6 +100,7 @@ struct Trays {
     under_way: Option<Storing>,
     /// How many files were given to the store, and how many of them it did not keep.
     stores: (u64, u64),
+    last_store: Option<LastStore>,
     has_ended: bool,
 }
 
@@ -122,6 +133,7 @@ impl Depot {
                 stored: VecDeque::with_capacity(alloc, lanes)?,
                 under_way: None,
                 stores: (0, 0),
+                last_store: None,
                 has_ended: false,
             }),
             came: Condvar::new(),
@@ -175,6 +187,11 @@ impl Depot {
     /// How many files were given to the store, and how many of them it did not keep.
     pub fn stores<R: Wait>(&self, rt: &R) -> (u64, u64) {
         self.trays.lock(rt).stores
+    }
+
+    /// The last file that the store was given, if it was given one.
+    pub fn last_store<R: Wait>(&self, rt: &R) -> Option<LastStore> {
+        self.trays.lock(rt).last_store
     }
 
     /// Which file the store is at, and which wait since they couldn't be stored so far.
@@ -271,6 +288,11 @@ impl Depot {
         let mut trays = self.trays.lock(rt);
         trays.under_way = None;
         trays.stores = stores;
+    }
+
+    // Notes how long the store took for the last file that it was given.
+    pub(crate) fn note_store<R: Wait>(&self, rt: &R, last: LastStore) {
+        self.trays.lock(rt).last_store = Some(last);
     }
 
     // Leaves what became of a file. It waits while there is no room, until the depot is closed.

@@ -5,6 +5,6 @@ mod depot;
 mod station_files;
 mod storer;
 
-pub use depot::{Depot, DepotReport, Stored, StoredNote, Storing};
+pub use depot::{Depot, DepotReport, LastStore, Stored, StoredNote, Storing};
 pub use station_files::StationFiles;
 pub use storer::{Storer, StorerTurn, run_storer};

@@ -1,11 +1,11 @@
 //! The thread that stores received files.
-use crate::depot::{Depot, Pending, Stored, StoredNote, Storing, Untold, Work};
+use crate::depot::{Depot, LastStore, Pending, Stored, StoredNote, Storing, Untold, Work};
 use crate::station_files::StationFiles;
 use cfdp_types::Deposit;
 use disk::Hindrance;
 use entity_workers::{DepositRest, Filestore, deposit_one, finish};
 use lane_table::Done;
-use program_desk::{Desk, moment};
+use program_desk::{Desk, moment, wall_moment};
 use shared_entity::Entity;
 use shared_lanes::Names;
 use std::alloc::Global;
@@ -38,6 +38,8 @@ pub struct Storer<'a, N: Names, R: Copy, S: Drop> {
     shows_places: bool,
     /// What the depot had no memory for.
     kept: Option<Work>,
+    /// When the store was last given work, in microseconds of the runtime's clock.
+    begun: u64,
 }
 
 impl<'a, N: Names, R: Wait + Copy + Clock, S: Filestore + StationFiles + Drop> Storer<'a, N, R, S> {
@@ -61,6 +63,7 @@ impl<'a, N: Names, R: Wait + Copy + Clock, S: Filestore + StationFiles + Drop> S
             retry: 0,
             shows_places: false,
             kept: None,
+            begun: 0,
         }
     }
 
@@ -77,6 +80,7 @@ impl<'a, N: Names, R: Wait + Copy + Clock, S: Filestore + StationFiles + Drop> S
     /// Does what is to be done at a moment by the runtime's clock: stores a file, or tells a lane again.
     pub fn turn(&mut self, now: u64) -> StorerTurn {
         let kept = self.kept.take();
+        self.begun = microseconds(self.rt);
         let work = match kept {
             Some(work) => work,
             None => match self.depot.begin(self.rt, now) {
@@ -167,6 +171,9 @@ impl<'a, N: Names, R: Wait + Copy + Clock, S: Filestore + StationFiles + Drop> S
         let note = self.note_since(storing, before);
         let counts = self.counts();
         self.depot.end_one(self.rt, counts);
+        if note.is_some() {
+            self.note_time(storing);
+        }
         match answer {
             Ok(done) => {
                 self.leave(note, Some(done));
@@ -183,6 +190,16 @@ impl<'a, N: Names, R: Wait + Copy + Clock, S: Filestore + StationFiles + Drop> S
                 }
             }
         }
+    }
+
+    // Notes how long the store took for a file.
+    fn note_time(&self, storing: Storing) {
+        let last = LastStore {
+            key: storing.key,
+            at: wall_moment(self.rt),
+            microseconds: microseconds(self.rt).saturating_sub(self.begun),
+        };
+        self.depot.note_store(self.rt, last);
     }
 
     // What became of a file, if the store was given one since it counted so many.
@@ -222,6 +239,14 @@ impl<'a, N: Names, R: Wait + Copy + Clock, S: Filestore + StationFiles + Drop> S
     fn keep(&mut self, work: Work) -> StorerTurn {
         self.kept = Some(work);
         StorerTurn::Rests
+    }
+}
+
+// The moment by the runtime's clock, in microseconds, or 0 if it has none.
+fn microseconds(rt: &impl Clock) -> u64 {
+    match rt.monotonic() {
+        Ok(time) => u64::try_from(time.as_micros()).unwrap_or(u64::MAX),
+        Err(_) => 0,
     }
 }
 

@@ -49,4 +49,21 @@ impl Tallies {
         }
         totals
     }
+
+    /// All threads note from now on when remote entities are heard.
+    pub fn hear(&self) {
+        self.own.hear();
+        for worker in &self.workers {
+            worker.hear();
+        }
+    }
+
+    /// When a PDU came last from the remote entity at a place of the configuration, in milliseconds since 1970, if one came.
+    pub fn heard(&self, place: usize) -> Option<u64> {
+        let mut last = self.own.heard(place);
+        for worker in &self.workers {
+            last = last.max(worker.heard(place));
+        }
+        if last == 0 { None } else { Some(last) }
+    }
 }

@@ -1,6 +1,6 @@
 //! One thread's counts of its datagrams.
 use std::alloc::{AllocError, Global};
-use std::sync::atomic::{AtomicU64, Ordering};
+use std::sync::atomic::{AtomicBool, AtomicU64, Ordering};
 
 // A number that one thread increases and others read.
 #[derive(Drop)]
@@ -32,6 +32,8 @@ struct RemoteTraffic {
     datagrams_out: Counter,
     octets_out: Counter,
     failed_sends: Counter,
+    /// When it was heard last, in milliseconds since 1970, or 0.
+    heard: AtomicU64,
 }
 
 /// The counts of one remote entity.
@@ -68,6 +70,8 @@ pub struct Traffic {
     /// Sends to an entity without an address.
     unaddressed: Counter,
     remotes: Vec<RemoteTraffic>,
+    /// Whether it notes when remote entities are heard.
+    hears: AtomicBool,
 }
 
 impl Traffic {
@@ -81,6 +85,7 @@ impl Traffic {
                 datagrams_out: Counter::new(),
                 octets_out: Counter::new(),
                 failed_sends: Counter::new(),
+                heard: AtomicU64::new(0),
             })?;
         }
         Ok(Traffic {
@@ -91,6 +96,7 @@ impl Traffic {
             decode_faults: Counter::new(),
             unaddressed: Counter::new(),
             remotes: all,
+            hears: AtomicBool::new(false),
         })
     }
 
@@ -104,6 +110,31 @@ impl Traffic {
                 remote.octets_in.add(octets as u64);
             }
             None => self.foreign_datagrams.add(1),
+        }
+    }
+
+    /// Notes from now on when remote entities are heard.
+    pub(crate) fn hear(&self) {
+        self.hears.store(true, Ordering::Relaxed);
+    }
+
+    /// Whether it notes when remote entities are heard. Takes no lock.
+    pub fn hears(&self) -> bool {
+        self.hears.load(Ordering::Relaxed)
+    }
+
+    /// Notes that a PDU came from the remote entity at this place of the configuration, at a moment in milliseconds since 1970.
+    pub fn note_heard(&self, place: usize, at: u64) {
+        if let Some(remote) = self.remotes.get(place) {
+            remote.heard.store(at, Ordering::Relaxed);
+        }
+    }
+
+    /// When the remote entity at this place was heard last, or 0.
+    pub(crate) fn heard(&self, place: usize) -> u64 {
+        match self.remotes.get(place) {
+            Some(remote) => remote.heard.load(Ordering::Relaxed),
+            None => 0,
         }
     }
 

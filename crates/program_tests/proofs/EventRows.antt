@@ -13,7 +13,7 @@ use Rattle.cfdp_types.specs.declared.names.FileStatus.TheVariants.{Unreported}
 use Rattle.indications.specs.declared.indication.Indication.{Indication}
 use Rattle.indications.specs.declared.indication.Indication.TheVariants as told
 use Rattle.indications.specs.declared.indication.Phase.TheVariants.{Closing}
-use Rattle.station_lines.specs.EventLines.{end_line, hold_line, indication_line, journal_full_line, put_line, reads_ended_line, refused_line, release_line, skipped_line, start_line, stored_line, unparked_line, unsent_line}
+use Rattle.station_lines.specs.EventLines.{command_line, end_line, hold_line, indication_line, journal_full_line, put_line, reads_ended_line, refused_line, release_line, skipped_line, start_line, stored_line, unparked_line, unsent_line}
 use Rattle.station_lines.specs.Members.{text_member, flag_member, number_member, hex_member, octets_member, moment_member, object_member, hexes_member}
 use Rattle.station_lines.specs.Letters.{safe_text}
 use Rattle.station_lines.specs.Shared.{first_octets}
@@ -95,11 +95,41 @@ an_unsent_file : unsent_line (event 1) (record {
   destination = record { 0 = 7 };
   file = ref (97 ∷ 0xFF ∷ []);
   why = ref (codes "read fault");
+  reason = None;
 })
     ≡ codes "{\"at\":\"2026-11-26T12:00:00.000Z\",\"number\":1,\"kind\":\"unsent\",\"queued\":3,\"user\":\"ops\",\"destination\":7,"
     ++ codes "\"file_hex\":\"61ff\",\"why\":\"read fault\"}\n"
 unfolding digits padded_integral char_count encode_utf8 chars is_utf8 encode_with print_from escape_byte text_member flag_member number_member hex_member octets_member moment_member object_member hexes_member first_octets safe_text
 an_unsent_file = refl
+
+an_unread_file : unsent_line (event 1) (record {
+  queued = 3;
+  user = ref (codes "ops");
+  destination = record { 0 = 7 };
+  file = ref (codes "a");
+  why = ref (codes "read fault");
+  reason = Some (ref (codes "is a folder"));
+})
+    ≡ codes "{\"at\":\"2026-11-26T12:00:00.000Z\",\"number\":1,\"kind\":\"unsent\",\"queued\":3,\"user\":\"ops\",\"destination\":7,"
+    ++ codes "\"file\":\"a\",\"why\":\"read fault\",\"reason\":\"is a folder\"}\n"
+unfolding digits padded_integral char_count encode_utf8 chars is_utf8 encode_with print_from escape_byte text_member flag_member number_member hex_member octets_member moment_member object_member hexes_member first_octets safe_text
+an_unread_file = refl
+
+a_command : command_line (event 1) (record { words = ref (codes "quit"); answer = ref (codes "ok"); seat = None; reason = None })
+    ≡ codes "{\"at\":\"2026-11-26T12:00:00.000Z\",\"number\":1,\"kind\":\"command\",\"words\":\"quit\",\"answer\":\"ok\",\"by\":\"input\"}\n"
+unfolding digits padded_integral char_count encode_utf8 chars is_utf8 encode_with print_from escape_byte text_member flag_member number_member hex_member octets_member moment_member object_member hexes_member first_octets safe_text
+a_command = refl
+
+an_unread_put : command_line (event 1) (record {
+  words = ref (codes "put a");
+  answer = ref (codes "read fault");
+  seat = Some 3;
+  reason = Some (ref (codes "is not there"));
+})
+    ≡ codes "{\"at\":\"2026-11-26T12:00:00.000Z\",\"number\":1,\"kind\":\"command\",\"words\":\"put a\",\"answer\":\"read fault\","
+    ++ codes "\"by\":\"client\",\"seat\":3,\"reason\":\"is not there\"}\n"
+unfolding digits padded_integral char_count encode_utf8 chars is_utf8 encode_with print_from escape_byte text_member flag_member number_member hex_member octets_member moment_member object_member hexes_member first_octets safe_text
+an_unread_put = refl
 
 a_hold : hold_line (event 2) (record { 0 = 7 })
     ≡ codes "{\"at\":\"2026-11-26T12:00:00.000Z\",\"number\":2,\"kind\":\"hold\",\"id\":7}\n"

@@ -97,7 +97,8 @@ abbrev file : List ℕ → Option GlancedFile
 file name = Some (record { size = 9; source_name = name; destination_name = codes "b.bin" })
 
 abbrev transaction : Glance → TransactionStatus
-transaction glance = record { glance = ref glance; user = ref (codes "ops"); lane = 3; last = None; ending = None; notice = None }
+transaction glance =
+    record { glance = ref glance; user = ref (codes "ops"); lane = 3; last = None; ending = None; notice = None; missing = None }
 
 abbrev head : List ℕ
 head =
@@ -109,6 +110,12 @@ a_transaction : transaction_line (record (transaction (glance None false)) { not
     ≡ head ++ codes "storing\",\"octets\":3,\"events\":17,\"notice\":\"last-numbers\"}\n"
 unfolding digits padded_integral char_count encode_utf8 chars is_utf8 encode_with print_from escape_byte text_member flag_member number_member hex_member octets_member moment_member object_member hexes_member first_octets safe_text
 a_transaction = refl
+
+-- one that is counted
+a_counted_transaction : transaction_line (record (transaction (glance None false)) { notice = Some LastNumbers; missing = Some 7 })
+    ≡ head ++ codes "storing\",\"octets\":3,\"events\":17,\"notice\":\"last-numbers\",\"missing\":7}\n"
+unfolding digits padded_integral char_count encode_utf8 chars is_utf8 encode_with print_from escape_byte text_member flag_member number_member hex_member octets_member moment_member object_member hexes_member first_octets safe_text
+a_counted_transaction = refl
 
 -- a name with control characters, a quote and a letter beyond ASCII
 a_finished_transaction : transaction_line (record (transaction (glance (file (97 ∷ 10 ∷ 1 ∷ 34 ∷ 0x7F ∷ 0xC3 ∷ 0xA9 ∷ [])) true)) {
@@ -189,6 +196,7 @@ remote = record {
   datagrams_out = 2;
   octets_out = 18;
   failed_sends = 3;
+  heard = None;
 }
 
 a_held_remote : remote_line remote
@@ -196,6 +204,13 @@ a_held_remote : remote_line remote
     ++ codes "\"datagrams_in\":1,\"octets_in\":9007199254740992,\"datagrams_out\":2,\"octets_out\":18,\"failed_sends\":3}\n"
 unfolding digits padded_integral char_count encode_utf8 chars is_utf8 encode_with print_from escape_byte text_member flag_member number_member hex_member octets_member moment_member object_member hexes_member first_octets safe_text
 a_held_remote = refl
+
+a_heard_remote : remote_line (record remote { heard = Some (record { at = noon; silence = 250 }) })
+    ≡ codes "{\"kind\":\"remote\",\"id\":1,\"held\":true,\"held_since\":\"2026-11-26T12:00:00.000Z\","
+    ++ codes "\"datagrams_in\":1,\"octets_in\":9007199254740992,\"datagrams_out\":2,\"octets_out\":18,\"failed_sends\":3,"
+    ++ codes "\"heard\":\"2026-11-26T12:00:00.000Z\",\"silence\":250}\n"
+unfolding digits padded_integral char_count encode_utf8 chars is_utf8 encode_with print_from escape_byte text_member flag_member number_member hex_member octets_member moment_member object_member hexes_member first_octets safe_text
+a_heard_remote = refl
 
 a_remote : remote_line (record remote {
   id = record { 0 = 18446744073709551615 };
@@ -214,7 +229,7 @@ a_remote = refl
 abbrev case : RefusedCase
 case = record { number = 8; name = ref (codes "WrongState"); fault = None; count = 1; datagram = None }
 
-a_refused_command : refusal_line case noon
+a_refused_command : refusal_line case noon None
     ≡ codes "{\"kind\":\"refusal\",\"number\":8,\"name\":\"WrongState\",\"count\":1,\"last\":\"2026-11-26T12:00:00.000Z\"}\n"
 unfolding digits padded_integral char_count encode_utf8 chars is_utf8 encode_with print_from escape_byte text_member flag_member number_member hex_member octets_member moment_member object_member hexes_member first_octets safe_text
 a_refused_command = refl
@@ -225,7 +240,7 @@ a_refused_datagram : refusal_line (record {
   fault = Some 3;
   count = 3;
   datagram = Some (record { from = ref (codes "192.0.2.1:4556"); octets = ref (0x24 ∷ 0 ∷ 0x0A ∷ []) });
-}) noon
+}) noon None
     ≡ codes "{\"kind\":\"refusal\",\"number\":20,\"name\":\"DecodeFault\",\"fault\":3,\"count\":3,"
     ++ codes "\"last\":\"2026-11-26T12:00:00.000Z\",\"from\":\"192.0.2.1:4556\",\"octets\":\"24000a\"}\n"
 unfolding digits padded_integral char_count encode_utf8 chars is_utf8 encode_with print_from escape_byte text_member flag_member number_member hex_member octets_member moment_member object_member hexes_member first_octets safe_text
@@ -244,3 +259,17 @@ a_note_without_advice : note_line (record { remote = record { 0 = 18446744073709
     ++ codes "\"sending_lanes\":6,\"receiving_lanes\":8,\"better\":[]}\n"
 unfolding digits padded_integral char_count encode_utf8 chars is_utf8 encode_with print_from escape_byte text_member flag_member number_member hex_member octets_member moment_member object_member hexes_member numbers_member first_octets safe_text
 a_note_without_advice = refl
+
+-- what the datagram says of its PDU: a transaction and a kind, or that it is none
+a_refused_pdu : refusal_line (record case { datagram = Some (record { from = ref (codes "a"); octets = ref (0x24 ∷ []) }) }) noon
+    (Some (record { key = Some (record { source = record { 0 = 1 }; seq = 5 }); kind = ref (codes "EOF") }))
+    ≡ codes "{\"kind\":\"refusal\",\"number\":8,\"name\":\"WrongState\",\"count\":1,\"last\":\"2026-11-26T12:00:00.000Z\","
+    ++ codes "\"from\":\"a\",\"octets\":\"24\",\"source\":1,\"seq\":5,\"pdu\":\"EOF\"}\n"
+unfolding digits padded_integral char_count encode_utf8 chars is_utf8 encode_with print_from escape_byte text_member flag_member number_member hex_member octets_member moment_member object_member hexes_member first_octets safe_text
+a_refused_pdu = refl
+
+no_pdu : refusal_line case noon (Some (record { key = None; kind = ref (codes "no PDU") }))
+    ≡ codes "{\"kind\":\"refusal\",\"number\":8,\"name\":\"WrongState\",\"count\":1,\"last\":\"2026-11-26T12:00:00.000Z\","
+    ++ codes "\"pdu\":\"no PDU\"}\n"
+unfolding digits padded_integral char_count encode_utf8 chars is_utf8 encode_with print_from escape_byte text_member flag_member number_member hex_member octets_member moment_member object_member hexes_member first_octets safe_text
+no_pdu = refl

@@ -47,6 +47,20 @@ fn are_counted(tallies: &Tallies) -> bool {
         && tallies.remote_totals(2) == RemoteTotals::default()
 }
 
+// The last moment at which any thread heard a remote entity, once that is asked for.
+fn are_heard(tallies: &Tallies) -> bool {
+    let heard_before = tallies.workers.iter().any(|worker| worker.hears());
+    tallies.hear();
+    for (place, worker) in tallies.workers.iter().enumerate() {
+        worker.note_heard(1, 5_000u64.saturating_add(place as u64));
+    }
+    tallies.own.note_heard(1, 4_000);
+    !heard_before
+        && tallies.workers.iter().all(|worker| worker.hears())
+        && tallies.heard(1) == Some(5_001)
+        && tallies.heard(2).is_none()
+}
+
 // Two kinds of refusal; the first one twice, and once more after it was reported.
 fn note_first<R: Wait>(rt: &R, ledger: &Ledger) {
     ledger.note(rt, ODD, 5_000, None, &[7; 100]);
@@ -94,6 +108,7 @@ fn counts(rt: HostRuntime) -> Result<(), Fail> {
     let tallies = Tallies::new(rt.alloc(), 2, 2)?;
     count(&tallies);
     assert!(rt; are_counted(&tallies) && are_reported(&rt, rt.alloc(), &tallies.ledger)?);
+    assert!(rt; are_heard(&tallies));
     Ok(())
 }
 

@@ -40,6 +40,7 @@ server_in_rows found words said = record {
   rates = ap rates_of (sym (raw_values-rows found (codes "rate"))) ∙ said.rates;
   follow = flag_by found (codes "follow") words.follow said.follow;
   control = sym (first_value-rows found (codes "control")) ∙ said.control;
+  status_socket = sym (first_value-rows found (codes "status-socket")) ∙ said.status_socket;
   log = sym (first_value-rows found (codes "log")) ∙ said.log;
   numbers = sym (first_value-rows found (codes "numbers")) ∙ said.numbers;
   known_sources = flag_by found (codes "known-sources") words.known_sources said.known_sources;
@@ -60,6 +61,7 @@ server_in_rows found words said = record {
   log_commands = flag_by found (codes "log-commands") words.log_commands said.log_commands;
   explain = flag_by found (codes "explain") words.explain said.explain;
   by_source = flag_by found (codes "by-source") words.by_source said.by_source;
+  counters = flag_by found (codes "counters") words.counters said.counters;
 }
 
 put_in_rows : (found : Found) (words : PutWords) → PutSays (found_in found) words → PutSays (in_rows (rows_of found)) words

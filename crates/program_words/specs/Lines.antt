@@ -44,7 +44,7 @@ first_options =
     ∷ valued (codes "workers") false ∷ repeated (codes "rate") ∷ flag (codes "follow")
     ∷ valued (codes "control") false ∷ valued (codes "log") false ∷ valued (codes "numbers") false
     ∷ flag (codes "known-sources") ∷ flag (codes "hold") ∷ flag (codes "tree") ∷ flag (codes "keep")
-    ∷ valued (codes "retry") false ∷ []
+    ∷ valued (codes "retry") false ∷ valued (codes "status-socket") false ∷ []
 
 abbrev pub server_program : App
 server_program = program_of (codes "cfdp_server")
@@ -53,7 +53,7 @@ server_program = program_of (codes "cfdp_server")
     ∷ flag (codes "strict-sources") ∷ flag (codes "abandon-full")
     ∷ valued (codes "log-level") false ∷ valued (codes "control-mode") false
     ∷ valued (codes "outbox") false ∷ flag (codes "log-commands")
-    ∷ flag (codes "explain") ∷ flag (codes "by-source") ∷ []))
+    ∷ flag (codes "explain") ∷ flag (codes "by-source") ∷ flag (codes "counters") ∷ []))
 
 -- the options of a check of the configuration
 abbrev pub check_program : App
@@ -96,6 +96,7 @@ pub record ServerSays (given : Givings) (words : ServerWords) : Type 0 where
   pub rates : rates_of (given.all (codes "rate")) ≡ map Some words.rates.items
   pub follow : IsFlag (given.one (codes "follow")) words.follow
   pub control : given.first (codes "control") ≡ option_map (λ path. path.now) words.control
+  pub status_socket : given.first (codes "status-socket") ≡ option_map (λ path. path.now) words.status_socket
   pub log : given.first (codes "log") ≡ option_map (λ path. path.now) words.log
   pub numbers : given.first (codes "numbers") ≡ option_map (λ path. path.now) words.numbers
   pub known_sources : IsFlag (given.one (codes "known-sources")) words.known_sources
@@ -116,6 +117,7 @@ pub record ServerSays (given : Givings) (words : ServerWords) : Type 0 where
   pub log_commands : IsFlag (given.one (codes "log-commands")) words.log_commands
   pub explain : IsFlag (given.one (codes "explain")) words.explain
   pub by_source : IsFlag (given.one (codes "by-source")) words.by_source
+  pub counters : IsFlag (given.one (codes "counters")) words.counters
 
 -- the put's words, as its command line gives them
 pub record PutSays (given : Givings) (words : PutWords) : Type 0 where

@@ -13,6 +13,7 @@ pub record PathsSay (given : Givings) (paths : ServerPaths) : Type 0 where
   pub bind : given.first (codes "bind") ≡ Some paths.bind.now
   pub folder : given.first (codes "folder") ≡ Some paths.folder.now
   pub control : given.first (codes "control") ≡ option_map (λ path. path.now) paths.control
+  pub status_socket : given.first (codes "status-socket") ≡ option_map (λ path. path.now) paths.status_socket
   pub log : given.first (codes "log") ≡ option_map (λ path. path.now) paths.log
   pub numbers : given.first (codes "numbers") ≡ option_map (λ path. path.now) paths.numbers
   pub outbox : given.first (codes "outbox") ≡ option_map (λ path. path.now) paths.outbox
@@ -40,3 +41,4 @@ pub record FlagsSay (given : Givings) (flags : ServerFlags) : Type 0 where
   pub keep : IsFlag (given.one (codes "keep")) flags.keep
   pub record_all : IsFlag (given.one (codes "record-all")) flags.record_all
   pub explain : IsFlag (given.one (codes "explain")) flags.explain
+  pub counters : IsFlag (given.one (codes "counters")) flags.counters

@@ -119,10 +119,36 @@ fn new_complaint(matches: &ArgMatches<'_>) -> Option<&'static str> {
     if mode_of(matches.get_str("control-mode")).is_none() {
         return Some("--control-mode takes 0600, 0660 or 0666");
     }
+    if let Some(wrong) = beside_complaint(
+        matches.get_str("status-socket"),
+        matches.get_str("control"),
+    ) {
+        return Some(wrong);
+    }
     if matches.get_str("outbox") == Some("") {
         return Some("--outbox takes the path of a file");
     }
     numbers_complaint(matches)
+}
+
+/// What is wrong with a socket that stands beside the control socket, if anything.
+pub(crate) fn beside_complaint(
+    beside: Option<&str>,
+    control: Option<&str>,
+) -> Option<&'static str> {
+    if beside.is_none() {
+        return None;
+    }
+    if beside == Some("") {
+        return Some("--status-socket takes a path");
+    }
+    if control.is_none() {
+        return Some("--status-socket stands beside --control");
+    }
+    if beside == control {
+        return Some("--status-socket takes another path than --control");
+    }
+    None
 }
 
 // What is wrong with the value of one of the put's options or words, if anything.

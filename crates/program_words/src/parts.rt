@@ -4,6 +4,7 @@ ghost use Rattle.clap.specs.Words.{found_of};
 ghost use Rattle.program_words.specs.Lines.{found_in};
 ghost use Rattle.program_words.specs.Parts.{FlagsSay, PathsSay, ValuesSay};
 
+use crate::complaints::beside_complaint;
 use crate::options::{is_address, level_of, mode_of, most_of, park_of, seconds_of, workers_of};
 use clap::ArgMatches;
 use event_levels::Level;
@@ -15,6 +16,7 @@ pub(crate) struct ServerPaths<'a> {
     pub(crate) bind: &'a str,
     pub(crate) folder: &'a str,
     pub(crate) control: Option<&'a str>,
+    pub(crate) status_socket: Option<&'a str>,
     pub(crate) log: Option<&'a str>,
     pub(crate) numbers: Option<&'a str>,
     pub(crate) outbox: Option<&'a str>,
@@ -46,6 +48,7 @@ pub(crate) struct ServerFlags {
     pub(crate) keep: bool,
     pub(crate) record_all: bool,
     pub(crate) explain: bool,
+    pub(crate) counters: bool,
 }
 
 /// The address and the paths; `None` where one of them can't be one.
@@ -56,13 +59,15 @@ pub(crate) fn paths_in<'a>(matches: &ArgMatches<'a>) -> Option<ServerPaths<'a>>
     let bind = matches.get_str("bind")?;
     let folder = matches.get_str("folder")?;
     let control = matches.get_str("control");
+    let status_socket = matches.get_str("status-socket");
     let log = matches.get_str("log");
     let numbers = matches.get_str("numbers");
     let outbox = matches.get_str("outbox");
     let record = matches.get_str("record");
     let is_named = control != Some("") && log != Some("") && numbers != Some("");
     let is_kept = record != Some("") && outbox != Some("");
-    if !is_address(bind) || folder.is_empty() || !is_named || !is_kept {
+    let is_beside = beside_complaint(status_socket, control).is_none();
+    if !is_address(bind) || folder.is_empty() || !is_named || !is_kept || !is_beside {
         return None;
     }
     Some(ServerPaths {
@@ -70,6 +75,7 @@ pub(crate) fn paths_in<'a>(matches: &ArgMatches<'a>) -> Option<ServerPaths<'a>>
         bind,
         folder,
         control,
+        status_socket,
         log,
         numbers,
         outbox,
@@ -113,5 +119,6 @@ pub(crate) fn flags_in(matches: &ArgMatches<'_>) -> ServerFlags
         keep: matches.get_flag("keep"),
         record_all: matches.get_flag("record-all"),
         explain: matches.get_flag("explain"),
+        counters: matches.get_flag("counters"),
     }
 }

@@ -30,11 +30,13 @@ pub struct ServerWords<'a> {
     pub follow: bool,
     /// The path of the socket where clients command the server, instead of standard input and output.
     pub control: Option<&'a str>,
+    /// The path of a second socket, beside that one, where clients only look at the station.
+    pub status_socket: Option<&'a str>,
     /// The path of the file to which events are appended.
     pub log: Option<&'a str>,
     /// The level from which on events are appended there, with their levels; all without it.
     pub log_level: Option<Level>,
-    /// The permissions of the socket's file, where they aren't its owner's alone.
+    /// The permissions of the files of both sockets, where they aren't their owner's alone.
     pub control_mode: Option<u32>,
     /// The path of the file that keeps where transaction numbers begin.
     pub numbers: Option<&'a str>,
@@ -71,6 +73,8 @@ pub struct ServerWords<'a> {
     pub record_most: u64,
     /// Whether the standard error says exactly what is wrong, also where no person reads it.
     pub explain: bool,
+    /// Whether the status shows what became of transactions, what files lack, and when remote entities were heard last.
+    pub counters: bool,
 }
 
 const HELP: &str = "Receives and sends files by CFDP over UDP, as one entity.
@@ -80,7 +84,7 @@ Usage: cfdp_server --config FILE --bind ADDR --folder DIR [--workers N] [--rate 
        [--strict-sources] [--hold] [--tree] [--keep] [--retry N] [--park OCTETS] [--lanes ID=N]..
        [--record DIR [--record-all] [--record-most N]] [--abandon-full]
        [--log-level LEVEL] [--control-mode MODE] [--outbox FILE] [--log-commands]
-       [--explain] [--by-source]
+       [--explain] [--by-source] [--status-socket PATH] [--counters]
 
   --config FILE   the configuration of the entity, in TOML
   --bind ADDR     where it listens: A.B.C.D:PORT, all in decimal
@@ -90,6 +94,7 @@ Usage: cfdp_server --config FILE --bind ADDR --folder DIR [--workers N] [--rate 
   --rate ID=N     the same for files to one remote entity; once for each entity
   --follow        prints each user's indications as they are issued, between answers to commands
   --control PATH  takes and answers commands at this socket, instead of standard input and output
+  --status-socket PATH  beside --control: answers `status`, `follow`, `outbox` and `journal` alone at this socket
   --log FILE      appends events to this file, one JSON object a line
   --numbers FILE  keeps in this file where the numbers of the next run begin
   --known-sources drops datagrams from addresses that the configuration doesn't have
@@ -109,10 +114,12 @@ Usage: cfdp_server --config FILE --bind ADDR --folder DIR [--workers N] [--rate 
   --record-most N keeps N scripts at most, 1 to 1000000 (default: 1000); the oldest ones go
   --abandon-full  abandons each transaction whose journal is full: it could not end by itself
   --log-level LEVEL  appends only events from this level on: detail, info or warning; each has its level then
-  --control-mode MODE  the permissions of the socket: 0600 (default), 0660 for its group, 0666 for everyone
+  --control-mode MODE  the permissions of the sockets: 0600 (default), 0660 for their group, 0666 for everyone
   --outbox FILE   keeps in this file what waits in the outbox and what is under way from there
   --log-commands  reports each command that changes something as an event, and who gave it
-  --explain       says in a second line which key, path or address is wrong, and why; with --check, too
+  --counters      counts transactions by their ends, files and missing octets, and shows them in the status
+  --explain       says in a second line which key, path or address is wrong, and why; with --check, too;
+                  events say why a file can't be read, and a status which PDU was refused
   --check         with --config alone: reads FILE, prints `ok` or what is wrong with it, and ends
   --help          prints this, and ends
   --version       prints the version, and ends
@@ -176,7 +183,8 @@ fn first_command<'a>(alloc: Global) -> Result<Command<'a>, AllocError>
         .arg(flag(alloc, "hold"))?
         .arg(flag(alloc, "tree"))?
         .arg(flag(alloc, "keep"))?
-        .arg(optional(alloc, "retry"))?;
+        .arg(optional(alloc, "retry"))?
+        .arg(optional(alloc, "status-socket"))?;
     Ok(command)
 }
 
@@ -198,7 +206,8 @@ fn whole_command<'a>(alloc: Global, first: Command<'a>) -> Result<Command<'a>, A
         .arg(optional(alloc, "outbox"))?
         .arg(flag(alloc, "log-commands"))?
         .arg(flag(alloc, "explain"))?
-        .arg(flag(alloc, "by-source"))?;
+        .arg(flag(alloc, "by-source"))?
+        .arg(flag(alloc, "counters"))?;
     Ok(command)
 }
 
@@ -232,6 +241,7 @@ fn words_with<'a>(
         rates,
         follow: flags.follow,
         control: paths.control,
+        status_socket: paths.status_socket,
         log: paths.log,
         log_level: values.log_level,
         control_mode: values.control_mode,
@@ -252,6 +262,7 @@ fn words_with<'a>(
         record_all: flags.record_all,
         record_most: values.record_most,
         explain: flags.explain,
+        counters: flags.counters,
     })
 }
 

@@ -9,7 +9,7 @@ use Rattle.line_words.specs.Places.{user_of, lane_of}
 use Rattle.line_words.specs.Words.{decimal_of}
 use Rattle.event_levels.specs.Levels.{level_named}
 use Rattle.event_levels.specs.declared.level.Level.{Level}
-use Rattle.quoted_words.specs.Quoted.{words_in}
+use Rattle.line_words.specs.Quoted.{words_in}
 use Rattle.server_lines.specs.declared.command.Command.{Command}
 use Rattle.server_lines.specs.declared.command.Command.TheVariants as command
 use Rattle.server_lines.specs.declared.command.Tuning.TheVariants as tuning

@@ -7,7 +7,7 @@ use cfdp_types::{Class, EntityId, Octets, TxnKey};
 use entity_config::Config;
 use entity_routing::Request;
 use event_levels::Level;
-use quoted_words::{Words, has_quote, is_ascii, quoted_words};
+use line_words::{Words, has_quote, is_ascii, quoted_words};
 use std::alloc::{AllocError, Global};
 
 /// A file to be sent from one of a user's lanes.

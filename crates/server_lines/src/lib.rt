@@ -2,6 +2,7 @@
 #![tactic(auto)]
 
 mod command;
+mod looking;
 mod operands;
 mod options;
 mod other;
@@ -10,3 +11,4 @@ mod sending;
 mod tuning;
 
 pub use command::{Command, PutCommand, SendCommand, Tuning, command_of};
+pub use looking::only_looks;

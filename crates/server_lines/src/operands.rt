@@ -5,7 +5,7 @@ ghost use Rattle.line_words.specs.Operands.{closure_of};
 ghost use Rattle.server_lines.specs.Commands.{file_name_of};
 
 use cfdp_types::limits::NAME_OCTETS;
-use quoted_words::Words;
+use line_words::Words;
 
 /// A file name: neither empty nor too long.
 pub(crate) fn file_name_of(word: &[u8]) -> Option<&[u8]>

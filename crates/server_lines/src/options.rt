@@ -4,7 +4,7 @@ ghost use Rattle.server_lines.specs.Commands.{after_closure, after_urgent, name_
 
 use crate::operands::file_name_of;
 use cfdp_types::Octets;
-use quoted_words::Words;
+use line_words::Words;
 use std::alloc::{AllocError, Global};
 
 // What a send asks for beside its file.

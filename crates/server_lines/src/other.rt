@@ -5,8 +5,7 @@ ghost use Rattle.server_lines.specs.Commands.{other_by, outbox_by, outbox_of, dr
 use crate::command::Command;
 use crate::tuning::{follow, hold, rate, release, reopen};
 use entity_config::Config;
-use line_words::{key_from, number_of, request_for, user_of};
-use quoted_words::Words;
+use line_words::{Words, key_from, number_of, request_for, user_of};
 
 /// Parses a command that allocates nothing.
 pub(crate) fn other(config: &Config, kind: &[u8], operands: Words<'_>) -> Option<Command>

@@ -5,8 +5,7 @@ ghost use Rattle.server_lines.specs.Commands.{put_of, put_command, send_of, send
 use crate::command::{Command, PutCommand, SendCommand};
 use crate::sending::{Sending, Waiting, sending_of, waiting_of};
 use entity_config::Config;
-use line_words::{lane_of, user_of};
-use quoted_words::Words;
+use line_words::{Words, lane_of, user_of};
 use std::alloc::{AllocError, Global};
 
 /// Parses a Put from the words after the first one.

@@ -5,8 +5,7 @@ ghost use Rattle.server_lines.specs.Commands.{sending_from, sending_of, waiting_
 use crate::operands::{closure_of, file_name_of};
 use crate::options::{SendOptions, options_of};
 use cfdp_types::{Class, EntityId, Octets};
-use line_words::{class_of, number_of};
-use quoted_words::Words;
+use line_words::{Words, class_of, number_of};
 use std::alloc::{AllocError, Global};
 
 // A file to be sent, without its user.

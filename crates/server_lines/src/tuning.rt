@@ -5,8 +5,7 @@ ghost use Rattle.server_lines.specs.Commands.{follow_by, follow_of, hold_of, pos
 use crate::command::{Command, Tuning};
 use cfdp_types::EntityId;
 use event_levels::Level;
-use line_words::{decimal, number_of};
-use quoted_words::Words;
+use line_words::{Words, decimal, number_of};
 
 // The greatest limit, in octets a second.
 const MOST_OCTETS_A_SECOND: u64 = 1_000_000_000;

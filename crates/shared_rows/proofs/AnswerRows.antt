@@ -14,8 +14,8 @@ use Rattle.lane_table.specs.declared.done.Done.{Done}
 use Rattle.lane_table.specs.declared.refused.Refused.{Refused}
 use Rattle.lane_table.specs.Steps.{image_of, plainly}
 use Rattle.lane_table.specs.Keeping.{sent_after}
-use Rattle.lane_rows.specs.SendingLaneRows.{put, on}
-use Rattle.lane_rows.specs.ReceivingLaneRows.{fresh, key, storing, image, image_waits, other_stamp, other_key}
+use Rattle.world_rows.specs.SendingLaneRows.{put, on}
+use Rattle.world_rows.specs.ReceivingLaneRows.{fresh, key, storing, image, image_waits, other_stamp, other_key}
 use Rattle.entity_routing.specs.Routes.{Routed}
 use Rattle.entity_routing.specs.declared.place.Place.{Place}
 use Rattle.entity_routing.specs.declared.refusal.RouteRefusal.{RouteRefusal}

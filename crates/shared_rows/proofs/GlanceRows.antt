@@ -8,9 +8,9 @@ use Rattle.txn_events.specs.declared.event.What.TheVariants as what
 use Rattle.receiver_table.specs.Reception as reception
 use Rattle.sender_table.specs.Sending as sending
 use Rattle.lane_table.specs.Glances.{glance_of}
-use Rattle.lane_rows.specs.ReceivingLaneRows.{key, after, storing, cancelled, part}
-use Rattle.lane_rows.specs.ReceivingLaneRows as receiving
-use Rattle.lane_rows.specs.SendingLaneRows as puts
+use Rattle.world_rows.specs.ReceivingLaneRows.{key, after, storing, cancelled, part}
+use Rattle.world_rows.specs.ReceivingLaneRows as receiving
+use Rattle.world_rows.specs.SendingLaneRows as puts
 
 -- ---- a lane that receives
 

@@ -20,8 +20,8 @@ use Rattle.lane_table.specs.Keeping.{IsUpTo}
 use Rattle.lane_table.proofs.StepFacts.{idle_keeps, idle_sound}
 use Rattle.lane_table.proofs.RunFacts.{steps_keep}
 use Rattle.lane_table.proofs.SentFacts.{some_is}
-use Rattle.lane_rows.specs.SendingLaneRows.{fresh, key, put, on}
-use Rattle.lane_rows.specs.LaneKeepingRows.{bundle}
+use Rattle.world_rows.specs.SendingLaneRows.{fresh, key, put, on}
+use Rattle.world_rows.specs.LaneKeepingRows.{bundle}
 use Rattle.txn_lane.specs.Stepping.{RanOut, WasFull}
 use Rattle.user_queues.specs.Names.{no_queue}
 use Rattle.user_queues.specs.Shared.{OutletEnd}

@@ -23,7 +23,7 @@ use Rattle.lane_table.specs.Keeping.{Keeps, bundle_of, sent_after, AreTaken}
 use Rattle.lane_table.proofs.StepFacts.{idle_keeps, idle_sound}
 use Rattle.lane_table.proofs.RunFacts.{steps_keep}
 use Rattle.lane_table.proofs.SentFacts.{some_is}
-use Rattle.lane_rows.specs.ReceivingLaneRows.{fresh, key, metadata, part, eof, after, storing, image, image_waits}
+use Rattle.world_rows.specs.ReceivingLaneRows.{fresh, key, metadata, part, eof, after, storing, image, image_waits}
 use Rattle.lane_table.specs.Images.{IsOwnFile}
 use Rattle.lane_table.proofs.ImageFacts.{gives_own_files}
 

@@ -4,7 +4,7 @@ use Rattle.std.proofs.lemmas.Bool.{false≢true}
 use Rattle.cfdp_types.specs.declared.image.Image.{Image}
 use Rattle.txn_events.specs.declared.refusal.Refusal.TheVariants as refusal
 use Rattle.lane_table.specs.Steps.{image_of, plainly}
-use Rattle.lane_rows.specs.ReceivingLaneRows.{key, storing, image, image_waits, other_stamp}
+use Rattle.world_rows.specs.ReceivingLaneRows.{key, storing, image, image_waits, other_stamp}
 use Rattle.lane_traces.specs.Traces.{how_far}
 use Rattle.entity_parts.specs.declared.refusal.EntityRefusal.{EntityRefusal}
 use Rattle.entity_parts.specs.declared.refusal.EntityRefusal.TheVariants as answer

@@ -8,7 +8,7 @@ use Rattle.receiver_table.specs.Reception.{initial, step, state_of}
 use Rattle.gap_list.specs.Runs.{runs_of, runs_from}
 use Rattle.txn_events.specs.declared.refusal.Refusal.TheVariants as refusal
 use Rattle.lane_table.specs.Lane.{State, entries_in, issued_in, issued_by}
-use Rattle.lane_rows.specs.ReceivingLaneRows.{fresh, key, after, storing, cancelled}
+use Rattle.world_rows.specs.ReceivingLaneRows.{fresh, key, after, storing, cancelled}
 use Rattle.lane_traces.specs.declared.traced.Traced.{Traced}
 use Rattle.lane_traces.specs.Traces.{events_of, how_far, IsHowFar}
 use Rattle.lane_traces.proofs.TraceFacts.{tells_how_far}

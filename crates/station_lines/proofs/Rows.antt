@@ -4,11 +4,13 @@ use Rattle.std.specs.Char.{encode_utf8}
 use Rattle.std.specs.Fmt.{digits, padded_integral, char_count}
 use Rattle.std.specs.Str.{chars, is_utf8}
 use Rattle.hex.specs.Hex.{encode_with}
+use Rattle.indications.specs.declared.side.Side.TheVariants.{Sender, Receiver}
 use Rattle.json.specs.Print.{print, print_from, escape_byte}
 use Rattle.station_lines.specs.Letters.{safe_text}
 use Rattle.station_lines.specs.Moments.{moment_text}
 use Rattle.station_lines.specs.Members.{number_member, octets_member, text_member, flag_member, hex_member, moment_member}
-use Rattle.station_lines.specs.StatusLines.{log_line, storing_line, why_members}
+use Rattle.station_lines.specs.CountLines.{delivered_line, ended_line, store_line}
+use Rattle.station_lines.specs.StatusLines.{heard_members, log_line, missing_members, storing_line, why_members}
 use Rattle.station_lines.specs.EventLines.{asker_members, stored_line, end_line}
 
 -- ---- moments
@@ -71,6 +73,30 @@ storing = refl
 why : map print (why_members None ∷ why_members (Some (codes "no space is left")) ∷ []) ≡ [] ∷ codes "\"why\":\"no space is left\"" ∷ []
 unfolding print_from escape_byte text_member
 why = refl
+
+ended : ended_line (record { end = Receiver; class = 2; condition = 8; count = 3 })
+    ≡ codes "{\"kind\":\"ended\",\"role\":\"receiver\",\"class\":2,\"condition\":8,\"count\":3}\n"
+unfolding digits print_from escape_byte text_member number_member safe_text chars encode_utf8
+ended = refl
+
+delivered : delivered_line (record { end = Sender; files = 2; octets = 900 })
+    ≡ codes "{\"kind\":\"delivered\",\"role\":\"sender\",\"files\":2,\"octets\":900}\n"
+unfolding digits print_from escape_byte text_member number_member safe_text chars encode_utf8
+delivered = refl
+
+store : store_line (record { source = record { 0 = 9 }; seq = 4; at = record { 0 = 0 }; microseconds = 250 })
+    ≡ codes "{\"kind\":\"store\",\"source\":9,\"seq\":4,\"at\":\"1970-01-01T00:00:00.000Z\",\"microseconds\":250}\n"
+unfolding digits print_from escape_byte padded_integral char_count encode_utf8 moment_member text_member number_member safe_text chars
+store = refl
+
+missing : map print (missing_members None ∷ missing_members (Some 7) ∷ []) ≡ [] ∷ codes "\"missing\":7" ∷ []
+unfolding digits print_from escape_byte text_member number_member
+missing = refl
+
+heard : map print (heard_members None ∷ heard_members (Some (record { at = record { 0 = 0 }; silence = 50 })) ∷ [])
+    ≡ [] ∷ codes "\"heard\":\"1970-01-01T00:00:00.000Z\",\"silence\":50" ∷ []
+unfolding digits print_from escape_byte padded_integral char_count encode_utf8 moment_member text_member number_member
+heard = refl
 
 askers : map print (asker_members None ∷ asker_members (Some 3) ∷ []) ≡ codes "\"by\":\"input\"" ∷ codes "\"by\":\"client\",\"seat\":3" ∷ []
 unfolding digits print_from escape_byte text_member number_member

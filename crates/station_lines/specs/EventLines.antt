@@ -1,5 +1,6 @@
 -- Meaning. The lines of events.
 use Rattle.std.specs.Prelude.{ℕ, Bool, true, if◌then◌else◌, List, [], ◌++◌, Option, Some, None, codes}
+use Rattle.std.specs.Option.{option_copied}
 use Rattle.cfdp_types.specs.declared.key.EntityId.{EntityId}
 use Rattle.cfdp_types.specs.declared.key.TxnKey.{TxnKey}
 use Rattle.cfdp_types.specs.declared.names.FileStatus.{FileStatus}
@@ -89,12 +90,17 @@ put_file put =
 abbrev pub put_line : EventHead → PutEvent → List ℕ
 put_line head put = line_of (head_members head (codes "put") ++ (put_head put ++ put_file put))
 
+-- why a file can't be read, if that is said
+abbrev pub reason_members : Option (List ℕ) → List Token
+reason_members None = []
+reason_members (Some reason) = text_member (codes "reason") reason
+
 -- which file of the outbox was given up, and why
 abbrev pub unsent_members : UnsentEvent → List Token
 unsent_members unsent =
     number_member (codes "queued") unsent.queued ++ (text_member (codes "user") unsent.user.now
     ++ (number_member (codes "destination") unsent.destination.0 ++ (octets_member (codes "file") unsent.file.now
-    ++ text_member (codes "why") unsent.why.now)))
+    ++ (text_member (codes "why") unsent.why.now ++ reason_members (option_copied unsent.reason)))))
 
 -- the line of a file of the outbox that was given up
 abbrev pub unsent_line : EventHead → UnsentEvent → List ℕ
@@ -148,7 +154,9 @@ asker_members (Some seat) = text_member (codes "by") (codes "client") ++ number_
 
 -- the words of a command, the first line of its answer, and who gave it
 abbrev pub command_members : CommandEvent → List Token
-command_members given = text_member (codes "words") given.words.now ++ (text_member (codes "answer") given.answer.now ++ asker_members given.seat)
+command_members given =
+    text_member (codes "words") given.words.now ++ (text_member (codes "answer") given.answer.now
+    ++ (asker_members given.seat ++ reason_members (option_copied given.reason)))
 
 -- the line of a command
 abbrev pub command_line : EventHead → CommandEvent → List ℕ

@@ -4,3 +4,4 @@ pub mod Members
 pub mod Shared
 pub mod StatusLines
 pub mod EventLines
+pub mod CountLines

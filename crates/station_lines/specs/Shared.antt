@@ -10,6 +10,7 @@ use Rattle.json.specs.Token.{Token}
 use Rattle.station_lines.specs.Members.{text_member, number_member, hex_member}
 use Rattle.station_lines.specs.declared.members.RefusedCase.{RefusedCase}
 use Rattle.station_lines.specs.declared.members.Datagram.{Datagram}
+use Rattle.station_lines.specs.declared.members.RefusedPdu.{RefusedPdu}
 
 -- a transaction ID's two numbers
 abbrev pub key_members : TxnKey → List Token
@@ -42,6 +43,16 @@ abbrev pub datagram_members : Option Datagram → List Token
 datagram_members None = []
 datagram_members (Some datagram) =
     text_member (codes "from") datagram.from.now ++ hex_member (codes "octets") (first_octets 64 datagram.octets.now)
+
+-- the transaction that a datagram names, if it names one
+abbrev pub named_members : Option TxnKey → List Token
+named_members None = []
+named_members (Some key) = key_members key
+
+-- which PDU a datagram is, if that is shown
+abbrev pub pdu_members : Option RefusedPdu → List Token
+pdu_members None = []
+pdu_members (Some pdu) = named_members pdu.key ++ text_member (codes "pdu") pdu.kind.now
 
 -- the number of a class
 abbrev pub class_number : Class → ℕ

@@ -8,13 +8,15 @@ use Rattle.lane_table.specs.declared.glance.GlancedFile.{GlancedFile}
 use Rattle.answer_texts.specs.ToldTexts.{phase_name}
 use Rattle.json.specs.Token.{Token}
 use Rattle.station_lines.specs.Members.{text_member, flag_member, number_member, octets_member, moment_member, numbers_member, object_member, line_of}
-use Rattle.station_lines.specs.Shared.{key_members, finished_members, case_members, datagram_members, class_number}
+use Rattle.station_lines.specs.Shared.{key_members, finished_members, case_members, datagram_members, class_number, pdu_members}
 use Rattle.station_lines.specs.declared.moment.Moment.{Moment}
 use Rattle.station_lines.specs.declared.members.RefusedCase.{RefusedCase}
+use Rattle.station_lines.specs.declared.members.RefusedPdu.{RefusedPdu}
 use Rattle.station_lines.specs.declared.status.Counters.{Counters}
 use Rattle.station_lines.specs.declared.status.Ending.{Ending}
 use Rattle.station_lines.specs.declared.status.Ending.TheVariants.{Finished, Abandoned}
 use Rattle.station_lines.specs.declared.status.EntityStatus.{EntityStatus}
+use Rattle.station_lines.specs.declared.status.Heard.{Heard}
 use Rattle.station_lines.specs.declared.status.LogStatus.{LogStatus}
 use Rattle.station_lines.specs.declared.status.Notice.{Notice}
 use Rattle.station_lines.specs.declared.status.Notice.TheVariants.{JournalFull, LastNumbers}
@@ -146,9 +148,15 @@ abbrev pub notice_members : Option Notice → List Token
 notice_members None = []
 notice_members (Some notice) = text_member (codes "notice") (notice_name notice)
 
--- what the server saw of the transaction, and a notice
+-- how many octets the file lacks, if that is counted
+abbrev pub missing_members : Option ℕ → List Token
+missing_members None = []
+missing_members (Some missing) = number_member (codes "missing") missing
+
+-- what the server saw of the transaction, a notice, and what its file lacks
 abbrev pub transaction_end : TransactionStatus → List Token
-transaction_end t = last_members t.last ++ (ending_members t.ending ++ notice_members t.notice)
+transaction_end t =
+    last_members t.last ++ (ending_members t.ending ++ (notice_members t.notice ++ missing_members t.missing))
 
 -- the line of a transaction
 abbrev pub transaction_line : TransactionStatus → List ℕ
@@ -255,17 +263,26 @@ crossing_members r =
     number_member (codes "datagrams_in") r.datagrams_in ++ (number_member (codes "octets_in") r.octets_in
     ++ (number_member (codes "datagrams_out") r.datagrams_out ++ number_member (codes "octets_out") r.octets_out))
 
+-- when it was heard last, and how many milliseconds ago that was, if that is noted
+abbrev pub heard_members : Option Heard → List Token
+heard_members None = []
+heard_members (Some heard) = moment_member (codes "heard") heard.at ++ number_member (codes "silence") heard.silence
+
+-- the PDUs that weren't sent to a remote entity, and when it was heard last
+abbrev pub remote_tail : RemoteStatus → List Token
+remote_tail r = number_member (codes "failed_sends") r.failed_sends ++ heard_members r.heard
+
 -- the line of a remote entity
 abbrev pub remote_line : RemoteStatus → List ℕ
 remote_line r =
     line_of (remote_head r ++ (held_members r.held_since ++ (open_members r.open_until
-    ++ (crossing_members r ++ number_member (codes "failed_sends") r.failed_sends))))
+    ++ (crossing_members r ++ remote_tail r))))
 
 -- the line of a kind of refusal
-abbrev pub refusal_line : RefusedCase → Moment → List ℕ
-refusal_line case last =
+abbrev pub refusal_line : RefusedCase → Moment → Option RefusedPdu → List ℕ
+refusal_line case last pdu =
     line_of (text_member (codes "kind") (codes "refusal") ++ (case_members (codes "number") case
-    ++ (moment_member (codes "last") last ++ datagram_members case.datagram)))
+    ++ (moment_member (codes "last") last ++ (datagram_members case.datagram ++ pdu_members pdu))))
 
 -- ---- notes
 

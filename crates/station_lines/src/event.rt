@@ -52,6 +52,8 @@ pub struct UnsentEvent<'a> {
     pub file: &'a [u8],
     /// Why it was given up.
     pub why: &'a str,
+    /// Why its file can't be read, where that is said.
+    pub reason: Option<&'a str>,
 }
 
 /// A command that changes something, and what came of it.
@@ -63,6 +65,8 @@ pub struct CommandEvent<'a> {
     pub answer: &'a str,
     /// The seat of the client that gave it; `None` where it came over standard input.
     pub seat: Option<u64>,
+    /// Why its file can't be read, where that is said.
+    pub reason: Option<&'a str>,
 }
 
 /// Transaction numbers that were used up without a file, since a user's numbers lagged behind those used toward a remote

@@ -1,7 +1,7 @@
 //! The lines of events. Followers get each after the word `event` and a space, which these functions don't write.
 ghost use Rattle.std.specs.Prelude.{◌≡◌, ◌++◌, OnErr, OnOk, string_bytes};
 ghost use Rattle.std.specs.Option.{option_copied};
-ghost use Rattle.station_lines.specs.EventLines.{head_members, start_line, indication_line, said_members, metadata_members, put_line, put_head, put_file, queued_members, unsent_line, unsent_members, place_members, stored_line, stored_status, refused_line, hold_line, planned_hold_line, release_line, about_remote_line, unparked_line, skipped_line, skipped_members, command_line, command_members, asker_members, journal_full_line, journal_full_members, reads_ended_line, end_line, plain_line};
+ghost use Rattle.station_lines.specs.EventLines.{reason_members, head_members, start_line, indication_line, said_members, metadata_members, put_line, put_head, put_file, queued_members, unsent_line, unsent_members, place_members, stored_line, stored_status, refused_line, hold_line, planned_hold_line, release_line, about_remote_line, unparked_line, skipped_line, skipped_members, command_line, command_members, asker_members, journal_full_line, journal_full_members, reads_ended_line, end_line, plain_line};
 
 use crate::event::{CommandEvent, EventHead, IndicationEvent, PutEvent, SkippedEvent, UnsentEvent};
 use crate::line::Line;
@@ -193,7 +193,18 @@ fn unsent_members(line: &mut Line, unsent: &UnsentEvent<'_>) -> Result<(), Alloc
     line.text("user", unsent.user)?;
     line.number("destination", unsent.destination.0)?;
     line.octets("file", unsent.file)?;
-    line.text("why", unsent.why)
+    line.text("why", unsent.why)?;
+    reason_members(line, unsent.reason)
+}
+
+// Why a file can't be read, if that is said.
+fn reason_members(line: &mut Line, reason: Option<&str>) -> Result<(), AllocError>
+    ensures { OnOk result (line.new ≡ line.old ++ reason_members (option_copied reason.entry)) }
+{
+    match reason {
+        None => Ok(()),
+        Some(reason) => line.text("reason", reason),
+    }
 }
 
 /// Adds the line of a store's answer: whether it kept the file of a transaction, and its path below the folder, if that
@@ -378,7 +389,8 @@ fn command_members(line: &mut Line, command: &CommandEvent<'_>) -> Result<(), Al
 {
     line.text("words", command.words)?;
     line.text("answer", command.answer)?;
-    asker_members(line, command.seat)
+    asker_members(line, command.seat)?;
+    reason_members(line, command.reason)
 }
 
 // Who gave a command.

@@ -1,6 +1,6 @@
 //! Members that several kinds of lines have.
 ghost use Rattle.std.specs.Prelude.{◌≡◌, ◌++◌, OnOk};
-ghost use Rattle.station_lines.specs.Shared.{key_members, finished_members, case_members, datagram_members, fault_members, first_octets, class_number};
+ghost use Rattle.station_lines.specs.Shared.{key_members, finished_members, case_members, datagram_members, fault_members, first_octets, class_number, named_members, pdu_members};
 
 use crate::line::Line;
 use answer_texts::{delivery_name, status_name};
@@ -32,6 +32,15 @@ pub struct Datagram<'a> {
     pub from: &'a str,
     /// Its octets. A line shows the first of them, at most `SHOWN_OCTETS`.
     pub octets: &'a [u8],
+}
+
+/// What the first octets of a refused datagram say of its PDU.
+#[derive(Clone, Copy, Debug)]
+pub struct RefusedPdu<'a> {
+    /// Its transaction, where the octets name one.
+    pub key: Option<TxnKey>,
+    /// The kind of the PDU, or that it is none.
+    pub kind: &'a str,
 }
 
 pub(crate) fn key_members(line: &mut Line, key: TxnKey) -> Result<(), AllocError>
@@ -89,6 +98,27 @@ pub(crate) fn datagram_members(
     };
     line.text("from", datagram.from)?;
     line.hex("octets", first_octets(datagram.octets, SHOWN_OCTETS))
+}
+
+// Which PDU it was, if that is shown.
+pub(crate) fn pdu_members(line: &mut Line, pdu: Option<RefusedPdu<'_>>) -> Result<(), AllocError>
+    ensures { OnOk result (line.new ≡ line.old ++ pdu_members pdu.entry) }
+{
+    let Some(pdu) = pdu else {
+        return Ok(());
+    };
+    named_members(line, pdu.key)?;
+    line.text("pdu", pdu.kind)
+}
+
+// Its transaction, if the octets name one.
+fn named_members(line: &mut Line, key: Option<TxnKey>) -> Result<(), AllocError>
+    ensures { OnOk result (line.new ≡ line.old ++ named_members key) }
+{
+    match key {
+        Some(key) => key_members(line, key),
+        None => Ok(()),
+    }
 }
 
 // The first octets, at most `most`.

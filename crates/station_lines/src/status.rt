@@ -2,6 +2,7 @@
 
 use crate::moment::Moment;
 use cfdp_types::{Class, Condition, Delivery, EntityId, FileStatus};
+use indications::Side;
 use lane_table::Glance;
 
 /// The entity and its server.
@@ -90,6 +91,8 @@ pub struct TransactionStatus<'a> {
     pub ending: Option<Ending>,
     /// What an operator should do about the transaction or its lane.
     pub notice: Option<Notice>,
+    /// How many octets a file that is being received lacks, if that is counted.
+    pub missing: Option<u64>,
 }
 
 /// How a transaction ended.
@@ -192,6 +195,46 @@ pub struct RemoteStatus<'a> {
     pub octets_out: u64,
     /// PDUs to it that weren't sent.
     pub failed_sends: u64,
+    /// When it was heard last, if that is noted.
+    pub heard: Option<Heard>,
+}
+
+/// When a remote entity was heard last: a datagram from its address was a PDU.
+#[derive(Clone, Copy, Debug)]
+pub struct Heard {
+    pub at: Moment,
+    /// How many milliseconds ago that was.
+    pub silence: u64,
+}
+
+/// Transactions that ended in one way.
+#[derive(Clone, Copy, Debug)]
+pub struct EndedStatus {
+    /// This end's role.
+    pub end: Side,
+    /// Their class, or 0 where the server doesn't know it.
+    pub class: u8,
+    pub condition: u8,
+    /// How many they are.
+    pub count: u64,
+}
+
+/// Files that came whole and were retained, as this end's role in their transactions goes.
+#[derive(Clone, Copy, Debug)]
+pub struct DeliveredStatus {
+    pub end: Side,
+    pub files: u64,
+    pub octets: u64,
+}
+
+/// The last received file that was given to the store.
+#[derive(Clone, Copy, Debug)]
+pub struct StoreStatus {
+    pub source: EntityId,
+    pub seq: u64,
+    pub at: Moment,
+    /// How long storing it took, in microseconds.
+    pub microseconds: u64,
 }
 
 /// A remote entity whose receiving lanes the sending lanes here don't divide, so files wait for each other.

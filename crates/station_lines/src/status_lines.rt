@@ -2,16 +2,17 @@
 ghost use Rattle.std.specs.Prelude.{◌≡◌, ◌++◌, OnErr, OnOk, string_bytes, codes};
 ghost use Rattle.std.specs.Option.{option_copied};
 ghost use Rattle.station_lines.specs.Members.{object_member};
-ghost use Rattle.station_lines.specs.StatusLines.{entity_line, entity_head, entity_state, counter_members, traffic_members, trouble_members, outcome_members, log_line, user_line, transaction_line, transaction_head, transaction_part, transaction_file, transaction_end, file_members, last_members, ending_members, end_members, notice_members, notice_name, role_name, state_name, queued_line, queued_head, queued_file, reading_line, reading_members, storing_line, storing_members, why_members, parked_line, parked_head, parked_amounts, since_members, remote_line, remote_head, held_members, open_members, crossing_members, address_members, refusal_line, note_line, note_members};
+ghost use Rattle.station_lines.specs.StatusLines.{entity_line, entity_head, entity_state, counter_members, traffic_members, trouble_members, outcome_members, log_line, user_line, transaction_line, transaction_head, transaction_part, transaction_file, transaction_end, file_members, last_members, ending_members, end_members, notice_members, notice_name, missing_members, role_name, state_name, queued_line, queued_head, queued_file, reading_line, reading_members, storing_line, storing_members, why_members, parked_line, parked_head, parked_amounts, since_members, refusal_line, note_line, note_members};
 
 use crate::line::Line;
 use crate::members::{
-    RefusedCase, case_members, class_number, datagram_members, finished_members, key_members,
+    RefusedCase, RefusedPdu, case_members, class_number, datagram_members, finished_members,
+    key_members, pdu_members,
 };
 use crate::moment::Moment;
 use crate::status::{
     Counters, Ending, EntityStatus, LogStatus, NoteStatus, Notice, ParkedStatus, QueuedStatus,
-    ReadingStatus, RemoteStatus, StoringStatus, TransactionStatus, UserStatus,
+    ReadingStatus, StoringStatus, TransactionStatus, UserStatus,
 };
 use answer_texts::phase_name;
 use indications::Side;
@@ -195,7 +196,8 @@ fn transaction_end(line: &mut Line, transaction: &TransactionStatus<'_>) -> Resu
 {
     last_members(line, transaction.last)?;
     ending_members(line, transaction.ending)?;
-    notice_members(line, transaction.notice)
+    notice_members(line, transaction.notice)?;
+    missing_members(line, transaction.missing)
 }
 
 fn last_members(line: &mut Line, last: Option<Moment>) -> Result<(), AllocError>
@@ -238,6 +240,15 @@ fn notice_members(line: &mut Line, notice: Option<Notice>) -> Result<(), AllocEr
     }
 }
 
+fn missing_members(line: &mut Line, missing: Option<u64>) -> Result<(), AllocError>
+    ensures { OnOk result (line.new ≡ line.old ++ missing_members missing) }
+{
+    match missing {
+        None => Ok(()),
+        Some(missing) => line.number("missing", missing),
+    }
+}
+
 fn notice_name(notice: Notice) -> &'static str
     ensures { result.now ≡ notice_name notice }
 {
@@ -247,7 +258,8 @@ fn notice_name(notice: Notice) -> &'static str
     }
 }
 
-fn role_name(end: Side) -> &'static str
+/// The name of this end's role.
+pub(crate) fn role_name(end: Side) -> &'static str
     ensures { result.now ≡ role_name end }
 {
     match end {
@@ -403,82 +415,15 @@ fn since_members(line: &mut Line, since: Option<Moment>) -> Result<(), AllocErro
     }
 }
 
-/// Adds the line of a remote entity.
-pub fn push_remote(
-    alloc: Global,
-    text: &mut String,
-    remote: &RemoteStatus<'_>,
-) -> Result<(), AllocError>
-    ensures added { OnOk result (string_bytes text.new ≡ string_bytes text.old ++ remote_line remote.entry.now) }
-    ensures kept { OnErr result (string_bytes text.new ≡ string_bytes text.old) }
-{
-    let mut line = Line::begin(alloc)?;
-    remote_head(&mut line, remote)?;
-    held_members(&mut line, remote.held_since)?;
-    open_members(&mut line, remote.open_until)?;
-    crossing_members(&mut line, remote)?;
-    line.number("failed_sends", remote.failed_sends)?;
-    line.end(text)
-}
-
-// The remote entity and its address.
-fn remote_head(line: &mut Line, remote: &RemoteStatus<'_>) -> Result<(), AllocError>
-    ensures { OnOk result (line.new ≡ line.old ++ remote_head remote.entry.now) }
-{
-    line.text("kind", "remote")?;
-    line.number("id", remote.id.0)?;
-    address_members(line, remote.address)
-}
-
-fn address_members(line: &mut Line, address: Option<&str>) -> Result<(), AllocError>
-    ensures { OnOk result (line.new ≡ line.old ++ address_members (option_copied address.entry)) }
-{
-    match address {
-        None => Ok(()),
-        Some(address) => line.text("address", address),
-    }
-}
-
-fn held_members(line: &mut Line, held_since: Option<Moment>) -> Result<(), AllocError>
-    ensures { OnOk result (line.new ≡ line.old ++ held_members held_since) }
-{
-    match held_since {
-        None => line.flag("held", false),
-        Some(since) => {
-            line.flag("held", true)?;
-            line.moment("held_since", since)
-        }
-    }
-}
-
-fn open_members(line: &mut Line, open_until: Option<Moment>) -> Result<(), AllocError>
-    ensures { OnOk result (line.new ≡ line.old ++ open_members open_until) }
-{
-    match open_until {
-        None => Ok(()),
-        Some(until) => line.moment("open_until", until),
-    }
-}
-
-fn crossing_members(line: &mut Line, remote: &RemoteStatus<'_>) -> Result<(), AllocError>
-    ensures { OnOk result (line.new ≡ line.old ++ crossing_members remote.entry.now) }
-{
-    line.four_numbers(
-        ("datagrams_in", remote.datagrams_in),
-        ("octets_in", remote.octets_in),
-        ("datagrams_out", remote.datagrams_out),
-        ("octets_out", remote.octets_out),
-    )
-}
-
-/// Adds the line of a kind of refusal, with the moment of the last one.
+/// Adds the line of a kind of refusal, with the moment of the last one, and what its datagram says of its PDU, where that is shown.
 pub fn push_refusal(
     alloc: Global,
     text: &mut String,
     case: &RefusedCase<'_>,
     last: Moment,
+    pdu: Option<RefusedPdu<'_>>,
 ) -> Result<(), AllocError>
-    ensures added { OnOk result (string_bytes text.new ≡ string_bytes text.old ++ refusal_line case.entry.now last) }
+    ensures added { OnOk result (string_bytes text.new ≡ string_bytes text.old ++ refusal_line case.entry.now last pdu.entry) }
     ensures kept { OnErr result (string_bytes text.new ≡ string_bytes text.old) }
 {
     let mut line = Line::begin(alloc)?;
@@ -486,6 +431,7 @@ pub fn push_refusal(
     case_members(&mut line, "number", case)?;
     line.moment("last", last)?;
     datagram_members(&mut line, case.datagram)?;
+    pdu_members(&mut line, pdu)?;
     line.end(text)
 }
 

@@ -5,8 +5,8 @@ use Rattle.std.proofs.lemmas.List.{take_more}
 use Rattle.web_lines.specs.declared.lines.Line.{Line}
 use Rattle.web_lines.specs.declared.told.Told.{Told}
 use Rattle.web_lines.specs.Document.{AreLinesOf}
-use Rattle.web_lines.specs.Families.{Row, row_of, told_rows}
-use Rattle.web_lines.specs.Metrics.{AddsLine, AddsLines, AddsRows, IsMetrics, counts_text, head_text, up_text}
+use Rattle.web_lines.specs.Families.{Row, count_rows, row_of, told_rows}
+use Rattle.web_lines.specs.Metrics.{AddsCounts, AddsLine, AddsLines, AddsRows, IsMetrics, counts_text, head_text, up_text}
 
 -- the numbers of one more line come behind those of lines
 pub one_more_line : (row : Row) (lines : List Line) (line : Line) (a b c : List ℕ) → AddsLines row lines a b → AddsLine row line b c
@@ -47,9 +47,22 @@ pub told_report : (rows : List Told) (lines : List Line) (a b : List ℕ) → ma
     → AddsRows (map row_of rows) lines a b → AddsRows told_rows lines a b
 told_report rows lines a b rows_are report = rw (sym rows_are) report
 
+-- the same for those of a station that counts
+pub count_report : (rows : List Told) (lines : List Line) (a b : List ℕ) → map row_of rows ≡ count_rows
+    → AddsRows (map row_of rows) lines a b → AddsRows count_rows lines a b
+count_report rows lines a b rows_are report = rw (sym rows_are) report
+
 -- all numbers of a station that answers
-pub whole_metrics : (status : List ℕ) (known told_lines counted_lines : List Line) (old start told text : List ℕ) → AreLinesOf status known
-    → told_lines ≡ known → counted_lines ≡ known → old ≡ [] → start ≡ old ++ up_text 1
-    → AddsRows told_rows told_lines start told → text ≡ told ++ counts_text counted_lines → IsMetrics status text
-whole_metrics status known told_lines counted_lines old start told text all told_same counted_same none start_is rows counts =
-    (known, all, (told, rw (start_is ∙ ap (λ t. t ++ up_text 1) none) at (rw told_same at rows), counts ∙ ap (λ l. told ++ counts_text l) counted_same))
+pub whole_metrics : (status : List ℕ) (known told_lines counted_lines last_lines : List Line) (old start told counted text : List ℕ)
+    → AreLinesOf status known → told_lines ≡ known → counted_lines ≡ known → last_lines ≡ known → old ≡ [] → start ≡ old ++ up_text 1
+    → AddsRows told_rows told_lines start told → counted ≡ told ++ counts_text counted_lines → AddsCounts last_lines counted text
+    → IsMetrics status text
+whole_metrics status known told_lines counted_lines last_lines old start told counted text all told_same counted_same last_same none start_is rows counts last = (
+  known,
+  all,
+  (
+    told,
+    rw (start_is ∙ ap (λ t. t ++ up_text 1) none) at (rw told_same at rows),
+    rw (counts ∙ ap (λ l. told ++ counts_text l) counted_same) at (rw last_same at last),
+  ),
+)

@@ -3,14 +3,16 @@ use Rattle.std.proofs.Common.{◌≡◌, ◌||◌, ℕ, Bool, true, false, List,
 use Rattle.std.specs.Fmt.{digits}
 use Rattle.json.specs.Json.{Json, boolean, member, no_members, number, object, string}
 use Rattle.std.specs.Str.{bytes_eq}
+use Rattle.web_lines.specs.declared.kind.Kind.TheVariants as kinds
 use Rattle.web_lines.specs.declared.kind.Kind.TheVariants.{Entity, Log, Parked, Queued, Recorder, Refusal, Remote, Storing, User}
 use Rattle.web_lines.specs.declared.state.State.TheVariants.{Active, Ended}
-use Rattle.web_lines.specs.Document.{document_text, named}
-use Rattle.web_lines.specs.Families.{all_heads, counter, gauge, told_rows}
+use Rattle.web_lines.specs.declared.lines.Line.{Line}
+use Rattle.web_lines.specs.Document.{document_text, named, some_list}
+use Rattle.web_lines.specs.Families.{all_heads, count_rows, counter, gauge, told_rows}
 use Rattle.web_lines.specs.Hindered.{says_why}
 use Rattle.web_lines.specs.Labels.{labels_at}
 use Rattle.web_lines.specs.Numbers.{IsNumberAt, at_counter, at_known, at_member, at_truth}
-use Rattle.web_lines.specs.Metrics.{escaped, head_text, labels_text, sample_text, told_text}
+use Rattle.web_lines.specs.Metrics.{escaped, has_counts, head_text, labels_text, sample_text, told_text}
 use Rattle.web_lines.specs.Starts.{start_in}
 use Rattle.web_lines.specs.States.{count_in_state, name_of_state, state_in, state_named}
 
@@ -25,11 +27,11 @@ has_twice [] = false
 has_twice (first ∷ rest) = has first rest || has_twice rest
 
 names_differ : has_twice (map (λ head. head.name) all_heads) ≡ false
-unfolding told_rows
+unfolding told_rows count_rows
 names_differ = refl
 
-how_many : length all_heads ≡ 42
-unfolding told_rows
+how_many : length all_heads ≡ 48
+unfolding told_rows count_rows
 how_many = refl
 
 heads : map head_text (gauge (codes "a") (codes "b c") ∷ counter (codes "d") (codes "e") ∷ [])
@@ -45,17 +47,33 @@ two_labels : labels_text ((codes "a", codes "1") ∷ (codes "b", codes "x\"") �
 unfolding labels_text
 two_labels = refl
 
+three_labels : labels_text ((codes "a", codes "1") ∷ (codes "b", codes "2") ∷ (codes "c", codes "3") ∷ []) ≡ codes "{a=\"1\",b=\"2\",c=\"3\"}"
+unfolding labels_text
+three_labels = refl
+
 labels_are_escaped : escaped (codes "a\\b\"c\nd") ≡ codes "a\\\\b\\\"c\\nd"
 labels_are_escaped = refl
 
-names_of_kinds : map named (codes "entity" ∷ codes "queued" ∷ codes "parked" ∷ codes "storing" ∷ codes "recorder" ∷ codes "entities" ∷ [])
-    ≡ Some Entity ∷ Some Queued ∷ Some Parked ∷ Some Storing ∷ Some Recorder ∷ None ∷ []
+names_of_kinds : map named (codes "entity" ∷ codes "queued" ∷ codes "parked" ∷ codes "storing" ∷ codes "recorder" ∷ codes "ended" ∷ codes "delivered" ∷ codes "store" ∷ codes "entities" ∷ [])
+    ≡ Some Entity ∷ Some Queued ∷ Some Parked ∷ Some Storing ∷ Some Recorder ∷ Some kinds.Ended ∷ Some kinds.Delivered ∷ Some kinds.Store ∷ None ∷ []
 names_of_kinds = refl
 
 no_lines : document_text []
     ≡ codes "{\"entities\":[],\"logs\":[],\"users\":[],\"transactions\":[],\"remotes\":[],\"refusals\":[],\"outbox\":[],\"reading\":[],\"parked\":[],\"storing\":[],\"recorders\":[]}\n"
 unfolding document_text
 no_lines = refl
+
+-- what is counted has lists and numbers only where there are such lines
+abbrev counting : List Line
+counting = record { kind = kinds.Ended; text = record { ref_ptr = (0, 0); now = codes "a" } } ∷ record { kind = kinds.Delivered; text = record { ref_ptr = (0, 0); now = codes "b" } }
+    ∷ record { kind = kinds.Ended; text = record { ref_ptr = (0, 0); now = codes "c" } } ∷ []
+
+some_lists : map (λ kind. some_list (codes "x") kind counting) (kinds.Ended ∷ kinds.Delivered ∷ kinds.Store ∷ [])
+    ≡ codes "xa,c" ∷ codes "xb" ∷ [] ∷ []
+some_lists = refl
+
+counts_are_there : map has_counts (counting ∷ [] ∷ []) ≡ true ∷ false ∷ []
+counts_are_there = refl
 
 number_that_is_true : IsNumberAt (at_truth (codes "held")) (object (member (codes "held") (boolean true) no_members)) (Some 1)
 number_that_is_true = refl
@@ -101,6 +119,23 @@ waiting = object (member (codes "user") (string (codes "ops")) (member (codes "l
 
 lane_label : labels_at Parked (at_member (codes "octets")) waiting ≡ Some ((codes "user", codes "ops") ∷ (codes "lane", codes "3") ∷ [])
 lane_label = refl
+
+lane_of_a_transaction : labels_at kinds.Transaction (at_member (codes "missing")) waiting ≡ Some ((codes "user", codes "ops") ∷ (codes "lane", codes "3") ∷ [])
+lane_of_a_transaction = refl
+
+-- the line of transactions that ended in one way
+abbrev end : Json
+end = object (member (codes "role") (string (codes "sender")) (member (codes "class") (number (codes "2")) (member (codes "condition") (number (codes "15")) no_members)))
+
+end_labels : labels_at kinds.Ended (at_member (codes "count")) end
+    ≡ Some ((codes "role", codes "sender") ∷ (codes "class", codes "2") ∷ (codes "condition", codes "15") ∷ [])
+end_labels = refl
+
+no_end : labels_at kinds.Ended (at_member (codes "count")) remote ≡ None
+no_end = refl
+
+role_label : labels_at kinds.Delivered (at_member (codes "files")) end ≡ Some ((codes "role", codes "sender") ∷ [])
+role_label = refl
 
 no_lane : labels_at Parked (at_member (codes "octets")) refusal ≡ None
 no_lane = refl

@@ -5,7 +5,7 @@ use Rattle.std.specs.Str.{bytes_eq}
 use Rattle.json.specs.Json.{Json, document}
 use Rattle.json.specs.Find.{get, as_str}
 use Rattle.web_lines.specs.declared.kind.Kind.{Kind}
-use Rattle.web_lines.specs.declared.kind.Kind.TheVariants.{Entity, Log, User, Transaction, Remote, Refusal, Queued, Reading, Parked, Storing, Recorder}
+use Rattle.web_lines.specs.declared.kind.Kind.TheVariants.{Entity, Log, User, Transaction, Remote, Refusal, Queued, Reading, Parked, Storing, Recorder, Ended, Delivered, Store}
 use Rattle.web_lines.specs.declared.lines.Line.{Line}
 
 -- the kind of this name
@@ -21,7 +21,10 @@ named name =
     else (if bytes_eq name (codes "reading") then Some Reading
     else (if bytes_eq name (codes "parked") then Some Parked
     else (if bytes_eq name (codes "storing") then Some Storing
-    else (if bytes_eq name (codes "recorder") then Some Recorder else None))))))))))
+    else (if bytes_eq name (codes "recorder") then Some Recorder
+    else (if bytes_eq name (codes "ended") then Some Ended
+    else (if bytes_eq name (codes "delivered") then Some Delivered
+    else (if bytes_eq name (codes "store") then Some Store else None)))))))))))))
 
 -- the text of a value's member `kind`
 abbrev pub kind_name : Json → Option (List ℕ)
@@ -69,6 +72,9 @@ place_of Reading = 7
 place_of Parked = 8
 place_of Storing = 9
 place_of Recorder = 10
+place_of Ended = 11
+place_of Delivered = 12
+place_of Store = 13
 
 -- a line is of a kind
 abbrev pub is_of_kind : Kind → Line → Bool
@@ -86,7 +92,11 @@ listed kind line = if place_of line.kind == place_of kind then 44 ∷ line.text.
 abbrev pub list_text : Kind → List Line → List ℕ
 list_text kind lines = drop 1 (flat_map (listed kind) lines)
 
--- the document of lines: one object with a list for each kind
+-- an opening and the lines of a kind; nothing where there is none
+abbrev pub some_list : List ℕ → Kind → List Line → List ℕ
+some_list opening kind lines = if count_of_kind kind lines == 0 then [] else opening ++ list_text kind lines
+
+-- the document of lines: one object with a list for each kind; those of what is counted only where there are such lines
 unfoldable pub document_text : List Line → List ℕ
 document_text lines =
     codes "{\"entities\":[" ++ list_text Entity lines
@@ -100,6 +110,9 @@ document_text lines =
     ++ codes "],\"parked\":[" ++ list_text Parked lines
     ++ codes "],\"storing\":[" ++ list_text Storing lines
     ++ codes "],\"recorders\":[" ++ list_text Recorder lines
+    ++ some_list (codes "],\"ended\":[") Ended lines
+    ++ some_list (codes "],\"delivered\":[") Delivered lines
+    ++ some_list (codes "],\"stores\":[") Store lines
     ++ codes "]}\n"
 
 -- the document of a status

@@ -4,7 +4,7 @@ use Rattle.web_lines.specs.declared.families.Family.{Family}
 use Rattle.web_lines.specs.declared.told.Told.{Told}
 use Rattle.web_lines.specs.declared.families.Family.TheVariants.{Counter, Gauge}
 use Rattle.web_lines.specs.declared.kind.Kind.{Kind}
-use Rattle.web_lines.specs.declared.kind.Kind.TheVariants.{Entity, Log, Parked, Recorder, Refusal, Remote, User}
+use Rattle.web_lines.specs.declared.kind.Kind.TheVariants.{Delivered, Ended, Entity, Log, Parked, Recorder, Refusal, Remote, Store, Transaction, User}
 use Rattle.web_lines.specs.Numbers.{Spot, at_counter, at_known, at_member, at_truth, spot_of}
 
 -- what is said of a family above its numbers
@@ -120,6 +120,22 @@ told_rows =
     told_row (counter (codes "cfdp_recordings_failed_total") (codes "Recordings that could not be made or written."))
     Recorder (at_member (codes "failed")) ∷ []
 
+-- the families of a station that counts
+unfoldable pub count_rows : List Row
+count_rows =
+    told_row (counter (codes "cfdp_ended_transactions_total") (codes "Transactions that ended, by role, class and condition code."))
+    Ended (at_member (codes "count")) ∷
+    told_row (counter (codes "cfdp_delivered_files_total") (codes "Files that came whole and were retained."))
+    Delivered (at_member (codes "files")) ∷
+    told_row (counter (codes "cfdp_delivered_bytes_total") (codes "Octets of these files."))
+    Delivered (at_member (codes "octets")) ∷
+    told_row (gauge (codes "cfdp_missing_bytes") (codes "Octets that the file lacks which a lane receives."))
+    Transaction (at_member (codes "missing")) ∷
+    told_row (gauge (codes "cfdp_remote_silence_milliseconds") (codes "How long ago a PDU came from a remote entity."))
+    Remote (at_member (codes "silence")) ∷
+    told_row (gauge (codes "cfdp_last_store_microseconds") (codes "How long storing the last received file took."))
+    Store (at_member (codes "microseconds")) ∷ []
+
 -- how many transactions are in each state
 abbrev pub states_head : Head
 states_head =
@@ -147,4 +163,4 @@ counted_heads = states_head ∷ outbox_head ∷ reading_head ∷ storing_head �
 
 -- all of them
 abbrev pub all_heads : List Head
-all_heads = (up_head ∷ []) ++ map (λ row. row.head) told_rows ++ counted_heads
+all_heads = (up_head ∷ []) ++ map (λ row. row.head) told_rows ++ counted_heads ++ map (λ row. row.head) count_rows

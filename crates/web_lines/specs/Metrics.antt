@@ -1,5 +1,5 @@
 -- Meaning. Text for Prometheus.
-use Rattle.std.specs.Prelude.{◌≡◌, ◌⊎◌, ◌==◌, ℕ, Bool, true, false, if◌then◌else◌, List, [], ◌∷◌, ◌++◌, Option, Some, flat_map, codes, decimal}
+use Rattle.std.specs.Prelude.{◌≡◌, ◌⊎◌, ◌==◌, ℕ, Bool, true, false, not, if◌then◌else◌, List, [], ◌∷◌, ◌++◌, Option, Some, flat_map, codes, decimal}
 use Rattle.json.specs.Json.{Json, document}
 use Rattle.web_lines.specs.declared.lines.Line.{Line}
 use Rattle.web_lines.specs.declared.state.State.{State}
@@ -7,7 +7,7 @@ use Rattle.web_lines.specs.declared.state.State.TheVariants.{Active, Suspended, 
 use Rattle.web_lines.specs.Document.{AreLinesOf, count_of_kind, place_of}
 use Rattle.web_lines.specs.Hindered.{count_of_hindered}
 use Rattle.web_lines.specs.declared.kind.Kind.TheVariants as kinds
-use Rattle.web_lines.specs.Families.{Head, Row, hindered_head, outbox_head, reading_head, states_head, storing_head, told_rows, up_head}
+use Rattle.web_lines.specs.Families.{Head, Row, count_rows, hindered_head, outbox_head, reading_head, states_head, storing_head, told_rows, up_head}
 use Rattle.web_lines.specs.Labels.{SaidLabel, labels_at}
 use Rattle.web_lines.specs.Numbers.{IsNumberAt}
 use Rattle.web_lines.specs.States.{count_in_state, name_of_state, states_of}
@@ -111,8 +111,18 @@ AddsRows [] lines old new = new ≡ old
 AddsRows (row ∷ rows) lines old new =
     (middle : List ℕ) × AddsLines row lines (old ++ head_text row.head) middle × AddsRows rows lines middle new
 
--- the numbers of a station that answers: that it does, the numbers in the lines of its status, and those that count lines
+-- lines are those of a station that counts: one says how many files came whole
+abbrev pub has_counts : List Line → Bool
+has_counts lines = not (count_of_kind kinds.Delivered lines == 0)
+
+-- the numbers of what such a station counts come behind a text; of others nothing does
+abbrev pub AddsCounts : List Line → List ℕ → List ℕ → Type 0
+AddsCounts lines old new =
+    ((has_counts lines ≡ false) × (new ≡ old)) ⊎ ((has_counts lines ≡ true) × AddsRows count_rows lines old new)
+
+-- the numbers of a station that answers: that it does, the numbers in the lines of its status, those that count lines, and those
+-- of what it counts
 abbrev pub IsMetrics : List ℕ → List ℕ → Type 0
 IsMetrics status text =
     (lines : List Line) × AreLinesOf status lines
-    × ((told : List ℕ) × AddsRows told_rows lines (up_text 1) told × (text ≡ told ++ counts_text lines))
+    × ((told : List ℕ) × AddsRows told_rows lines (up_text 1) told × AddsCounts lines (told ++ counts_text lines) text)

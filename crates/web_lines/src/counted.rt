@@ -130,8 +130,8 @@ fn push_bare(text: &mut Vec<u8>, family: Family, number: u64) -> Result<(), Allo
     push_sample(text, family.name(), Labels::Bare, number)
 }
 
-// How many lines are of a kind.
-fn count_lines(lines: &[Line<'_>], kind: Kind) -> u64
+/// How many lines are of a kind.
+pub(crate) fn count_lines(lines: &[Line<'_>], kind: Kind) -> u64
     ensures { result ≡ count_of_kind kind lines.now }
 {
     let mut count = 0u64;

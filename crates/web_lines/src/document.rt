@@ -1,15 +1,16 @@
 //! The lines as one document.
 ghost use Rattle.std.specs.Prelude.{◌≡◌, ◌++◌, [], OnOk, IfOk};
-ghost use Rattle.web_lines.specs.Document.{IsDocument, document_text, list_text};
+ghost use Rattle.web_lines.specs.Document.{IsDocument, document_text, list_text, some_list};
 
+use crate::counted::count_lines;
 use crate::kind::Kind;
 use crate::lines::{Line, read_lines};
 use crate::text::push_text;
 use std::alloc::{AllocError, Global};
 
 /// One document of the lines: an object with the members `entities`, `logs`, `users`, `transactions`, `remotes`, `refusals`,
-/// `outbox`, `reading`, `parked`, `storing` and `recorders`, each the list of the lines of its kind, in order and as they came. A
-/// line that is no JSON object of one of these kinds is left out.
+/// `outbox`, `reading`, `parked`, `storing` and `recorders`, each the list of the lines of its kind, in order and as they came; and
+/// `ended`, `delivered` and `stores`, where there are such lines. A line that is no JSON object of one of these kinds is left out.
 pub fn to_document(alloc: Global, text: &str) -> Result<Vec<u8>, AllocError>
     ensures { IfOk result (λ document. IsDocument text.now document.items) }
 {
@@ -36,7 +37,25 @@ fn push_lists(document: &mut Vec<u8>, lines: &[Line<'_>]) -> Result<(), AllocErr
     push_list(document, "],\"parked\":[", lines, Kind::Parked)?;
     push_list(document, "],\"storing\":[", lines, Kind::Storing)?;
     push_list(document, "],\"recorders\":[", lines, Kind::Recorder)?;
+    push_some_list(document, "],\"ended\":[", lines, Kind::Ended)?;
+    push_some_list(document, "],\"delivered\":[", lines, Kind::Delivered)?;
+    push_some_list(document, "],\"stores\":[", lines, Kind::Store)?;
     push_text(document, "]}\n")
+}
+
+// The same as below, but nothing where there is no line of the kind.
+fn push_some_list(
+    document: &mut Vec<u8>,
+    opening: &str,
+    lines: &[Line<'_>],
+    kind: Kind,
+) -> Result<(), AllocError>
+    ensures { OnOk result (document.new.items ≡ document.old.items ++ some_list opening.now kind lines.now) }
+{
+    if count_lines(lines, kind) == 0 {
+        return Ok(());
+    }
+    push_list(document, opening, lines, kind)
 }
 
 // Adds an opening, and behind it the lines of a kind with commas between them.

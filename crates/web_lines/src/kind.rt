@@ -24,6 +24,12 @@ pub enum Kind {
     Storing,
     /// The recordings of transactions.
     Recorder,
+    /// The transactions that ended in one way.
+    Ended,
+    /// The files that came whole, in one role.
+    Delivered,
+    /// The last file that was given to the store.
+    Store,
 }
 
 impl Kind {
@@ -43,6 +49,9 @@ impl Kind {
             "parked" => Some(Kind::Parked),
             "storing" => Some(Kind::Storing),
             "recorder" => Some(Kind::Recorder),
+            "ended" => Some(Kind::Ended),
+            "delivered" => Some(Kind::Delivered),
+            "store" => Some(Kind::Store),
             _ => None,
         }
     }
@@ -63,6 +72,9 @@ impl Kind {
             Kind::Parked => 8,
             Kind::Storing => 9,
             Kind::Recorder => 10,
+            Kind::Ended => 11,
+            Kind::Delivered => 12,
+            Kind::Store => 13,
         }
     }
 

@@ -19,6 +19,7 @@ pub(crate) enum Labels<'a> {
     Bare,
     One(Label<'a>),
     Two(Label<'a>, Label<'a>),
+    Three(Label<'a>, Label<'a>, Label<'a>),
 }
 
 // Adds an octet of a label's value.
@@ -74,6 +75,15 @@ fn push_labels(text: &mut Vec<u8>, labels: Labels<'_>) -> Result<(), AllocError>
             push_label(text, first)?;
             push_text(text, ",")?;
             push_label(text, second)?;
+            push_text(text, "}")
+        }
+        Labels::Three(first, second, third) => {
+            push_text(text, "{")?;
+            push_label(text, first)?;
+            push_text(text, ",")?;
+            push_label(text, second)?;
+            push_text(text, ",")?;
+            push_label(text, third)?;
             push_text(text, "}")
         }
     }

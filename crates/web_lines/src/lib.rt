@@ -15,6 +15,7 @@ mod series;
 mod state;
 mod text;
 mod told;
+mod told_counts;
 
 pub use document::to_document;
 pub use kind::Kind;

@@ -6,7 +6,7 @@ use crate::counted::push_counted;
 use crate::families::{Family, push_head};
 use crate::labels::{Labels, push_sample};
 use crate::lines::read_lines;
-use crate::series::push_told;
+use crate::series::{push_told, push_told_counts};
 use std::alloc::{AllocError, Global};
 
 /// The numbers of a station's status, in Prometheus' text format. A line that is no JSON object of a known kind counts for
@@ -19,6 +19,7 @@ pub fn to_metrics(alloc: Global, status: &str) -> Result<Vec<u8>, AllocError>
     push_up(&mut text, 1)?;
     push_told(alloc, &mut text, lines.as_slice())?;
     push_counted(alloc, &mut text, lines.as_slice())?;
+    push_told_counts(alloc, &mut text, lines.as_slice())?;
     Ok(text)
 }
 

@@ -2,7 +2,7 @@
 ghost use Rattle.std.specs.Prelude.{◌≡◌, None, codes, option_map, option_and_then};
 ghost use Rattle.json.specs.Find.{as_bool, get};
 ghost use Rattle.json.specs.Value.{value_view};
-ghost use Rattle.web_lines.specs.Labels.{both_labels, entity_labels, label_at, labels_at, one_label, said_label, said_labels, with_label};
+ghost use Rattle.web_lines.specs.Labels.{all_labels, both_labels, entity_labels, label_at, labels_at, one_label, said_label, said_labels, with_label};
 ghost use Rattle.web_lines.specs.Numbers.{IsNumberAt, IsWholeNumber, bit, spot_of};
 
 use crate::kind::Kind;
@@ -94,7 +94,9 @@ pub(crate) fn labels_in<'a>(value: &Value<'a>, kind: Kind, place: Place) -> Opti
         Kind::User => one_label(label_in(value, "user", "name")),
         Kind::Remote => one_label(label_in(value, "remote", "id")),
         Kind::Refusal => refusal_labels(value),
-        Kind::Parked => lane_labels(value),
+        Kind::Parked | Kind::Transaction => lane_labels(value),
+        Kind::Ended => end_labels(value),
+        Kind::Delivered => one_label(label_in(value, "role", "role")),
         Kind::Entity => entity_labels(value, place),
         _ => Some(Labels::Bare),
     }
@@ -130,6 +132,17 @@ fn lane_labels<'a>(value: &Value<'a>) -> Option<Labels<'a>>
     let user = label_in(value, "user", "user")?;
     let lane = label_in(value, "lane", "lane")?;
     Some(Labels::Two(user, lane))
+}
+
+// The role, the class and the condition of transactions that ended.
+fn end_labels<'a>(value: &Value<'a>) -> Option<Labels<'a>>
+    ensures { option_map said_labels result
+        ≡ all_labels (label_at (codes "role") (codes "role") (value_view value.now)) (label_at (codes "class") (codes "class") (value_view value.now)) (label_at (codes "condition") (codes "condition") (value_view value.now)) }
+{
+    let role = label_in(value, "role", "role")?;
+    let class = label_in(value, "class", "class")?;
+    let condition = label_in(value, "condition", "condition")?;
+    Some(Labels::Three(role, class, condition))
 }
 
 // The entity's number and its version, for the family that has its version.

@@ -1,13 +1,16 @@
 //! Families with the numbers that stand in lines.
 ghost use Rattle.std.specs.Prelude.{OnOk, ◌++◌, map};
-ghost use Rattle.web_lines.specs.Families.{row_of, told_rows};
-ghost use Rattle.web_lines.specs.Metrics.{AddsLine, AddsLines, AddsRows, head_text};
+ghost use Rattle.web_lines.specs.Families.{count_rows, row_of, told_rows};
+ghost use Rattle.web_lines.specs.Metrics.{AddsCounts, AddsLine, AddsLines, AddsRows, head_text};
 
+use crate::counted::count_lines;
 use crate::families::push_head;
+use crate::kind::Kind;
 use crate::labels::push_sample;
 use crate::lines::Line;
 use crate::place::labels_in;
 use crate::told::{TOLD, Told};
+use crate::told_counts::TOLD_COUNTS;
 use json::{Scratch, Value};
 use std::alloc::{AllocError, Global};
 
@@ -20,6 +23,27 @@ pub(crate) fn push_told(
     ensures { OnOk result (AddsRows told_rows lines.now text.old.items text.new.items) }
 {
     push_families(alloc, text, lines, TOLD.as_slice())
+}
+
+/// Adds the families of a station that counts, where the lines are those of one.
+pub(crate) fn push_told_counts(
+    alloc: Global,
+    text: &mut Vec<u8>,
+    lines: &[Line<'_>],
+) -> Result<(), AllocError>
+    ensures { OnOk result (AddsCounts lines.now text.old.items text.new.items) }
+{
+    if count_lines(lines, Kind::Delivered) == 0 {
+        return Ok(());
+    }
+    push_count_rows(alloc, text, lines)
+}
+
+// Adds the families of a station that counts.
+fn push_count_rows(alloc: Global, text: &mut Vec<u8>, lines: &[Line<'_>]) -> Result<(), AllocError>
+    ensures { OnOk result (AddsRows count_rows lines.now text.old.items text.new.items) }
+{
+    push_families(alloc, text, lines, TOLD_COUNTS.as_slice())
 }
 
 // Adds these families.

@@ -264,9 +264,11 @@ const buttons = of => (item, cell, old, i) => {
 let now = 0;
 const rates = new Map();
 const speedOf = t => { const r = rates.get(key(t)); return r && r.flow.rate !== null ? r.flow.rate : 0; };
-const shareOf = t => t.size === undefined ? -1 : t.size === 0 ? 1 : (t.octets || 0) / t.size;
+// How many octets of a file are there: all that arrived where the station counts them, else those up to the greatest offset.
+const there = t => t.missing !== undefined && t.size !== undefined ? t.size - t.missing : t.octets || 0;
+const shareOf = t => t.size === undefined ? -1 : t.size === 0 ? 1 : there(t) / t.size;
 function progress(t, cell, old, i) {
-  const size = t.size || 0, done = Math.min(t.octets || 0, size || t.octets || 0);
+  const size = t.size || 0, done = Math.min(there(t), size || there(t));
   const share = t.size === undefined ? null : size === 0 ? 100 : Math.floor(100 * done / size);
   const speed = t.state === "active" ? speedOf(t) : 0;
   const label = share === null ? "size not known yet" : share + " %" + (done < size ? ", " + octets(size - done) + " missing" + (speed ? ", " + age(1000 * (size - done) / speed) + " left" : "") : "");
@@ -316,8 +318,9 @@ const traffic = (r, way) => r["datagrams_" + way] + " datagrams, " + octets(r["o
 const links = new Map();
 const linkOf = r => links.get(number(r, "id"));
 const flowOf = (r, way) => linkOf(r) && linkOf(r)[way].rate || 0;
-// When something came from an entity last: the page sees it by its count of datagrams.
+// When something came from an entity last: as the station says, or else as the page sees it by the count of datagrams.
 function heard(r) {
+  if (r.heard) return age(r.silence) + " ago";
   const link = linkOf(r);
   if (r.datagrams_in === 0 || !link) return "not since the start";
   return link.heard ? age(now - link.heard) + " ago" : "before " + clock(link.since);
@@ -327,7 +330,7 @@ const remotes = new Table("remotes", [
   ["Sending", tinted(r => r.held ? ["held" + (r.held_since ? " since " + moment(r.held_since) : ""), "warn"] : ["open" + (r.open_until ? " until " + moment(r.open_until) : ""), ""])],
   ["In", plain(r => traffic(r, "in")), r => r.octets_in], ["Rate in", plain(r => rateText(linkOf(r) && linkOf(r).in)), r => flowOf(r, "in")],
   ["Out", plain(r => traffic(r, "out")), r => r.octets_out], ["Rate out", plain(r => rateText(linkOf(r) && linkOf(r).out)), r => flowOf(r, "out")],
-  ["Heard", plain(heard), r => linkOf(r) && -linkOf(r).heard || 0], ["Failed sends", plain(r => String(r.failed_sends))],
+  ["Heard", plain(heard), r => r.heard ? -Date.parse(r.heard) : linkOf(r) && -linkOf(r).heard || 0], ["Failed sends", plain(r => String(r.failed_sends))],
   ["", buttons(r => [r.held ? ["Release", "release " + number(r, "id"), "entity " + number(r, "id")] : ["Hold", "hold " + number(r, "id"), "entity " + number(r, "id")]])]
 ], "No remote entities.");
 const outbox = new Table("outbox", [
@@ -346,7 +349,8 @@ const parked = new Table("parked", [
   ["Dropped", tinted(p => [number(p, "dropped"), p.dropped > 0 ? "bad" : ""])], ["Since", plain(p => moment(p.since))]
 ], "No datagram is parked.");
 const refusals = new Table("refusals", [
-  ["Refusal", plain(r => r.number + " " + r.name + (r.fault === undefined ? "" : ", fault " + r.fault))], ["Count", plain(r => String(r.count))],
+  ["Refusal", plain(r => r.number + " " + r.name + (r.fault === undefined ? "" : ", fault " + r.fault) +
+    (r.pdu === undefined ? "" : ", " + r.pdu) + (r.source === undefined ? "" : " of " + number(r, "source") + "." + number(r, "seq")))], ["Count", plain(r => String(r.count))],
   ["Last", plain(r => moment(r.last))], ["From", plain(r => r.from || "")], ["Octets", named(r => r.octets || "")]
 ], "Nothing was refused.");
 
@@ -368,7 +372,7 @@ function count(all) {
     const k = key(t), r = rates.get(k) || { mark: null, moved: 0, flow: null }, mark = t.octets + " " + t.events;
     seen.add(k);
     if (r.mark !== null && r.mark !== mark) r.moved = now;
-    r.mark = mark; r.flow = flow(r.flow, t.octets);
+    r.mark = mark; r.flow = flow(r.flow, there(t));
     rates.set(k, r);
   }
   for (const k of rates.keys()) if (!seen.has(k)) rates.delete(k);

@@ -11,7 +11,7 @@ use Rattle.indications.specs.LaneLists.{of_lane, IsLaneList}
 use Rattle.sender_table.specs.Sending.{initial, step, state_of}
 use Rattle.txn_events.specs.declared.event.What.TheVariants as what
 use Rattle.lane_table.specs.Lane.{State}
-use Rattle.lane_rows.specs.SendingLaneRows.{sending_lane, key, put, on}
+use Rattle.world_rows.specs.SendingLaneRows.{sending_lane, key, put, on}
 use Rattle.world_table.specs.Histories.{Happening, steps, takes, lane_after, events_at, events_for, mine, held_for, taken_by, AreIdle, IsHistory}
 use Rattle.world_table.proofs.HistoryFacts.{tells_lane_lists}
 

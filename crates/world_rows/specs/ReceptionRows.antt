@@ -17,7 +17,7 @@ use Rattle.lane_table.specs.declared.lane_side.LaneSide.TheVariants.{Receiving}
 use Rattle.lane_table.specs.Lane.{State, idle, issued_in, IsSound}
 use Rattle.lane_table.specs.Logs.{Log, received}
 use Rattle.lane_table.specs.Steps.{image_of}
-use Rattle.lane_rows.specs.ReceivingLaneRows.{key, metadata, part, eof, on, image}
+use Rattle.world_rows.specs.ReceivingLaneRows.{key, metadata, part, eof, on, image}
 use Rattle.world_table.specs.Histories.{Happening, steps, takes, lane_after, events_for, log_for, mine, AreIdle, IsHistory}
 use Rattle.world_table.specs.HistoryLaws.{IsEventOf, IsLogged, HasGoodFile, IsImageOf}
 use Rattle.world_table.proofs.HistoryFacts.{tells_lane_lists, keeps_journals}

@@ -14,8 +14,8 @@ use Rattle.txn_events.specs.Examples.{finished_acknowledged}
 use Rattle.txn_events.specs.declared.event.What.TheVariants as what
 use Rattle.config_reading.specs.Values.{is_config}
 use Rattle.entity_config.specs.Reference.{reference_config}
-use Rattle.lane_rows.specs.ReceivingLaneRows as receiving
-use Rattle.lane_rows.specs.SendingLaneRows as sending
+use Rattle.world_rows.specs.ReceivingLaneRows as receiving
+use Rattle.world_rows.specs.SendingLaneRows as sending
 use Rattle.world_table.specs.Histories.{Happening, steps, takes, mine, IsHistory}
 use Rattle.entity_routing.specs.declared.place.Place.{Place}
 use Rattle.entity_parts.specs.FirstLanes.{first_lane}

@@ -19,7 +19,7 @@ use Rattle.lane_table.specs.Steps.{plainly, refusal_at, stepped, answer_of}
 use Rattle.lane_table.specs.Keeping.{IsUpTo, Keeps, bundle_of}
 use Rattle.lane_table.proofs.StepFacts.{idle_keeps, idle_sound}
 use Rattle.lane_table.proofs.RunFacts.{steps_keep}
-use Rattle.lane_rows.specs.SendingLaneRows.{sending_lane, fresh, key, put, on}
+use Rattle.world_rows.specs.SendingLaneRows.{sending_lane, fresh, key, put, on}
 use Rattle.txn_lane.specs.Stepping.{RanOut, WasFull}
 use Rattle.user_queues.specs.Queue.{Queue}
 use Rattle.world_rows.specs.HistoryRows.{lanes, history, bundle}

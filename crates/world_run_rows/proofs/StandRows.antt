@@ -10,7 +10,7 @@ use Rattle.sender_table.specs.Sending.{initial, step, state_of}
 use Rattle.txn_events.specs.declared.event.What.TheVariants as what
 use Rattle.txn_events.specs.declared.refusal.Refusal.TheVariants as refusal
 use Rattle.lane_table.specs.Steps.{plainly}
-use Rattle.lane_rows.specs.SendingLaneRows.{put, on}
+use Rattle.world_rows.specs.SendingLaneRows.{put, on}
 use Rattle.world_table.specs.Histories.{Happening, takes}
 use Rattle.world_rows.specs.HistoryRows.{lanes, idle_lanes, history, can_be, bundle}
 use Rattle.world_users.specs.Posts.{Post}

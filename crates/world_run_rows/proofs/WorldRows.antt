@@ -20,7 +20,7 @@ use Rattle.txn_events.specs.declared.refusal.Refusal.TheVariants as refusal
 use Rattle.lane_table.specs.declared.done.Done.{Done}
 use Rattle.lane_table.specs.declared.refused.Refused.{Refused}
 use Rattle.lane_table.specs.Steps.{plainly}
-use Rattle.lane_rows.specs.ReceivingLaneRows.{metadata, part, eof, image}
+use Rattle.world_rows.specs.ReceivingLaneRows.{metadata, part, eof, image}
 use Rattle.world_table.specs.Histories.{Happening, steps}
 use Rattle.entity_config.specs.Reference.{reference_config}
 use Rattle.entity_routing.specs.Routes.{Routed}

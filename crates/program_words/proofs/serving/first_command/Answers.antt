@@ -35,4 +35,6 @@ returns c =
     let keep_is : rule_of c.flag-5.result ≡ flag (codes "keep") = search rules in
     let with_keep = c.in_ok-arg-13.ensures.shape c.flag-5.ensures.local ∙ ap₂ with_rule with_tree keep_is in
     let retry_is : rule_of c.optional-5.result ≡ valued (codes "retry") false = search rules in
-    c.in_ok-command.ensures.shape c.optional-5.ensures.local ∙ ap₂ with_rule with_keep retry_is
+    let with_retry = c.in_ok-arg-14.ensures.shape c.optional-5.ensures.local ∙ ap₂ with_rule with_keep retry_is in
+    let status_socket_is : rule_of c.optional-6.result ≡ valued (codes "status-socket") false = search rules in
+    c.in_ok-command.ensures.shape c.optional-6.ensures.local ∙ ap₂ with_rule with_retry status_socket_is

@@ -30,4 +30,6 @@ returns c =
     let explain_is : rule_of c.flag-5.result ≡ flag (codes "explain") = search rules in
     let with_explain = c.in_ok-arg-12.ensures.shape c.flag-5.ensures.local ∙ ap₂ with_rule with_log_commands explain_is in
     let by_source_is : rule_of c.flag-6.result ≡ flag (codes "by-source") = search rules in
-    c.in_ok-command.ensures.shape c.flag-6.ensures.local ∙ ap₂ with_rule with_explain by_source_is
+    let with_by_source = c.in_ok-arg-13.ensures.shape c.flag-6.ensures.local ∙ ap₂ with_rule with_explain by_source_is in
+    let counters_is : rule_of c.flag-7.result ≡ flag (codes "counters") = search rules in
+    c.in_ok-command.ensures.shape c.flag-7.ensures.local ∙ ap₂ with_rule with_by_source counters_is

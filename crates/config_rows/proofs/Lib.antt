@@ -1,4 +1,0 @@
-pub mod WalkRows
-pub mod RemoteRows
-pub mod Rows
-pub mod TextRows

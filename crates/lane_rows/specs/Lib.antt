@@ -1,3 +1,0 @@
-pub mod ReceivingLaneRows
-pub mod SendingLaneRows
-pub mod LaneKeepingRows

@@ -1,7 +1,0 @@
-use Rattle.std.proofs.Common.{◌≡◌, drop}
-use Rattle.quoted_words.specs.Quoted.{start, after}
-use Rattle.quoted_words.proofs.splitter.quoted_words.Given as goal
-
--- the octets so far are read
-abbrev pub invariant-loop-octet : goal.invariant-loop-octet
-invariant-loop-octet l = after start l.line ≡ after l.splitter (drop l.octet-index l.line)

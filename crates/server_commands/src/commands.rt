@@ -1,0 +1,428 @@
+//! What the server does at a command.
+use crate::following::Spell;
+use crate::skipping::Opened;
+use cfdp_types::{EntityId, Octets, PutFault, PutRequest, TxnKey};
+use disk::SystemDisk;
+use entity_routing::{Place, Request};
+use event_levels::Level;
+use held_outbox::HeldOutbox;
+use lane_table::Done;
+use program_desk::{Desk, Said, Step, wall_moment};
+use program_lot::Lot;
+use program_numbers::HeldNumbers;
+use program_outbox::{Outgoing, Windows};
+use program_seats::{Asker, Seats};
+use program_start::ProgramFault;
+use program_station::Station;
+use program_storing::Depot;
+use program_tallies::{RefusalKind, Tallies};
+use server_answers::{
+    push_bad_command, push_entity_refusal, push_no_memory, push_taken, push_traced,
+};
+use server_lanes::{Begun, Readiness};
+use server_lines::{Command, PutCommand, Tuning};
+use server_reports::Audience;
+use shared_entity::{Entity, EntityRefusal};
+use shared_lanes::{Names, NoGate};
+use station_lines::Moment;
+use std::alloc::{AllocError, Global};
+use std::rt::Files;
+use std::sync::Wait;
+use std::time::Clock;
+use txn_events::Refusal;
+
+/// The file of an outbox, in its folder.
+pub type OutboxFolder<R> = HeldOutbox<SystemDisk<R>>;
+
+/// What the main thread of a server has, but for where answers are printed.
+#[derive(Drop)]
+pub struct Server<'a, N: Names, R: Files + AllocGlobal + Copy + Drop> {
+    pub rt: &'a R,
+    pub alloc: Global,
+    pub desk: &'a Desk,
+    /// The steps that are to be noted, the last one first.
+    pub steps: Vec<Step>,
+    pub station: Station<'a, N, R>,
+    /// The file of its numbers, where there is one.
+    pub numbers: Option<HeldNumbers<R>>,
+    pub audience: Audience<'a, R>,
+    /// The seats of its clients, where it has a control socket.
+    pub seats: Option<&'a Seats>,
+    /// Where received files are left to be stored.
+    pub depot: &'a Depot,
+    pub tallies: &'a Tallies,
+    pub outgoing: Outgoing,
+    /// The file of its outbox, where there is one.
+    pub held: Option<OutboxFolder<R>>,
+    /// The links that are open for a time.
+    pub windows: Windows,
+    /// What the outbox began, and whether all transactions are abandoned whose journals are full, and not only those.
+    pub begun: Begun,
+    pub abandons_full: bool,
+    /// Whether commands are reported.
+    pub logs_commands: bool,
+    /// Whether events say why a file couldn't be read.
+    pub explains: bool,
+    pub readiness: Readiness,
+    /// A transaction that was opened to use up its number, and isn't abandoned yet.
+    pub opened: Option<Opened>,
+    /// Where datagrams are parked.
+    pub lot: &'a Lot,
+    /// What is known of clients that follow and fell behind, by seat.
+    pub spells: Vec<Option<Spell>>,
+    pub started: Moment,
+}
+
+/// Whether the server goes on after a command.
+#[derive(Clone, Copy, Debug, PartialEq, Eq)]
+pub enum Next {
+    GoesOn,
+    /// The client that asked follows from then on, after the last events, so many at most; from a level on, if one is asked for.
+    Follows(Asker, u64, Option<Level>),
+    /// The answer comes later.
+    Later,
+    Quits,
+}
+
+/// What became of a file that was to be put.
+#[derive(Clone, Copy, Debug, PartialEq, Eq)]
+pub(crate) enum PutEnd {
+    /// It opened a transaction.
+    Opened,
+    /// It can be tried again: memory ran out, the user's queue was full, or a file that is kept over restarts can't be written.
+    Passing,
+    /// The lane has no number left.
+    Exhausted,
+    Refused,
+}
+
+// What became of what was asked for.
+#[derive(Clone, Copy, Debug, PartialEq, Eq)]
+enum Asked {
+    Taken(TxnKey),
+    Refused(PutEnd),
+}
+
+// What becomes of a Put that the entity refused.
+fn end_of(refusal: &EntityRefusal) -> PutEnd {
+    if refusal.is_passing() {
+        return PutEnd::Passing;
+    }
+    match refusal {
+        EntityRefusal::Lane(refused) if refused.why == Refusal::SeqExhausted => PutEnd::Exhausted,
+        _ => PutEnd::Refused,
+    }
+}
+
+// After an answer the server goes on.
+fn goes_on(written: Result<(), AllocError>) -> Result<Next, AllocError> {
+    written?;
+    Ok(Next::GoesOn)
+}
+
+// Answers `ok`, and says what comes next.
+fn answered(text: &mut String, next: Next) -> Result<Next, AllocError> {
+    text.push_str("ok\n")?;
+    Ok(next)
+}
+
+// What became of a file, once that is answered.
+fn ends(written: Result<(), AllocError>, end: PutEnd) -> Result<PutEnd, AllocError> {
+    written?;
+    Ok(end)
+}
+
+// That something was refused, once that is answered.
+fn refused(written: Result<(), AllocError>, end: PutEnd) -> Result<Asked, AllocError> {
+    written?;
+    Ok(Asked::Refused(end))
+}
+
+// That something is answered, whatever became of it.
+fn done<T: Copy>(end: Result<T, AllocError>) -> Result<(), AllocError> {
+    match end {
+        Ok(_) => Ok(()),
+        Err(error) => Err(error),
+    }
+}
+
+// Where a Put goes.
+fn destination_of(request: &Request) -> Option<EntityId> {
+    match request {
+        Request::Put(_, put) => Some(put.destination()),
+        _ => None,
+    }
+}
+
+// The transaction that a request cancels or abandons.
+fn given_up_by(request: &Request) -> Option<TxnKey> {
+    match request {
+        Request::Cancel(key) | Request::Abandon(key) => Some(*key),
+        _ => None,
+    }
+}
+
+/// Where a Put comes from that a client didn't give: its number in the outbox, and its source file name, where that is another
+/// than its path.
+#[derive(Drop)]
+pub(crate) struct FromOutbox {
+    pub(crate) number: u64,
+    pub(crate) source_name: Option<Octets>,
+}
+
+// The source file name of a Put.
+fn name_of<'a>(put: &'a PutCommand, from: Option<&'a FromOutbox>) -> &'a [u8] {
+    let Some(from) = from else {
+        return put.source.as_slice();
+    };
+    match &from.source_name {
+        Some(name) => name.as_slice(),
+        None => put.source.as_slice(),
+    }
+}
+
+// The request for a Put.
+fn request_of(
+    alloc: Global,
+    put: &PutCommand,
+    from: Option<&FromOutbox>,
+    file: Octets,
+) -> Result<Request, PutFault> {
+    let request = PutRequest::new(
+        alloc,
+        put.destination,
+        put.class,
+        name_of(put, from),
+        put.destination_name.as_slice(),
+        &[],
+        &[],
+    )?
+    .with_file(file);
+    Ok(Request::Put(put.lane, request.with_closure(put.closure)))
+}
+
+// Reports how far a transaction is.
+fn trace<N: Names, R: Wait + Copy>(
+    rt: &R,
+    alloc: Global,
+    entity: &Entity<N, R>,
+    key: TxnKey,
+    text: &mut String,
+) -> Result<(), AllocError> {
+    match entity.trace(rt, key) {
+        Ok(traced) => push_traced(text, traced),
+        Err(refusal) => push_entity_refusal(alloc, text, &refusal),
+    }
+}
+
+impl<'a, N: Names, R: Wait + Clock + Files + AllocGlobal + Copy + Drop> Server<'a, N, R> {
+    /// Does what a line says, and adds its answer.
+    pub fn obey(
+        &mut self,
+        said: Said,
+        asker: Option<Asker>,
+        text: &mut String,
+    ) -> Result<Next, AllocError> {
+        match said {
+            Said::Command(command) => self.obey_command(command, asker, text),
+            Said::Put(put, file) => goes_on(self.put(&put, file, text)),
+            Said::Send(send, size) => goes_on(self.queue_known(send, size, text)),
+            Said::Nothing => goes_on(push_bad_command(text)),
+            Said::NoMemory => goes_on(push_no_memory(text)),
+        }
+    }
+
+    // Does what a command says. Clients alone follow, and are answered before the server ends.
+    fn obey_command(
+        &mut self,
+        command: Command,
+        asker: Option<Asker>,
+        text: &mut String,
+    ) -> Result<Next, AllocError> {
+        match (command, asker) {
+            (Command::Quit, None) => Ok(Next::Quits),
+            (Command::Quit, Some(_)) => answered(text, Next::Quits),
+            (Command::Follow(most), Some(asker)) => answered(
+                text,
+                Next::Follows(asker, most, None),
+            ),
+            (Command::Tune(Tuning::FollowFrom(most, least)), Some(asker)) => answered(
+                text,
+                Next::Follows(asker, most, Some(least)),
+            ),
+            (Command::Journal(key), asker) => self.record_for(key, asker, text),
+            (other, _) => goes_on(self.do_command(other, text)),
+        }
+    }
+
+    // Does what any line may ask for.
+    fn do_command(&mut self, command: Command, text: &mut String) -> Result<(), AllocError> {
+        match command {
+            Command::Status => self.answer_status(text),
+            Command::Take(user) => self.audience.take(user, text),
+            Command::Trace(key) => trace(self.rt, self.alloc, self.station.entity(), key, text),
+            Command::Ask(user, request) => done(self.ask_for(user, request, text)),
+            Command::Send(send) => self.queue(send, text),
+            Command::Outbox => self.answer_outbox(text),
+            Command::Drop(number) => self.withdraw(number, text),
+            Command::Hold(remote) => self.hold(remote, text),
+            Command::Release(remote) => self.release(remote, text),
+            Command::Tune(tuning) => self.tune(tuning, text),
+            Command::Put(_) | Command::Follow(_) | Command::Journal(_) | Command::Quit => {
+                push_bad_command(text)
+            }
+        }
+    }
+
+    // Puts a file that was read, or answers why it couldn't be.
+    fn put(
+        &mut self,
+        put: &PutCommand,
+        file: Result<Octets, ProgramFault>,
+        text: &mut String,
+    ) -> Result<(), AllocError> {
+        match file {
+            Ok(file) => done(self.put_file(put, file, None, text)),
+            Err(ProgramFault::NoMemory) => push_no_memory(text),
+            Err(_) => text.push_str("read fault\n"),
+        }
+    }
+
+    /// Puts a file, `from` the outbox where it comes from there.
+    pub(crate) fn put_file(
+        &mut self,
+        put: &PutCommand,
+        file: Octets,
+        from: Option<&FromOutbox>,
+        text: &mut String,
+    ) -> Result<PutEnd, AllocError> {
+        let queued = from.map(|from| from.number);
+        let size = file.as_slice().len() as u64;
+        let asked = match self.station.reserve() {
+            Ok(()) => request_of(self.alloc, put, from, file),
+            Err(AllocError) => Err(PutFault::NoMemory),
+        };
+        match asked {
+            Ok(request) => self.put_covered(put, size, queued, request, text),
+            Err(PutFault::NoMemory) => ends(push_no_memory(text), PutEnd::Passing),
+            Err(_) => ends(push_bad_command(text), PutEnd::Refused),
+        }
+    }
+
+    // Puts, once the file of numbers covers the Put's number.
+    fn put_covered(
+        &mut self,
+        put: &PutCommand,
+        size: u64,
+        queued: Option<u64>,
+        request: Request,
+        text: &mut String,
+    ) -> Result<PutEnd, AllocError> {
+        if !self.covers() {
+            let end = if queued.is_some() && self.held.is_some() {
+                PutEnd::Passing
+            } else {
+                PutEnd::Refused
+            };
+            return ends(text.push_str("numbers fault\n"), end);
+        }
+        let asked = self.ask(put.user, request, text);
+        self.note_put(put, size, queued, asked)
+    }
+
+    /// Whether the file of numbers covers the next Put's number, where there is such a file.
+    pub(crate) fn covers(&mut self) -> bool {
+        match &mut self.numbers {
+            Some(numbers) => numbers.cover().is_ok(),
+            None => true,
+        }
+    }
+
+    // Notes and reports a Put that was taken.
+    fn note_put(
+        &mut self,
+        put: &PutCommand,
+        size: u64,
+        queued: Option<u64>,
+        asked: Result<Asked, AllocError>,
+    ) -> Result<PutEnd, AllocError> {
+        match asked? {
+            Asked::Taken(key) => {
+                if let Some(numbers) = &mut self.numbers {
+                    numbers.note_put(key);
+                }
+                self.readiness.note(put.destination, key.seq);
+                if let Some(number) = queued {
+                    let (user, lane) = (put.user, put.lane);
+                    self.note_begun(Place { user, lane }, key, number);
+                }
+                self.audience.reports.put(put, size, queued, key);
+                self.count_put(put, key, size);
+                Ok(PutEnd::Opened)
+            }
+            Asked::Refused(end) => Ok(end),
+        }
+    }
+
+    // Asks the entity for something, in a user's name. Nothing stays parked of a transaction that is given up.
+    fn ask_for(
+        &mut self,
+        user: usize,
+        request: Request,
+        text: &mut String,
+    ) -> Result<Asked, AllocError> {
+        let given_up = given_up_by(&request);
+        let asked = self.ask(user, request, text);
+        if let Some(key) = given_up {
+            self.station.forget_parked(user, key);
+        }
+        asked
+    }
+
+    // Asks the entity for something, in a user's name.
+    fn ask(
+        &mut self,
+        user: usize,
+        request: Request,
+        text: &mut String,
+    ) -> Result<Asked, AllocError> {
+        let entity = self.station.entity();
+        if !entity.may_request(user, &request) {
+            return refused(push_bad_command(text), PutEnd::Refused);
+        }
+        let destination = destination_of(&request);
+        let refusal = match entity.request(self.rt, &NoGate, user, request) {
+            Ok(Ok(done)) => return self.go_on(done, destination, text),
+            Ok(Err(refused)) => EntityRefusal::Lane(refused),
+            Err(refusal) => refusal,
+        };
+        refused(self.refuse(&refusal, text), end_of(&refusal))
+    }
+
+    // Answers what the entity took, and carries out what the step gives. A Put has a destination.
+    fn go_on(
+        &mut self,
+        done: Done,
+        destination: Option<EntityId>,
+        text: &mut String,
+    ) -> Result<Asked, AllocError> {
+        let key = done.key;
+        if let Some(destination) = destination {
+            self.station.begin(key, destination);
+        }
+        let pushed = push_taken(text, destination.is_some(), &done);
+        self.station.settle_own(done);
+        pushed?;
+        Ok(Asked::Taken(key))
+    }
+
+    // Notes and answers what the entity refused.
+    fn refuse(&mut self, refusal: &EntityRefusal, text: &mut String) -> Result<(), AllocError> {
+        let at = wall_moment(self.rt);
+        self.tallies
+            .ledger
+            .note(self.rt, RefusalKind::of(refusal), at, None, &[]);
+        self.station.send_echo(refusal);
+        push_entity_refusal(self.alloc, text, refusal)
+    }
+}

@@ -1,0 +1,97 @@
+//! The lines of a status about remote entities.
+ghost use Rattle.std.specs.Prelude.{◌≡◌, ◌++◌, OnErr, OnOk, string_bytes};
+ghost use Rattle.std.specs.Option.{option_copied};
+ghost use Rattle.station_lines.specs.StatusLines.{address_members, crossing_members, heard_members, held_members, open_members, remote_head, remote_line, remote_tail};
+
+use crate::line::Line;
+use crate::moment::Moment;
+use crate::status::{Heard, RemoteStatus};
+use std::alloc::{AllocError, Global};
+
+/// Adds the line of a remote entity.
+pub fn push_remote(
+    alloc: Global,
+    text: &mut String,
+    remote: &RemoteStatus<'_>,
+) -> Result<(), AllocError>
+    ensures added { OnOk result (string_bytes text.new ≡ string_bytes text.old ++ remote_line remote.entry.now) }
+    ensures kept { OnErr result (string_bytes text.new ≡ string_bytes text.old) }
+{
+    let mut line = Line::begin(alloc)?;
+    remote_head(&mut line, remote)?;
+    held_members(&mut line, remote.held_since)?;
+    open_members(&mut line, remote.open_until)?;
+    crossing_members(&mut line, remote)?;
+    remote_tail(&mut line, remote)?;
+    line.end(text)
+}
+
+// The remote entity and its address.
+fn remote_head(line: &mut Line, remote: &RemoteStatus<'_>) -> Result<(), AllocError>
+    ensures { OnOk result (line.new ≡ line.old ++ remote_head remote.entry.now) }
+{
+    line.text("kind", "remote")?;
+    line.number("id", remote.id.0)?;
+    address_members(line, remote.address)
+}
+
+fn address_members(line: &mut Line, address: Option<&str>) -> Result<(), AllocError>
+    ensures { OnOk result (line.new ≡ line.old ++ address_members (option_copied address.entry)) }
+{
+    match address {
+        None => Ok(()),
+        Some(address) => line.text("address", address),
+    }
+}
+
+fn held_members(line: &mut Line, held_since: Option<Moment>) -> Result<(), AllocError>
+    ensures { OnOk result (line.new ≡ line.old ++ held_members held_since) }
+{
+    match held_since {
+        None => line.flag("held", false),
+        Some(since) => {
+            line.flag("held", true)?;
+            line.moment("held_since", since)
+        }
+    }
+}
+
+fn open_members(line: &mut Line, open_until: Option<Moment>) -> Result<(), AllocError>
+    ensures { OnOk result (line.new ≡ line.old ++ open_members open_until) }
+{
+    match open_until {
+        None => Ok(()),
+        Some(until) => line.moment("open_until", until),
+    }
+}
+
+fn crossing_members(line: &mut Line, remote: &RemoteStatus<'_>) -> Result<(), AllocError>
+    ensures { OnOk result (line.new ≡ line.old ++ crossing_members remote.entry.now) }
+{
+    line.four_numbers(
+        ("datagrams_in", remote.datagrams_in),
+        ("octets_in", remote.octets_in),
+        ("datagrams_out", remote.datagrams_out),
+        ("octets_out", remote.octets_out),
+    )
+}
+
+// The PDUs that weren't sent to a remote entity, and when it was heard last.
+fn remote_tail(line: &mut Line, remote: &RemoteStatus<'_>) -> Result<(), AllocError>
+    ensures { OnOk result (line.new ≡ line.old ++ remote_tail remote.entry.now) }
+{
+    line.number("failed_sends", remote.failed_sends)?;
+    heard_members(line, remote.heard)
+}
+
+fn heard_members(line: &mut Line, heard: Option<Heard>) -> Result<(), AllocError>
+    ensures { OnOk result (line.new ≡ line.old ++ heard_members heard) }
+{
+    match heard {
+        None => Ok(()),
+        Some(heard) => {
+            line.moment("heard", heard.at)?;
+            line.number("silence", heard.silence)
+        }
+    }
+}
