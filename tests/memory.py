@@ -27,8 +27,9 @@ DATAGRAMS = 1_000_000
 TURNS = 250
 # If memory for a worker's thread runs out, the thread can't be started, which its caller is told.
 NO_MEMORY = {"no memory", "no thread"}
-# Each of these calls has to answer at least once that there was no memory.
-ASKED = """World::open queues_of Intake::new Intake::send Entity::open deliver stored run_workers decode encode
+# Each of these calls has to answer at least once that there was no memory. The store's answer isn't among them: in class 1 its
+# step has one indication and no PDU, and needs no memory.
+ASKED = """World::open queues_of Intake::new Intake::send Entity::open deliver run_workers decode encode
 read_config TimerList::apply WordReader::with_room Gaps::copy""".split()
 # The answer to a send at an intake that is closed, which needs memory first.
 CLOSED = "closed"
