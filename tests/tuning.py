@@ -11,6 +11,7 @@ import json
 import os
 import pathlib
 import random
+import socket
 import stat
 import subprocess
 import sys
@@ -333,6 +334,58 @@ def a_socket_of_a_group():
         done = subprocess.run([SERVER, "--config", "c", "--bind", "127.0.0.1:0", "--folder", ".", "--control-mode", word],
                               stdin=subprocess.DEVNULL, capture_output=True, text=True, timeout=60, check=False)
         want((word, done.returncode, done.stderr.splitlines()[0]), (word, 1, "cfdp_server: usage"))
+
+
+def hold_as(path, user, group):
+    """What a process of this user and group gets by `hold 2` at a socket: 0 for `ok`, 3 if it may not connect."""
+    child = os.fork()
+    if child == 0:
+        status = 1
+        try:
+            os.setgroups([])
+            os.setgid(group)
+            os.setuid(user)
+            with socket.socket(socket.AF_UNIX) as one:
+                one.settimeout(20)
+                one.connect(path)
+                one.sendall(b"hold 2\n")
+                status = 0 if one.recv(100).startswith(b"ok\n") else 2
+        except PermissionError:
+            status = 3
+        finally:
+            os._exit(status)
+    return os.waitstatus_to_exitcode(os.waitpid(child, 0)[1])
+
+
+def becomes_others():
+    """Whether this process may give files to a group and become another user."""
+    child = os.fork()
+    if child == 0:
+        status = 1
+        try:
+            os.chown(".", -1, 4242)
+            os.setgroups([])
+            os.setgid(4003)
+            os.setuid(4003)
+            status = 0
+        finally:
+            os._exit(status)
+    return os.waitstatus_to_exitcode(os.waitpid(child, 0)[1]) == 0
+
+
+@case
+def two_users_of_a_group_and_a_third():
+    """In a folder whose files are a group's, its users command by a socket with the mode 0660, and others can't open it."""
+    if not becomes_others():
+        return "this process can't become other users"
+    os.chown(".", -1, 4242)
+    os.chmod(".", 0o2755)
+    asked = [(4001, 4242), (4002, 4242), (4003, 4003)]
+    with station(SERVER, options=("--control-mode", "0660")) as (one, _):
+        want([hold_as(one.path, user, group) for user, group in asked], [0, 0, 3])
+    with station(SERVER) as (one, _):
+        want([hold_as(one.path, user, group) for user, group in asked], [3, 3, 3])
+    return None
 
 
 run_cases("tuning")
